@@ -1,0 +1,29 @@
+//! Authenticators: MD5 over a packet and the shared secret.
+ghost use Rattle.std.specs.Prelude.{◌≡◌, ◌≤◌, ◌↔◌, IsTrue, length};
+ghost use Rattle.radius_codec.specs.Packet.{digest, IsSigned};
+
+use crate::limits::{AUTHENTICATOR, HEADER};
+use md5::{Digest, Md5};
+
+/// Whether a request's authenticator is the digest of the request and the secret (RFC 2866, section
+/// 3). `front` is the whole packet without padding, as the function `front` gives it.
+pub fn request_matches(front: &[u8], secret: &[u8]) -> bool
+    requires { 20 ≤ length front.now }
+    ensures { IsTrue result ↔ IsSigned front.now secret.now }
+{
+    let wanted = digest_of(&front[..4], &[0; AUTHENTICATOR], &front[HEADER..], secret);
+    &front[4..HEADER] == wanted.as_slice()
+}
+
+// The digest of a packet's first four octets, the sixteen that stand in the authenticator's place,
+// its attributes and the secret.
+pub(crate) fn digest_of(head: &[u8], place: &[u8], octets: &[u8], secret: &[u8]) -> [u8; 16]
+    ensures { result ≡ digest head.now place.now octets.now secret.now }
+{
+    let mut hasher = Md5::new();
+    hasher.update(head);
+    hasher.update(place);
+    hasher.update(octets);
+    hasher.update(secret);
+    hasher.finalize()
+}

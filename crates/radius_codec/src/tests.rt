@@ -1,0 +1,229 @@
+//! Packets whose octets come from outside: worked by hand, by another MD5, or by other clients.
+use crate::foreign_packets::{FOREIGN_PACKETS, SECRET};
+use crate::{
+    CodecError, TooLong, front, read, request_matches, sign_request, word_of, write_request,
+    write_response,
+};
+use md5::{Digest, Md5};
+use std::test::Fail;
+
+// The attributes of a Start of session `s1` by user `al`.
+const START: [u8; 14] = [0x28, 6, 0, 0, 0, 1, 0x2c, 4, b's', b'1', 1, 4, b'a', b'l'];
+
+// The same as types and values.
+const START_VALUES: [(u8, &[u8]); 3] = [(40, &[0, 0, 0, 1]), (44, b"s1"), (1, b"al")];
+
+// The Start under the identifier 7. The digest is that of Python's hashlib over the same octets.
+const START_PACKET: [u8; 34] = [
+    0x04, 0x07, 0x00, 0x22, 0xa0, 0x21, 0x9d, 0xa7, 0x81, 0xbf, 0x21, 0x71, 0x05, 0xbb, 0xdd, 0x1d,
+    0x2b, 0x3a, 0x0e, 0x94, 0x28, 0x06, 0x00, 0x00, 0x00, 0x01, 0x2c, 0x04, 0x73, 0x31, 0x01, 0x04,
+    0x61, 0x6c,
+];
+
+// The response to it, with a digest of Python's hashlib.
+const START_RESPONSE: [u8; 20] = [
+    0x05, 0x07, 0x00, 0x14, 0x70, 0x85, 0xea, 0xed, 0x1f, 0x37, 0x21, 0x38, 0x92, 0xe8, 0x68, 0x15,
+    0xce, 0x9d, 0xa4, 0xfd,
+];
+
+// What the arrays are filled with, to see which octets are written.
+const FILL: u8 = 0xee;
+
+#[test]
+fn digest_of_abc(rt: HostRuntime) {
+    // RFC 1321, section A.5.
+    let want = [
+        0x90, 0x01, 0x50, 0x98, 0x3c, 0xd2, 0x4f, 0xb0, 0xd6, 0x96, 0x3f, 0x7d, 0x28, 0xe1, 0x7f,
+        0x72,
+    ];
+    assert_eq!(rt; Md5::digest(b"abc".as_slice()), want);
+}
+
+#[test]
+fn start_there_and_back(rt: HostRuntime) -> Result<(), Fail> {
+    let mut signed = [FILL; 4096];
+    let mut written = [FILL; 4096];
+    assert_eq!(rt; sign_request(7, &START, SECRET, &mut signed), Ok(34));
+    assert_eq!(rt;
+        write_request(7, &START_VALUES, SECRET, &mut written),
+        Ok(34)
+    );
+    for out in [&signed, &written] {
+        assert_eq!(rt; &out[..34], START_PACKET.as_slice());
+        assert!(rt; out[34..].iter().all(|&octet| octet == FILL));
+    }
+    assert!(rt; request_matches(&START_PACKET, SECRET));
+    assert!(rt; !request_matches(&START_PACKET, b"another"));
+
+    // Five octets of padding change nothing.
+    let mut padded = [FILL; 39];
+    padded[..34].copy_from_slice(&START_PACKET);
+    for datagram in [START_PACKET.as_slice(), padded.as_slice()] {
+        let packet = read(datagram).ok().ok_or("no packet")?;
+        assert_eq!(rt; (packet.code, packet.id), (4, 7));
+        assert_eq!(rt; packet.attributes.first(40).and_then(word_of), Some(1));
+        assert_eq!(rt; packet.attributes.first(44), Some(b"s1".as_slice()));
+        assert_eq!(rt; packet.attributes.first(33), None);
+        let mut reply = [FILL; 4096];
+        assert_eq!(rt; write_response(&packet, SECRET, &mut reply), 20);
+        assert_eq!(rt; &reply[..20], START_RESPONSE.as_slice());
+        assert!(rt; reply[20..].iter().all(|&octet| octet == FILL));
+    }
+    Ok(())
+}
+
+#[test]
+fn foreign_packets(rt: HostRuntime) -> Result<(), Fail> {
+    for foreign in &FOREIGN_PACKETS {
+        let client = foreign.client;
+        assert!(rt; foreign.request.len() >= 20);
+        assert!(rt; request_matches(foreign.request, SECRET), "{client}");
+        let packet = read(foreign.request).ok().ok_or("no packet")?;
+        let mut reply = [FILL; 4096];
+        assert_eq!(rt; write_response(&packet, SECRET, &mut reply), 20, "{client}");
+        assert_eq!(rt; &reply[..20], foreign.response, "{client}");
+    }
+    Ok(())
+}
+
+// RFC 2865, section 5: a number has four octets, the high one first.
+#[test]
+fn numbers(rt: HostRuntime) {
+    assert_eq!(rt; word_of(&[1, 2, 3, 4]), Some(0x0102_0304));
+    assert_eq!(rt; word_of(&[255; 4]), Some(u32::MAX));
+    assert_eq!(rt; word_of(&[0; 3]), None);
+    assert_eq!(rt; word_of(&[0; 5]), None);
+}
+
+// RFC 2866, section 5: an attribute's Length is 2 at least and ends within the packet.
+#[test]
+fn attributes_that_do_not_end(rt: HostRuntime) -> Result<(), Fail> {
+    for octets in [
+        [0x28, 1].as_slice(),
+        &[0x28, 3],
+        &[0x28, 0],
+        &[0x28, 1, 2],
+        &[0x28],
+        &[0x28, 2, 0x28, 255, 0],
+    ] {
+        let mut out = [FILL; 4096];
+        let size = sign_request(7, octets, SECRET, &mut out)
+            .ok()
+            .ok_or("too long")?;
+        assert!(rt; size <= 4096);
+        assert_eq!(rt;
+            read(&out[..size]).err(),
+            Some(CodecError::BadAttribute),
+            "{octets:?}"
+        );
+    }
+
+    // A Length of 2 is an empty value.
+    let mut out = [FILL; 4096];
+    assert_eq!(rt; sign_request(7, &[0x28, 2], SECRET, &mut out), Ok(22));
+    let packet = read(&out[..22]).ok().ok_or("no packet")?;
+    let mut attributes = packet.attributes.iter();
+    assert_eq!(rt; attributes.next(), Some((40, [].as_slice())));
+    assert_eq!(rt; attributes.next(), None);
+    Ok(())
+}
+
+// Datagrams of a size, and a Length field: RFC 2865, section 3, for the limits 20 and 4,096.
+#[test]
+fn lengths(rt: HostRuntime) {
+    for (size, length, want) in [
+        (0, [0, 0], Some(CodecError::TooShort)),
+        (19, [0, 20], Some(CodecError::TooShort)),
+        (20, [0, 19], Some(CodecError::BadLength)),
+        (20, [0, 20], None),
+        (20, [0, 21], Some(CodecError::BadLength)),
+        (4096, [0x10, 0], None),
+        (4097, [0x10, 1], Some(CodecError::BadLength)),
+        (4097, [0x10, 0], None),
+    ] {
+        // Empty attributes of type 2 behind the first twenty octets.
+        let mut datagram = [2; 4097];
+        datagram[2..4].copy_from_slice(&length);
+        assert_eq!(rt; front(&datagram[..size]).err(), want, "{size} octets");
+        assert_eq!(rt; read(&datagram[..size]).err(), want, "{size} octets");
+    }
+}
+
+// 253 octets are the longest value, and 4,076 octets the most of all attributes together: fifteen
+// attributes of 255 octets, and one of 251.
+#[test]
+fn longest_requests(rt: HostRuntime) {
+    let octets = [0; 254];
+    let longest = (1, &octets[..253]);
+    for (last, want) in [(249, Ok(4096)), (250, Err(TooLong)), (254, Err(TooLong))] {
+        let mut attributes = [longest; 16];
+        attributes[15] = (1, &octets[..last]);
+        let mut out = [FILL; 4096];
+        assert_eq!(rt;
+            write_request(7, &attributes, SECRET, &mut out),
+            want,
+            "{last} octets"
+        );
+        assert_eq!(rt;
+            out.iter().all(|&octet| octet == FILL),
+            want.is_err(),
+            "{last} octets"
+        );
+    }
+    let mut out = [FILL; 4096];
+    assert_eq!(rt;
+        write_request(7, &[(1, &octets)], SECRET, &mut out),
+        Err(TooLong)
+    );
+    assert_eq!(rt; sign_request(7, &[2; 4077], SECRET, &mut out), Err(TooLong));
+    assert!(rt; out.iter().all(|&octet| octet == FILL));
+    assert_eq!(rt; sign_request(7, &[2; 4076], SECRET, &mut out), Ok(4096));
+}
+
+// RFC 2865, section 5.33: Proxy-States come back in order and unmodified, and nothing else does.
+#[test]
+fn proxy_states(rt: HostRuntime) -> Result<(), Fail> {
+    let long = [0x5a; 253];
+    let attributes: [(u8, &[u8]); 5] = [
+        (40, &[0, 0, 0, 1]),
+        (33, b"p"),
+        (44, b"s1"),
+        (33, &long),
+        (1, b"al"),
+    ];
+    let mut out = [FILL; 4096];
+    let size = write_request(7, &attributes, SECRET, &mut out)
+        .ok()
+        .ok_or("too long")?;
+    assert!(rt; size <= 4096);
+    let packet = read(&out[..size]).ok().ok_or("no packet")?;
+    let mut reply = [FILL; 4096];
+    assert_eq!(rt; write_response(&packet, SECRET, &mut reply), 278);
+    // 278 octets are 0x0116.
+    assert_eq!(rt; &reply[..4], [5, 7, 1, 0x16].as_slice());
+    assert_eq!(rt; &reply[20..25], [33, 3, b'p', 33, 255].as_slice());
+    assert_eq!(rt; &reply[25..278], long.as_slice());
+    assert!(rt; reply[278..].iter().all(|&octet| octet == FILL));
+    Ok(())
+}
+
+#[test]
+fn messages(rt: HostRuntime) -> Result<(), Fail> {
+    let alloc = rt.alloc();
+    for (error, want) in [
+        (CodecError::TooShort, "a packet has 20 octets at least"),
+        (
+            CodecError::BadLength,
+            "the Length field is below 20, above 4096 or above the datagram's octets",
+        ),
+        (
+            CodecError::BadAttribute,
+            "an attribute's Length is below 2 or runs past the end of the packet",
+        ),
+    ] {
+        assert_eq!(rt; format!(in alloc; "{error}")?.as_str(), want);
+    }
+    let want = "the attributes take more octets than a packet has room for";
+    assert_eq!(rt; format!(in alloc; "{TooLong}")?.as_str(), want);
+    Ok(())
+}
