@@ -1,0 +1,10 @@
+pub mod Blocks
+pub mod PlanFaults
+pub mod Refusals
+pub mod Escapes
+pub mod Same
+pub mod Distinct
+pub mod Balances
+pub mod Known
+pub mod Members
+pub mod WorkedRows

@@ -1,0 +1,52 @@
+-- What the refusals of a packet's attributes say.
+use Rattle.std.proofs.Common.{◌≡◌, ℕ, ◌+◌, ◌^◌, ◌<◌, Bool, true, false, cond, ◌||◌, Option, None, Some, List, length, drop, get_or, refl, sym, ◌∙◌, ap, subst}
+use Rattle.std.proofs.lemmas.Bool.{leb-false}
+use Rattle.std.proofs.lemmas.List.{drop_more}
+use Rattle.std.specs.Prelude.{is_none, nat_le}
+use Rattle.std.specs.List.{list_any}
+use Rattle.radius_codec.specs.Attributes.{value_of}
+use Rattle.acct_model.specs.declared.reading.EntryError.{EntryError}
+use Rattle.acct_model.specs.declared.reading.EntryError.TheVariants.{NoStatus, UnknownStatus, NoSessionId, BadField, TotalTooLarge, Memory}
+use Rattle.acct_model.specs.Entries.{Attributes, report_fault, has_bad_number, input_of, output_of, Refuses}
+
+-- a test of what is left of a list, one place on
+pub list_any-drop_more : {X : Type 0} (p : X → Bool) (xs : List X) (i : ℕ) (d : X) (r : Bool) → i < length xs → p (get_or xs i d) ≡ false → list_any p (drop i xs) ≡ r → list_any p (drop (i + 1) xs) ≡ r
+list_any-drop_more p xs i d r within not before = sym (ap (list_any p) (drop_more xs i d within) ∙ ap (λ b. b || list_any p (drop (i + 1) xs)) not) ∙ before
+
+-- three tests in turn, and what they answer
+chain : (a b c : Bool) → Option EntryError
+chain a b c = cond a (Some NoSessionId) (cond b (Some BadField) (cond c (Some TotalTooLarge) None))
+
+chain-none : (a b c : Bool) → chain a b c ≡ None → c ≡ false
+unfolding chain
+chain-none true b c e = cc
+chain-none false true c e = cc
+chain-none false false true e = cc
+chain-none false false false e = refl
+
+chain-some : (a b c : Bool) (fault : EntryError) → chain a b c ≡ Some fault → Refuses (Some fault) fault
+unfolding chain
+chain-some true b c NoSessionId e = refl
+chain-some false true c BadField e = refl
+chain-some false false true TotalTooLarge e = refl
+chain-some true b c Memory e = cc
+chain-some false true c Memory e = cc
+chain-some false false true Memory e = cc
+chain-some false false false Memory e = cc
+chain-some a b c NoStatus e = refl
+chain-some a b c UnknownStatus e = refl
+chain-some a b c NoSessionId e = refl
+chain-some a b c BadField e = refl
+chain-some a b c TotalTooLarge e = refl
+
+pub total_fits : (attributes : Attributes) → report_fault attributes ≡ None → input_of attributes + output_of attributes < 2 ^ 63
+unfolding chain
+total_fits attributes faultless =
+    leb-false (2 ^ 63) (input_of attributes + output_of attributes)
+    (chain-none (is_none (value_of 44 attributes)) (has_bad_number attributes) (nat_le (2 ^ 63) (input_of attributes + output_of attributes)) faultless)
+
+pub Refuses-report : (attributes : Attributes) (fault : EntryError) → report_fault attributes ≡ Some fault → Refuses (report_fault attributes) fault
+unfolding chain
+Refuses-report attributes fault is =
+    subst (λ r. Refuses r fault) (sym is)
+    (chain-some (is_none (value_of 44 attributes)) (has_bad_number attributes) (nat_le (2 ^ 63) (input_of attributes + output_of attributes)) fault is)

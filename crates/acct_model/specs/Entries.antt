@@ -1,0 +1,114 @@
+-- The entry that a packet's attributes spell (RFC 2866, section 5; RFC 2869, sections 5.1 and 5.2).
+use Rattle.std.specs.Prelude.{◌≡◌, ◌==◌, ℕ, ◌+◌, ◌*◌, ◌-◌, ◌^◌, nat_le, Bool, IsTrue, ◌||◌, Option, None, Some, unwrap_or, is_none, List, [], ◌∷◌, if◌then◌else◌, option_and_then}
+use Rattle.std.specs.List.{list_any}
+use Rattle.radius_codec.specs.Attributes.{value_of, word}
+use Rattle.acct_model.specs.Report.{ReportFacts}
+use Rattle.acct_model.specs.declared.entry.Entry.{Entry}
+use Rattle.acct_model.specs.declared.entry.Entry.TheVariants as entry
+use Rattle.acct_model.specs.declared.report.ReportKind.{ReportKind}
+use Rattle.acct_model.specs.declared.report.ReportKind.TheVariants.{Start, Stop, Interim}
+use Rattle.acct_model.specs.declared.reading.EntryError.{EntryError}
+use Rattle.acct_model.specs.declared.reading.EntryError.TheVariants.{NoStatus, UnknownStatus, NoSessionId, BadField, TotalTooLarge, Memory}
+
+-- type and value of each attribute, in their order
+abbrev pub Attributes : Type 0
+Attributes = List (ℕ × List ℕ)
+
+-- octets that may be absent, which are then empty
+abbrev pub octets_at : ℕ → Attributes → List ℕ
+octets_at kind attributes = unwrap_or (value_of kind attributes) []
+
+-- a number that may be absent, which is then 0; none where it hasn't four octets
+abbrev pub number_in : Option (List ℕ) → Option ℕ
+number_in None = Some 0
+number_in (Some value) = word value
+
+abbrev pub number_at : ℕ → Attributes → Option ℕ
+number_at kind attributes = number_in (value_of kind attributes)
+
+-- the number, where it is one
+abbrev pub count_at : ℕ → Attributes → ℕ
+count_at kind attributes = unwrap_or (number_at kind attributes) 0
+
+-- Acct-Input-Octets and Acct-Input-Gigawords, the wraps of that counter
+abbrev pub input_of : Attributes → ℕ
+input_of attributes = 2 ^ 32 * count_at 52 attributes + count_at 42 attributes
+
+-- Acct-Output-Octets and Acct-Output-Gigawords
+abbrev pub output_of : Attributes → ℕ
+output_of attributes = 2 ^ 32 * count_at 53 attributes + count_at 43 attributes
+
+-- Acct-Status-Type, if it is there and is a number
+abbrev pub status_of : Attributes → Option ℕ
+status_of attributes = option_and_then word (value_of 40 attributes)
+
+-- Start, Stop and Interim-Update
+abbrev pub kind_of : ℕ → Option ReportKind
+kind_of status = if status == 1 then Some Start else if status == 2 then Some Stop else if status == 3 then Some Interim else None
+
+-- Accounting-On and Accounting-Off
+abbrev pub is_restart : ℕ → Bool
+is_restart status = status == 7 || status == 8
+
+-- The numbers and the address that a report may have: Framed-IP-Address, Acct-Delay-Time, the octets, Acct-Session-Time,
+-- Acct-Terminate-Cause and the gigawords.
+abbrev pub number_types : List ℕ
+number_types = 8 ∷ 41 ∷ 42 ∷ 43 ∷ 46 ∷ 49 ∷ 52 ∷ 53 ∷ []
+
+-- one of them hasn't four octets
+abbrev pub has_bad_number : Attributes → Bool
+has_bad_number attributes = list_any (λ kind. is_none (number_at kind attributes)) number_types
+
+-- what is wrong with a report's attributes
+abbrev pub report_fault : Attributes → Option EntryError
+report_fault attributes =
+    if is_none (value_of 44 attributes) then Some NoSessionId
+    else if has_bad_number attributes then Some BadField
+    else if nat_le (2 ^ 63) (input_of attributes + output_of attributes) then Some TotalTooLarge
+    else None
+
+-- what is wrong with attributes of this status value; of a restart nothing else is looked at
+abbrev pub status_fault : Attributes → Option ℕ → Option EntryError
+status_fault attributes None = Some UnknownStatus
+status_fault attributes (Some status) =
+    if is_restart status then None
+    else if is_none (kind_of status) then Some UnknownStatus
+    else report_fault attributes
+
+-- the first refusal that holds
+abbrev pub refusal_of : Attributes → Option EntryError
+refusal_of attributes = if is_none (value_of 40 attributes) then Some NoStatus else status_fault attributes (status_of attributes)
+
+-- The report of a kind that the attributes of a client's packet spell, which came at a moment.
+abbrev pub report_of : List ℕ → Attributes → ℕ → ReportKind → ReportFacts
+report_of name attributes moment reported = record {
+  client = name;
+  session = octets_at 44 attributes;
+  user = octets_at 1 attributes;
+  class = octets_at 25 attributes;
+  kind = reported;
+  input = input_of attributes;
+  output = output_of attributes;
+  seconds = count_at 46 attributes;
+  when = moment - count_at 41 attributes;
+  cause = count_at 49 attributes;
+  calling = octets_at 31 attributes;
+  framed = value_of 8 attributes;
+}
+
+-- the entry that the attributes spell
+abbrev pub IsEntryOf : List ℕ → Attributes → ℕ → Entry → Type 0
+IsEntryOf name attributes moment (entry.Report report) =
+    (status : ℕ) × (kind : ReportKind) × (status_of attributes ≡ Some status) × (kind_of status ≡ Some kind) × (report ≡ report_of name attributes moment kind)
+IsEntryOf name attributes moment (entry.Restart restart) =
+    (status : ℕ) × (status_of attributes ≡ Some status) × IsTrue (is_restart status) × (restart.client ≡ name)
+IsEntryOf name attributes moment (entry.TopUp topup) = ⊥
+
+-- an error is the first refusal, or memory was refused where none holds
+abbrev pub Refuses : Option EntryError → EntryError → Type 0
+Refuses refusal NoStatus = refusal ≡ Some NoStatus
+Refuses refusal UnknownStatus = refusal ≡ Some UnknownStatus
+Refuses refusal NoSessionId = refusal ≡ Some NoSessionId
+Refuses refusal BadField = refusal ≡ Some BadField
+Refuses refusal TotalTooLarge = refusal ≡ Some TotalTooLarge
+Refuses refusal Memory = refusal ≡ None

@@ -1,0 +1,9 @@
+pub mod Report
+pub mod Vouchers
+pub mod TopUpFaults
+pub mod Plans
+pub mod PlanFaults
+pub mod Entries
+pub mod Shown
+pub mod History
+pub mod Laws

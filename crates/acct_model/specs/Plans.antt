@@ -1,0 +1,34 @@
+-- Plans and prices.
+use Rattle.std.specs.Prelude.{ℕ, ◌+◌, ◌-◌, ◌*◌, ◌/◌, ◌≤◌, Bool, Option, None, Some, List, codes, bytes_eq}
+use Rattle.std.specs.List.{find}
+use Rattle.std.specs.Option.{option_or}
+use Rattle.acct_model.specs.declared.plan.Plan.{Plan}
+
+-- how many blocks n octets start
+abbrev pub started_blocks : ℕ → ℕ → ℕ
+started_blocks block n = (n + (block - 1)) / block
+
+-- the price of n octets: the unit for each block that was started
+abbrev pub price_of : Plan → ℕ → ℕ
+price_of plan n = plan.unit * started_blocks plan.block n
+
+-- k blocks cover n octets, and fewer don't
+pub record IsLeastBlocks (block n k : ℕ) : Type 0 where
+  pub covers : n ≤ k * block
+  pub least : (j : ℕ) → n ≤ j * block → k ≤ j
+
+abbrev pub has_class : List ℕ → Plan → Bool
+has_class class plan = bytes_eq class plan.class
+
+-- the class of the plan that prices each class without one
+abbrev pub default_class : List ℕ
+default_class = codes "default"
+
+-- the plan of a class, else the plan `default`
+abbrev pub plan_for : List Plan → List ℕ → Option Plan
+plan_for plans class = option_or (find (has_class class) plans) (find (has_class default_class) plans)
+
+-- the price of n octets under a plan, if there is one
+abbrev pub price_under : Option Plan → ℕ → ℕ
+price_under None n = 0
+price_under (Some plan) n = price_of plan n

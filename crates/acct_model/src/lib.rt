@@ -1,0 +1,36 @@
+//! What a RADIUS accounting server accepts and what it charges: entries, plans and prices.
+//!
+//! 1. An entry is a report of a session (RFC 2866, section 5.1: Start, Interim-Update, Stop), a restart of a client
+//!    (Accounting-On, Accounting-Off) or a top-up by a voucher. `entry_of` reads reports and restarts from a packet's attributes.
+//! 2. A session is named by the client that sent it and its Acct-Session-Id. It is charged to the User-Name of its first
+//!    accepted report, by the plan that the Class of that report names.
+//! 3. A total is input and output together, gigawords counted (RFC 2869, sections 5.1 and 5.2), at most 2^63 - 1 octets.
+//! 4. A plan's price is its unit for each block that was started. A class without a plan is priced by the plan `default`.
+//! 5. A history is the list of accepted entries, the newest first; `specs/History.antt` says what follows from it: the
+//!    sessions, their owners and greatest totals, the vouchers, and each account's balance.
+#![tactic(auto)]
+
+mod attribute_types;
+mod entry;
+pub mod laws;
+mod octets;
+mod plan;
+mod plans;
+mod reading;
+mod report;
+mod shown;
+mod text;
+mod top_up;
+
+pub use entry::{Entry, Restart};
+pub use octets::Octets;
+pub use plan::{Plan, price};
+pub use plans::{PlanError, Plans};
+pub use reading::{EntryError, entry_of};
+pub use report::{Report, ReportKind};
+pub use shown::{NoMemory, show, unshow};
+pub use text::Text;
+pub use top_up::{TopUp, TopUpError};
+
+#[cfg(test)]
+mod tests;

@@ -1,0 +1,242 @@
+use crate::{
+    Entry, EntryError, Octets, Plan, PlanError, Plans, Report, ReportKind, Text, TopUp, TopUpError,
+    entry_of, price, show, unshow,
+};
+use radius_codec::{read, sign_request};
+use std::alloc::Global;
+use std::test::Fail;
+
+// A Start of session `s1` by user `al`: status 1, session id, user.
+const START: &[u8] = &[0x28, 6, 0, 0, 0, 1, 0x2c, 4, 0x73, 0x31, 1, 4, 0x61, 0x6c];
+
+// The entry that the attributes of a packet from `ap1` spell.
+fn entry_in(alloc: Global, octets: &[u8], moment: u64) -> Result<Result<Entry, EntryError>, Fail> {
+    let mut out = [0; 4096];
+    let size = sign_request(7, octets, b"xyzzy5461", &mut out)?;
+    let packet = read(out.get(..size).ok_or("the size is past the array")?)?;
+    if moment >= 1 << 53 {
+        return Err(Fail::from("the moment is past its range"));
+    }
+    Ok(entry_of(alloc, "ap1", &packet, moment))
+}
+
+fn report_in(alloc: Global, octets: &[u8], moment: u64) -> Result<Report, Fail> {
+    match entry_in(alloc, octets, moment)?? {
+        Entry::Report(report) => Ok(report),
+        _ => Err(Fail::from("no report")),
+    }
+}
+
+#[test]
+fn spells_a_start(rt: HostRuntime) -> Result<(), Fail> {
+    let report = report_in(rt.alloc(), START, 1000)?;
+    assert_eq!(rt; report.client.as_str(), "ap1");
+    assert_eq!(rt; report.session.as_slice(), b"s1".as_slice());
+    assert_eq!(rt; report.user.as_slice(), b"al".as_slice());
+    assert!(rt; report.class.as_slice().is_empty());
+    assert_eq!(rt; report.kind, ReportKind::Start);
+    assert_eq!(rt; report.input, 0);
+    assert_eq!(rt; report.output, 0);
+    assert_eq!(rt; report.seconds, 0);
+    assert_eq!(rt; report.when, 1000);
+    assert_eq!(rt; report.cause, 0);
+    assert!(rt; report.calling.as_slice().is_empty());
+    assert_eq!(rt; report.framed, None);
+    Ok(())
+}
+
+// Each attribute of a report, by the types of RFC 2865, RFC 2866 and RFC 2869.
+#[test]
+fn spells_each_attribute(rt: HostRuntime) -> Result<(), Fail> {
+    let octets = [
+        0x28, 6, 0, 0, 0, 2, 0x2c, 2, 0x19, 6, 0x67, 0x6f, 0x6c, 0x64, 0x2a, 6, 0, 0, 0, 5, 0x34,
+        6, 0, 0, 0, 1, 0x2b, 6, 0, 0, 0, 7, 0x35, 6, 0, 0, 0, 2, 0x29, 6, 0, 0, 0, 9, 0x2e, 6, 0,
+        0, 1, 0, 0x31, 6, 0, 0, 0, 1, 0x1f, 3, 0x63, 8, 6, 10, 9, 8, 7,
+    ];
+    let report = report_in(rt.alloc(), octets.as_slice(), 1009)?;
+    assert_eq!(rt; report.kind, ReportKind::Stop);
+    assert!(rt; report.session.as_slice().is_empty());
+    assert_eq!(rt; report.class.as_slice(), b"gold".as_slice());
+    assert_eq!(rt; report.input, 4_294_967_301);
+    assert_eq!(rt; report.output, 8_589_934_599);
+    assert_eq!(rt; report.when, 1000);
+    assert_eq!(rt; report.seconds, 256);
+    assert_eq!(rt; report.cause, 1);
+    assert_eq!(rt; report.calling.as_slice(), b"c".as_slice());
+    assert_eq!(rt; report.framed, Some([10, 9, 8, 7]));
+    // A delay past the moment.
+    let late = report_in(rt.alloc(), octets.as_slice(), 8)?;
+    assert_eq!(rt; late.when, 0);
+    Ok(())
+}
+
+// Of an Accounting-On and an Accounting-Off the status alone is read: the Acct-Delay-Time here is no number.
+#[test]
+fn spells_restarts(rt: HostRuntime) -> Result<(), Fail> {
+    for status in [7, 8] {
+        let octets = [0x28, 6, 0, 0, 0, status, 0x29, 3, 0];
+        match entry_in(rt.alloc(), octets.as_slice(), 1000)?? {
+            Entry::Restart(restart) => assert_eq!(rt; restart.client.as_str(), "ap1"),
+            _ => return Err(Fail::from("no restart")),
+        }
+    }
+    Ok(())
+}
+
+// What is no entry, by the first refusal that holds.
+const REFUSED: [(&[u8], EntryError); 9] = [
+    (&[], EntryError::NoStatus),
+    (&[0x2c, 2], EntryError::NoStatus),
+    (&[0x28, 6, 0, 0, 0, 9], EntryError::UnknownStatus),
+    (&[0x28, 5, 0, 0, 1], EntryError::UnknownStatus),
+    (&[0x28, 2], EntryError::UnknownStatus),
+    (&[0x28, 6, 0, 0, 0, 1], EntryError::NoSessionId),
+    (
+        &[0x28, 6, 0, 0, 0, 1, 0x2c, 2, 0x2a, 5, 0, 0, 0],
+        EntryError::BadField,
+    ),
+    (&[0x28, 6, 0, 0, 0, 1, 0x2c, 2, 8, 2], EntryError::BadField),
+    // Octets and gigawords of both directions all 4,294,967,295.
+    (
+        &[
+            0x28, 6, 0, 0, 0, 3, 0x2c, 2, 0x2a, 6, 255, 255, 255, 255, 0x2b, 6, 255, 255, 255, 255,
+            0x34, 6, 255, 255, 255, 255, 0x35, 6, 255, 255, 255, 255,
+        ],
+        EntryError::TotalTooLarge,
+    ),
+];
+
+#[test]
+fn refuses_in_order(rt: HostRuntime) -> Result<(), Fail> {
+    for (octets, wanted) in REFUSED {
+        match entry_in(rt.alloc(), octets, 1000)? {
+            Ok(_) => return Err(Fail::from("accepted")),
+            Err(error) => assert_eq!(rt; error, wanted, "of {octets:?}"),
+        }
+    }
+    Ok(())
+}
+
+fn plan(alloc: Global, class: &[u8], block: u64, unit: u64) -> Result<Plan, Fail> {
+    let class = Octets::from_slice(alloc, class)?;
+    Ok(Plan { class, block, unit })
+}
+
+// Prices of the worked examples, and that of 2^63 - 1 octets.
+#[test]
+fn prices_started_blocks(rt: HostRuntime) -> Result<(), Fail> {
+    let gold = plan(rt.alloc(), b"gold", 1_048_576, 10)?;
+    assert!(rt; gold.block > 0);
+    for (total, wanted) in [
+        (0, 0),
+        (1, 10),
+        (1_048_576, 10),
+        (1_048_577, 20),
+        (3_145_728, 30),
+        (4_294_967_296, 40_960),
+        (9_223_372_036_854_775_807, 87_960_930_222_080),
+    ] {
+        assert_eq!(rt; price(&gold, total), wanted, "of {total}");
+    }
+    Ok(())
+}
+
+#[test]
+fn plans_are_tested_in_order(rt: HostRuntime) -> Result<(), Fail> {
+    let alloc = rt.alloc();
+    let mut list = Vec::new(alloc);
+    list.push(plan(alloc, b"gold", 1_048_576, 10)?)?;
+    list.push(plan(alloc, b"default", 1_000_000, 5)?)?;
+    let plans = Plans::new(list)?;
+    assert_eq!(rt; plans.list().len(), 2);
+    assert_eq!(rt; plans.plan_of(b"gold").unit, 10);
+    assert_eq!(rt; plans.plan_of(b"silver").unit, 5);
+    assert_eq!(rt; plans.plan_of(b"").unit, 5);
+    for (class, block, unit, wanted) in [
+        (b"gold".as_slice(), 1, 1, PlanError::NoDefault),
+        (b"default".as_slice(), 1, 1, PlanError::TwicePlanned),
+        (b"default".as_slice(), 0, 1_000_000_001, PlanError::BadBlock),
+        (b"default".as_slice(), (1 << 53) + 1, 0, PlanError::BadBlock),
+        (
+            b"default".as_slice(),
+            1 << 53,
+            1_000_000_001,
+            PlanError::BadUnit,
+        ),
+    ] {
+        let mut list = Vec::new(alloc);
+        if wanted == PlanError::TwicePlanned {
+            list.push(plan(alloc, class, block, unit)?)?;
+        }
+        list.push(plan(alloc, class, block, unit)?)?;
+        match Plans::new(list) {
+            Ok(_) => return Err(Fail::from("kept")),
+            Err(error) => assert_eq!(rt; error, wanted),
+        }
+    }
+    Ok(())
+}
+
+#[test]
+fn top_ups_are_tested_in_order(rt: HostRuntime) -> Result<(), Fail> {
+    let topup = TopUp::new(rt.alloc(), "V-1", b"al", 500, 1000)?;
+    assert_eq!(rt; topup.voucher.as_str(), "V-1");
+    assert_eq!(rt; topup.account.as_slice(), b"al".as_slice());
+    assert_eq!(rt; topup.sum, 500);
+    assert_eq!(rt; topup.when, 1000);
+    let longest = [b'a'; 254];
+    for (voucher, account, sum, wanted) in [
+        ("", b"".as_slice(), 0, TopUpError::BadVoucher),
+        ("v-1", b"al".as_slice(), 1, TopUpError::BadVoucher),
+        (
+            "ABCDEFGHIJKLMNOPQRSTUVWXYZ0123456",
+            b"al".as_slice(),
+            1,
+            TopUpError::BadVoucher,
+        ),
+        ("V-1", b"".as_slice(), 0, TopUpError::BadAccount),
+        ("V-1", longest.as_slice(), 1, TopUpError::BadAccount),
+        ("V-1", b"al".as_slice(), 0, TopUpError::BadSum),
+        (
+            "V-1",
+            b"al".as_slice(),
+            1_000_000_000_001,
+            TopUpError::BadSum,
+        ),
+    ] {
+        match TopUp::new(rt.alloc(), voucher, account, sum, 0) {
+            Ok(_) => return Err(Fail::from("accepted")),
+            Err(error) => assert_eq!(rt; error, wanted, "of {voucher}"),
+        }
+    }
+    Ok(())
+}
+
+#[test]
+fn shows_octets(rt: HostRuntime) -> Result<(), Fail> {
+    let octets = [0x61, 0x25, 0xc3, 0xa9, 0x0a, 0x20, 0x7e];
+    let text = show(rt.alloc(), octets.as_slice())?;
+    assert_eq!(rt; text.as_str(), "a%25%C3%A9%0A ~");
+    assert_eq!(rt;
+        unshow(rt.alloc(), text.as_str())?.as_slice(),
+        octets.as_slice()
+    );
+    // A `%` without two hexadecimal digits stands for itself.
+    assert_eq!(rt; unshow(rt.alloc(), "%4g")?.as_slice(), b"%4g".as_slice());
+    Ok(())
+}
+
+#[test]
+fn octets_and_texts_are_ordered(rt: HostRuntime) -> Result<(), Fail> {
+    let alloc = rt.alloc();
+    let none = Octets::from_slice(alloc, b"")?;
+    let zero = Octets::from_slice(alloc, &[0])?;
+    let letter = Octets::from_slice(alloc, b"a")?;
+    assert!(rt; none < zero && zero < letter);
+    assert!(rt; letter == letter.copy(alloc)?);
+    let first = Text::from_str(alloc, "ap1")?;
+    let second = Text::from_str(alloc, "ap10")?;
+    assert!(rt; first < second);
+    assert!(rt; first == first.copy(alloc)?);
+    Ok(())
+}
