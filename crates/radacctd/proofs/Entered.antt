@@ -1,0 +1,32 @@
+-- The subcommand that a parse entered.
+use Rattle.std.proofs.Common.{◌≡◌, List, Option, Some, None, option_map, refl, ◌∙◌}
+use Rattle.clap.specs.Words.{Row, Text, subcommand_name_of, subcommand_rows, subcommand_rows_of}
+use Rattle.clap.specs.declared.parser.matches.ArgMatches.{ArgMatches}
+use Rattle.clap.specs.declared.parser.matches.ArgMatches.TheViews.{out-ArgMatches, out-SubCommand}
+use Rattle.clap.specs.declared.parser.matches.SubCommand.{SubCommand}
+use Rattle.std.specs.Prelude.{Box}
+use Rattle.std.specs.Box.{box_value}
+use Rattle.radacctd.specs.declared.job.Job.{Job}
+use Rattle.radacctd.specs.CommandLine.{AsksFor, NamesJob}
+
+abbrev first : Text × List Row → Text
+first p = p.0
+
+module _ {Z : Type 0} where
+  name_first : (s : Option (Box SubCommand Z)) → option_map (λ b. (out-SubCommand (box_value b)).name.now) s ≡ option_map first (subcommand_rows s)
+  name_first None = refl
+  name_first (Some x) = refl
+
+name_of_rows : (m : ArgMatches) → subcommand_name_of m ≡ option_map first (subcommand_rows_of m)
+name_of_rows m = name_first (out-ArgMatches m).subcommand
+
+named : (o : Option (Text × List Row)) (name : Text) (job : Job) → Some name ≡ option_map first o → AsksFor name job → NamesJob o job
+named None name job a h = absurd (cc a)
+named (Some p) name job a h =
+    let one : name ≡ p.0 = cc a in
+    rw one at h
+
+-- a job that the entered subcommand's name asks for
+pub names_job : (m : ArgMatches) (o : Option (Text × List Row)) (name : Text) (job : Job) → subcommand_rows_of m ≡ o
+    → Some name ≡ subcommand_name_of m → AsksFor name job → NamesJob o job
+names_job m o name job e a h = rw (← e) (named (subcommand_rows_of m) name job (a ∙ name_of_rows m) h)

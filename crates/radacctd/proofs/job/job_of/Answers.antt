@@ -1,0 +1,19 @@
+use Rattle.std.proofs.Common.{rules, ap, ap₂, refl, true, map, ◌≡◌, ◌∙◌}
+use Rattle.clap.specs.Words.{is_simple, subcommand_of}
+use Rattle.clap.proofs.OnLiterals.{clap_on_literals}
+use Rattle.radacctd.specs.CommandLine.{app}
+use Rattle.std.specs.Prelude.{string_bytes}
+use Rattle.radacctd.proofs.Entered.{names_job}
+use Rattle.radacctd.proofs.job.job_of.Goals as goal
+
+simple : is_simple app ≡ true
+unfolding clap_on_literals
+simple = refl
+
+pub returns-in-Some-feed : goal.returns-in-Some-feed
+returns-in-Some-feed c =
+    let app_is = c.in_ok-command.ensures in
+    let rows = (c.in_ok-matches.ensures.matches (ap is_simple app_is ∙ simple)).1 in
+    let named = rw c.in-Some-feed.is at c.subcommand_name.ensures in
+    names_job c.in_ok-matches.matches _ c.in-Some-feed.field-0.now _
+    (rows ∙ ap₂ subcommand_of app_is (ap (map (λ s. string_bytes s)) c.as_slice.ensures.value)) named (search rules)

@@ -1,0 +1,12 @@
+-- The sample site.
+use Rattle.std.specs.Prelude.{List, [], ◌∷◌, codes}
+use Rattle.acct_model.specs.declared.plan.Plan.{Plan}
+
+abbrev pub gold : Plan
+gold = record { class = codes "gold"; block = 1048576; unit = 10 }
+
+abbrev pub default_plan : Plan
+default_plan = record { class = codes "default"; block = 1000000; unit = 5 }
+
+abbrev pub sample_plans : List Plan
+sample_plans = gold ∷ default_plan ∷ []
