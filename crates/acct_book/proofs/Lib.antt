@@ -1,0 +1,13 @@
+pub mod Keys
+pub mod MapSteps
+pub mod MemSteps
+pub mod Listed
+pub mod Walks
+pub mod Rows
+pub mod Steps
+pub mod Calls
+pub mod RowLaws
+pub mod WalkLaws
+pub mod Reversed
+pub mod Charging
+pub mod AfreshRows

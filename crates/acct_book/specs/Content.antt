@@ -1,0 +1,68 @@
+-- What a book contains: three maps, each seen as a function.
+use Rattle.std.specs.Prelude.{◌≡◌, ℕ, ℤ, pos, Bool, ◌&&◌, if◌then◌else◌, bytes_eq, List, Option, Some, None, unwrap_or, option_map}
+use Rattle.std.specs.Map.{update}
+use Rattle.acct_model.specs.Vouchers.{TopUpFacts}
+use Rattle.acct_book.specs.declared.key.Key.{Key}
+use Rattle.acct_book.specs.declared.row.SessionState.{SessionState}
+use Rattle.acct_book.specs.declared.row.SessionState.TheVariants.{Live, Closed, Stopped}
+use Rattle.acct_book.specs.Row.{RowFacts}
+
+-- the same session
+abbrev pub same_key : Key → Key → Bool
+same_key a b = bytes_eq a.client b.client && bytes_eq a.session b.session
+
+-- the key of a row
+abbrev pub key_of : RowFacts → Key
+key_of row = record { client = row.client; session = row.session }
+
+-- rows by their keys, balances by account, top-ups by the voucher's number
+pub record Content : Type 0 where
+  pub rows : Key → Option RowFacts
+  pub balances : List ℕ → Option ℤ
+  pub topups : List ℕ → Option TopUpFacts
+
+abbrev pub empty_content : Content
+empty_content = record { rows = λ key. None; balances = λ account. None; topups = λ number. None }
+
+-- the balance of an account, which is 0 where none is kept
+abbrev pub kept_balance : Content → List ℕ → ℤ
+kept_balance content account = unwrap_or (content.balances account) (pos 0)
+
+-- with this row, and this balance of its account
+abbrev pub with_session : Content → RowFacts → ℤ → Content
+with_session content row balance = record {
+  rows = update same_key content.rows (key_of row) (Some row);
+  balances = update bytes_eq content.balances row.account (Some balance);
+  topups = content.topups;
+}
+
+-- with this top-up, and this balance of its account
+abbrev pub with_topup : Content → TopUpFacts → ℤ → Content
+with_topup content topup balance = record {
+  rows = content.rows;
+  balances = update bytes_eq content.balances topup.account (Some balance);
+  topups = update bytes_eq content.topups topup.voucher (Some topup);
+}
+
+-- a live session is closed, with the cause 11 (NAS Reboot: RFC 2866, section 5.10)
+abbrev pub closed_row : RowFacts → SessionState → RowFacts
+closed_row row Live = record { client = row.client; session = row.session; account = row.account; class = row.class; input = row.input; output = row.output; seconds = row.seconds; first = row.first; last = row.last; state = Closed; cause = 11; calling = row.calling; framed = row.framed }
+closed_row row Closed = row
+closed_row row Stopped = row
+
+-- a live session of the client is closed
+abbrev pub closed_by : List ℕ → RowFacts → RowFacts
+closed_by client row = if bytes_eq client row.client then closed_row row row.state else row
+
+-- with each live session of the client closed
+abbrev pub with_closed : Content → List ℕ → Content
+with_closed content client = record {
+  rows = λ key. option_map (closed_by client) (content.rows key);
+  balances = content.balances;
+  topups = content.topups;
+}
+
+-- each row stands under its own key, and each top-up under its own number
+pub record HasOwnKeys (content : Content) : Type 0 where
+  pub rows : (key : Key) (row : RowFacts) → content.rows key ≡ Some row → key_of row ≡ key
+  pub topups : (number : List ℕ) (topup : TopUpFacts) → content.topups number ≡ Some topup → topup.voucher ≡ number

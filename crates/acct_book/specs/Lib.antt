@@ -1,0 +1,12 @@
+pub mod Row
+pub mod Rows
+pub mod Content
+pub mod Maps
+pub mod Memory
+pub mod Book
+pub mod Walk
+pub mod Stands
+pub mod Outcome
+pub mod Next
+pub mod Laws
+pub mod Afresh

@@ -1,0 +1,89 @@
+-- How one more report changes a row. Only private functions cite this: what a row is, `Rows` says.
+use Rattle.std.specs.Prelude.{ℕ, ◌+◌, List, [], ◌∷◌, Option, Some, None, max, min}
+use Rattle.std.specs.Option.{option_or}
+use Rattle.acct_model.specs.declared.plan.Plan.{Plan}
+use Rattle.acct_model.specs.declared.report.ReportKind.{ReportKind}
+use Rattle.acct_model.specs.declared.report.ReportKind.TheVariants.{Start, Stop, Interim}
+use Rattle.acct_model.specs.Report.{ReportFacts}
+use Rattle.acct_model.specs.Plans.{plan_for, price_under}
+use Rattle.acct_book.specs.declared.key.Key.{Key}
+use Rattle.acct_book.specs.declared.row.SessionState.{SessionState}
+use Rattle.acct_book.specs.declared.row.SessionState.TheVariants.{Live, Closed, Stopped}
+use Rattle.acct_book.specs.Row.{RowFacts}
+use Rattle.acct_book.specs.Rows.{higher, counters}
+
+-- the key of a report's session
+abbrev pub report_key : ReportFacts → Key
+report_key report = record { client = report.client; session = report.session }
+
+-- a Stop stops a session
+abbrev pub state_after : ReportKind → SessionState → SessionState
+state_after Start state = state
+state_after Stop state = Stopped
+state_after Interim state = state
+
+-- the first Stop gives the cause
+abbrev pub cause_after : ReportKind → SessionState → ℕ → ℕ → ℕ
+cause_after Start state old new = old
+cause_after Interim state old new = old
+cause_after Stop Live old new = new
+cause_after Stop Closed old new = new
+cause_after Stop Stopped old new = old
+
+-- the octets, or the others where there are none
+abbrev pub or_octets : List ℕ → List ℕ → List ℕ
+or_octets [] others = others
+or_octets (octet ∷ octets) others = octet ∷ octets
+
+-- the row of a session's first report
+abbrev pub first_row : ReportFacts → RowFacts
+first_row r = record {
+  client = r.client;
+  session = r.session;
+  account = r.user;
+  class = r.class;
+  input = r.input;
+  output = r.output;
+  seconds = r.seconds;
+  first = r.when;
+  last = r.when;
+  state = state_after r.kind Live;
+  cause = cause_after r.kind Live 0 r.cause;
+  calling = r.calling;
+  framed = r.framed;
+}
+
+-- the greater counters
+abbrev pub raised_counters : RowFacts → ReportFacts → ℕ × ℕ
+raised_counters row r = higher (counters r) (row.input, row.output)
+
+-- the row after a later report
+abbrev pub raised_row : RowFacts → ReportFacts → RowFacts
+raised_row row r = record {
+  client = row.client;
+  session = row.session;
+  account = row.account;
+  class = row.class;
+  input = (raised_counters row r).0;
+  output = (raised_counters row r).1;
+  seconds = max r.seconds row.seconds;
+  first = min r.when row.first;
+  last = max r.when row.last;
+  state = state_after r.kind row.state;
+  cause = cause_after r.kind row.state row.cause r.cause;
+  calling = or_octets row.calling r.calling;
+  framed = option_or row.framed r.framed;
+}
+
+-- the row after a report
+abbrev pub next_row : Option RowFacts → ReportFacts → RowFacts
+next_row None r = first_row r
+next_row (Some row) r = raised_row row r
+
+-- the price of a row's total
+abbrev pub charge_of_row : List Plan → RowFacts → ℕ
+charge_of_row plans row = price_under (plan_for plans row.class) (row.input + row.output)
+
+abbrev pub charge_before : List Plan → Option RowFacts → ℕ
+charge_before plans None = 0
+charge_before plans (Some row) = charge_of_row plans row

@@ -1,0 +1,65 @@
+-- What `record` tells, of a content that stood for a history before.
+use Rattle.std.specs.Prelude.{◌≡◌, ◌≢◌, ℕ, ℤ, List, ◌∷◌, Option, Some, None, option_map, Result, Ok, Err}
+use Rattle.acct_model.specs.declared.plan.Plan.{Plan}
+use Rattle.acct_model.specs.declared.entry.Entry.{Entry}
+use Rattle.acct_model.specs.declared.entry.Entry.TheVariants as entry
+use Rattle.acct_model.specs.Vouchers.{TopUpFacts}
+use Rattle.acct_model.specs.History.{session_of, reports, first_of, topup_of, balance_of, InRange, Admissible}
+use Rattle.acct_book.specs.declared.recording.Recorded.{Recorded}
+use Rattle.acct_book.specs.declared.recording.Recorded.TheVariants.{New, Repeat}
+use Rattle.acct_book.specs.declared.recording.RecordError.{RecordError}
+use Rattle.acct_book.specs.declared.recording.RecordError.TheVariants.{VoucherDiffers, BalanceLimit, Unavailable}
+use Rattle.acct_book.specs.Content.{Content}
+use Rattle.acct_book.specs.Stands.{Stands}
+
+-- no voucher with the entry's number is kept
+abbrev pub IsFresh : List Entry → Entry → Type 0
+IsFresh history (entry.Report report) = Unit {0}
+IsFresh history (entry.Restart restart) = Unit {0}
+IsFresh history (entry.TopUp topup) = topup_of history topup.voucher ≡ None
+
+-- the entry is a top-up whose number is kept with the same account and sum
+abbrev pub IsRepeated : List Entry → Entry → Type 0
+IsRepeated history (entry.Report report) = ⊥
+IsRepeated history (entry.Restart restart) = ⊥
+IsRepeated history (entry.TopUp topup) =
+    (kept : TopUpFacts) × (topup_of history topup.voucher ≡ Some kept) × (kept.account ≡ topup.account) × (kept.sum ≡ topup.sum)
+
+-- the entry is a top-up whose number is kept, by this top-up of another account or sum
+abbrev pub Differs : List Entry → Entry → TopUpFacts → Type 0
+Differs history (entry.Report report) kept = ⊥
+Differs history (entry.Restart restart) kept = ⊥
+Differs history (entry.TopUp topup) kept =
+    (topup_of history topup.voucher ≡ Some kept) × (kept.account ≡ topup.account → kept.sum ≢ topup.sum)
+
+-- whose balance the entry may change: of a report, the user of its session's first report; of a restart, nobody's
+abbrev pub account_of : List Entry → Entry → Option (List ℕ)
+account_of history (entry.Report report) = option_map (λ first. first.user) (first_of (reports (entry.Report report ∷ history) (session_of report)))
+account_of history (entry.Restart restart) = None
+account_of history (entry.TopUp topup) = Some topup.account
+
+-- the entry may be accepted and no voucher of it was kept, and the content stands for the history with it
+pub record IsNew (plans : List Plan) (history : List Entry) (next : Entry) (content : Content) : Type 0 where
+  pub admissible : Admissible plans history next
+  pub fresh : IsFresh history next
+  pub stands : Stands plans content (next ∷ history)
+
+-- no voucher of the entry was kept, and with it the balance of its account, now this one, would be out of range
+pub record IsOverLimit (plans : List Plan) (history : List Entry) (next : Entry) (balance : ℤ) : Type 0 where
+  pub fresh : IsFresh history next
+  pub account : List ℕ
+  pub changes : account_of history next ≡ Some account
+  pub carried : balance ≡ balance_of plans history account
+  pub out_of_range : InRange (balance_of plans (next ∷ history) account) → ⊥
+
+-- what each answer says
+abbrev pub Told : List Plan → List Entry → Entry → Content → Result Recorded RecordError → Type 0
+Told plans history next content (Ok New) = IsNew plans history next content
+Told plans history next content (Ok Repeat) = IsRepeated history next
+Told plans history next content (Err (VoucherDiffers kept)) = Differs history next kept
+Told plans history next content (Err (BalanceLimit balance)) = IsOverLimit plans history next balance
+Told plans history next content (Err Unavailable) = Unit {0}
+
+-- the entry may be accepted, and the content stands for the history with it
+abbrev pub MayAdd : List Plan → List Entry → Entry → Content → Type 0
+MayAdd plans history next content = Admissible plans history next × Stands plans content (next ∷ history)

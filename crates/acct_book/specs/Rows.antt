@@ -1,0 +1,120 @@
+-- The row of a session, as its history gives it: each field is a greatest, a least or a first.
+--
+-- A history is newest first, so the first report of a session stands deepest in it.
+use Rattle.std.specs.Prelude.{ℕ, ◌+◌, ◌==◌, nat_lt, min, Bool, true, false, ◌&&◌, ◌||◌, if◌then◌else◌, bytes_eq, List, [], ◌∷◌, Option, Some, None, map, is_some, option_map}
+use Rattle.std.specs.List.{filter}
+use Rattle.std.specs.Option.{option_and_then, option_map_or}
+use Rattle.acct_model.specs.declared.report.ReportKind.{ReportKind}
+use Rattle.acct_model.specs.declared.report.ReportKind.TheVariants.{Start, Stop, Interim}
+use Rattle.acct_model.specs.declared.entry.Entry.{Entry}
+use Rattle.acct_model.specs.declared.entry.Entry.TheVariants as entry
+use Rattle.acct_model.specs.Report.{ReportFacts}
+use Rattle.acct_model.specs.History.{SessionName, reports, first_of, largest}
+use Rattle.acct_book.specs.declared.key.Key.{Key}
+use Rattle.acct_book.specs.declared.row.SessionState.{SessionState}
+use Rattle.acct_book.specs.declared.row.SessionState.TheVariants.{Live, Closed, Stopped}
+use Rattle.acct_book.specs.Row.{RowFacts}
+
+-- the session that a key names
+abbrev pub name_of : Key → SessionName
+name_of key = record { client = key.client; session = key.session }
+
+-- ---- what is least and what is greatest
+
+-- the least number of a list that isn't empty
+abbrev pub smallest : List ℕ → ℕ
+smallest [] = 0
+smallest (n ∷ []) = n
+smallest (n ∷ m ∷ ns) = min n (smallest (m ∷ ns))
+
+-- input and output
+abbrev pub counters : ReportFacts → ℕ × ℕ
+counters report = (report.input, report.output)
+
+-- the first counters are above the second: by their sum, and then by the input
+abbrev pub exceeds : ℕ × ℕ → ℕ × ℕ → Bool
+exceeds a b = nat_lt (b.0 + b.1) (a.0 + a.1) || ((a.0 + a.1) == (b.0 + b.1) && nat_lt b.0 a.0)
+
+abbrev pub higher : ℕ × ℕ → ℕ × ℕ → ℕ × ℕ
+higher a b = if exceeds a b then a else b
+
+-- the greatest counters of the reports
+abbrev pub greatest : List ReportFacts → ℕ × ℕ
+greatest [] = (0, 0)
+greatest (report ∷ older) = higher (counters report) (greatest older)
+
+-- ---- the first report that says something
+
+abbrev pub first_that : (ReportFacts → Bool) → List ReportFacts → Option ReportFacts
+first_that test reports = first_of (filter test reports)
+
+abbrev pub is_stop : ReportKind → Bool
+is_stop Start = false
+is_stop Stop = true
+is_stop Interim = false
+
+abbrev pub has_octets : List ℕ → Bool
+has_octets [] = false
+has_octets (octet ∷ octets) = true
+
+-- the first Stop
+abbrev pub first_stop : List ReportFacts → Option ReportFacts
+first_stop reports = first_that (λ report. is_stop report.kind) reports
+
+-- the calling station of the first report that has one, else none
+abbrev pub calling_of : List ReportFacts → List ℕ
+calling_of reports = option_map_or (λ report. report.calling) (first_that (λ report. has_octets report.calling) reports) []
+
+-- the address of the first report that has one
+abbrev pub framed_of : List ReportFacts → Option (List ℕ)
+framed_of reports = option_and_then (λ report. report.framed) (first_that (λ report. is_some report.framed) reports)
+
+-- ---- whether a session has ended
+
+-- some restart of the session's client was accepted after some report of the session
+abbrev pub is_restarted : List Entry → Key → Bool
+is_restarted [] key = false
+is_restarted (entry.Report report ∷ older) key = is_restarted older key
+is_restarted (entry.Restart restart ∷ older) key =
+    (bytes_eq restart.client key.client && is_some (first_of (reports older (name_of key)))) || is_restarted older key
+is_restarted (entry.TopUp topup ∷ older) key = is_restarted older key
+
+-- what the first Stop and a restart make of a session
+abbrev pub state_of : Option ReportFacts → Bool → SessionState
+state_of (Some stop) restarted = Stopped
+state_of None true = Closed
+state_of None false = Live
+
+-- the cause of the first Stop, else 11 (NAS Reboot: RFC 2866, section 5.10) after a restart, else 0
+abbrev pub cause_of : Option ReportFacts → Bool → ℕ
+cause_of (Some stop) restarted = stop.cause
+cause_of None true = 11
+cause_of None false = 0
+
+-- ---- the row
+
+-- the row of a session by all its reports and the first of them
+abbrev pub row_from : Key → Bool → List ReportFacts → ReportFacts → RowFacts
+row_from key restarted all first = record {
+  client = key.client;
+  session = key.session;
+  account = first.user;
+  class = first.class;
+  input = (greatest all).0;
+  output = (greatest all).1;
+  seconds = largest (map (λ report. report.seconds) all);
+  first = smallest (map (λ report. report.when) all);
+  last = largest (map (λ report. report.when) all);
+  state = state_of (first_stop all) restarted;
+  cause = cause_of (first_stop all) restarted;
+  calling = calling_of all;
+  framed = framed_of all;
+}
+
+-- the row of the reports, if there is one
+abbrev pub row_of_reports : Key → Bool → List ReportFacts → Option RowFacts
+row_of_reports key restarted all = option_map (row_from key restarted all) (first_of all)
+
+-- the row of a session, if a report of it was accepted
+abbrev pub row_of : List Entry → Key → Option RowFacts
+row_of history key = row_of_reports key (is_restarted history key) (reports history (name_of key))

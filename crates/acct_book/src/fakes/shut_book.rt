@@ -1,0 +1,178 @@
+//! A book whose store shuts at a failed write.
+ghost use Rattle.std.specs.Prelude.{◌≡◌, false};
+ghost use Rattle.acct_book.specs.Memory.{content_of};
+
+use crate::book::{Book, Unavailable};
+use crate::key::Key;
+use crate::memory_book::MemBook;
+use crate::row::Row;
+use acct_model::TopUp;
+use std::alloc::Global;
+
+/// A book that is written twice, as a store writes its memory and then its disk. Where the second write fails it shuts: each later
+/// call is refused, and a crash may leave the content without the write or with it.
+#[derive(Drop)]
+pub struct ShutBook {
+    present: MemBook,
+    durable: MemBook,
+    writes_left: u64,
+    is_shut: bool,
+    ghost in_step: { is_shut ≡ false → content_of present ≡ content_of durable },
+}
+
+impl ShutBook {
+    ghost use Rattle.std.specs.Prelude.{◌⊎◌};
+    ghost use Rattle.acct_book.specs.Book.{Only};
+    ghost use Rattle.acct_book.specs.Content.{empty_content};
+
+    /// An empty book that shuts at the write after these.
+    pub fn new(alloc: Global, writes_left: u64) -> ShutBook
+        ensures content { ⟦<ShutBook as Book>⟧.content result ≡ empty_content }
+        ensures open { ⟦<ShutBook as Book>⟧.is_open result }
+        ensures writes { result.writes_left ≡ writes_left }
+    {
+        ShutBook {
+            present: MemBook::new(alloc),
+            durable: MemBook::new(alloc),
+            writes_left,
+            is_shut: false,
+        }
+    }
+}
+
+impl Book for ShutBook {
+    ghost use Rattle.std.specs.Prelude.{◌⊎◌};
+    ghost use Rattle.std.proofs.Common.{◌∙◌, inl, inr};
+
+    ghost content = { λ s. content_of s.durable };
+
+    ghost is_sound = { λ _. Unit {0} };
+
+    ghost is_open = { λ s. s.is_shut ≡ false };
+
+    ghost is_steady = { λ _. ⊥ };
+
+    ghost left = { λ s c. (c ≡ content_of s.durable) ⊎ (c ≡ content_of s.present) };
+
+    fn session(&mut self, key: &Key) -> Result<Option<Row>, Unavailable> {
+        if self.is_shut {
+            return Err(Unavailable);
+        }
+        self.durable.session(key)
+    }
+
+    fn balance(&mut self, account: &[u8]) -> Result<i64, Unavailable> {
+        if self.is_shut {
+            return Err(Unavailable);
+        }
+        self.durable.balance(account)
+    }
+
+    fn voucher(&mut self, number: &str) -> Result<Option<TopUp>, Unavailable> {
+        if self.is_shut {
+            return Err(Unavailable);
+        }
+        self.durable.voucher(number)
+    }
+
+    fn put_session(&mut self, row: &Row, balance: i64) -> Result<(), Unavailable> {
+        if self.is_shut {
+            return Err(Unavailable);
+        }
+        self.present.put_session(row, balance)?;
+        if self.writes_left == 0 {
+            self.is_shut = true;
+            return Err(Unavailable);
+        }
+        self.writes_left -= 1;
+        match self.durable.put_session(row, balance) {
+            Ok(()) => Ok(()),
+            Err(_) => {
+                self.is_shut = true;
+                Err(Unavailable)
+            }
+        }
+    }
+
+    fn put_topup(&mut self, topup: &TopUp, balance: i64) -> Result<(), Unavailable> {
+        if self.is_shut {
+            return Err(Unavailable);
+        }
+        self.present.put_topup(topup, balance)?;
+        if self.writes_left == 0 {
+            self.is_shut = true;
+            return Err(Unavailable);
+        }
+        self.writes_left -= 1;
+        match self.durable.put_topup(topup, balance) {
+            Ok(()) => Ok(()),
+            Err(_) => {
+                self.is_shut = true;
+                Err(Unavailable)
+            }
+        }
+    }
+
+    fn close_client(&mut self, client: &str) -> Result<(), Unavailable> {
+        if self.is_shut {
+            return Err(Unavailable);
+        }
+        self.present.close_client(client)?;
+        if self.writes_left == 0 {
+            self.is_shut = true;
+            return Err(Unavailable);
+        }
+        self.writes_left -= 1;
+        match self.durable.close_client(client) {
+            Ok(()) => Ok(()),
+            Err(_) => {
+                self.is_shut = true;
+                Err(Unavailable)
+            }
+        }
+    }
+
+    fn sessions_of(&mut self, account: &[u8]) -> Result<Vec<Row>, Unavailable> {
+        if self.is_shut {
+            return Err(Unavailable);
+        }
+        self.durable.sessions_of(account)
+    }
+
+    fn topups_of(&mut self, account: &[u8]) -> Result<Vec<TopUp>, Unavailable> {
+        if self.is_shut {
+            return Err(Unavailable);
+        }
+        self.durable.topups_of(account)
+    }
+
+    fn next_session(&mut self, after: Option<&Key>) -> Result<Option<Row>, Unavailable> {
+        if self.is_shut {
+            return Err(Unavailable);
+        }
+        self.durable.next_session(after)
+    }
+
+    fn next_account(
+        &mut self,
+        after: Option<&[u8]>,
+    ) -> Result<Option<(Vec<u8>, i64)>, Unavailable> {
+        if self.is_shut {
+            return Err(Unavailable);
+        }
+        self.durable.next_account(after)
+    }
+
+    fn next_topup(&mut self, after: Option<&str>) -> Result<Option<TopUp>, Unavailable> {
+        if self.is_shut {
+            return Err(Unavailable);
+        }
+        self.durable.next_topup(after)
+    }
+
+    ghost open_sound = { λ _ _. tt };
+
+    ghost own_keys = { λ s _. s.durable.own_keys };
+
+    ghost settled = { λ s told c h. elim h [ inl is ↦ is | inr is ↦ is ∙ s.in_step told ] };
+}

@@ -1,0 +1,112 @@
+//! The row of a session after one more report.
+ghost use Rattle.std.specs.Prelude.{◌≡◌, IfOk};
+ghost use Rattle.acct_book.specs.Next.{first_row, raised_row, raised_counters, state_after, cause_after, or_octets};
+
+use crate::row::{Row, SessionState};
+use acct_model::{Octets, Report, ReportKind};
+use std::alloc::{AllocError, Global};
+
+// The row of a session's first report.
+pub(crate) fn new_row(alloc: Global, report: &Report) -> Result<Row, AllocError>
+    ensures { IfOk result (λ row. row ≡ first_row report.now) }
+{
+    Ok(Row {
+        client: report.client.copy(alloc)?,
+        session: report.session.copy(alloc)?,
+        account: report.user.copy(alloc)?,
+        class: report.class.copy(alloc)?,
+        input: report.input,
+        output: report.output,
+        seconds: report.seconds,
+        first: report.when,
+        last: report.when,
+        state: later_state(report.kind, SessionState::Live),
+        cause: later_cause(report.kind, SessionState::Live, 0, report.cause),
+        calling: report.calling.copy(alloc)?,
+        framed: report.framed,
+    })
+}
+
+// The row after a later report.
+pub(crate) fn raise(alloc: Global, row: Row, report: &Report) -> Result<Row, AllocError>
+    ensures { IfOk result (λ raised. raised ≡ raised_row row report.now) }
+{
+    let (input, output) = later_counters(&row, report);
+    let Row {
+        client,
+        session,
+        account,
+        class,
+        input: _,
+        output: _,
+        seconds,
+        first,
+        last,
+        state,
+        cause,
+        calling,
+        framed,
+    } = row;
+    Ok(Row {
+        client,
+        session,
+        account,
+        class,
+        input,
+        output,
+        seconds: report.seconds.max(seconds),
+        first: report.when.min(first),
+        last: report.when.max(last),
+        state: later_state(report.kind, state),
+        cause: later_cause(report.kind, state, cause, report.cause),
+        calling: later_calling(alloc, calling, &report.calling)?,
+        framed: framed.or(report.framed),
+    })
+}
+
+// The greater counters, by their total and then by the input.
+fn later_counters(row: &Row, report: &Report) -> (u64, u64)
+    ensures { result ≡ raised_counters row.now report.now }
+{
+    let total = report.input + report.output;
+    let kept = row.input + row.output;
+    if total > kept || (total == kept && report.input > row.input) {
+        (report.input, report.output)
+    } else {
+        (row.input, row.output)
+    }
+}
+
+// A Stop stops a session, and nothing else changes its state.
+fn later_state(kind: ReportKind, state: SessionState) -> SessionState
+    ensures { result ≡ state_after kind state }
+{
+    match kind {
+        ReportKind::Start | ReportKind::Interim => state,
+        ReportKind::Stop => SessionState::Stopped,
+    }
+}
+
+// The first Stop gives the cause.
+fn later_cause(kind: ReportKind, state: SessionState, old: u32, new: u32) -> u32
+    ensures { result ≡ cause_after kind state old new }
+{
+    match kind {
+        ReportKind::Start | ReportKind::Interim => old,
+        ReportKind::Stop => match state {
+            SessionState::Live | SessionState::Closed => new,
+            SessionState::Stopped => old,
+        },
+    }
+}
+
+// The calling station that was told first.
+fn later_calling(alloc: Global, old: Octets, new: &Octets) -> Result<Octets, AllocError>
+    ensures { IfOk result (λ octets. octets ≡ or_octets old new.now) }
+{
+    if old.as_slice().is_empty() {
+        new.copy(alloc)
+    } else {
+        Ok(old)
+    }
+}

@@ -1,0 +1,245 @@
+//! Records one entry. `record` keeps these rules, for whatever keeps the book:
+//!
+//! 1. A report is charged to the account of its session's first report, by the plan of that report's class.
+//! 2. A report debits the price of the session's new greatest total less the price of the one before: a total that is no greater
+//!    debits nothing, and no report gives money back.
+//! 3. A report changes one row and one balance, both by one call of the book or neither.
+//! 4. A voucher is credited once. A number that is kept with the same account and sum is a repeat and changes nothing, with another
+//!    account or sum it is refused.
+//! 5. A restart closes the live sessions of its client alone and moves no money. An ended session never opens again.
+//! 6. A balance that would leave its range is refused, whoever else has what balance.
+//! 7. Every growth and every test comes before the one call that writes, so a refusal changes nothing. Only that call's whole effect
+//!    can a crash leave besides.
+ghost use Rattle.std.specs.Prelude.{◌≡◌, ◌≢◌, ◌⊎◌, ◌+◌, ◌^◌, ◌<◌, List, Ok, Err, IfOk, IfNone, IfSome, pos, ◌+ℤ◌, ◌-ℤ◌};
+ghost use Rattle.acct_model.specs.declared.entry.Entry.{Entry};
+ghost use Rattle.acct_model.specs.History.{InRange};
+ghost use Rattle.acct_book.specs.Next.{report_key, next_row, charge_of_row, charge_before};
+ghost use Rattle.acct_book.specs.Stands.{Stands};
+ghost use Rattle.acct_book.specs.Outcome.{Told, MayAdd};
+ghost use Rattle.acct_book.specs.Content.{Content};
+ghost use Rattle.acct_book.specs.Book.{Only};
+
+use crate::book::{Book, Unavailable};
+use crate::key::Key;
+use crate::raising::{new_row, raise};
+use crate::row::Row;
+use acct_model::{Entry, Plans, Report, Restart, TopUp, price};
+use std::alloc::{AllocError, Global};
+use thiserror::Error;
+
+/// A balance lies within this and its opposite.
+const GREATEST_BALANCE: i128 = 1 << 62;
+
+/// What became of an entry that was accepted.
+#[derive(Clone, Copy, PartialEq, Eq, Debug)]
+pub enum Recorded {
+    /// It was added to the history.
+    New,
+    /// It is a top-up whose number is kept with the same account and sum.
+    Repeat,
+}
+
+/// Why an entry was refused. The book has changed in nothing.
+#[derive(Debug, Drop, Error)]
+pub enum RecordError {
+    /// The voucher's number is kept, by this top-up of another account or sum.
+    #[error("the voucher is kept with another account or sum")]
+    VoucherDiffers(TopUp),
+    /// The account's balance, this one, would leave its range.
+    #[error("the balance would leave its range")]
+    BalanceLimit(i64),
+    /// The store or memory refused. It may stand in place of any other answer.
+    #[error("the book is unavailable")]
+    Unavailable,
+}
+
+impl From<AllocError> for RecordError {
+    ghost use Rattle.std.specs.Prelude.{◌≡◌};
+    ghost use Rattle.acct_book.specs.declared.recording.RecordError.TheVariants.{Unavailable};
+
+    ghost from_gives = { λ _ e. e ≡ Unavailable };
+
+    fn from(_error: AllocError) -> RecordError {
+        RecordError::Unavailable
+    }
+}
+
+impl From<Unavailable> for RecordError {
+    ghost use Rattle.std.specs.Prelude.{◌≡◌};
+    ghost use Rattle.acct_book.specs.declared.recording.RecordError.TheVariants.{Unavailable};
+
+    ghost from_gives = { λ _ e. e ≡ Unavailable };
+
+    fn from(_error: Unavailable) -> RecordError {
+        RecordError::Unavailable
+    }
+}
+
+/// Records one entry in a book whose content stands for a history under these plans. `New` says that the content then stands for
+/// the history with the entry; after each other answer the content of a book that is still open is as before.
+///
+/// # Errors
+///
+/// `VoucherDiffers` and `BalanceLimit` as their names say; `Unavailable` may come in place of any other answer.
+pub fn record<B: Book>(
+    alloc: Global,
+    book: &mut B,
+    plans: &Plans,
+    entry: &Entry,
+) -> Result<Recorded, RecordError>
+    ensures was_sound { B.is_sound book.new → B.is_sound book.old }
+    ensures was_open { B.is_open book.new → B.is_open book.old }
+    ensures keeps_steady { B.is_steady book.old → B.is_steady book.new }
+    ensures answers { B.is_sound book.new → result ≢ Err RecordError.Unavailable → B.is_open book.new }
+    ensures unchanged { B.is_open book.new → result ≢ Ok Recorded.New → B.content book.new ≡ B.content book.old }
+    ensures told { B.is_sound book.new → (history : List Entry) → (B.is_open book.old → Stands plans.now (B.content book.old) history)
+        → Told plans.now history entry.now (B.content book.new) result }
+    ensures left { B.is_sound book.new → (history : List Entry) → (B.is_open book.old → Stands plans.now (B.content book.old) history)
+        → (c : Content) → B.left book.new c → B.left book.old c ⊎ (B.is_open book.old × MayAdd plans.now history entry.now c) }
+    ensures settled { B.is_sound book.new → result ≡ Ok Recorded.New → B.content book.new ≢ B.content book.old
+        → Only (B.content book.new) (B.left book.new) }
+{
+    match entry {
+        Entry::Report(report) => record_report(alloc, book, plans, report),
+        Entry::Restart(restart) => record_restart(book, plans, restart),
+        Entry::TopUp(topup) => record_topup(book, plans, topup),
+    }
+}
+
+fn record_report<B: Book>(
+    alloc: Global,
+    book: &mut B,
+    plans: &Plans,
+    report: &Report,
+) -> Result<Recorded, RecordError>
+    ensures was_sound { B.is_sound book.new → B.is_sound book.old }
+    ensures was_open { B.is_open book.new → B.is_open book.old }
+    ensures keeps_steady { B.is_steady book.old → B.is_steady book.new }
+    ensures answers { B.is_sound book.new → result ≢ Err RecordError.Unavailable → B.is_open book.new }
+    ensures unchanged { B.is_open book.new → result ≢ Ok Recorded.New → B.content book.new ≡ B.content book.old }
+    ensures told { B.is_sound book.new → (history : List Entry) → (B.is_open book.old → Stands plans.now (B.content book.old) history)
+        → Told plans.now history (Entry.Report report.now) (B.content book.new) result }
+    ensures left { B.is_sound book.new → (history : List Entry) → (B.is_open book.old → Stands plans.now (B.content book.old) history)
+        → (c : Content) → B.left book.new c → B.left book.old c ⊎ (B.is_open book.old × MayAdd plans.now history (Entry.Report report.now) c) }
+    ensures settled { B.is_sound book.new → result ≡ Ok Recorded.New → B.content book.new ≢ B.content book.old
+        → Only (B.content book.new) (B.left book.new) }
+{
+    let key = key_for(alloc, report)?;
+    let found = book.session(&key)?;
+    let (row, before) = advance(alloc, plans, found, report)?;
+    let after = charge(plans, &row);
+    let balance = book.balance(row.account.as_slice())?;
+    let new = match moved(balance, before, after) {
+        None => return Err(RecordError::BalanceLimit(balance)),
+        Some(new) => new,
+    };
+    book.put_session(&row, new)?;
+    Ok(Recorded::New)
+}
+
+// The key of a report's session.
+fn key_for(alloc: Global, report: &Report) -> Result<Key, AllocError>
+    ensures { IfOk result (λ key. key ≡ report_key report.now) }
+{
+    Ok(Key {
+        client: report.client.copy(alloc)?,
+        session: report.session.copy(alloc)?,
+    })
+}
+
+// The row after a report, and the price before it.
+fn advance(
+    alloc: Global,
+    plans: &Plans,
+    found: Option<Row>,
+    report: &Report,
+) -> Result<(Row, u128), AllocError>
+    ensures row { IfOk result (λ p. p.0 ≡ next_row found report.now) }
+    ensures before { IfOk result (λ p. p.1 ≡ charge_before plans.now found) }
+    ensures small { IfOk result (λ p. p.1 < 2 ^ 93) }
+{
+    match found {
+        None => Ok((new_row(alloc, report)?, 0)),
+        Some(row) => {
+            let before = charge(plans, &row);
+            Ok((raise(alloc, row, report)?, before))
+        }
+    }
+}
+
+// The price of a row's total.
+fn charge(plans: &Plans, row: &Row) -> u128
+    ensures exact { result ≡ charge_of_row plans.now row.now }
+    ensures small { result < 2 ^ 93 }
+{
+    let plan = plans.plan_of(row.class.as_slice());
+    price(plan, row.input + row.output)
+}
+
+// The balance with one price back and another debited, where it may be kept.
+fn moved(balance: i64, back: u128, debit: u128) -> Option<i64>
+    requires back { back < 2 ^ 93 }
+    requires debit { debit < 2 ^ 93 }
+    ensures none { IfNone result (InRange ((balance +ℤ pos back) -ℤ pos debit) → ⊥) }
+    ensures some { IfSome result (λ m. m ≡ (balance +ℤ pos back) -ℤ pos debit) }
+    ensures fits { IfSome result InRange }
+{
+    let moved = i128::from(balance) + back as i128 - debit as i128;
+    if moved < -GREATEST_BALANCE || moved > GREATEST_BALANCE {
+        return None;
+    }
+    Some(moved as i64)
+}
+
+fn record_restart<B: Book>(
+    book: &mut B,
+    plans: &Plans,
+    restart: &Restart,
+) -> Result<Recorded, RecordError>
+    ensures was_sound { B.is_sound book.new → B.is_sound book.old }
+    ensures was_open { B.is_open book.new → B.is_open book.old }
+    ensures keeps_steady { B.is_steady book.old → B.is_steady book.new }
+    ensures answers { B.is_sound book.new → result ≢ Err RecordError.Unavailable → B.is_open book.new }
+    ensures unchanged { B.is_open book.new → result ≢ Ok Recorded.New → B.content book.new ≡ B.content book.old }
+    ensures told { B.is_sound book.new → (history : List Entry) → (B.is_open book.old → Stands plans.now (B.content book.old) history)
+        → Told plans.now history (Entry.Restart restart.now) (B.content book.new) result }
+    ensures left { B.is_sound book.new → (history : List Entry) → (B.is_open book.old → Stands plans.now (B.content book.old) history)
+        → (c : Content) → B.left book.new c → B.left book.old c ⊎ (B.is_open book.old × MayAdd plans.now history (Entry.Restart restart.now) c) }
+    ensures settled { B.is_sound book.new → result ≡ Ok Recorded.New → B.content book.new ≢ B.content book.old
+        → Only (B.content book.new) (B.left book.new) }
+{
+    book.close_client(restart.client.as_str())?;
+    Ok(Recorded::New)
+}
+
+fn record_topup<B: Book>(
+    book: &mut B,
+    plans: &Plans,
+    topup: &TopUp,
+) -> Result<Recorded, RecordError>
+    ensures was_sound { B.is_sound book.new → B.is_sound book.old }
+    ensures was_open { B.is_open book.new → B.is_open book.old }
+    ensures keeps_steady { B.is_steady book.old → B.is_steady book.new }
+    ensures answers { B.is_sound book.new → result ≢ Err RecordError.Unavailable → B.is_open book.new }
+    ensures unchanged { B.is_open book.new → result ≢ Ok Recorded.New → B.content book.new ≡ B.content book.old }
+    ensures told { B.is_sound book.new → (history : List Entry) → (B.is_open book.old → Stands plans.now (B.content book.old) history)
+        → Told plans.now history (Entry.TopUp topup.now) (B.content book.new) result }
+    ensures left { B.is_sound book.new → (history : List Entry) → (B.is_open book.old → Stands plans.now (B.content book.old) history)
+        → (c : Content) → B.left book.new c → B.left book.old c ⊎ (B.is_open book.old × MayAdd plans.now history (Entry.TopUp topup.now) c) }
+    ensures settled { B.is_sound book.new → result ≡ Ok Recorded.New → B.content book.new ≢ B.content book.old
+        → Only (B.content book.new) (B.left book.new) }
+{
+    if let Some(kept) = book.voucher(topup.voucher.as_str())? {
+        if kept.account == topup.account && kept.sum == topup.sum {
+            return Ok(Recorded::Repeat);
+        }
+        return Err(RecordError::VoucherDiffers(kept));
+    }
+    let balance = book.balance(topup.account.as_slice())?;
+    let new = match moved(balance, u128::from(topup.sum), 0) {
+        None => return Err(RecordError::BalanceLimit(balance)),
+        Some(new) => new,
+    };
+    book.put_topup(topup, new)?;
+    Ok(Recorded::New)
+}
