@@ -1,8 +1,6 @@
-pub mod Afresh
 pub mod CommandLine
 pub mod Faults
 pub mod Feed
-pub mod FirstPath
 pub mod Hexadecimal
 pub mod Line
 pub mod Lines

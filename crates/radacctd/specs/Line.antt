@@ -5,6 +5,8 @@ use Rattle.std.specs.List.{list_all, list_any}
 use Rattle.std.specs.Net.Grammar.{IsDotted}
 use Rattle.std.specs.Str.Parse.{digits_value}
 use Rattle.percent_encoding.specs.Percent.{percent_decode}
+use Rattle.acct_model.specs.Vouchers.{TopUpFacts}
+use Rattle.acct_book.specs.declared.key.Key.{Key}
 use Rattle.radacctd.specs.Hexadecimal.{octets_of}
 use Rattle.radacctd.specs.declared.line.Line.{Line}
 use Rattle.radacctd.specs.declared.line.Line.TheVariants as line
@@ -29,9 +31,9 @@ number_up_to most word = at_most most (number_of word)
 abbrev pub Lacks : ℕ → List ℕ → Type 0
 Lacks c xs = (k : ℕ) → k < length xs → slice_index xs k ≢ c
 
--- the account that a word shows: `-` is the empty one
-abbrev pub account_of : List ℕ → Option (List ℕ)
-account_of word =
+-- the octets of the account or session id that a word shows: `-` shows none
+abbrev pub octets_shown : List ℕ → Option (List ℕ)
+octets_shown word =
     if length word == 0 || list_any (λ octet. octet == 32) word then None
     else if bytes_eq word (codes "-") then Some []
     else Some (percent_decode word)
@@ -60,16 +62,37 @@ pub record SpellsPacket (text : List ℕ) (moment : ℕ) (source octets : List �
 pub record SpellsBalance (text account : List ℕ) : Type 0 where
   pub account_word : List ℕ
   pub spelled : text ≡ codes "balance " ++ account_word
-  pub account_is : account_of account_word ≡ Some account
+  pub account_is : octets_shown account_word ≡ Some account
+
+-- `topup MOMENT VOUCHER ACCOUNT SUM`
+pub record SpellsTopUp (text : List ℕ) (topup : TopUpFacts) : Type 0 where
+  pub moment_word : List ℕ
+  pub account_word : List ℕ
+  pub sum_word : List ℕ
+  pub spelled : text ≡ codes "topup " ++ moment_word ++ codes " " ++ topup.voucher ++ codes " " ++ account_word ++ codes " " ++ sum_word
+  pub moment_is : number_up_to (2 ^ 53 - 1) moment_word ≡ Some topup.when
+  pub account_is : octets_shown account_word ≡ Some topup.account
+  pub sum_is : number_of sum_word ≡ Some topup.sum
+
+-- `session ap1 SESSION`
+pub record SpellsSession (text : List ℕ) (key : Key) : Type 0 where
+  pub session_word : List ℕ
+  pub spelled : text ≡ codes "session ap1 " ++ session_word
+  pub client_is : key.client ≡ codes "ap1"
+  pub session_is : octets_shown session_word ≡ Some key.session
 
 -- the text of a line
 abbrev pub Spells : List ℕ → Line → Type 0
 Spells text (line.Signed moment identifier octets) = SpellsSigned text moment identifier octets
 Spells text (line.Packet moment source octets) = SpellsPacket text moment source octets
 Spells text (line.Balance account) = SpellsBalance text account
+Spells text (line.TopUp topup) = SpellsTopUp text topup
+Spells text (line.Session key) = SpellsSession text key
 
 -- its moment, if it has one, is below 2^53
 abbrev pub HasMoment : Line → Type 0
 HasMoment (line.Signed moment identifier octets) = moment < 2 ^ 53
 HasMoment (line.Packet moment source octets) = moment < 2 ^ 53
 HasMoment (line.Balance account) = ⊤
+HasMoment (line.TopUp topup) = ⊤
+HasMoment (line.Session key) = ⊤

@@ -1,6 +1,7 @@
 -- The sample site.
 use Rattle.std.specs.Prelude.{List, [], ◌∷◌, codes}
 use Rattle.acct_model.specs.declared.plan.Plan.{Plan}
+use Rattle.acct_wire.specs.declared.client.Client.{Client}
 
 abbrev pub gold : Plan
 gold = record { class = codes "gold"; block = 1048576; unit = 10 }
@@ -10,3 +11,9 @@ default_plan = record { class = codes "default"; block = 1000000; unit = 5 }
 
 abbrev pub sample_plans : List Plan
 sample_plans = gold ∷ default_plan ∷ []
+
+abbrev pub ap1 : Client
+ap1 = record { name = codes "ap1"; address = 10 ∷ 0 ∷ 0 ∷ 1 ∷ []; secret = codes "xyzzy5461" }
+
+abbrev pub sample_clients : List Client
+sample_clients = ap1 ∷ []

@@ -1,30 +1,28 @@
-//! `feed`: a script of packets and questions, answered over a book in memory at the sample site.
+//! `feed`: a script of packets, vouchers and questions, answered over a book in memory at the sample site.
 //!
 //! 1. The whole input is read before its first line is answered.
 //! 2. A line ends at octet 10 or with the input; an empty line is passed over.
 //! 3. A line that isn't UTF-8 or can't be read is a bad line. It is answered so, and the run goes on.
 //! 4. Want of memory ends the run, and so does a writer that fails.
-ghost use Rattle.std.specs.Prelude.{◌^◌, ◌<◌, ◌≤◌, length, reverse};
-ghost use Rattle.acct_model.specs.History.{AreInRange};
+ghost use Rattle.std.specs.Prelude.{◌^◌, ◌<◌, ◌≤◌, length};
 ghost use Rattle.radacctd.specs.Feed.{IsStatus};
-ghost use Rattle.radacctd.specs.FirstPath.{ReplyFits};
 ghost use Rattle.radacctd.specs.Line.{HasMoment};
 
-use crate::first_path::{Took, balance_afresh, take};
 use crate::hexadecimal::hex_of;
 use crate::input::{InputFault, read_input};
 use crate::line::{Line, LineFault, read_line};
 use crate::lines::Lines;
 use crate::sample_site;
-use acct_model::{Entry, NoMemory, Plans, show};
+use crate::sample_site::Site;
+use acct_book::{Book, Key, MemBook, RecordError, Recorded, Row, record};
+use acct_model::{Entry, NoMemory, Plans, TopUp, price, show};
+use acct_wire::{Datagram, Outcome, Reason, answer};
 use radius_codec::sign_request;
 use std::alloc::{AllocError, Global};
 use std::io::{Read, Write};
 use std::{io, str};
 use thiserror::Error;
 
-/// The reason that drops a datagram of no client.
-const UNKNOWN_CLIENT: u8 = 1;
 /// The octets of a packet before its attributes (RFC 2866, section 3).
 const HEAD: usize = 20;
 
@@ -98,8 +96,8 @@ pub fn run_feed<R: Read + Drop, W: Write + Drop>(alloc: Global, mut reader: R, m
 fn answer_all<W: Write>(alloc: Global, input: &[u8], writer: &mut W) -> u8
     ensures { IsStatus result }
 {
-    let answered = match sample_site::plans(alloc) {
-        Ok(plans) => answer_lines(alloc, &plans, input, writer),
+    let answered = match Site::sample(alloc) {
+        Ok(site) => answer_lines(alloc, &site, input, writer),
         Err(_) => Err(Stop::NoMemory),
     };
     match answered {
@@ -124,14 +122,14 @@ fn end<W: Write>(writer: &mut W, text: &str, status: u8) -> u8
 // Answers the lines, and says whether each was good.
 fn answer_lines<W: Write>(
     alloc: Global,
-    plans: &Plans,
+    site: &Site,
     input: &[u8],
     writer: &mut W,
 ) -> Result<bool, Stop> {
-    let mut list = Vec::new(alloc);
+    let mut book = MemBook::new(alloc);
     let mut are_good = true;
     for line in Lines::new(input) {
-        let is_good = answer_line(alloc, &mut list, plans, line, writer)?;
+        let is_good = answer_line(alloc, site, &mut book, line, writer)?;
         are_good = are_good && is_good;
     }
     Ok(are_good)
@@ -140,20 +138,17 @@ fn answer_lines<W: Write>(
 // Answers a line, and says whether it was good.
 fn answer_line<W: Write>(
     alloc: Global,
-    list: &mut Vec<Entry>,
-    plans: &Plans,
+    site: &Site,
+    book: &mut MemBook,
     octets: &[u8],
     writer: &mut W,
-) -> Result<bool, Stop>
-    requires { AreInRange plans.now (reverse list.old.items) }
-    ensures { AreInRange plans.now (reverse list.new.items) }
-{
+) -> Result<bool, Stop> {
     let Ok(text) = str::from_utf8(octets) else {
         return bad_line(writer);
     };
     match read_line(alloc, text) {
         Ok(None) => Ok(true),
-        Ok(Some(line)) => answer(alloc, list, plans, &line, writer),
+        Ok(Some(line)) => answer_good_line(alloc, site, book, line, writer),
         Err(LineFault::Bad) => bad_line(writer),
         Err(LineFault::NoMemory) => Err(Stop::NoMemory),
     }
@@ -164,71 +159,76 @@ fn bad_line<W: Write>(writer: &mut W) -> Result<bool, Stop> {
     Ok(false)
 }
 
-// Answers what a line asks for, and says whether it was a good line.
-fn answer<W: Write>(
+// Answers what a line asks for, and says whether it was a good line: attributes may be too long to be signed.
+fn answer_good_line<W: Write>(
     alloc: Global,
-    list: &mut Vec<Entry>,
-    plans: &Plans,
-    line: &Line,
+    site: &Site,
+    book: &mut MemBook,
+    line: Line,
     writer: &mut W,
 ) -> Result<bool, Stop>
-    requires moment { HasMoment line.now }
-    requires in_range { AreInRange plans.now (reverse list.old.items) }
-    ensures { AreInRange plans.now (reverse list.new.items) }
+    requires { HasMoment line }
 {
     match line {
         Line::Signed {
             moment,
             identifier,
             octets,
-        } => answer_signed(
-            alloc,
-            list,
-            plans,
-            *moment,
-            *identifier,
-            octets.as_slice(),
-            writer,
-        ),
+        } => {
+            let octets = octets.as_slice();
+            return answer_signed(alloc, site, book, moment, identifier, octets, writer);
+        }
         Line::Packet {
             moment,
             source,
             octets,
-        } => answer_packet(
-            alloc,
-            list,
-            plans,
-            *moment,
-            *source,
-            octets.as_slice(),
-            writer,
-        ),
-        Line::Balance { account } => print_balance(alloc, list, plans, account.as_slice(), writer),
+        } => {
+            let datagram = Datagram {
+                source,
+                bytes: octets.as_slice(),
+                moment,
+            };
+            answer_packet(alloc, site, book, &datagram, writer)?;
+        }
+        Line::Balance { account } => print_balance(alloc, book, account.as_slice(), writer)?,
+        Line::TopUp { topup } => record_topup(alloc, &site.plans, book, topup, writer)?,
+        Line::Session { key } => print_session(alloc, &site.plans, book, &key, writer)?,
     }
+    Ok(true)
 }
 
 // Signs the attributes' octets as the client does, and answers the request.
 fn answer_signed<W: Write>(
     alloc: Global,
-    list: &mut Vec<Entry>,
-    plans: &Plans,
+    site: &Site,
+    book: &mut MemBook,
     moment: u64,
     identifier: u8,
     octets: &[u8],
     writer: &mut W,
 ) -> Result<bool, Stop>
-    requires moment { moment < 2 ^ 53 }
-    requires in_range { AreInRange plans.now (reverse list.old.items) }
-    ensures { AreInRange plans.now (reverse list.new.items) }
+    requires { moment < 2 ^ 53 }
 {
     let mut request = [0; 4096];
     let Ok(size) = sign_request(identifier, octets, sample_site::SECRET, &mut request) else {
         return bad_line(writer);
     };
+    let datagram = Datagram {
+        source: sample_site::ADDRESS,
+        bytes: &request[..size],
+        moment,
+    };
     let mut reply = [0; 4096];
-    match take_from_client(alloc, list, plans, &request[..size], moment, &mut reply) {
-        Took::Reply(size) => print_parted_reply(alloc, &reply[..size], writer)?,
-        Took::Drop(reason) => print_drop(reason, writer)?,
+    match answer(
+        alloc,
+        &site.clients,
+        &site.plans,
+        book,
+        &datagram,
+        &mut reply,
+    ) {
+        Outcome::Reply(size) => print_parted_reply(alloc, &reply[..size], writer)?,
+        Outcome::Drop(reason) => print_drop(reason, writer)?,
     }
     Ok(true)
 }
@@ -236,50 +236,28 @@ fn answer_signed<W: Write>(
 // Answers a datagram as it came.
 fn answer_packet<W: Write>(
     alloc: Global,
-    list: &mut Vec<Entry>,
-    plans: &Plans,
-    moment: u64,
-    source: [u8; 4],
-    octets: &[u8],
+    site: &Site,
+    book: &mut MemBook,
+    datagram: &Datagram<'_>,
     writer: &mut W,
-) -> Result<bool, Stop>
-    requires moment { moment < 2 ^ 53 }
-    requires in_range { AreInRange plans.now (reverse list.old.items) }
-    ensures { AreInRange plans.now (reverse list.new.items) }
-{
-    if source != sample_site::ADDRESS {
-        print_drop(UNKNOWN_CLIENT, writer)?;
-        return Ok(true);
-    }
+) -> Result<(), Stop> {
     let mut reply = [0; 4096];
-    match take_from_client(alloc, list, plans, octets, moment, &mut reply) {
-        Took::Reply(size) => print_reply(alloc, &reply[..size], writer)?,
-        Took::Drop(reason) => print_drop(reason, writer)?,
+    match answer(
+        alloc,
+        &site.clients,
+        &site.plans,
+        book,
+        datagram,
+        &mut reply,
+    ) {
+        Outcome::Reply(size) => print_reply(alloc, &reply[..size], writer),
+        Outcome::Drop(reason) => print_drop(reason, writer),
     }
-    Ok(true)
 }
 
-// Takes a datagram of the sample client.
-fn take_from_client(
-    alloc: Global,
-    list: &mut Vec<Entry>,
-    plans: &Plans,
-    datagram: &[u8],
-    moment: u64,
-    reply: &mut [u8; 4096],
-) -> Took
-    requires moment { moment < 2 ^ 53 }
-    requires in_range { AreInRange plans.now (reverse list.old.items) }
-    ensures still_in_range { AreInRange plans.now (reverse list.new.items) }
-    ensures fits { ReplyFits result }
-{
-    let client = sample_site::CLIENT;
-    let secret = sample_site::SECRET;
-    take(alloc, list, plans, client, secret, datagram, moment, reply)
-}
-
-fn print_drop<W: Write>(reason: u8, writer: &mut W) -> Result<(), Stop> {
-    writeln!(writer, "drop {reason}")?;
+fn print_drop<W: Write>(reason: Reason, writer: &mut W) -> Result<(), Stop> {
+    let number = reason as u8;
+    writeln!(writer, "drop {number}")?;
     Ok(())
 }
 
@@ -305,19 +283,81 @@ fn print_parted_reply<W: Write>(alloc: Global, reply: &[u8], writer: &mut W) -> 
 
 fn print_balance<W: Write>(
     alloc: Global,
-    list: &[Entry],
-    plans: &Plans,
+    book: &mut MemBook,
     account: &[u8],
     writer: &mut W,
-) -> Result<bool, Stop>
-    requires { AreInRange plans.now (reverse list.now) }
-{
-    let balance = balance_afresh(list, plans, account);
-    let shown = show(alloc, account)?;
-    if shown.is_empty() {
-        writeln!(writer, "balance - {balance}")?;
-    } else {
-        writeln!(writer, "balance {shown} {balance}")?;
+) -> Result<(), Stop> {
+    match book.balance(account) {
+        Ok(balance) => {
+            let account = shown(alloc, account)?;
+            writeln!(writer, "balance {account} {balance}")?;
+        }
+        Err(_) => writeln!(writer, "unavailable")?,
     }
-    Ok(true)
+    Ok(())
+}
+
+// Credits a voucher, and prints what became of it.
+fn record_topup<W: Write>(
+    alloc: Global,
+    plans: &Plans,
+    book: &mut MemBook,
+    topup: TopUp,
+    writer: &mut W,
+) -> Result<(), Stop> {
+    let text = match record(alloc, book, plans, &Entry::TopUp(topup)) {
+        Ok(Recorded::New) => "new",
+        Ok(Recorded::Repeat) => "repeat",
+        Err(RecordError::VoucherDiffers(_)) => "differs",
+        Err(RecordError::BalanceLimit(_)) => "limit",
+        Err(RecordError::Unavailable) => "unavailable",
+    };
+    writeln!(writer, "{text}")?;
+    Ok(())
+}
+
+fn print_session<W: Write>(
+    alloc: Global,
+    plans: &Plans,
+    book: &mut MemBook,
+    key: &Key,
+    writer: &mut W,
+) -> Result<(), Stop> {
+    match book.session(key) {
+        Ok(Some(row)) => print_row(alloc, plans, &row, writer)?,
+        Ok(None) => writeln!(writer, "no session")?,
+        Err(_) => writeln!(writer, "unavailable")?,
+    }
+    Ok(())
+}
+
+fn print_row<W: Write>(
+    alloc: Global,
+    plans: &Plans,
+    row: &Row,
+    writer: &mut W,
+) -> Result<(), Stop> {
+    let client = row.client.as_str();
+    let session = shown(alloc, row.session.as_slice())?;
+    let account = shown(alloc, row.account.as_slice())?;
+    let class = shown(alloc, row.class.as_slice())?;
+    let charged = price(plans.plan_of(row.class.as_slice()), row.input + row.output);
+    let Row {
+        input,
+        output,
+        state,
+        cause,
+        ..
+    } = row;
+    write!(writer, "session {client} {session} {account} {class} ")?;
+    writeln!(writer, "{input} {output} {charged} {state} {cause}")?;
+    Ok(())
+}
+
+// Octets as `show` shows them, and `-` for none.
+fn shown(alloc: Global, octets: &[u8]) -> Result<String, Stop> {
+    if octets.is_empty() {
+        return Ok(String::from_str(alloc, "-")?);
+    }
+    Ok(show(alloc, octets)?)
 }

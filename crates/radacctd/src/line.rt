@@ -1,18 +1,19 @@
 //! The lines that `feed` reads.
 //!
 //! The words of a line are parted by one space. A number is 1 to 20 decimal digits, octets are hexadecimal digits or `-`, and an
-//! account is shown as `acct_model::show` shows it, `-` where it is empty.
-ghost use Rattle.std.specs.Prelude.{◌≡◌, ◌≤◌, ℕ, List, [], ◌++◌, codes, None, Some, IfOk, IfErr, IfSome, IfNone, MatchOption};
+//! account or a session id is shown as `acct_model::show` shows it, `-` where it is empty.
+ghost use Rattle.std.specs.Prelude.{◌≡◌, ◌≤◌, ℕ, List, [], ◌++◌, codes, None, Some, IfOk, IfErr, IfSome, IfNone, IsTrue, ◌↔◌, MatchOption};
 ghost use Rattle.std.specs.Char.{is_ascii_digit};
 ghost use Rattle.std.specs.List.{list_all};
 ghost use Rattle.std.specs.Net.Grammar.{IsDotted};
-ghost use Rattle.radacctd.specs.Line.{account_of as account_in, number_of as number_in, number_up_to as number_in_bounds, HasMoment, Lacks, Spells};
+ghost use Rattle.radacctd.specs.Line.{octets_shown as octets_in, number_of as number_in, number_up_to as number_in_bounds, HasMoment, Lacks, Spells};
 ghost use Rattle.radacctd.specs.declared.line.LineFault.TheVariants.{Bad as bad};
 
 use crate::hexadecimal::{HexFault, octets_of};
 use crate::sample_site;
-use acct_model::{NoMemory, Octets, unshow};
-use std::alloc::Global;
+use acct_book::Key;
+use acct_model::{NoMemory, Octets, Text, TopUp, TopUpError, unshow};
+use std::alloc::{AllocError, Global};
 use std::net::Ipv4Addr;
 use thiserror::Error;
 
@@ -47,6 +48,16 @@ pub enum Line {
         /// The account.
         account: Octets,
     },
+    /// To credit a voucher.
+    TopUp {
+        /// The voucher, its account and its sum.
+        topup: TopUp,
+    },
+    /// To tell the row of a session of the sample client.
+    Session {
+        /// The session's key.
+        key: Key,
+    },
 }
 
 /// Why a line can't be read.
@@ -70,6 +81,26 @@ impl From<HexFault> for LineFault {
         match fault {
             HexFault::Bad => LineFault::Bad,
             HexFault::NoMemory => LineFault::NoMemory,
+        }
+    }
+}
+
+impl From<AllocError> for LineFault {
+    ghost use Rattle.std.specs.Prelude.{◌≡◌};
+    ghost use Rattle.radacctd.specs.declared.line.LineFault.TheVariants.{NoMemory};
+
+    ghost from_gives = { λ _ line. line ≡ NoMemory };
+
+    fn from(_fault: AllocError) -> LineFault {
+        LineFault::NoMemory
+    }
+}
+
+impl From<TopUpError> for LineFault {
+    fn from(fault: TopUpError) -> LineFault {
+        match fault {
+            TopUpError::Memory => LineFault::NoMemory,
+            TopUpError::BadVoucher | TopUpError::BadAccount | TopUpError::BadSum => LineFault::Bad,
         }
     }
 }
@@ -102,6 +133,8 @@ pub fn read_line(alloc: Global, text: &str) -> Result<Option<Line>, LineFault>
         "signed" => read_signed(alloc, words)?,
         "packet" => read_packet(alloc, words)?,
         "balance" => read_balance(alloc, words)?,
+        "topup" => read_topup(alloc, words)?,
+        "session" => read_session(alloc, words)?,
         _ => return Err(LineFault::Bad),
     };
     Ok(Some(line))
@@ -124,7 +157,7 @@ fn read_signed(alloc: Global, words: &str) -> Result<Line, LineFault>
     let (moment, words) = cut_word(words).ok_or(LineFault::Bad)?;
     let (client, words) = cut_word(words).ok_or(LineFault::Bad)?;
     let (identifier, octets) = cut_word(words).ok_or(LineFault::Bad)?;
-    if client != sample_site::CLIENT {
+    if !is_sample_client(client) {
         return Err(LineFault::Bad);
     }
     let moment = number_up_to(moment, LAST_MOMENT).ok_or(LineFault::Bad)?;
@@ -135,6 +168,12 @@ fn read_signed(alloc: Global, words: &str) -> Result<Line, LineFault>
         identifier,
         octets: Octets { octets },
     })
+}
+
+fn is_sample_client(word: &str) -> bool
+    ensures { IsTrue result ↔ (word.now ≡ codes "ap1") }
+{
+    word == sample_site::CLIENT
 }
 
 // `MOMENT ADDRESS OCTETS`.
@@ -159,14 +198,45 @@ fn read_balance(alloc: Global, word: &str) -> Result<Line, LineFault>
     ensures spelled { IfOk result (Spells (codes "balance " ++ word.now)) }
     ensures moment { IfOk result HasMoment }
 {
-    let account = account_of(alloc, word)?;
+    let account = octets_shown(alloc, word)?;
     Ok(Line::Balance { account })
 }
 
-// The account that a word shows.
-fn account_of(alloc: Global, word: &str) -> Result<Octets, LineFault>
-    ensures account { IfOk result (λ account. account_in word.now ≡ Some account) }
-    ensures refused { IfErr result (λ fault. fault ≡ bad → account_in word.now ≡ None) }
+// `MOMENT VOUCHER ACCOUNT SUM`.
+fn read_topup(alloc: Global, words: &str) -> Result<Line, LineFault>
+    ensures spelled { IfOk result (Spells (codes "topup " ++ words.now)) }
+    ensures moment { IfOk result HasMoment }
+{
+    let (moment, words) = cut_word(words).ok_or(LineFault::Bad)?;
+    let (voucher, words) = cut_word(words).ok_or(LineFault::Bad)?;
+    let (account, sum) = cut_word(words).ok_or(LineFault::Bad)?;
+    let moment = number_up_to(moment, LAST_MOMENT).ok_or(LineFault::Bad)?;
+    let sum = number_of(sum).ok_or(LineFault::Bad)?;
+    let account = octets_shown(alloc, account)?;
+    let topup = TopUp::new(alloc, voucher, account.as_slice(), sum, moment)?;
+    Ok(Line::TopUp { topup })
+}
+
+// `CLIENT SESSION`, of the sample client.
+fn read_session(alloc: Global, words: &str) -> Result<Line, LineFault>
+    ensures spelled { IfOk result (Spells (codes "session " ++ words.now)) }
+    ensures moment { IfOk result HasMoment }
+{
+    let (client, session) = cut_word(words).ok_or(LineFault::Bad)?;
+    if !is_sample_client(client) {
+        return Err(LineFault::Bad);
+    }
+    let session = octets_shown(alloc, session)?;
+    let client = Text::from_str(alloc, client)?;
+    Ok(Line::Session {
+        key: Key { client, session },
+    })
+}
+
+// The octets of the account or session id that a word shows.
+fn octets_shown(alloc: Global, word: &str) -> Result<Octets, LineFault>
+    ensures octets { IfOk result (λ octets. octets_in word.now ≡ Some octets) }
+    ensures refused { IfErr result (λ fault. fault ≡ bad → octets_in word.now ≡ None) }
 {
     if word.is_empty() || word.as_bytes().contains(&b' ') {
         return Err(LineFault::Bad);

@@ -3,9 +3,7 @@
 //! `radacctd feed` answers a script of packets and questions over a book in memory, at the sample site.
 #![tactic(auto)]
 
-mod afresh;
 mod feed;
-mod first_path;
 mod hexadecimal;
 mod input;
 mod job;

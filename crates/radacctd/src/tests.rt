@@ -11,7 +11,7 @@ use std::test::Fail;
 type Row = (&'static str, &'static str, u8);
 
 // What is no packet of the sample client. Each row shows one rule of the language of lines.
-const LINES: [Row; 38] = [
+const LINES: [Row; 45] = [
     ("", "", 0),
     ("\n\n", "", 0),
     ("balance al\n", "balance al 0\n", 0),
@@ -37,8 +37,17 @@ const LINES: [Row; 38] = [
     ("balance\nbalance al\n", "bad line\nbalance al 0\n", 1),
     ("hello\n", "bad line\n", 1),
     ("Balance al\n", "bad line\n", 1),
-    ("topup 1000 V-1 al 500\n", "bad line\n", 1),
-    ("session ap1 s1\n", "bad line\n", 1),
+    // Vouchers: a lower-case number, no account, a sum out of range, a word too few and one too many.
+    ("topup 1000 v-1 al 500\n", "bad line\n", 1),
+    ("topup 1000 V-1 - 500\n", "bad line\n", 1),
+    ("topup 1000 V-2 al 1000000000001\n", "bad line\n", 1),
+    ("topup 1000 V-1 al 0\n", "bad line\n", 1),
+    ("topup 1000 V-1 al\n", "bad line\n", 1),
+    ("topup 1000 V-1 al 500 1\n", "bad line\n", 1),
+    // Sessions: no such client, and a word too few.
+    ("session ap2 s1\n", "bad line\n", 1),
+    ("session ap1\n", "bad line\n", 1),
+    ("session ap1 s9\n", "no session\n", 0),
     ("balance  al\n", "bad line\n", 1),
     ("balance al \n", "bad line\n", 1),
     (" balance al\n", "bad line\n", 1),
@@ -200,6 +209,61 @@ const PACKETS: [Row; 22] = [
     ),
 ];
 
+// What the book tells, from the formats' own examples.
+const BOOK: [Row; 7] = [
+    // A voucher, the same again, and the same number with another sum.
+    (
+        "topup 1000 V-1 al 500\ntopup 1000 V-1 al 500\ntopup 1000 V-1 al 501\nbalance al\n",
+        "new\nrepeat\ndiffers\nbalance al 500\n",
+        0,
+    ),
+    (
+        "signed 2000 ap1 8 2806000000032c0473320104616c1906676f6c642a0600100001\nsession ap1 s2\n",
+        "reply 05080014\nsession ap1 s2 al gold 1048577 0 20 open 0\n",
+        0,
+    ),
+    // Accounting-On closes the session, and a late report raises its total without opening it.
+    (
+        "signed 2000 ap1 1 2806000000032c0473320104616c1906676f6c642a0600100001\n\
+         signed 2001 ap1 2 280600000007\nsession ap1 s2\n\
+         signed 2002 ap1 3 2806000000032c0473320104616c1906676f6c642a0600200001\nsession ap1 s2\nbalance al\n",
+        "reply 05010014\nreply 05020014\nsession ap1 s2 al gold 1048577 0 20 closed 11\n\
+         reply 05030014\nsession ap1 s2 al gold 2097153 0 30 closed 11\nbalance al -30\n",
+        0,
+    ),
+    // A Stop after that.
+    (
+        "signed 2000 ap1 1 2806000000032c0473320104616c1906676f6c642a0600100001\n\
+         signed 2001 ap1 2 280600000007\n\
+         signed 2003 ap1 4 2806000000022c047332310600000001\nsession ap1 s2\n",
+        "reply 05010014\nreply 05020014\nreply 05040014\nsession ap1 s2 al gold 1048577 0 20 stopped 1\n",
+        0,
+    ),
+    // A Stop before its Start.
+    (
+        "signed 1000 ap1 1 2806000000022c0473370104616c310600000001\nsession ap1 s7\n\
+         signed 1001 ap1 2 2806000000012c0473370104616c\nsession ap1 s7\n",
+        "reply 05010014\nsession ap1 s7 al - 0 0 0 stopped 1\n\
+         reply 05020014\nsession ap1 s7 al - 0 0 0 stopped 1\n",
+        0,
+    ),
+    // A report sent again with another delay, and late ones: charged once.
+    (
+        "signed 1000 ap1 8 2806000000032c0473350104616c1906676f6c642a0600000001290600000000\nbalance al\n\
+         signed 1005 ap1 9 2806000000032c0473350104616c1906676f6c642a0600000001290600000005\nbalance al\n\
+         signed 1010 ap1 10 2806000000032c0473350104616c1906676f6c642a0600000001290600000002\n\
+         signed 1010 ap1 11 2806000000032c0473350104616c1906676f6c642a06000000012906000003f3\nbalance al\n",
+        "reply 05080014\nbalance al -10\nreply 05090014\nbalance al -10\nreply 050a0014\nreply 050b0014\nbalance al -10\n",
+        0,
+    ),
+    // The session id of no octets, and octets that are shown by their escapes.
+    (
+        "signed 1 ap1 1 2806000000012c020104612c\nsession ap1 -\nsigned 1 ap1 2 2806000000012c0425200103ff\nsession ap1 %25%20\n",
+        "reply 05010014\nsession ap1 - a, - 0 0 0 open 0\nreply 05020014\nsession ap1 %25  %FF - 0 0 0 open 0\n",
+        0,
+    ),
+];
+
 // Asserts that a run prints what a row says, with its status.
 fn check(rt: &(impl Abort + AllocGlobal), row: Row) {
     let (input, wanted, status) = row;
@@ -229,6 +293,13 @@ fn answers_lines(rt: HostRuntime) -> Result<(), Fail> {
 #[test]
 fn answers_packets(rt: HostRuntime) {
     for row in PACKETS {
+        check(&rt, row);
+    }
+}
+
+#[test]
+fn answers_of_the_book(rt: HostRuntime) {
+    for row in BOOK {
         check(&rt, row);
     }
 }

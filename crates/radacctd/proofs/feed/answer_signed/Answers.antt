@@ -8,8 +8,8 @@ slice_bounds-request-end g c =
     let most = fits c.args.identifier c.in-Ok.size c.args.octets.now _ _ c.sign_request.new.out c.in-Ok.ensures.written c.in-Ok.ensures.size c.sign_request.array_long in
     omega (arith, c.sign_request.array_long)
 
-pub slice_bounds-take_from_client-end : goal.slice_bounds-take_from_client-end
-slice_bounds-take_from_client-end g c =
+pub slice_bounds-datagram-end : goal.slice_bounds-datagram-end
+slice_bounds-datagram-end g c =
     let most = fits c.args.identifier c.in-Ok.size c.args.octets.now _ _ c.sign_request.new.out c.in-Ok.ensures.written c.in-Ok.ensures.size c.sign_request.array_long in
     let room : c.in-Ok.size ≤ length c.sign_request.new.out = omega (arith, c.sign_request.array_long) in
     rw length-take-le

@@ -1,0 +1,2 @@
+pub mod AnswerParts
+pub mod Faults

@@ -1,0 +1,90 @@
+-- How a datagram is judged: the first rule that it breaks, or the entry that it asks to be recorded.
+use Rattle.std.specs.Prelude.{◌≡◌, ◌≢◌, ℕ, ◌≤◌, List, length, drop, slice_index, Option, Some, None}
+use Rattle.radius_codec.specs.Attributes.{Spells}
+use Rattle.radius_codec.specs.Packet.{HasFront, front_of, Framed, IsFrontFault, IsSigned}
+use Rattle.radius_codec.specs.declared.packet.CodecError.TheVariants as codec
+use Rattle.acct_model.specs.declared.entry.Entry.{Entry}
+use Rattle.acct_model.specs.declared.entry.Entry.TheVariants as entries
+use Rattle.acct_model.specs.declared.reading.EntryError.{EntryError}
+use Rattle.acct_model.specs.declared.reading.EntryError.TheVariants as entry
+use Rattle.acct_model.specs.Entries.{Attributes, refusal_of, IsEntryOf}
+use Rattle.acct_wire.specs.declared.client.Client.{Client}
+use Rattle.acct_wire.specs.declared.reason.Reason.{Reason}
+use Rattle.acct_wire.specs.declared.reason.Reason.TheVariants.{UnknownClient, TooShort, BadLength, WrongCode, BadAuthenticator, BadAttribute, NoStatus, UnknownStatus, NoSessionId, BadField, TotalTooLarge, BalanceLimit, Unavailable}
+use Rattle.acct_wire.specs.Clients.{client_at}
+
+-- The bytes begin with an Accounting-Request of this identifier, authenticator and list of attributes, signed with the secret (RFC 2866, section 3).
+pub record IsRequest (secret bytes : List ℕ) (identifier : ℕ) (authenticator : List ℕ) (attributes : Attributes) : Type 0 where
+  pub framed : Framed bytes 4 identifier authenticator attributes
+  pub signed : IsSigned (front_of bytes) secret
+
+-- there is a front
+pub record BeginsFront (bytes : List ℕ) : Type 0 where
+  pub size : 20 ≤ length bytes
+  pub field : HasFront bytes
+
+-- there is a front, and it is an Accounting-Request's
+pub record BeginsRequest (bytes : List ℕ) : Type 0 where
+  pub front : BeginsFront bytes
+  pub code : slice_index (front_of bytes) 0 ≡ 4
+
+-- the same, and it carries the right digest
+pub record BeginsSigned (secret bytes : List ℕ) : Type 0 where
+  pub request : BeginsRequest bytes
+  pub signed : IsSigned (front_of bytes) secret
+
+-- a signed request whose attributes are refused so
+abbrev pub IsMisspelled : List ℕ → List ℕ → EntryError → Type 0
+IsMisspelled secret bytes error =
+    (identifier : ℕ) × (authenticator : List ℕ) × (attributes : Attributes)
+    × IsRequest secret bytes identifier authenticator attributes × (refusal_of attributes ≡ Some error)
+
+-- a signed request whose attributes spell an entry
+abbrev pub IsSpelled : List ℕ → List ℕ → Type 0
+IsSpelled secret bytes =
+    (identifier : ℕ) × (authenticator : List ℕ) × (attributes : Attributes)
+    × IsRequest secret bytes identifier authenticator attributes × (refusal_of attributes ≡ None)
+
+-- The first rule that the bytes of a client with this secret break: each line says that they keep all those above it. The reasons that are no
+-- rule of the bytes are broken by none.
+abbrev pub BreaksFirst : List ℕ → List ℕ → Reason → Type 0
+BreaksFirst secret bytes UnknownClient = ⊥
+BreaksFirst secret bytes TooShort = IsFrontFault bytes codec.TooShort
+BreaksFirst secret bytes BadLength = IsFrontFault bytes codec.BadLength
+BreaksFirst secret bytes WrongCode = BeginsFront bytes × (slice_index (front_of bytes) 0 ≢ 4)
+BreaksFirst secret bytes BadAuthenticator = BeginsRequest bytes × (IsSigned (front_of bytes) secret → ⊥)
+BreaksFirst secret bytes BadAttribute = BeginsSigned secret bytes × ((attributes : Attributes) → Spells (drop 20 (front_of bytes)) attributes → ⊥)
+BreaksFirst secret bytes NoStatus = IsMisspelled secret bytes entry.NoStatus
+BreaksFirst secret bytes UnknownStatus = IsMisspelled secret bytes entry.UnknownStatus
+BreaksFirst secret bytes NoSessionId = IsMisspelled secret bytes entry.NoSessionId
+BreaksFirst secret bytes BadField = IsMisspelled secret bytes entry.BadField
+BreaksFirst secret bytes TotalTooLarge = IsMisspelled secret bytes entry.TotalTooLarge
+BreaksFirst secret bytes BalanceLimit = ⊥
+BreaksFirst secret bytes Unavailable = ⊥
+
+-- the source is a client's, and the bytes break this rule first
+abbrev pub IsBroken : List Client → List ℕ → List ℕ → Reason → Type 0
+IsBroken clients source bytes reason = (client : Client) × (client_at source clients ≡ Some client) × BreaksFirst client.secret bytes reason
+
+-- the first rule that a datagram breaks: its source is no client's, or its bytes break one
+abbrev pub Breaks : List Client → List ℕ → List ℕ → Reason → Type 0
+Breaks clients source bytes UnknownClient = client_at source clients ≡ None
+Breaks clients source bytes TooShort = IsBroken clients source bytes TooShort
+Breaks clients source bytes BadLength = IsBroken clients source bytes BadLength
+Breaks clients source bytes WrongCode = IsBroken clients source bytes WrongCode
+Breaks clients source bytes BadAuthenticator = IsBroken clients source bytes BadAuthenticator
+Breaks clients source bytes BadAttribute = IsBroken clients source bytes BadAttribute
+Breaks clients source bytes NoStatus = IsBroken clients source bytes NoStatus
+Breaks clients source bytes UnknownStatus = IsBroken clients source bytes UnknownStatus
+Breaks clients source bytes NoSessionId = IsBroken clients source bytes NoSessionId
+Breaks clients source bytes BadField = IsBroken clients source bytes BadField
+Breaks clients source bytes TotalTooLarge = IsBroken clients source bytes TotalTooLarge
+Breaks clients source bytes BalanceLimit = ⊥
+Breaks clients source bytes Unavailable = ⊥
+
+-- The datagram is a client's signed request that spells this entry.
+pub record Asks (clients : List Client) (source bytes : List ℕ) (moment : ℕ) (client : Client) (identifier : ℕ) (authenticator : List ℕ) (attributes : Attributes) (asked : Entry) : Type 0 where
+  pub known : client_at source clients ≡ Some client
+  pub request : IsRequest client.secret bytes identifier authenticator attributes
+  pub faultless : refusal_of attributes ≡ None
+  pub spelled : IsEntryOf client.name attributes moment asked

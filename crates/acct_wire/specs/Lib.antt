@@ -1,0 +1,5 @@
+pub mod Clients
+pub mod ClientFaults
+pub mod Datagrams
+pub mod Outcomes
+pub mod Spelling

@@ -1,0 +1,127 @@
+//! The clients of a site: the access servers and proxies that may send reports.
+ghost use Rattle.std.specs.Prelude.{◌≡◌, Some, None, IfOk, IfErr, OnOk};
+ghost use Rattle.std.specs.List.{list_any};
+ghost use Rattle.std.specs.Option.{option_copied};
+ghost use Rattle.acct_wire.specs.Clients.{has_name, has_address, client_at};
+ghost use Rattle.acct_wire.specs.ClientFaults.{client_fault};
+
+use acct_model::{Octets, Text};
+use std::marker::Model;
+use thiserror::Error;
+
+/// An access server, or a proxy in its place.
+#[derive(Debug, Drop)]
+pub struct Client {
+    /// Its name, by which its sessions are known.
+    pub name: Text,
+    /// The IPv4 address from which it sends.
+    pub address: [u8; 4],
+    /// The secret that it shares with the server (RFC 2866, section 3).
+    pub secret: Octets,
+}
+
+/// Clients of which no two share a name or an address.
+#[derive(Drop)]
+pub struct Clients {
+    clients: Vec<Client>,
+}
+
+impl Model for Clients {
+    ghost use Rattle.std.specs.Prelude.{List};
+    ghost use Rattle.acct_wire.specs.declared.client.Client.{Client};
+
+    ghost Value = { List Client };
+
+    ghost use Rattle.acct_wire.specs.ClientFaults.{AreClients};
+
+    ghost view = { λ c. c.clients.items };
+
+    ghost invariant = { λ c. AreClients c.clients.items };
+}
+
+/// Why clients can't be the clients of a site.
+#[derive(Clone, Copy, PartialEq, Eq, Debug, Error)]
+pub enum ClientError {
+    /// An earlier client has the same name.
+    #[error("an earlier client has the same name")]
+    TwiceNamed = 1,
+    /// An earlier client has the same address.
+    #[error("an earlier client has the same address")]
+    TwiceAddressed = 2,
+}
+
+impl Clients {
+    ghost use Rattle.acct_wire.specs.ClientFaults.{fault_of};
+
+    /// The clients as they are given, if they have no fault. It takes no memory.
+    ///
+    /// # Errors
+    ///
+    /// The first fault: each client in its turn for `TwiceNamed` and then for `TwiceAddressed`.
+    pub fn new(list: Vec<Client>) -> Result<Clients, ClientError>
+        ensures kept { IfOk result (λ kept. kept ≡ list.items) }
+        ensures faultless { OnOk result (fault_of list.items ≡ None) }
+        ensures fault { IfErr result (λ fault. fault_of list.items ≡ Some fault) }
+    {
+        for i in 0..list.len() {
+            if let Some(fault) = fault_behind(&list[..i], &list[i]) {
+                return Err(fault);
+            }
+        }
+        Ok(Clients { clients: list })
+    }
+
+    /// The clients in the order in which they were given.
+    pub fn list(&self) -> &[Client]
+        ensures { result.now ≡ self.now }
+    {
+        &self.clients
+    }
+
+    /// The client that sends from this address. It goes through the clients once.
+    pub(crate) fn at(&self, address: [u8; 4]) -> Option<&Client>
+        ensures { option_copied result ≡ client_at address self.now }
+    {
+        for client in &self.clients {
+            if client.address == address {
+                return Some(client);
+            }
+        }
+        None
+    }
+}
+
+// What is wrong with a client behind earlier ones.
+fn fault_behind(earlier: &[Client], client: &Client) -> Option<ClientError>
+    ensures { result ≡ client_fault earlier.now client.now }
+{
+    if is_named(earlier, client) {
+        return Some(ClientError::TwiceNamed);
+    }
+    if is_addressed(earlier, client) {
+        return Some(ClientError::TwiceAddressed);
+    }
+    None
+}
+
+fn is_named(earlier: &[Client], client: &Client) -> bool
+    ensures { result ≡ list_any (has_name client.now.name) earlier.now }
+{
+    for other in earlier {
+        if other.name == client.name {
+            return true;
+        }
+    }
+    false
+}
+
+fn is_addressed(earlier: &[Client], client: &Client) -> bool
+    ensures { result ≡ list_any (has_address client.now.address) earlier.now }
+{
+    for other in earlier {
+        if other.address == client.address {
+            return true;
+        }
+    }
+    false
+}
