@@ -8,3 +8,4 @@ pub mod Balances
 pub mod Known
 pub mod Members
 pub mod WorkedRows
+pub mod FirstValues

@@ -4,6 +4,7 @@ pub mod TopUpFaults
 pub mod Plans
 pub mod PlanFaults
 pub mod Entries
+pub mod FirstValues
 pub mod Shown
 pub mod History
 pub mod Laws

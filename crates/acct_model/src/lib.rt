@@ -12,6 +12,7 @@
 
 mod attribute_types;
 mod entry;
+mod first_values;
 pub mod laws;
 mod octets;
 mod plan;
@@ -32,5 +33,7 @@ pub use shown::{NoMemory, show, unshow};
 pub use text::Text;
 pub use top_up::{TopUp, TopUpError};
 
+#[cfg(test)]
+mod caller;
 #[cfg(test)]
 mod tests;

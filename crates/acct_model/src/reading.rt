@@ -6,10 +6,11 @@ ghost use Rattle.acct_model.specs.Entries as spec;
 
 use crate::attribute_types::*;
 use crate::entry::{Entry, Restart};
+use crate::first_values::{FirstValues, TYPES};
 use crate::octets::Octets;
 use crate::report::{Report, ReportKind};
 use crate::text::Text;
-use radius_codec::{Attributes, Packet, word_of};
+use radius_codec::{Packet, word_of};
 use std::alloc::{AllocError, Global};
 use thiserror::Error;
 
@@ -76,7 +77,8 @@ pub fn entry_of(
     ensures accepted { OnOk result (spec.refusal_of packet.now.attributes ≡ None) }
     ensures refused { IfErr result (spec.Refuses (spec.refusal_of packet.now.attributes)) }
 {
-    let attributes = &packet.attributes;
+    let mut values = [None; TYPES];
+    let attributes = FirstValues::of(&packet.attributes, &mut values);
     let Some(value) = attributes.first(ACCT_STATUS_TYPE) else {
         return Err(EntryError::NoStatus);
     };
@@ -90,10 +92,10 @@ pub fn entry_of(
     let Some(kind) = kind_of(status) else {
         return Err(EntryError::UnknownStatus);
     };
-    if let Some(fault) = report_fault(attributes) {
+    if let Some(fault) = report_fault(&attributes) {
         return Err(fault);
     }
-    let report = report_of(alloc, client, attributes, kind, moment)?;
+    let report = report_of(alloc, client, &attributes, kind, moment)?;
     Ok(Entry::Report(report))
 }
 
@@ -110,7 +112,7 @@ fn kind_of(status: u32) -> Option<ReportKind>
 }
 
 // What is wrong with a report's attributes.
-fn report_fault(attributes: &Attributes<'_>) -> Option<EntryError>
+fn report_fault(attributes: &FirstValues<'_, '_>) -> Option<EntryError>
     ensures { result ≡ spec.report_fault attributes.now }
 {
     if attributes.first(ACCT_SESSION_ID).is_none() {
@@ -125,7 +127,7 @@ fn report_fault(attributes: &Attributes<'_>) -> Option<EntryError>
     None
 }
 
-fn has_bad_number(attributes: &Attributes<'_>) -> bool
+fn has_bad_number(attributes: &FirstValues<'_, '_>) -> bool
     ensures { result ≡ spec.has_bad_number attributes.now }
 {
     for kind in &NUMBER_TYPES {
@@ -140,7 +142,7 @@ fn has_bad_number(attributes: &Attributes<'_>) -> bool
 fn report_of(
     alloc: Global,
     client: &str,
-    attributes: &Attributes<'_>,
+    attributes: &FirstValues<'_, '_>,
     kind: ReportKind,
     moment: u64,
 ) -> Result<Report, AllocError>
@@ -165,7 +167,7 @@ fn report_of(
 }
 
 // The octets received, with the wraps of their counter.
-fn input_of(attributes: &Attributes<'_>) -> u64
+fn input_of(attributes: &FirstValues<'_, '_>) -> u64
     ensures { result ≡ spec.input_of attributes.now }
 {
     (1 << 32) * u64::from(count_at(attributes, ACCT_INPUT_GIGAWORDS))
@@ -173,7 +175,7 @@ fn input_of(attributes: &Attributes<'_>) -> u64
 }
 
 // The octets sent, with the wraps of their counter.
-fn output_of(attributes: &Attributes<'_>) -> u64
+fn output_of(attributes: &FirstValues<'_, '_>) -> u64
     ensures { result ≡ spec.output_of attributes.now }
 {
     (1 << 32) * u64::from(count_at(attributes, ACCT_OUTPUT_GIGAWORDS))
@@ -181,7 +183,7 @@ fn output_of(attributes: &Attributes<'_>) -> u64
 }
 
 // The four octets of the first Framed-IP-Address.
-fn address_of(attributes: &Attributes<'_>) -> Option<[u8; 4]>
+fn address_of(attributes: &FirstValues<'_, '_>) -> Option<[u8; 4]>
     requires { is_none (spec.number_at 8 attributes.now) ≡ false }
     ensures { result ≡ value_of 8 attributes.now }
 {
@@ -191,21 +193,28 @@ fn address_of(attributes: &Attributes<'_>) -> Option<[u8; 4]>
     }
 }
 
-fn octets_at(alloc: Global, attributes: &Attributes<'_>, kind: u8) -> Result<Octets, AllocError>
+fn octets_at(
+    alloc: Global,
+    attributes: &FirstValues<'_, '_>,
+    kind: u8,
+) -> Result<Octets, AllocError>
+    requires { kind < 54 }
     ensures { IfOk result (λ octets. octets ≡ spec.octets_at kind attributes.now) }
 {
     Octets::from_slice(alloc, attributes.first(kind).unwrap_or(&[]))
 }
 
 // The first number of a type, 0 where it is absent or no number.
-fn count_at(attributes: &Attributes<'_>, kind: u8) -> u32
+fn count_at(attributes: &FirstValues<'_, '_>, kind: u8) -> u32
+    requires { kind < 54 }
     ensures { result ≡ spec.count_at kind attributes.now }
 {
     number_at(attributes, kind).unwrap_or(0)
 }
 
 // The first number of a type: 0 where it is absent, none where it hasn't four octets.
-fn number_at(attributes: &Attributes<'_>, kind: u8) -> Option<u32>
+fn number_at(attributes: &FirstValues<'_, '_>, kind: u8) -> Option<u32>
+    requires { kind < 54 }
     ensures { result ≡ spec.number_at kind attributes.now }
 {
     match attributes.first(kind) {

@@ -1,6 +1,6 @@
 -- What an answer says, put together from what its parts say.
-use Rattle.std.proofs.Common.{◌≡◌, ◌≢◌, ℕ, ◌+◌, ◌⊎◌, inl, inr, List, ◌∷◌, ◌++◌, length, drop, refl, sym, ◌∙◌, ap, subst}
-use Rattle.std.specs.Prelude.{Option, Some, None, Result, Ok, Err}
+use Rattle.std.proofs.Common.{◌≡◌, ℕ, ◌+◌, ◌⊎◌, inl, inr, List, ◌++◌, length, drop, subst}
+use Rattle.std.specs.Prelude.{Some, Result, Ok, Err}
 use Rattle.radius_codec.specs.Attributes.{spellings}
 use Rattle.radius_codec.specs.Packet.{proxy_states, reply_octets}
 use Rattle.acct_model.specs.declared.plan.Plan.{Plan}
@@ -17,11 +17,11 @@ use Rattle.acct_book.specs.Outcome.{Told, IsNew, IsRepeated, MayAdd}
 use Rattle.acct_wire.specs.declared.client.Client.{Client}
 use Rattle.acct_wire.specs.declared.reason.Reason.{Reason}
 use Rattle.acct_wire.specs.declared.reason.Reason.TheVariants.{UnknownClient, TooShort, BadLength, WrongCode, BadAuthenticator, BadAttribute, NoStatus, UnknownStatus, NoSessionId, BadField, TotalTooLarge, BalanceLimit, Unavailable}
-use Rattle.acct_wire.specs.declared.answering.Outcome.TheVariants.{Reply, Drop}
+use Rattle.acct_wire.specs.declared.answering.Outcome.TheVariants.{Drop}
 use Rattle.acct_wire.specs.Clients.{client_at}
-use Rattle.acct_wire.specs.Datagrams.{IsRequest, BreaksFirst, Breaks, Asks}
-use Rattle.acct_wire.specs.Spelling.{SpellsEntry, RefusesAs}
-use Rattle.acct_wire.specs.Outcomes.{IsAsking, IsReplied, IsOverLimit, Steps, MayAddAsked}
+use Rattle.acct_wire.specs.Datagrams.{IsRequest, BreaksFirst, Asks}
+use Rattle.acct_wire.specs.Spelling.{RefusesAs}
+use Rattle.acct_wire.specs.Outcomes.{IsReplied, IsOverLimit, Steps, MayAddAsked}
 
 -- the bytes of a known client break a rule
 pub broken : (clients : List Client) (plans : List Plan) (history : List Entry) (source bytes : List ℕ) (moment : ℕ) (before after : List ℕ) (stands : List Entry → Type 0) (client : Client) (reason : Reason)

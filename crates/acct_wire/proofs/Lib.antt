@@ -1,2 +1,3 @@
 pub mod AnswerParts
 pub mod Faults
+pub mod Judgement

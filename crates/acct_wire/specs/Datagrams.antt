@@ -1,10 +1,9 @@
 -- How a datagram is judged: the first rule that it breaks, or the entry that it asks to be recorded.
-use Rattle.std.specs.Prelude.{◌≡◌, ◌≢◌, ℕ, ◌≤◌, List, length, drop, slice_index, Option, Some, None}
+use Rattle.std.specs.Prelude.{◌≡◌, ◌≢◌, ℕ, ◌≤◌, List, length, drop, slice_index, Some, None}
 use Rattle.radius_codec.specs.Attributes.{Spells}
 use Rattle.radius_codec.specs.Packet.{HasFront, front_of, Framed, IsFrontFault, IsSigned}
 use Rattle.radius_codec.specs.declared.packet.CodecError.TheVariants as codec
 use Rattle.acct_model.specs.declared.entry.Entry.{Entry}
-use Rattle.acct_model.specs.declared.entry.Entry.TheVariants as entries
 use Rattle.acct_model.specs.declared.reading.EntryError.{EntryError}
 use Rattle.acct_model.specs.declared.reading.EntryError.TheVariants as entry
 use Rattle.acct_model.specs.Entries.{Attributes, refusal_of, IsEntryOf}

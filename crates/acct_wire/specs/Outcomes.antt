@@ -1,5 +1,5 @@
 -- What an answer says: the datagram's part of a step of the machine.
-use Rattle.std.specs.Prelude.{◌≡◌, ◌≢◌, ◌⊎◌, ℕ, ◌+◌, ◌≤◌, List, ◌∷◌, ◌++◌, length, drop, Some}
+use Rattle.std.specs.Prelude.{◌≡◌, ℕ, ◌+◌, ◌≤◌, List, ◌∷◌, ◌++◌, length, drop, Some}
 use Rattle.radius_codec.specs.Attributes.{spellings}
 use Rattle.radius_codec.specs.Packet.{proxy_states, reply_octets}
 use Rattle.acct_model.specs.declared.plan.Plan.{Plan}
@@ -7,7 +7,6 @@ use Rattle.acct_model.specs.declared.entry.Entry.{Entry}
 use Rattle.acct_model.specs.Entries.{Attributes}
 use Rattle.acct_model.specs.History.{Admissible}
 use Rattle.acct_book.specs.Content.{Content}
-use Rattle.acct_book.specs.Stands.{Stands}
 use Rattle.acct_book.specs.Outcome.{MayAdd}
 use Rattle.acct_wire.specs.declared.client.Client.{Client}
 use Rattle.acct_wire.specs.declared.reason.Reason.{Reason}

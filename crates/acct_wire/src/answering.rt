@@ -30,7 +30,7 @@ pub enum Outcome {
 }
 
 /// Answers a datagram over a book whose content stands for a history under these plans: judges it, records its entry and writes the reply
-/// to the front of `out` (RFC 2866, sections 3 and 4). A reply comes only after the entry was recorded; after a drop the book is as before.
+/// to the front of `out` (RFC 2866, sections 3 and 4). A reply comes only after the entry was recorded; after a drop book and `out` are as before.
 ///
 /// It asks the book for one row and one balance and writes both by one call; beyond that its cost is that of reading the datagram.
 pub fn answer<B: Book>(
@@ -54,6 +54,7 @@ pub fn answer<B: Book>(
         → Steps clients.now plans.now history datagram.now.source datagram.now.bytes.now datagram.now.moment out.old out.new
         (λ entries. B.is_open book.new → Stands plans.now (B.content book.new) entries) result }
     ensures fits { ReplyFits result }
+    ensures silent { IsDrop result → out.new ≡ out.old }
 
     // What a crash may leave: what it could before, or that with the whole effect of the entry.
     ensures left { B.is_sound book.new → (history : List Entry) → (B.is_open book.old → Stands plans.now (B.content book.old) history)

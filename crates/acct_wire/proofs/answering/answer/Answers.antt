@@ -1,11 +1,10 @@
-use Rattle.std.proofs.Common.{◌≡◌, ◌≢◌, ◌∙◌, sym, ap, subst, ◌++◌, drop, Some, Ok, Err}
+use Rattle.std.proofs.Common.{◌≡◌, ◌≢◌, ◌∙◌, refl, sym, ap, subst, ◌++◌, drop, Ok, Err}
 use Rattle.std.specs.Option.{option_copied}
 use Rattle.radius_codec.specs.Packet.{reply_octets}
 use Rattle.acct_model.specs.Entries.{IsEntryOf}
 use Rattle.acct_book.specs.declared.recording.Recorded.TheVariants.{New}
 use Rattle.acct_book.specs.declared.recording.RecordError.TheVariants as failed
 use Rattle.acct_book.specs.Stands.{Stands}
-use Rattle.acct_wire.specs.Clients.{client_at}
 use Rattle.acct_wire.specs.Datagrams.{IsRequest, BreaksFirst, Asks}
 use Rattle.acct_wire.proofs.AnswerParts.{broken, replied, over_limit, may_add}
 use Rattle.acct_wire.proofs.answering.answer.Goals as goal
@@ -109,6 +108,7 @@ returns g c =
         λ still. subst (λ x. Stands c.args.plans.now x history) (sym (c.record.ensures.unchanged still other)) (kept (c.record.ensures.was_open still)),
       );
       fits = tt;
+      silent = λ _. refl;
       left = λ sound history kept content h.
           may_add c.args.clients.now c.args.plans.now history c.args.datagram.now.source bytes c.args.datagram.now.moment client packet.id packet.authenticator packet.attributes c.in-Ok-asked_of.entry content
           (g.B.Book.left c.args.book.now content) (g.B.Book.is_open c.args.book.now) asks (c.record.ensures.left sound history kept content h);
