@@ -4,6 +4,7 @@ use crate::sample_site::{AP1, INTERIM_UPDATE, Report, START, STOP, STRANGER, Sit
 use crate::{ClientError, Clients, Outcome, Reason};
 use acct_book::fakes::FailingBook;
 use acct_book::{Book, MemBook, SessionState};
+use std::alloc::Global;
 use std::test::Fail;
 
 // A Start of session `s1` by user `al`: Acct-Status-Type, Acct-Session-Id, User-Name.
@@ -48,70 +49,109 @@ fn start_is_answered(rt: HostRuntime) -> Result<(), Fail> {
     Ok(())
 }
 
-// Reports in lists, each over an empty book: the outcome of each, and its user's balance after it. Prices by hand: `gold` costs 10 for
-// each 1,048,576 octets, no Class 5 for each 1,000,000, `dear` 1,000,000,000 for each octet. All reports have one identifier.
+// Whether the reports of a list, over an empty book, have these outcomes, and their users these balances after each. Prices by hand:
+// `gold` costs 10 for each 1,048,576 octets, no Class 5 for each 1,000,000, `dear` 1,000,000,000 for each octet. All reports have
+// one identifier.
+fn are_charged(alloc: Global, list: &[(Report<'_>, Outcome, i64)]) -> Result<bool, Fail> {
+    let mut site = Site::new(alloc)?;
+    for (report, outcome, balance) in list {
+        if site.report(2000, 8, report)? != *outcome
+            || site.book.balance(report.user)? != *balance
+        {
+            return Ok(false);
+        }
+    }
+    Ok(true)
+}
+
 #[test]
-fn reports_are_charged(rt: HostRuntime) -> Result<(), Fail> {
-    let full = -4_611_686_018_000_000_000;
-    let limit = Outcome::Drop(Reason::BalanceLimit);
-    let lists: [&[(Report<'_>, Outcome, i64)]; 9] = [
-        // Each block that was started is charged once.
+fn started_blocks_are_charged_once(rt: HostRuntime) -> Result<(), Fail> {
+    let charged = are_charged(
+        rt.alloc(),
         &[
             (gold(b"s2", 0), SHORT_REPLY, 0),
             (gold(b"s2", 1), SHORT_REPLY, -10),
             (gold(b"s2", 1_048_576), SHORT_REPLY, -10),
             (gold(b"s2", 1_048_577), SHORT_REPLY, -20),
         ],
-        // One gigaword.
-        &[(gold(b"s", 4_294_967_296), SHORT_REPLY, -40_960)],
-        // A lower total gives nothing back.
+    )?;
+    assert!(rt; charged);
+    let gigaword = [(gold(b"s", 4_294_967_296), SHORT_REPLY, -40_960)];
+    assert!(rt; are_charged(rt.alloc(), &gigaword)?);
+    Ok(())
+}
+
+#[test]
+fn lower_totals_give_nothing_back(rt: HostRuntime) -> Result<(), Fail> {
+    let charged = are_charged(
+        rt.alloc(),
         &[
             (gold(b"s", 3_145_728), SHORT_REPLY, -30),
             (gold(b"s", 1_048_576), SHORT_REPLY, -30),
         ],
+    )?;
+    assert!(rt; charged);
+    let charged = are_charged(
+        rt.alloc(),
         &[
             (gold(b"s", 1_048_576), SHORT_REPLY, -10),
             (gold(b"s", 3_145_728), SHORT_REPLY, -30),
         ],
-        // An Interim-Update is lost, or not.
-        &[(stop(2_097_153), SHORT_REPLY, -30)],
+    )?;
+    assert!(rt; charged);
+    Ok(())
+}
+
+#[test]
+fn a_lost_report_is_charged_by_the_next(rt: HostRuntime) -> Result<(), Fail> {
+    let stopped = [(stop(2_097_153), SHORT_REPLY, -30)];
+    assert!(rt; are_charged(rt.alloc(), &stopped)?);
+    let charged = are_charged(
+        rt.alloc(),
         &[
             (gold(b"s", 2_097_152), SHORT_REPLY, -20),
             (stop(2_097_153), SHORT_REPLY, -30),
         ],
-        // The first Class stands.
+    )?;
+    assert!(rt; charged);
+    Ok(())
+}
+
+#[test]
+fn the_first_class_stands(rt: HostRuntime) -> Result<(), Fail> {
+    let charged = are_charged(
+        rt.alloc(),
         &[
             (gold(b"s", 3_000_000), SHORT_REPLY, -30),
             (classless(3_000_000), SHORT_REPLY, -30),
         ],
+    )?;
+    assert!(rt; charged);
+    let charged = are_charged(
+        rt.alloc(),
         &[
             (classless(3_000_000), SHORT_REPLY, -15),
             (gold(b"s", 3_000_000), SHORT_REPLY, -15),
         ],
-        // A balance is 2^62 below 0 at most, whoever else has what balance.
+    )?;
+    assert!(rt; charged);
+    Ok(())
+}
+
+// A balance is 2^62 below 0 at most, whoever else has what balance.
+#[test]
+fn balances_are_limited(rt: HostRuntime) -> Result<(), Fail> {
+    let full = -4_611_686_018_000_000_000;
+    let limit = Outcome::Drop(Reason::BalanceLimit);
+    let charged = are_charged(
+        rt.alloc(),
         &[
             (dear(b"s", b"al", 4_611_686_018), SHORT_REPLY, full),
             (dear(b"t", b"bo", 4_611_686_018), SHORT_REPLY, full),
             (dear(b"s", b"al", 4_611_686_019), limit, full),
         ],
-    ];
-    for list in lists {
-        let mut site = Site::new(rt.alloc())?;
-        for (report, outcome, balance) in list {
-            assert_eq!(rt;
-                site.report(2000, 8, report)?,
-                *outcome,
-                "at {}",
-                report.total
-            );
-            assert_eq!(rt;
-                site.book.balance(report.user)?,
-                *balance,
-                "at {}",
-                report.total
-            );
-        }
-    }
+    )?;
+    assert!(rt; charged);
     Ok(())
 }
 
