@@ -32,7 +32,8 @@ pub enum Outcome {
 /// Answers a datagram over a book whose content stands for a history under these plans: judges it, records its entry and writes the reply
 /// to the front of `out` (RFC 2866, sections 3 and 4). A reply comes only after the entry was recorded; after a drop book and `out` are as before.
 ///
-/// It asks the book for one row and one balance and writes both by one call; beyond that its cost is that of reading the datagram.
+/// For a report it asks the book for one row and one balance and writes both by one call, for a restart it closes the client's sessions by one
+/// call; beyond that its cost is that of reading the datagram, and of going through the clients once.
 pub fn answer<B: Book>(
     alloc: Global,
     clients: &Clients,
