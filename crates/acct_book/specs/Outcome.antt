@@ -63,3 +63,11 @@ Told plans history next content (Err Unavailable) = Unit {0}
 -- the entry may be accepted, and the content stands for the history with it
 abbrev pub MayAdd : List Plan → List Entry → Entry → Content → Type 0
 MayAdd plans history next content = Admissible plans history next × Stands plans content (next ∷ history)
+
+-- What each answer says of the history, and the history then.
+abbrev pub Tells : List Plan → List Entry → Entry → Result Recorded RecordError → List Entry → Type 0
+Tells plans history next (Ok New) after = Admissible plans history next × IsFresh history next × (after ≡ next ∷ history)
+Tells plans history next (Ok Repeat) after = IsRepeated history next × (after ≡ history)
+Tells plans history next (Err (VoucherDiffers kept)) after = Differs history next kept × (after ≡ history)
+Tells plans history next (Err (BalanceLimit balance)) after = IsOverLimit plans history next balance × (after ≡ history)
+Tells plans history next (Err Unavailable) after = after ≡ history

@@ -15,7 +15,7 @@ ghost use Rattle.acct_model.specs.declared.entry.Entry.{Entry};
 ghost use Rattle.acct_model.specs.History.{InRange};
 ghost use Rattle.acct_book.specs.Next.{report_key, next_row, charge_of_row, charge_before};
 ghost use Rattle.acct_book.specs.Stands.{Stands};
-ghost use Rattle.acct_book.specs.Outcome.{Told, MayAdd};
+ghost use Rattle.acct_book.specs.Outcome.{Told, Tells, MayAdd};
 ghost use Rattle.acct_book.specs.Content.{Content};
 ghost use Rattle.acct_book.specs.Book.{Only};
 
@@ -94,10 +94,11 @@ pub fn record<B: Book>(
     ensures unchanged { B.is_open book.new → result ≢ Ok Recorded.New → B.content book.new ≡ B.content book.old }
     ensures told { B.is_sound book.new → (history : List Entry) → (B.is_open book.old → Stands plans.now (B.content book.old) history)
         → Told plans.now history entry.now (B.content book.new) result }
+    ensures step { B.is_sound book.new → (history : List Entry) → (B.is_open book.old → Stands plans.now (B.content book.old) history)
+        → (after : List Entry) × Tells plans.now history entry.now result after × (B.is_open book.new → Stands plans.now (B.content book.new) after) }
     ensures left { B.is_sound book.new → (history : List Entry) → (B.is_open book.old → Stands plans.now (B.content book.old) history)
         → (c : Content) → B.left book.new c → B.left book.old c ⊎ (B.is_open book.old × MayAdd plans.now history entry.now c) }
-    ensures settled { B.is_sound book.new → result ≡ Ok Recorded.New → B.content book.new ≢ B.content book.old
-        → Only (B.content book.new) (B.left book.new) }
+    ensures settled { B.is_sound book.new → result ≢ Err RecordError.Unavailable → Only (B.content book.new) (B.left book.new) }
 {
     match entry {
         Entry::Report(report) => record_report(alloc, book, plans, report),
@@ -121,8 +122,7 @@ fn record_report<B: Book>(
         → Told plans.now history (Entry.Report report.now) (B.content book.new) result }
     ensures left { B.is_sound book.new → (history : List Entry) → (B.is_open book.old → Stands plans.now (B.content book.old) history)
         → (c : Content) → B.left book.new c → B.left book.old c ⊎ (B.is_open book.old × MayAdd plans.now history (Entry.Report report.now) c) }
-    ensures settled { B.is_sound book.new → result ≡ Ok Recorded.New → B.content book.new ≢ B.content book.old
-        → Only (B.content book.new) (B.left book.new) }
+    ensures settled { B.is_sound book.new → result ≢ Err RecordError.Unavailable → Only (B.content book.new) (B.left book.new) }
 {
     let key = key_for(alloc, report)?;
     let found = book.session(&key)?;
@@ -205,8 +205,7 @@ fn record_restart<B: Book>(
         → Told plans.now history (Entry.Restart restart.now) (B.content book.new) result }
     ensures left { B.is_sound book.new → (history : List Entry) → (B.is_open book.old → Stands plans.now (B.content book.old) history)
         → (c : Content) → B.left book.new c → B.left book.old c ⊎ (B.is_open book.old × MayAdd plans.now history (Entry.Restart restart.now) c) }
-    ensures settled { B.is_sound book.new → result ≡ Ok Recorded.New → B.content book.new ≢ B.content book.old
-        → Only (B.content book.new) (B.left book.new) }
+    ensures settled { B.is_sound book.new → result ≢ Err RecordError.Unavailable → Only (B.content book.new) (B.left book.new) }
 {
     book.close_client(restart.client.as_str())?;
     Ok(Recorded::New)
@@ -226,8 +225,7 @@ fn record_topup<B: Book>(
         → Told plans.now history (Entry.TopUp topup.now) (B.content book.new) result }
     ensures left { B.is_sound book.new → (history : List Entry) → (B.is_open book.old → Stands plans.now (B.content book.old) history)
         → (c : Content) → B.left book.new c → B.left book.old c ⊎ (B.is_open book.old × MayAdd plans.now history (Entry.TopUp topup.now) c) }
-    ensures settled { B.is_sound book.new → result ≡ Ok Recorded.New → B.content book.new ≢ B.content book.old
-        → Only (B.content book.new) (B.left book.new) }
+    ensures settled { B.is_sound book.new → result ≢ Err RecordError.Unavailable → Only (B.content book.new) (B.left book.new) }
 {
     if let Some(kept) = book.voucher(topup.voucher.as_str())? {
         if kept.account == topup.account && kept.sum == topup.sum {

@@ -9,3 +9,4 @@ pub mod Known
 pub mod Members
 pub mod WorkedRows
 pub mod FirstValues
+pub mod Money

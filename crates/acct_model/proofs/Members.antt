@@ -22,7 +22,7 @@ here x xs = Contains-append_left (x ∷ []) xs x (0, omega arith, refl)
 deeper : {X : Type 0} (x y : X) (xs : List X) → Contains xs y → Contains (x ∷ xs) y
 deeper x y xs h = Contains-append_right (x ∷ []) xs y h
 
-nowhere : {X : Type 0} (x : X) → Contains [] x → ⊥
+pub nowhere : {X : Type 0} (x : X) → Contains [] x → ⊥
 nowhere x h = let small : h.0 < 0 = h.1 in omega arith
 
 -- an element stands in front or behind
@@ -173,7 +173,7 @@ highest report (next ∷ older) =
       | inr more ↦ (rest.0, deeper report rest.0 (next ∷ older) rest.1, rest.2 ∙ (let e : greatest_total (next ∷ older) ≡ max (total report) (greatest_total (next ∷ older)) = omega (arith, more) in e))
     ]
 
-below_greatest : (rs : List ReportFacts) (one : ReportFacts) → Contains rs one → total one ≤ greatest_total rs
+pub below_greatest : (rs : List ReportFacts) (one : ReportFacts) → Contains rs one → total one ≤ greatest_total rs
 below_greatest [] one h = absurd (nowhere one h)
 below_greatest (r ∷ rs) one h = elim (front_or_behind r one rs h) [
   | inl is ↦ let same : total r ≡ total one = ap total is in omega (arith, same)

@@ -1,5 +1,5 @@
 //! Laws above the definitions: functions without effect, whose contracts are the laws.
-ghost use Rattle.acct_model.specs.Laws.{StartedBlocksAreLeast, EachClassIsPlanned, ShownReadsBack, FirstIsDeepest, GreatestTotalIsReached, SessionsAreReported, VouchersAreToppedUp, KnownAccountsOwn};
+ghost use Rattle.acct_model.specs.Laws.{StartedBlocksAreLeast, EachClassIsPlanned, ShownReadsBack, FirstIsDeepest, GreatestTotalIsReached, SessionsAreReported, VouchersAreToppedUp, KnownAccountsOwn, MoneyMovesOnce};
 
 /// The blocks that a price counts cover the octets, and fewer don't.
 pub fn started_blocks_are_least()
@@ -39,4 +39,9 @@ pub fn vouchers_are_topped_up()
 /// The accounts of a history are those that own a session or a voucher.
 pub fn known_accounts_own()
     ensures { KnownAccountsOwn }
+{}
+
+/// A report whose session has one of no lower total moves no balance, no report gives money back, and a restart moves no money.
+pub fn money_moves_once()
+    ensures { MoneyMovesOnce }
 {}

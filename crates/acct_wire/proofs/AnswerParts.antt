@@ -21,7 +21,7 @@ use Rattle.acct_wire.specs.declared.answering.Outcome.TheVariants.{Drop}
 use Rattle.acct_wire.specs.Clients.{client_at}
 use Rattle.acct_wire.specs.Datagrams.{IsRequest, BreaksFirst, Asks}
 use Rattle.acct_wire.specs.Spelling.{RefusesAs}
-use Rattle.acct_wire.specs.Outcomes.{IsReplied, IsOverLimit, Steps, MayAddAsked}
+use Rattle.acct_wire.specs.Outcomes.{IsReplied, IsOverLimit, Steps, MayAddAsked, JudgesDrop}
 
 -- the bytes of a known client break a rule
 pub broken : (clients : List Client) (plans : List Plan) (history : List Entry) (source bytes : List ℕ) (moment : ℕ) (before after : List ℕ) (stands : List Entry → Type 0) (client : Client) (reason : Reason)
@@ -98,3 +98,37 @@ refused clients plans history source bytes moment before after stands client ide
 refused clients plans history source bytes moment before after stands client identifier authenticator attributes BadField known request refuses kept = ((client, known, (identifier, authenticator, attributes, request, refuses)), kept)
 refused clients plans history source bytes moment before after stands client identifier authenticator attributes TotalTooLarge known request refuses kept = ((client, known, (identifier, authenticator, attributes, request, refuses)), kept)
 refused clients plans history source bytes moment before after stands client identifier authenticator attributes Unavailable known request refuses kept = ((client, known, (identifier, authenticator, attributes, request, refuses)), kept)
+
+-- the bytes of a known client break a rule, whatever the book
+pub judged_broken : (clients : List Client) (source bytes : List ℕ) (client : Client) (reason : Reason)
+    → client_at source clients ≡ Some client → BreaksFirst client.secret bytes reason → JudgesDrop clients source bytes reason
+judged_broken clients source bytes client UnknownClient known breaks = absurd breaks
+judged_broken clients source bytes client TooShort known breaks = (client, known, breaks)
+judged_broken clients source bytes client BadLength known breaks = (client, known, breaks)
+judged_broken clients source bytes client WrongCode known breaks = (client, known, breaks)
+judged_broken clients source bytes client BadAuthenticator known breaks = (client, known, breaks)
+judged_broken clients source bytes client BadAttribute known breaks = (client, known, breaks)
+judged_broken clients source bytes client NoStatus known breaks = (client, known, breaks)
+judged_broken clients source bytes client UnknownStatus known breaks = (client, known, breaks)
+judged_broken clients source bytes client NoSessionId known breaks = (client, known, breaks)
+judged_broken clients source bytes client BadField known breaks = (client, known, breaks)
+judged_broken clients source bytes client TotalTooLarge known breaks = (client, known, breaks)
+judged_broken clients source bytes client BalanceLimit known breaks = absurd breaks
+judged_broken clients source bytes client Unavailable known breaks = absurd breaks
+
+-- the attributes of a known client's request are refused, whatever the book
+pub judged_refused : (clients : List Client) (source bytes : List ℕ) (client : Client) (identifier : ℕ) (authenticator : List ℕ) (attributes : Attributes) (reason : Reason)
+    → client_at source clients ≡ Some client → IsRequest client.secret bytes identifier authenticator attributes → RefusesAs attributes reason → JudgesDrop clients source bytes reason
+judged_refused clients source bytes client identifier authenticator attributes UnknownClient known request refuses = absurd refuses
+judged_refused clients source bytes client identifier authenticator attributes TooShort known request refuses = absurd refuses
+judged_refused clients source bytes client identifier authenticator attributes BadLength known request refuses = absurd refuses
+judged_refused clients source bytes client identifier authenticator attributes WrongCode known request refuses = absurd refuses
+judged_refused clients source bytes client identifier authenticator attributes BadAuthenticator known request refuses = absurd refuses
+judged_refused clients source bytes client identifier authenticator attributes BadAttribute known request refuses = absurd refuses
+judged_refused clients source bytes client identifier authenticator attributes NoStatus known request refuses = (client, known, (identifier, authenticator, attributes, request, refuses))
+judged_refused clients source bytes client identifier authenticator attributes UnknownStatus known request refuses = (client, known, (identifier, authenticator, attributes, request, refuses))
+judged_refused clients source bytes client identifier authenticator attributes NoSessionId known request refuses = (client, known, (identifier, authenticator, attributes, request, refuses))
+judged_refused clients source bytes client identifier authenticator attributes BadField known request refuses = (client, known, (identifier, authenticator, attributes, request, refuses))
+judged_refused clients source bytes client identifier authenticator attributes TotalTooLarge known request refuses = (client, known, (identifier, authenticator, attributes, request, refuses))
+judged_refused clients source bytes client identifier authenticator attributes BalanceLimit known request refuses = absurd refuses
+judged_refused clients source bytes client identifier authenticator attributes Unavailable known request refuses = (client, known, (identifier, authenticator, attributes, request, refuses))

@@ -1,3 +1,4 @@
 pub mod AnswerParts
 pub mod Faults
 pub mod Judgement
+pub mod Asked

@@ -1,8 +1,10 @@
 -- A law of how datagrams are judged.
 use Rattle.std.specs.Prelude.{◌≡◌, ℕ, List}
+use Rattle.acct_model.specs.declared.entry.Entry.{Entry}
+use Rattle.acct_model.specs.Entries.{Attributes}
 use Rattle.acct_wire.specs.declared.client.Client.{Client}
 use Rattle.acct_wire.specs.declared.reason.Reason.{Reason}
-use Rattle.acct_wire.specs.Datagrams.{Breaks}
+use Rattle.acct_wire.specs.Datagrams.{Breaks, Asks}
 use Rattle.acct_wire.specs.Outcomes.{IsAsking}
 
 -- no datagram breaks two rules first
@@ -14,3 +16,9 @@ OneRuleIsBrokenFirst = (clients : List Client) (source bytes : List ℕ) (one ot
 abbrev pub AskingBreaksNone : Type 0
 AskingBreaksNone = (clients : List Client) (source bytes : List ℕ) (reason : Reason)
     → IsAsking clients source bytes → Breaks clients source bytes reason → ⊥
+
+-- a datagram asks for one entry, by one request of one client
+abbrev pub OneEntryIsAsked : Type 0
+OneEntryIsAsked = (clients : List Client) (source bytes : List ℕ) (moment : ℕ) (c d : Client) (i j : ℕ) (a b : List ℕ) (ps qs : Attributes) (one other : Entry)
+    → Asks clients source bytes moment c i a ps one → Asks clients source bytes moment d j b qs other
+    → (c ≡ d) × (i ≡ j) × (a ≡ b) × (ps ≡ qs) × (one ≡ other)

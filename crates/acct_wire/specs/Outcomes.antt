@@ -1,10 +1,10 @@
 -- What an answer says: the datagram's part of a step of the machine.
-use Rattle.std.specs.Prelude.{◌≡◌, ℕ, ◌+◌, ◌≤◌, List, ◌∷◌, ◌++◌, length, drop, Some}
+use Rattle.std.specs.Prelude.{◌≡◌, ℕ, ◌+◌, ◌≤◌, List, ◌∷◌, ◌++◌, length, drop, Some, None}
 use Rattle.radius_codec.specs.Attributes.{spellings}
 use Rattle.radius_codec.specs.Packet.{proxy_states, reply_octets}
 use Rattle.acct_model.specs.declared.plan.Plan.{Plan}
 use Rattle.acct_model.specs.declared.entry.Entry.{Entry}
-use Rattle.acct_model.specs.Entries.{Attributes}
+use Rattle.acct_model.specs.Entries.{Attributes, refusal_of}
 use Rattle.acct_model.specs.History.{Admissible}
 use Rattle.acct_book.specs.Content.{Content}
 use Rattle.acct_book.specs.Outcome.{MayAdd}
@@ -13,7 +13,7 @@ use Rattle.acct_wire.specs.declared.reason.Reason.{Reason}
 use Rattle.acct_wire.specs.declared.reason.Reason.TheVariants.{UnknownClient, TooShort, BadLength, WrongCode, BadAuthenticator, BadAttribute, NoStatus, UnknownStatus, NoSessionId, BadField, TotalTooLarge, BalanceLimit, Unavailable}
 use Rattle.acct_wire.specs.declared.answering.Outcome.{Outcome}
 use Rattle.acct_wire.specs.declared.answering.Outcome.TheVariants.{Reply, Drop}
-use Rattle.acct_wire.specs.Datagrams.{Breaks, Asks, IsSpelled}
+use Rattle.acct_wire.specs.Datagrams.{Breaks, Asks, IsSpelled, IsRequest}
 use Rattle.acct_wire.specs.Clients.{client_at}
 
 -- the reasons that the datagram alone decides
@@ -109,3 +109,36 @@ pub record MayAddAsked (clients : List Client) (plans : List Plan) (history : Li
   pub asked : Entry
   pub asks : Asks clients source bytes moment client identifier authenticator attributes asked
   pub adds : MayAdd plans history asked content
+
+-- the request that a reply answers, whatever the book: a known client's, signed, that spells an entry; and the reply's octets
+pub record Answers (clients : List Client) (source bytes before after : List ℕ) (size : ℕ) : Type 0 where
+  pub client : Client
+  pub identifier : ℕ
+  pub authenticator : List ℕ
+  pub attributes : Attributes
+  pub known : client_at source clients ≡ Some client
+  pub request : IsRequest client.secret bytes identifier authenticator attributes
+  pub faultless : refusal_of attributes ≡ None
+  pub octets : after ≡ reply_octets identifier authenticator attributes client.secret ++ drop size before
+  pub counted : size ≡ 20 + length (spellings (proxy_states attributes))
+
+-- what a drop says of the datagram alone
+abbrev pub JudgesDrop : List Client → List ℕ → List ℕ → Reason → Type 0
+JudgesDrop clients source bytes UnknownClient = Breaks clients source bytes UnknownClient
+JudgesDrop clients source bytes TooShort = Breaks clients source bytes TooShort
+JudgesDrop clients source bytes BadLength = Breaks clients source bytes BadLength
+JudgesDrop clients source bytes WrongCode = Breaks clients source bytes WrongCode
+JudgesDrop clients source bytes BadAuthenticator = Breaks clients source bytes BadAuthenticator
+JudgesDrop clients source bytes BadAttribute = Breaks clients source bytes BadAttribute
+JudgesDrop clients source bytes NoStatus = Breaks clients source bytes NoStatus
+JudgesDrop clients source bytes UnknownStatus = Breaks clients source bytes UnknownStatus
+JudgesDrop clients source bytes NoSessionId = Breaks clients source bytes NoSessionId
+JudgesDrop clients source bytes BadField = Breaks clients source bytes BadField
+JudgesDrop clients source bytes TotalTooLarge = Breaks clients source bytes TotalTooLarge
+JudgesDrop clients source bytes BalanceLimit = IsAsking clients source bytes
+JudgesDrop clients source bytes Unavailable = IsAsking clients source bytes
+
+-- what an outcome says of the datagram alone, whatever the book
+abbrev pub Judges : List Client → List ℕ → List ℕ → List ℕ → List ℕ → Outcome → Type 0
+Judges clients source bytes before after (Reply size) = Answers clients source bytes before after size
+Judges clients source bytes before after (Drop reason) = JudgesDrop clients source bytes reason

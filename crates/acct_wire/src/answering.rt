@@ -7,7 +7,7 @@ ghost use Rattle.acct_book.specs.Stands.{Stands};
 ghost use Rattle.acct_wire.specs.Clients.{client_at};
 ghost use Rattle.acct_wire.specs.Datagrams.{IsRequest, BreaksFirst};
 ghost use Rattle.acct_wire.specs.Spelling.{SpellsEntry, RefusesAs};
-ghost use Rattle.acct_wire.specs.Outcomes.{IsDecidedAlone, IsToldByBook, IsDrop, IsReply, Steps, ReplyFits, MayAddAsked};
+ghost use Rattle.acct_wire.specs.Outcomes.{IsDecidedAlone, IsToldByBook, IsDrop, IsReply, Steps, ReplyFits, MayAddAsked, Judges};
 
 use crate::client::Clients;
 use crate::datagram::Datagram;
@@ -45,6 +45,9 @@ pub fn answer<B: Book>(
     ensures was_sound { B.is_sound book.new → B.is_sound book.old }
     ensures was_open { B.is_open book.new → B.is_open book.old }
     ensures keeps_steady { B.is_steady book.old → B.is_steady book.new }
+
+    // What the outcome says of the datagram alone, whatever the book.
+    ensures judged { Judges clients.now datagram.now.source datagram.now.bytes.now out.old out.new result }
 
     // The first eleven reasons leave the book alone, and what the book told says that it is open.
     ensures alone { IsDecidedAlone result → book.new ≡ book.old }

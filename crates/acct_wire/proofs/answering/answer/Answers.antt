@@ -100,6 +100,7 @@ returns g c =
       was_sound = c.record.ensures.was_sound;
       was_open = c.record.ensures.was_open;
       keeps_steady = c.record.ensures.keeps_steady;
+      judged = (client, asks.known, (packet.id, packet.authenticator, packet.attributes, asks.request, asks.faultless));
       alone = λ none. absurd none;
       answers = λ sound clash. cc;
       unchanged = λ still _. c.record.ensures.unchanged still other;
