@@ -99,26 +99,98 @@ fn answer<B: Book>(alloc: Global, book: &mut B, plans: &Plans, entry: &Entry) ->
 
 // Whether the reports, recorded from an empty book on, are answered and charged so.
 fn are_charged(alloc: Global, turns: &[Turn<'_>]) -> Result<bool, Fail> {
-    let plans = plans(alloc)?;
-    let mut book = MemBook::new(alloc);
+    let mut site = Site::new(alloc)?;
     for turn in turns {
-        let entry = report(
-            alloc,
-            "ap1",
-            turn.user,
-            turn.class,
-            ReportKind::Interim,
-            turn.total,
-            2000,
-            0,
-        )?;
-        if answer(alloc, &mut book, &plans, &entry) != turn.answer
-            || book.balance(turn.user)? != turn.balance
-        {
+        if !site.charges(turn)? {
             return Ok(false);
         }
     }
     Ok(true)
+}
+
+// A book in memory, and plans for it.
+#[derive(Drop)]
+struct Site {
+    alloc: Global,
+    plans: Plans,
+    book: MemBook,
+}
+
+impl Site {
+    // The site with an empty book.
+    fn new(alloc: Global) -> Result<Site, Fail> {
+        let plans = plans(alloc)?;
+        let book = MemBook::new(alloc);
+        Ok(Site { alloc, plans, book })
+    }
+
+    // What recording an entry says.
+    fn says(&mut self, entry: &Entry) -> &'static str {
+        answer(self.alloc, &mut self.book, &self.plans, entry)
+    }
+
+    // Whether a report is answered and charged so.
+    fn charges(&mut self, turn: &Turn<'_>) -> Result<bool, Fail> {
+        Ok(self.says_of(turn)? == turn.answer && self.book.balance(turn.user)? == turn.balance)
+    }
+
+    fn says_of(&mut self, turn: &Turn<'_>) -> Result<&'static str, Fail> {
+        let entry = interim(self.alloc, turn.user, turn.class, turn.total)?;
+        Ok(self.says(&entry))
+    }
+
+    // Records a report of `al` at a moment.
+    fn report_at(&mut self, when: u32) -> Result<(), Fail> {
+        let entry = report(
+            self.alloc,
+            "ap1",
+            b"al",
+            b"gold",
+            ReportKind::Interim,
+            1,
+            when,
+            0,
+        )?;
+        self.says(&entry);
+        Ok(())
+    }
+
+    // Records what the session of `al` goes through.
+    fn goes_through(&mut self, event: Event<'_>) -> Result<(), Fail> {
+        let entry = entry_of(self.alloc, event)?;
+        self.says(&entry);
+        Ok(())
+    }
+
+    // Records a report of a session.
+    fn begins(&mut self, name: (&str, &[u8])) -> Result<(), Fail> {
+        let (client, session) = name;
+        let entry = report(
+            self.alloc,
+            client,
+            session,
+            b"",
+            ReportKind::Interim,
+            1,
+            1000,
+            0,
+        )?;
+        self.says(&entry);
+        Ok(())
+    }
+}
+
+fn interim(alloc: Global, user: &[u8], class: &[u8], total: u64) -> Result<Entry, Fail> {
+    report(
+        alloc,
+        "ap1",
+        user,
+        class,
+        ReportKind::Interim,
+        total,
+        2000,
+        0,
+    )
 }
 
 // Blocks are paid when they are started, and only the rise of the greatest total is paid.
@@ -182,30 +254,19 @@ fn row_of(alloc: Global, book: &mut MemBook) -> Result<Row, Fail> {
 
 // The row's first and last moment after reports at these moments.
 fn moments(alloc: Global, whens: &[u32]) -> Result<(u64, u64), Fail> {
-    let plans = plans(alloc)?;
-    let mut book = MemBook::new(alloc);
+    let mut site = Site::new(alloc)?;
     for when in whens {
-        let entry = report(
-            alloc,
-            "ap1",
-            b"al",
-            b"gold",
-            ReportKind::Interim,
-            1,
-            *when,
-            0,
-        )?;
-        let _ = answer(alloc, &mut book, &plans, &entry);
+        site.report_at(*when)?;
     }
-    let row = row_of(alloc, &mut book)?;
+    let row = row_of(alloc, &mut site.book)?;
     Ok((row.first, row.last))
 }
 
 #[test]
 fn moments_are_least_and_greatest(rt: HostRuntime) -> Result<(), Fail> {
     let alloc = rt.alloc();
-    assert_eq!(rt; moments(alloc, &[1000, 1000])?, (1000, 1000));
-    assert_eq!(rt; moments(alloc, &[1000, 1000, 1008, 0])?, (0, 1008));
+    assert!(rt; moments(alloc, &[1000, 1000])? == (1000, 1000));
+    assert!(rt; moments(alloc, &[1000, 1000, 1008, 0])? == (0, 1008));
     Ok(())
 }
 
@@ -221,13 +282,11 @@ fn entry_of(alloc: Global, event: Event<'_>) -> Result<Entry, Fail> {
 
 // The row's state and cause after these events.
 fn state(alloc: Global, events: &[Event<'_>]) -> Result<(SessionState, u32), Fail> {
-    let plans = plans(alloc)?;
-    let mut book = MemBook::new(alloc);
+    let mut site = Site::new(alloc)?;
     for event in events {
-        let entry = entry_of(alloc, *event)?;
-        let _ = answer(alloc, &mut book, &plans, &entry);
+        site.goes_through(*event)?;
     }
-    let row = row_of(alloc, &mut book)?;
+    let row = row_of(alloc, &mut site.book)?;
     Ok((row.state, row.cause))
 }
 
@@ -238,22 +297,11 @@ fn sessions_end(rt: HostRuntime) -> Result<(), Fail> {
     let late = Event::Says(ReportKind::Interim, 0);
     let stop = Event::Says(ReportKind::Stop, 1);
     let restart = Event::Restarts("ap1");
-    assert_eq!(rt;
-        state(alloc, &[start, Event::Restarts("ap2")])?,
-        (SessionState::Live, 0)
-    );
-    assert_eq!(rt;
-        state(alloc, &[start, restart, late])?,
-        (SessionState::Closed, 11)
-    );
-    assert_eq!(rt;
-        state(alloc, &[start, restart, stop])?,
-        (SessionState::Stopped, 1)
-    );
-    assert_eq!(rt;
-        state(alloc, &[stop, start, restart])?,
-        (SessionState::Stopped, 1)
-    );
+    let other = Event::Restarts("ap2");
+    assert!(rt; state(alloc, &[start, other])? == (SessionState::Live, 0));
+    assert!(rt; state(alloc, &[start, restart, late])? == (SessionState::Closed, 11));
+    assert!(rt; state(alloc, &[start, restart, stop])? == (SessionState::Stopped, 1));
+    assert!(rt; state(alloc, &[stop, start, restart])? == (SessionState::Stopped, 1));
     Ok(())
 }
 
@@ -272,12 +320,15 @@ fn voucher<B: Book>(
 fn vouchers_are_credited_once(rt: HostRuntime) -> Result<(), Fail> {
     let alloc = rt.alloc();
     let mut book = MemBook::new(alloc);
-    assert_eq!(rt; voucher(alloc, &mut book, "V-1", 500)?, "new");
-    assert_eq!(rt; voucher(alloc, &mut book, "V-1", 500)?, "repeat");
-    assert_eq!(rt; voucher(alloc, &mut book, "V-1", 501)?, "differs");
-    assert_eq!(rt; book.balance(b"al")?, 500);
-    assert_eq!(rt; book.topups_of(b"al")?.len(), 1);
+    for (sum, said) in [(500, "new"), (500, "repeat"), (501, "differs")] {
+        assert!(rt; voucher(alloc, &mut book, "V-1", sum)? == said, "{sum}");
+    }
+    assert!(rt; is_credited_once(&mut book)?);
     Ok(())
+}
+
+fn is_credited_once(book: &mut MemBook) -> Result<bool, Fail> {
+    Ok(book.balance(b"al")? == 500 && book.topups_of(b"al")?.len() == 1)
 }
 
 // Each call of a top-up refused in its turn: nothing is credited until the fourth try.
@@ -288,11 +339,18 @@ fn refusals_change_nothing(rt: HostRuntime) -> Result<(), Fail> {
         book: MemBook::new(alloc),
         calls_left: 0,
     };
-    for calls_left in 1..4 {
+    for (calls_left, said) in [
+        (1, "unavailable"),
+        (2, "unavailable"),
+        (3, "unavailable"),
+        (0, "new"),
+    ] {
         failing.calls_left = calls_left;
-        assert_eq!(rt; voucher(alloc, &mut failing, "V-1", 5)?, "unavailable");
+        assert!(rt;
+            voucher(alloc, &mut failing, "V-1", 5)? == said,
+            "{calls_left}"
+        );
     }
-    assert_eq!(rt; voucher(alloc, &mut failing, "V-1", 5)?, "new");
     Ok(())
 }
 
@@ -306,7 +364,7 @@ fn shut_books_answer_nothing(rt: HostRuntime) -> Result<(), Fail> {
         ("V-2", "unavailable"),
         ("V-1", "unavailable"),
     ] {
-        assert_eq!(rt; voucher(alloc, &mut shut, number, 5)?, said);
+        assert!(rt; voucher(alloc, &mut shut, number, 5)? == said, "{said}");
     }
     Ok(())
 }
@@ -322,14 +380,14 @@ const NAMES: [(&str, &[u8]); 6] = [
 
 // A book of these sessions, put in another order than theirs.
 fn book_of_names(alloc: Global) -> Result<MemBook, Fail> {
-    let plans = plans(alloc)?;
-    let mut book = MemBook::new(alloc);
-    for place in [3, 5, 0, 4, 2, 1] {
-        let (client, session) = NAMES[place];
-        let entry = report(alloc, client, session, b"", ReportKind::Interim, 1, 1000, 0)?;
-        let _ = answer(alloc, &mut book, &plans, &entry);
-    }
-    Ok(book)
+    let mut site = Site::new(alloc)?;
+    site.begins(NAMES[3])?;
+    site.begins(NAMES[5])?;
+    site.begins(NAMES[0])?;
+    site.begins(NAMES[4])?;
+    site.begins(NAMES[2])?;
+    site.begins(NAMES[1])?;
+    Ok(site.book)
 }
 
 // Whether the session after a key has this name.
@@ -347,13 +405,39 @@ fn follows(
 fn sessions_are_in_order(rt: HostRuntime) -> Result<(), Fail> {
     let alloc = rt.alloc();
     let mut book = book_of_names(alloc)?;
-    let mut after = None;
-    for name in NAMES {
-        assert!(rt; follows(alloc, &mut book, after.as_ref(), name)?);
-        after = Some(key(alloc, name.0, name.1)?);
-    }
-    assert!(rt; book.next_session(after.as_ref())?.is_none());
+    assert!(rt; are_in_order(alloc, &mut book)?);
     Ok(())
+}
+
+// Whether the book has the sessions of these names in their order.
+fn are_in_order(alloc: Global, book: &mut MemBook) -> Result<bool, Fail> {
+    let mut before = None;
+    for name in NAMES {
+        if !is_behind(alloc, book, before, name)? {
+            return Ok(false);
+        }
+        before = Some(name);
+    }
+    is_last(alloc, book, NAMES[5])
+}
+
+// Whether the session after one of a name, or else the first, has this other name.
+fn is_behind(
+    alloc: Global,
+    book: &mut MemBook,
+    before: Option<(&str, &[u8])>,
+    name: (&str, &[u8]),
+) -> Result<bool, Fail> {
+    let Some((client, session)) = before else {
+        return follows(alloc, book, None, name);
+    };
+    let before = key(alloc, client, session)?;
+    follows(alloc, book, Some(&before), name)
+}
+
+fn is_last(alloc: Global, book: &mut MemBook, name: (&str, &[u8])) -> Result<bool, Fail> {
+    let last = key(alloc, name.0, name.1)?;
+    Ok(book.next_session(Some(&last))?.is_none())
 }
 
 // After a key that isn't in the book comes the next greater one.
@@ -361,11 +445,18 @@ fn sessions_are_in_order(rt: HostRuntime) -> Result<(), Fail> {
 fn walks_go_on_after_any_key(rt: HostRuntime) -> Result<(), Fail> {
     let alloc = rt.alloc();
     let mut book = book_of_names(alloc)?;
-    let missing = key(alloc, "ap1", b"b")?;
-    assert!(rt; follows(alloc, &mut book, Some(&missing), ("ap1", b"\xff"))?);
-    let next = book.next_account(Some(b"\x00"))?.ok_or("no account")?;
-    assert_eq!(rt; next.0.as_slice(), b"\x00\x00".as_slice());
-    assert_eq!(rt; book.sessions_of(b"\x00")?.len(), 2);
-    assert!(rt; book.next_topup(None)?.is_none());
+    let missing: (&str, &[u8]) = ("ap1", b"b");
+    assert!(rt; is_behind(alloc, &mut book, Some(missing), ("ap1", b"\xff"))?);
+    assert!(rt; is_next_account(&mut book, b"\x00", b"\x00\x00")?);
+    assert!(rt; has_two_sessions_and_no_topup(&mut book)?);
     Ok(())
+}
+
+fn has_two_sessions_and_no_topup(book: &mut MemBook) -> Result<bool, Fail> {
+    Ok(book.sessions_of(b"\x00")?.len() == 2 && book.next_topup(None)?.is_none())
+}
+
+fn is_next_account(book: &mut MemBook, after: &[u8], account: &[u8]) -> Result<bool, Fail> {
+    let next = book.next_account(Some(after))?.ok_or("no account")?;
+    Ok(next.0.as_slice() == account)
 }

@@ -114,11 +114,18 @@ fn has_row_afresh(
     list: &[Entry],
     key: &Key,
 ) -> Result<bool, Fail> {
-    Ok(match (book.session(key)?, row_afresh(alloc, list, key)?) {
+    let kept = book.session(key)?;
+    let afresh = row_afresh(alloc, list, key)?;
+    Ok(are_both(kept.as_ref(), afresh.as_ref()))
+}
+
+// Whether there is neither row, or both say the same.
+fn are_both(one: Option<&Row>, other: Option<&Row>) -> bool {
+    match (one, other) {
         (None, None) => true,
-        (Some(kept), Some(afresh)) => are_same(&kept, &afresh),
+        (Some(one), Some(other)) => are_same(one, other),
         _ => false,
-    })
+    }
 }
 
 // Whether the book has the balances and rows of the entries that it accepted, for each account and session of the numbers.
@@ -128,20 +135,34 @@ fn stands_for(
     plans: &Plans,
     list: &[Entry],
 ) -> Result<bool, Fail> {
-    let names = ["a", "b", "", "ab"];
-    let mut stands = true;
-    for client in names {
+    for client in NAMES {
         let account = client.as_bytes();
-        stands = stands && balance_afresh(list, plans, account) == Some(book.balance(account)?);
-        for session in names {
-            let key = Key {
-                client: Text::from_str(alloc, client)?,
-                session: Octets::from_slice(alloc, session.as_bytes())?,
-            };
-            stands = stands && has_row_afresh(alloc, book, list, &key)?;
+        if balance_afresh(list, plans, account) != Some(book.balance(account)?) {
+            return Ok(false);
+        }
+        for session in NAMES {
+            if !has_session_afresh(alloc, book, list, client, session)? {
+                return Ok(false);
+            }
         }
     }
-    Ok(stands)
+    Ok(true)
+}
+
+const NAMES: [&str; 4] = ["a", "b", "", "ab"];
+
+fn has_session_afresh(
+    alloc: Global,
+    book: &mut MemBook,
+    list: &[Entry],
+    client: &str,
+    session: &str,
+) -> Result<bool, Fail> {
+    let key = Key {
+        client: Text::from_str(alloc, client)?,
+        session: Octets::from_slice(alloc, session.as_bytes())?,
+    };
+    has_row_afresh(alloc, book, list, &key)
 }
 
 // Records the entries that the numbers give, and keeps those that are new.

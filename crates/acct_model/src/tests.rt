@@ -30,43 +30,60 @@ fn report_in(alloc: Global, octets: &[u8], moment: u64) -> Result<Report, Fail> 
 #[test]
 fn spells_a_start(rt: HostRuntime) -> Result<(), Fail> {
     let report = report_in(rt.alloc(), START, 1000)?;
-    assert_eq!(rt; report.client.as_str(), "ap1");
-    assert_eq!(rt; report.session.as_slice(), b"s1".as_slice());
-    assert_eq!(rt; report.user.as_slice(), b"al".as_slice());
-    assert!(rt; report.class.as_slice().is_empty());
-    assert_eq!(rt; report.kind, ReportKind::Start);
-    assert_eq!(rt; report.input, 0);
-    assert_eq!(rt; report.output, 0);
-    assert_eq!(rt; report.seconds, 0);
-    assert_eq!(rt; report.when, 1000);
-    assert_eq!(rt; report.cause, 0);
-    assert!(rt; report.calling.as_slice().is_empty());
-    assert_eq!(rt; report.framed, None);
+    assert!(rt; has_octets(&report, [b"s1", b"al", b"", b""]));
+    assert!(rt; is_plain_start(&report));
     Ok(())
+}
+
+// Whether a report of `ap1` has this session id, user, class and calling station.
+fn has_octets(report: &Report, octets: [&[u8]; 4]) -> bool {
+    report.client.as_str() == "ap1"
+        && report.session.as_slice() == octets[0]
+        && report.user.as_slice() == octets[1]
+        && report.class.as_slice() == octets[2]
+        && report.calling.as_slice() == octets[3]
+}
+
+fn is_plain_start(report: &Report) -> bool {
+    report.kind == ReportKind::Start
+        && report.input == 0
+        && report.output == 0
+        && report.seconds == 0
+        && report.when == 1000
+        && report.cause == 0
+        && report.framed.is_none()
 }
 
 // Each attribute of a report, by the types of RFC 2865, RFC 2866 and RFC 2869.
 #[test]
 fn spells_each_attribute(rt: HostRuntime) -> Result<(), Fail> {
-    let octets = [
-        0x28, 6, 0, 0, 0, 2, 0x2c, 2, 0x19, 6, 0x67, 0x6f, 0x6c, 0x64, 0x2a, 6, 0, 0, 0, 5, 0x34,
-        6, 0, 0, 0, 1, 0x2b, 6, 0, 0, 0, 7, 0x35, 6, 0, 0, 0, 2, 0x29, 6, 0, 0, 0, 9, 0x2e, 6, 0,
-        0, 1, 0, 0x31, 6, 0, 0, 0, 1, 0x1f, 3, 0x63, 8, 6, 10, 9, 8, 7,
-    ];
-    let report = report_in(rt.alloc(), octets.as_slice(), 1009)?;
-    assert_eq!(rt; report.kind, ReportKind::Stop);
-    assert!(rt; report.session.as_slice().is_empty());
-    assert_eq!(rt; report.class.as_slice(), b"gold".as_slice());
-    assert_eq!(rt; report.input, 4_294_967_301);
-    assert_eq!(rt; report.output, 8_589_934_599);
-    assert_eq!(rt; report.when, 1000);
-    assert_eq!(rt; report.seconds, 256);
-    assert_eq!(rt; report.cause, 1);
-    assert_eq!(rt; report.calling.as_slice(), b"c".as_slice());
-    assert_eq!(rt; report.framed, Some([10, 9, 8, 7]));
-    // A delay past the moment.
-    let late = report_in(rt.alloc(), octets.as_slice(), 8)?;
-    assert_eq!(rt; late.when, 0);
+    let report = report_in(rt.alloc(), EACH, 1009)?;
+    assert!(rt; has_octets(&report, [b"", b"", b"gold", b"c"]));
+    assert!(rt; is_full_stop(&report));
+    Ok(())
+}
+
+// Each attribute of a report but the user.
+const EACH: &[u8] = &[
+    0x28, 6, 0, 0, 0, 2, 0x2c, 2, 0x19, 6, 0x67, 0x6f, 0x6c, 0x64, 0x2a, 6, 0, 0, 0, 5, 0x34, 6, 0,
+    0, 0, 1, 0x2b, 6, 0, 0, 0, 7, 0x35, 6, 0, 0, 0, 2, 0x29, 6, 0, 0, 0, 9, 0x2e, 6, 0, 0, 1, 0,
+    0x31, 6, 0, 0, 0, 1, 0x1f, 3, 0x63, 8, 6, 10, 9, 8, 7,
+];
+
+fn is_full_stop(report: &Report) -> bool {
+    report.kind == ReportKind::Stop
+        && report.input == 4_294_967_301
+        && report.output == 8_589_934_599
+        && report.when == 1000
+        && report.seconds == 256
+        && report.cause == 1
+        && report.framed == Some([10, 9, 8, 7])
+}
+
+// A delay past the moment.
+#[test]
+fn delays_end_at_the_beginning(rt: HostRuntime) -> Result<(), Fail> {
+    assert!(rt; report_in(rt.alloc(), EACH, 8)?.when == 0);
     Ok(())
 }
 
@@ -74,13 +91,16 @@ fn spells_each_attribute(rt: HostRuntime) -> Result<(), Fail> {
 #[test]
 fn spells_restarts(rt: HostRuntime) -> Result<(), Fail> {
     for status in [7, 8] {
-        let octets = [0x28, 6, 0, 0, 0, status, 0x29, 3, 0];
-        match entry_in(rt.alloc(), octets.as_slice(), 1000)?? {
-            Entry::Restart(restart) => assert_eq!(rt; restart.client.as_str(), "ap1"),
-            _ => return Err(Fail::from("no restart")),
-        }
+        assert!(rt; is_restart(rt.alloc(), &[0x28, 6, 0, 0, 0, status, 0x29, 3, 0])?);
     }
     Ok(())
+}
+
+fn is_restart(alloc: Global, octets: &[u8]) -> Result<bool, Fail> {
+    match entry_in(alloc, octets, 1000)?? {
+        Entry::Restart(restart) => Ok(restart.client.as_str() == "ap1"),
+        _ => Ok(false),
+    }
 }
 
 // What is no entry, by the first refusal that holds.
@@ -109,12 +129,13 @@ const REFUSED: [(&[u8], EntryError); 9] = [
 #[test]
 fn refuses_in_order(rt: HostRuntime) -> Result<(), Fail> {
     for (octets, wanted) in REFUSED {
-        match entry_in(rt.alloc(), octets, 1000)? {
-            Ok(_) => return Err(Fail::from("accepted")),
-            Err(error) => assert_eq!(rt; error, wanted, "of {octets:?}"),
-        }
+        assert_eq!(rt; refusal(rt.alloc(), octets)?, Some(wanted), "of {octets:?}");
     }
     Ok(())
+}
+
+fn refusal(alloc: Global, octets: &[u8]) -> Result<Option<EntryError>, Fail> {
+    Ok(entry_in(alloc, octets, 1000)?.err())
 }
 
 fn plan(alloc: Global, class: &[u8], block: u64, unit: u64) -> Result<Plan, Fail> {
@@ -142,48 +163,72 @@ fn prices_started_blocks(rt: HostRuntime) -> Result<(), Fail> {
 }
 
 #[test]
-fn plans_are_tested_in_order(rt: HostRuntime) -> Result<(), Fail> {
+fn plans_are_found_by_class(rt: HostRuntime) -> Result<(), Fail> {
     let alloc = rt.alloc();
     let mut list = Vec::new(alloc);
     list.push(plan(alloc, b"gold", 1_048_576, 10)?)?;
     list.push(plan(alloc, b"default", 1_000_000, 5)?)?;
     let plans = Plans::new(list)?;
-    assert_eq!(rt; plans.list().len(), 2);
-    assert_eq!(rt; plans.plan_of(b"gold").unit, 10);
-    assert_eq!(rt; plans.plan_of(b"silver").unit, 5);
-    assert_eq!(rt; plans.plan_of(b"").unit, 5);
-    for (class, block, unit, wanted) in [
-        (b"gold".as_slice(), 1, 1, PlanError::NoDefault),
-        (b"default".as_slice(), 1, 1, PlanError::TwicePlanned),
-        (b"default".as_slice(), 0, 1_000_000_001, PlanError::BadBlock),
-        (b"default".as_slice(), (1 << 53) + 1, 0, PlanError::BadBlock),
-        (
-            b"default".as_slice(),
-            1 << 53,
-            1_000_000_001,
-            PlanError::BadUnit,
-        ),
+    assert!(rt; has_units(&plans));
+    Ok(())
+}
+
+fn has_units(plans: &Plans) -> bool {
+    plans.list().len() == 2
+        && plans.plan_of(b"gold").unit == 10
+        && plans.plan_of(b"silver").unit == 5
+        && plans.plan_of(b"").unit == 5
+}
+
+#[test]
+fn plans_are_tested_in_order(rt: HostRuntime) -> Result<(), Fail> {
+    let default: &[u8] = b"default";
+    for (class, block, unit, copies, wanted) in [
+        (b"gold".as_slice(), 1, 1, 1, PlanError::NoDefault),
+        (default, 1, 1, 2, PlanError::TwicePlanned),
+        (default, 0, 1_000_000_001, 1, PlanError::BadBlock),
+        (default, (1 << 53) + 1, 0, 1, PlanError::BadBlock),
+        (default, 1 << 53, 1_000_000_001, 1, PlanError::BadUnit),
     ] {
-        let mut list = Vec::new(alloc);
-        if wanted == PlanError::TwicePlanned {
-            list.push(plan(alloc, class, block, unit)?)?;
-        }
-        list.push(plan(alloc, class, block, unit)?)?;
-        match Plans::new(list) {
-            Ok(_) => return Err(Fail::from("kept")),
-            Err(error) => assert_eq!(rt; error, wanted),
-        }
+        assert_eq!(rt;
+            fault_of(rt.alloc(), class, block, unit, copies)?,
+            Some(wanted)
+        );
     }
     Ok(())
 }
 
+// What is wrong with a list of copies of a plan.
+fn fault_of(
+    alloc: Global,
+    class: &[u8],
+    block: u64,
+    unit: u64,
+    copies: usize,
+) -> Result<Option<PlanError>, Fail> {
+    let mut list = Vec::new(alloc);
+    for _ in 0..copies {
+        list.push(plan(alloc, class, block, unit)?)?;
+    }
+    Ok(Plans::new(list).err())
+}
+
 #[test]
-fn top_ups_are_tested_in_order(rt: HostRuntime) -> Result<(), Fail> {
+fn top_ups_are_kept(rt: HostRuntime) -> Result<(), Fail> {
     let topup = TopUp::new(rt.alloc(), "V-1", b"al", 500, 1000)?;
-    assert_eq!(rt; topup.voucher.as_str(), "V-1");
-    assert_eq!(rt; topup.account.as_slice(), b"al".as_slice());
-    assert_eq!(rt; topup.sum, 500);
-    assert_eq!(rt; topup.when, 1000);
+    assert!(rt; is_given(&topup));
+    Ok(())
+}
+
+fn is_given(topup: &TopUp) -> bool {
+    topup.voucher.as_str() == "V-1"
+        && topup.account.as_slice() == b"al".as_slice()
+        && topup.sum == 500
+        && topup.when == 1000
+}
+
+#[test]
+fn top_ups_are_tested_in_order(rt: HostRuntime) {
     let longest = [b'a'; 254];
     for (voucher, account, sum, wanted) in [
         ("", b"".as_slice(), 0, TopUpError::BadVoucher),
@@ -204,25 +249,18 @@ fn top_ups_are_tested_in_order(rt: HostRuntime) -> Result<(), Fail> {
             TopUpError::BadSum,
         ),
     ] {
-        match TopUp::new(rt.alloc(), voucher, account, sum, 0) {
-            Ok(_) => return Err(Fail::from("accepted")),
-            Err(error) => assert_eq!(rt; error, wanted, "of {voucher}"),
-        }
+        let fault = TopUp::new(rt.alloc(), voucher, account, sum, 0).err();
+        assert_eq!(rt; fault, Some(wanted), "of {voucher}");
     }
-    Ok(())
 }
 
 #[test]
 fn shows_octets(rt: HostRuntime) -> Result<(), Fail> {
     let octets = [0x61, 0x25, 0xc3, 0xa9, 0x0a, 0x20, 0x7e];
-    let text = show(rt.alloc(), octets.as_slice())?;
-    assert_eq!(rt; text.as_str(), "a%25%C3%A9%0A ~");
-    assert_eq!(rt;
-        unshow(rt.alloc(), text.as_str())?.as_slice(),
-        octets.as_slice()
-    );
+    assert!(rt; show(rt.alloc(), &octets)?.as_str() == "a%25%C3%A9%0A ~");
+    assert!(rt; unshow(rt.alloc(), "a%25%C3%A9%0A ~")?.as_slice() == octets.as_slice());
     // A `%` without two hexadecimal digits stands for itself.
-    assert_eq!(rt; unshow(rt.alloc(), "%4g")?.as_slice(), b"%4g".as_slice());
+    assert!(rt; unshow(rt.alloc(), "%4g")?.as_slice() == b"%4g".as_slice());
     Ok(())
 }
 

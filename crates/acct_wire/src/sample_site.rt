@@ -1,6 +1,6 @@
 //! A site for tests: one client, three plans and a book in memory.
 use crate::{Client, Clients, Datagram, Outcome, answer};
-use acct_book::{Book, Key, MemBook, Row};
+use acct_book::{Book, Key, MemBook, Row, SessionState};
 use acct_model::{Octets, Plan, Plans, Text};
 use radius_codec::{sign_request, write_request};
 use std::alloc::Global;
@@ -165,6 +165,24 @@ impl<B: Book> Site<B> {
             session: Octets::from_slice(self.alloc, session)?,
         };
         Ok(self.book.session(&key)?)
+    }
+
+    // The state and cause of a session of `ap1`.
+    pub(crate) fn state(&mut self, session: &[u8]) -> Result<(SessionState, u32), Fail> {
+        let row = self.row(session)?.ok_or("no row")?;
+        Ok((row.state, row.cause))
+    }
+
+    // The first and last moment of a session of `ap1`.
+    pub(crate) fn moments(&mut self, session: &[u8]) -> Result<(u64, u64), Fail> {
+        let row = self.row(session)?.ok_or("no row")?;
+        Ok((row.first, row.last))
+    }
+
+    // The input octets of a session of `ap1`.
+    pub(crate) fn input(&mut self, session: &[u8]) -> Result<u64, Fail> {
+        let row = self.row(session)?.ok_or("no row")?;
+        Ok(row.input)
     }
 
     // Whether nothing was ever recorded.

@@ -3,7 +3,7 @@ use crate::foreign_packets::FOREIGN_PACKETS;
 use crate::sample_site::{AP1, INTERIM_UPDATE, Report, START, STOP, STRANGER, Site, client, gold};
 use crate::{ClientError, Clients, Outcome, Reason};
 use acct_book::fakes::FailingBook;
-use acct_book::{Book, MemBook, SessionState};
+use acct_book::{Book, MemBook, Row, SessionState};
 use std::alloc::Global;
 use std::test::Fail;
 
@@ -36,17 +36,26 @@ fn padded_start() -> [u8; 39] {
 // A Start is answered by the same octets with padding and without (RFC 2866, section 3).
 #[test]
 fn start_is_answered(rt: HostRuntime) -> Result<(), Fail> {
-    for datagram in [START_PACKET.as_slice(), padded_start().as_slice()] {
-        let mut site = Site::new(rt.alloc())?;
-        assert_eq!(rt; site.answer(AP1, 1000, datagram)?, SHORT_REPLY);
-        assert_eq!(rt; site.written(20)?, START_REPLY.as_slice());
-        assert_eq!(rt; site.book.balance(b"al")?, 0);
-        let row = site.row(b"s1")?.ok_or("no row")?;
-        assert_eq!(rt; row.state, SessionState::Live);
-        assert_eq!(rt; row.account.as_slice(), b"al".as_slice());
-        assert!(rt; row.class.as_slice().is_empty());
-    }
+    assert!(rt; is_start_answered(rt.alloc(), &START_PACKET)?);
+    assert!(rt; is_start_answered(rt.alloc(), &padded_start())?);
     Ok(())
+}
+
+fn is_start_answered(alloc: Global, datagram: &[u8]) -> Result<bool, Fail> {
+    let mut site = Site::new(alloc)?;
+    Ok(
+        site.answer(AP1, 1000, datagram)? == SHORT_REPLY
+            && site.written(20)? == START_REPLY.as_slice()
+            && site.book.balance(b"al")? == 0
+            && site.state(b"s1")? == (SessionState::Live, 0)
+            && is_of_al(&mut site)?,
+    )
+}
+
+// Whether the session `s1` has the account `al` and no class.
+fn is_of_al(site: &mut Site<MemBook>) -> Result<bool, Fail> {
+    let row = site.row(b"s1")?.ok_or("no row")?;
+    Ok(row.account.as_slice() == b"al".as_slice() && row.class.as_slice().is_empty())
 }
 
 // Whether the reports of a list, over an empty book, have these outcomes, and their users these balances after each. Prices by hand:
@@ -182,26 +191,33 @@ fn dear<'r>(session: &'r [u8], user: &'r [u8], total: u64) -> Report<'r> {
 #[test]
 fn moments_are_least_and_greatest(rt: HostRuntime) -> Result<(), Fail> {
     let mut site = Site::new(rt.alloc())?;
-    for (moment, identifier, delay, first, last) in [
-        (1000, 8, 0, 1000, 1000),
-        (1005, 9, 5, 1000, 1000),
-        (1010, 10, 2, 1000, 1008),
-        (1010, 11, 1011, 0, 1008),
+    for (sent, moments) in [
+        ((1000, 8, 0), (1000, 1000)),
+        ((1005, 9, 5), (1000, 1000)),
+        ((1010, 10, 2), (1000, 1008)),
+        ((1010, 11, 1011), (0, 1008)),
     ] {
-        let report = Report {
-            delay,
-            ..gold(b"s", 1)
-        };
-        assert_eq!(rt; site.report(moment, identifier, &report)?, SHORT_REPLY);
-        let row = site.row(b"s")?.ok_or("no row")?;
-        assert_eq!(rt;
-            (row.first, row.last),
-            (first, last),
-            "identifier {identifier}"
-        );
-        assert_eq!(rt; site.book.balance(b"al")?, -10);
+        assert!(rt; has_moments(&mut site, sent, moments)?);
     }
     Ok(())
+}
+
+// Whether a report that is sent at a moment, under an identifier and with a delay, leaves the session these moments.
+fn has_moments(
+    site: &mut Site<MemBook>,
+    sent: (u64, u8, u32),
+    moments: (u64, u64),
+) -> Result<bool, Fail> {
+    let (moment, identifier, delay) = sent;
+    let report = Report {
+        delay,
+        ..gold(b"s", 1)
+    };
+    Ok(
+        site.report(moment, identifier, &report)? == SHORT_REPLY
+            && site.moments(b"s")? == moments
+            && site.book.balance(b"al")? == -10,
+    )
 }
 
 // A Stop before its Start: the session stays stopped, with the Stop's cause.
@@ -209,16 +225,22 @@ fn moments_are_least_and_greatest(rt: HostRuntime) -> Result<(), Fail> {
 fn stop_before_start(rt: HostRuntime) -> Result<(), Fail> {
     let mut site = Site::new(rt.alloc())?;
     for (status, cause) in [(STOP, 1), (START, 0)] {
-        let report = Report {
-            status,
-            cause,
-            ..gold(b"s", 0)
-        };
-        assert_eq!(rt; site.report(2000, 8, &report)?, SHORT_REPLY);
-        let row = site.row(b"s")?.ok_or("no row")?;
-        assert_eq!(rt; (row.state, row.cause), (SessionState::Stopped, 1));
+        assert!(rt; is_stopped(&mut site, status, cause)?);
     }
     Ok(())
+}
+
+// Whether a report of this status and cause leaves the session stopped with the cause 1.
+fn is_stopped(site: &mut Site<MemBook>, status: u8, cause: u32) -> Result<bool, Fail> {
+    let report = Report {
+        status,
+        cause,
+        ..gold(b"s", 0)
+    };
+    Ok(
+        site.report(2000, 8, &report)? == SHORT_REPLY
+            && site.state(b"s")? == (SessionState::Stopped, 1),
+    )
 }
 
 // A client's restart closes its sessions with the cause NAS Reboot (RFC 2866, section 5.10). A late report is charged and opens nothing, and
@@ -231,32 +253,43 @@ fn sessions_end(rt: HostRuntime) -> Result<(), Fail> {
     let stop: &[u8] =
         b"\x28\x06\0\0\0\x02\x2c\x04s2\x01\x04al\x19\x06gold\x2a\x06\0\x20\0\x01\x31\x06\0\0\0\x02";
     let mut site = Site::new(rt.alloc())?;
-    for (identifier, octets, state, cause, total, balance) in [
-        (1, interim, SessionState::Live, 0, 1_048_577, -20),
-        (2, on, SessionState::Closed, 11, 1_048_577, -20),
-        (3, late, SessionState::Closed, 11, 2_097_153, -30),
-        (4, stop, SessionState::Stopped, 2, 2_097_153, -30),
-        (5, on, SessionState::Stopped, 2, 2_097_153, -30),
+    for (identifier, octets, state, total, balance) in [
+        (1, interim, (SessionState::Live, 0), 1_048_577, -20),
+        (2, on, (SessionState::Closed, 11), 1_048_577, -20),
+        (3, late, (SessionState::Closed, 11), 2_097_153, -30),
+        (4, stop, (SessionState::Stopped, 2), 2_097_153, -30),
+        (5, on, (SessionState::Stopped, 2), 2_097_153, -30),
     ] {
-        assert_eq!(rt;
-            site.ask(1999 + u64::from(identifier), identifier, octets)?,
-            SHORT_REPLY
-        );
-        assert_eq!(rt; site.written(4)?, [5, identifier, 0, 20].as_slice());
-        let row = site.row(b"s2")?.ok_or("no row")?;
-        assert_eq!(rt;
-            (row.state, row.cause),
-            (state, cause),
-            "identifier {identifier}"
-        );
-        assert_eq!(rt; row.input, total, "identifier {identifier}");
-        assert_eq!(rt;
-            site.book.balance(b"al")?,
-            balance,
-            "identifier {identifier}"
-        );
+        assert!(rt; is_answered_short(&mut site, identifier, octets)?);
+        assert!(rt; has_session(&mut site, state, total, balance)?);
     }
     Ok(())
+}
+
+// Whether a request of these attribute octets gets the reply without attributes.
+fn is_answered_short(
+    site: &mut Site<MemBook>,
+    identifier: u8,
+    octets: &[u8],
+) -> Result<bool, Fail> {
+    Ok(
+        site.ask(1999 + u64::from(identifier), identifier, octets)? == SHORT_REPLY
+            && site.written(4)? == [5, identifier, 0, 20].as_slice(),
+    )
+}
+
+// Whether the session `s2` of `al` has this state, cause and total, and `al` this balance.
+fn has_session(
+    site: &mut Site<MemBook>,
+    state: (SessionState, u32),
+    total: u64,
+    balance: i64,
+) -> Result<bool, Fail> {
+    Ok(
+        site.state(b"s2")? == state
+            && site.input(b"s2")? == total
+            && site.book.balance(b"al")? == balance,
+    )
 }
 
 // The limits of RFC 2865, section 3, for the size of a datagram and its Length field. A stranger is told apart first.
@@ -274,19 +307,29 @@ fn lengths_are_judged(rt: HostRuntime) -> Result<(), Fail> {
         (20, [0, 20], Reason::BadAuthenticator),
         (4097, [0x10, 0], Reason::BadAuthenticator),
     ] {
-        let mut datagram = [4; 4097];
-        datagram[2..4].copy_from_slice(&length);
-        for (source, want) in [(AP1, reason), (STRANGER, Reason::UnknownClient)] {
-            let outcome = site.answer(source, 1000, &datagram[..size])?;
-            assert_eq!(rt; outcome, Outcome::Drop(want), "{size} octets");
-        }
+        assert_eq!(rt;
+            judged(&mut site, AP1, size, length)?,
+            Outcome::Drop(reason)
+        );
+        assert!(rt;
+            judged(&mut site, STRANGER, size, length)? == Outcome::Drop(Reason::UnknownClient)
+        );
     }
-    assert_eq!(rt;
-        site.answer(STRANGER, 1000, &START_PACKET)?,
-        Outcome::Drop(Reason::UnknownClient)
-    );
-    assert!(rt; site.is_empty()?);
+    let stranger = site.answer(STRANGER, 1000, &START_PACKET)?;
+    assert!(rt; stranger == Outcome::Drop(Reason::UnknownClient) && site.is_empty()?);
     Ok(())
+}
+
+// What becomes of a datagram of this size and with this Length.
+fn judged(
+    site: &mut Site<MemBook>,
+    source: [u8; 4],
+    size: usize,
+    length: [u8; 2],
+) -> Result<Outcome, Fail> {
+    let mut datagram = [4; 4097];
+    datagram[2..4].copy_from_slice(&length);
+    site.answer(source, 1000, datagram.get(..size).ok_or("too large")?)
 }
 
 // Attribute octets under a right digest, each over an empty book. The numbers are RFC 2866's: section 5.1 for a status, 5.5 for a session id.
@@ -306,15 +349,24 @@ fn attributes_are_judged(rt: HostRuntime) -> Result<(), Fail> {
             Reason::BadField,
         ),
     ] {
-        let mut site = Site::new(rt.alloc())?;
-        assert_eq!(rt;
-            site.ask(1000, 7, octets)?,
-            Outcome::Drop(reason),
-            "{octets:?}"
-        );
-        assert!(rt; site.is_empty()?, "{octets:?}");
+        assert_eq!(rt; asked_of_none(rt.alloc(), octets)?, Outcome::Drop(reason));
     }
     Ok(())
+}
+
+// What becomes of a request of these attribute octets over an empty book, which it changes only by a reply.
+fn asked_of_none(alloc: Global, octets: &[u8]) -> Result<Outcome, Fail> {
+    let mut site = Site::new(alloc)?;
+    let outcome = site.ask(1000, 7, octets)?;
+    kept(&mut site, outcome)
+}
+
+// The outcome, where the book is empty just if it is no reply.
+fn kept(site: &mut Site<MemBook>, outcome: Outcome) -> Result<Outcome, Fail> {
+    if site.is_empty()? != matches!(&outcome, Outcome::Drop(_)) {
+        return Err(Fail::from("the book has changed by a drop, or not by a reply"));
+    }
+    Ok(outcome)
 }
 
 // A total is 2^63 - 1 octets at most. Its price by hand: 10 * ceil((2^63 - 1) / 2^20) = 10 * 2^43.
@@ -325,51 +377,59 @@ fn totals_are_limited(rt: HostRuntime) -> Result<(), Fail> {
     let none: &[u8] = b"\0\0\0\0";
     let one: &[u8] = b"\0\0\0\x01";
     let too_large = Outcome::Drop(Reason::TotalTooLarge);
-    for (input_gigawords, output, output_gigawords, outcome, balance) in [
-        (most, most, most, too_large, 0),
-        (half, one, none, too_large, 0),
-        (half, none, none, SHORT_REPLY, -87_960_930_222_080),
+    for (totals, outcome, balance) in [
+        ([most, most, most, most], too_large, 0),
+        ([most, half, one, none], too_large, 0),
+        ([most, half, none, none], SHORT_REPLY, -87_960_930_222_080),
     ] {
-        let mut site = Site::new(rt.alloc())?;
-        let attributes = [
-            (40, b"\0\0\0\x03".as_slice()),
-            (44, b"s"),
-            (1, b"al"),
-            (25, b"gold"),
-            (42, most),
-            (52, input_gigawords),
-            (43, output),
-            (53, output_gigawords),
-        ];
-        assert_eq!(rt; site.ask_with(2000, 8, &attributes)?, outcome);
-        assert_eq!(rt; site.book.balance(b"al")?, balance);
-        assert_eq!(rt; site.is_empty()?, outcome == too_large);
+        assert_eq!(rt; totalled(rt.alloc(), totals)?, (outcome, balance));
     }
     Ok(())
+}
+
+// The outcome and the balance of `al` after one report: its input, gigawords of it, output and gigawords of it.
+fn totalled(alloc: Global, totals: [&[u8]; 4]) -> Result<(Outcome, i64), Fail> {
+    let attributes = [
+        (40, b"\0\0\0\x03".as_slice()),
+        (44, b"s"),
+        (1, b"al"),
+        (25, b"gold"),
+        (42, totals[0]),
+        (52, totals[1]),
+        (43, totals[2]),
+        (53, totals[3]),
+    ];
+    let mut site = Site::new(alloc)?;
+    let outcome = site.ask_with(2000, 8, &attributes)?;
+    Ok((kept(&mut site, outcome)?, site.book.balance(b"al")?))
 }
 
 // RFC 2865, section 5.33: Proxy-States come back in order and unmodified. The digest is that of Python's hashlib.
 #[test]
 fn proxy_states_come_back(rt: HostRuntime) -> Result<(), Fail> {
-    let long = [0x5a; 253];
+    let front = [
+        0x05, 0x07, 0x01, 0x16, 0xfb, 0x17, 0x4a, 0x44, 0x85, 0xe9, 0xc8, 0xf3, 0x4d, 0x4e, 0x55,
+        0x94, 0x66, 0x6c, 0x17, 0x9a, 33, 3, b'p', 33, 255,
+    ];
+    assert!(rt; has_proxy_states(rt.alloc(), &front, &[0x5a; 253])?);
+    Ok(())
+}
+
+// Whether the reply to a Start with the Proxy-States `p` and `long` is of these two parts.
+fn has_proxy_states(alloc: Global, front: &[u8], long: &[u8]) -> Result<bool, Fail> {
     let attributes: [(u8, &[u8]); 5] = [
         (40, b"\0\0\0\x01"),
         (44, b"s1"),
         (1, b"al"),
         (33, b"p"),
-        (33, &long),
+        (33, long),
     ];
-    let mut site = Site::new(rt.alloc())?;
-    assert_eq!(rt; site.ask_with(1000, 7, &attributes)?, Outcome::Reply(278));
-    let front = [
-        0x05, 0x07, 0x01, 0x16, 0xfb, 0x17, 0x4a, 0x44, 0x85, 0xe9, 0xc8, 0xf3, 0x4d, 0x4e, 0x55,
-        0x94, 0x66, 0x6c, 0x17, 0x9a, 33, 3, b'p', 33, 255,
-    ];
-    assert_eq!(rt; site.written(25)?, front.as_slice());
-    let reply = site.written(278)?;
-    assert_eq!(rt; reply.len(), 278);
-    assert_eq!(rt; &reply[25..], long.as_slice());
-    Ok(())
+    let mut site = Site::new(alloc)?;
+    Ok(
+        site.ask_with(1000, 7, &attributes)? == Outcome::Reply(278)
+            && site.written(25)? == front
+            && site.written(278)?.get(25..) == Some(long),
+    )
 }
 
 // What other programs sent, one after the other over one book: each gets its one right response. Prices by hand: `al` has 1,048,577 octets
@@ -377,58 +437,75 @@ fn proxy_states_come_back(rt: HostRuntime) -> Result<(), Fail> {
 #[test]
 fn foreign_packets_are_answered(rt: HostRuntime) -> Result<(), Fail> {
     let mut site = Site::new(rt.alloc())?;
-    for foreign in &FOREIGN_PACKETS {
-        let outcome = site.answer(AP1, 1_795_329_300, foreign.request)?;
-        assert_eq!(rt; outcome, SHORT_REPLY, "{}", foreign.client);
-        assert_eq!(rt; site.written(20)?, foreign.response, "{}", foreign.client);
-    }
-    assert_eq!(rt; site.book.balance(b"al")?, -25);
-    assert_eq!(rt; site.book.balance(b"wichert")?, -122_890);
-    let row = site.row(b"700A05EF064CCF53")?.ok_or("no row")?;
-    assert_eq!(rt; row.account.as_slice(), b"a26ecb7eca74".as_slice());
-    assert_eq!(rt; row.calling.as_slice(), b"A2-6E-CB-7E-CA-74".as_slice());
-    assert_eq!(rt; (row.state, row.seconds), (SessionState::Stopped, 9));
-    assert_eq!(rt; row.framed, Some([10, 9, 8, 7]));
+    assert_eq!(rt; first_unanswered(&mut site)?, "");
+    assert!(rt; is_foreign_content(&mut site)?);
     Ok(())
+}
+
+// The first foreign packet that doesn't get its response.
+fn first_unanswered(site: &mut Site<MemBook>) -> Result<&'static str, Fail> {
+    for foreign in &FOREIGN_PACKETS {
+        if !gets(site, foreign.request, foreign.response)? {
+            return Ok(foreign.client);
+        }
+    }
+    Ok("")
+}
+
+fn gets(site: &mut Site<MemBook>, request: &[u8], response: &[u8]) -> Result<bool, Fail> {
+    Ok(site.answer(AP1, 1_795_329_300, request)? == SHORT_REPLY && site.written(20)? == response)
+}
+
+// Whether the book has what the foreign packets report.
+fn is_foreign_content(site: &mut Site<MemBook>) -> Result<bool, Fail> {
+    let row = site.row(b"700A05EF064CCF53")?.ok_or("no row")?;
+    Ok(
+        is_foreign(&row)
+            && site.book.balance(b"al")? == -25
+            && site.book.balance(b"wichert")? == -122_890,
+    )
+}
+
+fn is_foreign(row: &Row) -> bool {
+    row.account.as_slice() == b"a26ecb7eca74".as_slice()
+        && row.calling.as_slice() == b"A2-6E-CB-7E-CA-74".as_slice()
+        && row.state == SessionState::Stopped
+        && row.seconds == 9
+        && row.framed == Some([10, 9, 8, 7])
 }
 
 // A datagram that is cut off.
 #[test]
 fn prefixes_of_a_packet(rt: HostRuntime) -> Result<(), Fail> {
     for size in 0..=START_PACKET.len() {
-        let mut site = Site::new(rt.alloc())?;
         let want = match size {
             0..=19 => Outcome::Drop(Reason::TooShort),
             20..=33 => Outcome::Drop(Reason::BadLength),
             _ => SHORT_REPLY,
         };
-        assert_eq!(rt;
-            site.answer(AP1, 1000, &START_PACKET[..size])?,
-            want,
-            "{size} octets"
-        );
-        assert_eq!(rt; site.is_empty()?, want != SHORT_REPLY, "{size} octets");
+        assert_eq!(rt; answered(rt.alloc(), &START_PACKET[..size])?, want);
     }
     Ok(())
+}
+
+// What becomes of a datagram of `ap1` over an empty book, which it changes only by a reply.
+fn answered(alloc: Global, datagram: &[u8]) -> Result<Outcome, Fail> {
+    let mut site = Site::new(alloc)?;
+    let outcome = site.answer(AP1, 1000, datagram)?;
+    kept(&mut site, outcome)
 }
 
 // Attributes that are cut off, under a right digest: the prefixes that end between two attributes spell some.
 #[test]
 fn prefixes_of_attributes(rt: HostRuntime) -> Result<(), Fail> {
     for size in 0..=START_OCTETS.len() {
-        let mut site = Site::new(rt.alloc())?;
         let want = match size {
             0 => Outcome::Drop(Reason::NoStatus),
             6 => Outcome::Drop(Reason::NoSessionId),
             10 | 14 => SHORT_REPLY,
             _ => Outcome::Drop(Reason::BadAttribute),
         };
-        assert_eq!(rt;
-            site.ask(1000, 7, &START_OCTETS[..size])?,
-            want,
-            "{size} octets"
-        );
-        assert_eq!(rt; site.is_empty()?, want != SHORT_REPLY, "{size} octets");
+        assert_eq!(rt; asked_of_none(rt.alloc(), &START_OCTETS[..size])?, want);
     }
     Ok(())
 }
@@ -437,7 +514,6 @@ fn prefixes_of_attributes(rt: HostRuntime) -> Result<(), Fail> {
 #[test]
 fn changed_octets(rt: HostRuntime) -> Result<(), Fail> {
     for i in 0..39 {
-        let mut site = Site::new(rt.alloc())?;
         let mut datagram = padded_start();
         datagram[i] ^= 0xff;
         let want = match i {
@@ -446,8 +522,7 @@ fn changed_octets(rt: HostRuntime) -> Result<(), Fail> {
             34.. => SHORT_REPLY,
             _ => Outcome::Drop(Reason::BadAuthenticator),
         };
-        assert_eq!(rt; site.answer(AP1, 1000, &datagram)?, want, "octet {i}");
-        assert_eq!(rt; site.is_empty()?, want != SHORT_REPLY, "octet {i}");
+        assert_eq!(rt; answered(rt.alloc(), &datagram)?, want);
     }
     Ok(())
 }
@@ -475,26 +550,28 @@ fn changed_bits(rt: HostRuntime) -> Result<(), Fail> {
 #[test]
 fn unavailable_books(rt: HostRuntime) -> Result<(), Fail> {
     for calls_left in 1..=3 {
-        let book = FailingBook {
-            book: MemBook::new(rt.alloc()),
-            calls_left,
-        };
-        let mut site = Site::over(rt.alloc(), book)?;
-        assert_eq!(rt;
-            site.answer(AP1, 1000, &START_PACKET)?,
-            Outcome::Drop(Reason::Unavailable)
-        );
-        assert!(rt; site.is_empty()?);
-        assert_eq!(rt; site.answer(AP1, 1000, &START_PACKET)?, SHORT_REPLY);
-        assert_eq!(rt; site.written(20)?, START_REPLY.as_slice());
+        assert!(rt; is_answered_next_time(rt.alloc(), calls_left)?);
     }
     Ok(())
+}
+
+fn is_answered_next_time(alloc: Global, calls_left: u64) -> Result<bool, Fail> {
+    let book = FailingBook {
+        book: MemBook::new(alloc),
+        calls_left,
+    };
+    let mut site = Site::over(alloc, book)?;
+    Ok(
+        site.answer(AP1, 1000, &START_PACKET)? == Outcome::Drop(Reason::Unavailable)
+            && site.is_empty()?
+            && site.answer(AP1, 1000, &START_PACKET)? == SHORT_REPLY
+            && site.written(20)? == START_REPLY.as_slice(),
+    )
 }
 
 // Faults of clients: a name comes before an address, and an earlier client before a later one.
 #[test]
 fn clients_have_names_and_addresses_of_their_own(rt: HostRuntime) -> Result<(), Fail> {
-    let alloc = rt.alloc();
     for (names, addresses, want) in [
         (["ap1", "ap2", "ap3"], [1, 2, 3], None),
         (
@@ -518,21 +595,34 @@ fn clients_have_names_and_addresses_of_their_own(rt: HostRuntime) -> Result<(), 
             Some(ClientError::TwiceAddressed),
         ),
     ] {
-        let mut list = Vec::new(alloc);
-        for i in 0..3 {
-            list.push(client(alloc, names[i], [10, 0, 0, addresses[i]])?)?;
-        }
-        match Clients::new(list) {
-            Err(fault) => assert_eq!(rt; Some(fault), want),
-            Ok(clients) => {
-                assert_eq!(rt; want, None);
-                let listed = clients.list();
-                assert_eq!(rt; listed.len(), 3);
-                assert_eq!(rt; listed[2].name.as_str(), "ap3");
-            }
-        }
+        assert_eq!(rt; fault_of(rt.alloc(), names, addresses)?, want);
     }
     Ok(())
+}
+
+// The fault of three clients. Where there is none, they are listed as they were given.
+fn fault_of(
+    alloc: Global,
+    names: [&str; 3],
+    addresses: [u8; 3],
+) -> Result<Option<ClientError>, Fail> {
+    let mut list = Vec::new(alloc);
+    for i in 0..3 {
+        list.push(client(alloc, names[i], [10, 0, 0, addresses[i]])?)?;
+    }
+    match Clients::new(list) {
+        Err(fault) => Ok(Some(fault)),
+        Ok(clients) if are_listed(&clients, names) => Ok(None),
+        Ok(_) => Err(Fail::from("the clients are not listed as they were given")),
+    }
+}
+
+fn are_listed(clients: &Clients, names: [&str; 3]) -> bool {
+    let listed = clients.list();
+    listed.len() == 3
+        && listed[0].name.as_str() == names[0]
+        && listed[1].name.as_str() == names[1]
+        && listed[2].name.as_str() == names[2]
 }
 
 // The numbers that operators see, in the order of the tests.

@@ -42,48 +42,82 @@ fn digest_of_abc(rt: HostRuntime) {
 #[test]
 fn start_there_and_back(rt: HostRuntime) -> Result<(), Fail> {
     let mut signed = [FILL; 4096];
-    let mut written = [FILL; 4096];
     assert_eq!(rt; sign_request(7, &START, SECRET, &mut signed), Ok(34));
+    assert!(rt; is_start(&signed));
+    let mut written = [FILL; 4096];
     assert_eq!(rt;
         write_request(7, &START_VALUES, SECRET, &mut written),
         Ok(34)
     );
-    for out in [&signed, &written] {
-        assert_eq!(rt; &out[..34], START_PACKET.as_slice());
-        assert!(rt; out[34..].iter().all(|&octet| octet == FILL));
-    }
+    assert!(rt; is_start(&written));
+    Ok(())
+}
+
+// Whether the Start's packet stands at the front of an array, of which no other octet is written.
+fn is_start(out: &[u8; 4096]) -> bool {
+    &out[..34] == START_PACKET.as_slice() && are_filled(&out[34..])
+}
+
+fn are_filled(octets: &[u8]) -> bool {
+    octets.iter().all(|&octet| octet == FILL)
+}
+
+#[test]
+fn start_matches_its_secret(rt: HostRuntime) {
     assert!(rt; request_matches(&START_PACKET, SECRET));
     assert!(rt; !request_matches(&START_PACKET, b"another"));
+}
 
-    // Five octets of padding change nothing.
+// Five octets of padding change nothing.
+#[test]
+fn start_is_read_and_answered(rt: HostRuntime) -> Result<(), Fail> {
+    assert!(rt; is_read(&START_PACKET)? && is_answered(&START_PACKET)?);
     let mut padded = [FILL; 39];
     padded[..34].copy_from_slice(&START_PACKET);
-    for datagram in [START_PACKET.as_slice(), padded.as_slice()] {
-        let packet = read(datagram).ok().ok_or("no packet")?;
-        assert_eq!(rt; (packet.code, packet.id), (4, 7));
-        assert_eq!(rt; packet.attributes.first(40).and_then(word_of), Some(1));
-        assert_eq!(rt; packet.attributes.first(44), Some(b"s1".as_slice()));
-        assert_eq!(rt; packet.attributes.first(33), None);
-        let mut reply = [FILL; 4096];
-        assert_eq!(rt; write_response(&packet, SECRET, &mut reply), 20);
-        assert_eq!(rt; &reply[..20], START_RESPONSE.as_slice());
-        assert!(rt; reply[20..].iter().all(|&octet| octet == FILL));
-    }
+    assert!(rt; is_read(&padded)? && is_answered(&padded)?);
     Ok(())
+}
+
+fn is_read(datagram: &[u8]) -> Result<bool, Fail> {
+    let packet = read(datagram)?;
+    Ok(
+        packet.code == 4
+            && packet.id == 7
+            && packet.attributes.first(40).and_then(word_of) == Some(1)
+            && packet.attributes.first(44) == Some(b"s1".as_slice())
+            && packet.attributes.first(33).is_none(),
+    )
+}
+
+fn is_answered(datagram: &[u8]) -> Result<bool, Fail> {
+    let packet = read(datagram)?;
+    let mut reply = [FILL; 4096];
+    Ok(
+        write_response(&packet, SECRET, &mut reply) == 20
+            && &reply[..20] == START_RESPONSE.as_slice()
+            && are_filled(&reply[20..]),
+    )
 }
 
 #[test]
 fn foreign_packets(rt: HostRuntime) -> Result<(), Fail> {
     for foreign in &FOREIGN_PACKETS {
-        let client = foreign.client;
-        assert!(rt; foreign.request.len() >= 20);
-        assert!(rt; request_matches(foreign.request, SECRET), "{client}");
-        let packet = read(foreign.request).ok().ok_or("no packet")?;
-        let mut reply = [FILL; 4096];
-        assert_eq!(rt; write_response(&packet, SECRET, &mut reply), 20, "{client}");
-        assert_eq!(rt; &reply[..20], foreign.response, "{client}");
+        assert!(rt;
+            gets(foreign.request, foreign.response)?,
+            "{}",
+            foreign.client
+        );
     }
     Ok(())
+}
+
+fn gets(request: &[u8], response: &[u8]) -> Result<bool, Fail> {
+    if request.len() < 20 || !request_matches(request, SECRET) {
+        return Ok(false);
+    }
+    let packet = read(request)?;
+    let mut reply = [FILL; 4096];
+    Ok(write_response(&packet, SECRET, &mut reply) == 20 && &reply[..20] == response)
 }
 
 // RFC 2865, section 5: a number has four octets, the high one first.
@@ -106,31 +140,40 @@ fn attributes_that_do_not_end(rt: HostRuntime) -> Result<(), Fail> {
         &[0x28],
         &[0x28, 2, 0x28, 255, 0],
     ] {
-        let mut out = [FILL; 4096];
-        let size = sign_request(7, octets, SECRET, &mut out)
-            .ok()
-            .ok_or("too long")?;
-        assert!(rt; size <= 4096);
         assert_eq!(rt;
-            read(&out[..size]).err(),
+            fault_of(octets)?,
             Some(CodecError::BadAttribute),
             "{octets:?}"
         );
     }
+    Ok(())
+}
 
-    // A Length of 2 is an empty value.
+// What is wrong with a packet of these attribute octets.
+fn fault_of(octets: &[u8]) -> Result<Option<CodecError>, Fail> {
+    let mut out = [FILL; 4096];
+    let size = sign_request(7, octets, SECRET, &mut out)?;
+    Ok(read(out.get(..size).ok_or("too long")?).err())
+}
+
+// A Length of 2 is an empty value.
+#[test]
+fn empty_values(rt: HostRuntime) -> Result<(), Fail> {
     let mut out = [FILL; 4096];
     assert_eq!(rt; sign_request(7, &[0x28, 2], SECRET, &mut out), Ok(22));
-    let packet = read(&out[..22]).ok().ok_or("no packet")?;
-    let mut attributes = packet.attributes.iter();
-    assert_eq!(rt; attributes.next(), Some((40, [].as_slice())));
-    assert_eq!(rt; attributes.next(), None);
+    assert!(rt; is_one_empty_value(&out[..22])?);
     Ok(())
+}
+
+fn is_one_empty_value(datagram: &[u8]) -> Result<bool, Fail> {
+    let packet = read(datagram)?;
+    let mut attributes = packet.attributes.iter();
+    Ok(attributes.next() == Some((40, [].as_slice())) && attributes.next().is_none())
 }
 
 // Datagrams of a size, and a Length field: RFC 2865, section 3, for the limits 20 and 4,096.
 #[test]
-fn lengths(rt: HostRuntime) {
+fn lengths(rt: HostRuntime) -> Result<(), Fail> {
     for (size, length, want) in [
         (0, [0, 0], Some(CodecError::TooShort)),
         (19, [0, 20], Some(CodecError::TooShort)),
@@ -141,70 +184,87 @@ fn lengths(rt: HostRuntime) {
         (4097, [0x10, 1], Some(CodecError::BadLength)),
         (4097, [0x10, 0], None),
     ] {
-        // Empty attributes of type 2 behind the first twenty octets.
-        let mut datagram = [2; 4097];
-        datagram[2..4].copy_from_slice(&length);
-        assert_eq!(rt; front(&datagram[..size]).err(), want, "{size} octets");
-        assert_eq!(rt; read(&datagram[..size]).err(), want, "{size} octets");
+        assert!(rt; has_fault(size, length, want)?, "{size} octets");
     }
+    Ok(())
+}
+
+// Whether both readers find this fault in a datagram of this size and Length: behind the first twenty octets empty attributes of type 2.
+fn has_fault(size: usize, length: [u8; 2], want: Option<CodecError>) -> Result<bool, Fail> {
+    let mut datagram = [2; 4097];
+    datagram[2..4].copy_from_slice(&length);
+    let octets = datagram.get(..size).ok_or("too large")?;
+    Ok(front(octets).err() == want && read(octets).err() == want)
 }
 
 // 253 octets are the longest value, and 4,076 octets the most of all attributes together: fifteen
 // attributes of 255 octets, and one of 251.
 #[test]
-fn longest_requests(rt: HostRuntime) {
-    let octets = [0; 254];
-    let longest = (1, &octets[..253]);
+fn longest_requests(rt: HostRuntime) -> Result<(), Fail> {
     for (last, want) in [(249, Ok(4096)), (250, Err(TooLong)), (254, Err(TooLong))] {
-        let mut attributes = [longest; 16];
-        attributes[15] = (1, &octets[..last]);
-        let mut out = [FILL; 4096];
-        assert_eq!(rt;
-            write_request(7, &attributes, SECRET, &mut out),
-            want,
-            "{last} octets"
-        );
-        assert_eq!(rt;
-            out.iter().all(|&octet| octet == FILL),
-            want.is_err(),
-            "{last} octets"
-        );
+        assert_eq!(rt; sixteen_written(last)?, want, "{last} octets");
     }
+    Ok(())
+}
+
+// What comes of writing fifteen attributes of 255 octets and one with a value of this many. An array is written just where they fit.
+fn sixteen_written(last: usize) -> Result<Result<usize, TooLong>, Fail> {
+    let octets = [0; 254];
+    let mut attributes = [(1, &octets[..253]); 16];
+    attributes[15] = (1, octets.get(..last).ok_or("too large")?);
+    let mut out = [FILL; 4096];
+    let written = write_request(7, &attributes, SECRET, &mut out);
+    if are_filled(&out) != written.is_err() {
+        return Err(Fail::from("the array is written where nothing fits, or not where it does"));
+    }
+    Ok(written)
+}
+
+#[test]
+fn what_is_too_long(rt: HostRuntime) {
     let mut out = [FILL; 4096];
     assert_eq!(rt;
-        write_request(7, &[(1, &octets)], SECRET, &mut out),
+        write_request(7, &[(1, &[0; 254])], SECRET, &mut out),
         Err(TooLong)
     );
     assert_eq!(rt; sign_request(7, &[2; 4077], SECRET, &mut out), Err(TooLong));
-    assert!(rt; out.iter().all(|&octet| octet == FILL));
+    assert!(rt; are_filled(&out));
     assert_eq!(rt; sign_request(7, &[2; 4076], SECRET, &mut out), Ok(4096));
 }
 
 // RFC 2865, section 5.33: Proxy-States come back in order and unmodified, and nothing else does.
 #[test]
 fn proxy_states(rt: HostRuntime) -> Result<(), Fail> {
-    let long = [0x5a; 253];
-    let attributes: [(u8, &[u8]); 5] = [
-        (40, &[0, 0, 0, 1]),
-        (33, b"p"),
-        (44, b"s1"),
-        (33, &long),
-        (1, b"al"),
-    ];
     let mut out = [FILL; 4096];
-    let size = write_request(7, &attributes, SECRET, &mut out)
-        .ok()
-        .ok_or("too long")?;
-    assert!(rt; size <= 4096);
-    let packet = read(&out[..size]).ok().ok_or("no packet")?;
-    let mut reply = [FILL; 4096];
-    assert_eq!(rt; write_response(&packet, SECRET, &mut reply), 278);
-    // 278 octets are 0x0116.
-    assert_eq!(rt; &reply[..4], [5, 7, 1, 0x16].as_slice());
-    assert_eq!(rt; &reply[20..25], [33, 3, b'p', 33, 255].as_slice());
-    assert_eq!(rt; &reply[25..278], long.as_slice());
-    assert!(rt; reply[278..].iter().all(|&octet| octet == FILL));
+    let long = [0x5a; 253];
+    let size = write_request(
+        7,
+        &[
+            (40, &[0, 0, 0, 1]),
+            (33, b"p"),
+            (44, b"s1"),
+            (33, &long),
+            (1, b"al"),
+        ],
+        SECRET,
+        &mut out,
+    )?;
+    assert!(rt; have_come_back(out.get(..size).ok_or("too long")?, &long)?);
     Ok(())
+}
+
+// Whether the response has the Proxy-States `p` and this long one.
+fn have_come_back(request: &[u8], long: &[u8]) -> Result<bool, Fail> {
+    let packet = read(request)?;
+    let mut reply = [FILL; 4096];
+    // 278 octets are 0x0116.
+    Ok(
+        write_response(&packet, SECRET, &mut reply) == 278
+            && &reply[..4] == [5, 7, 1, 0x16].as_slice()
+            && &reply[20..25] == [33, 3, b'p', 33, 255].as_slice()
+            && &reply[25..278] == long
+            && are_filled(&reply[278..]),
+    )
 }
 
 #[test]
