@@ -65,16 +65,16 @@ lower credit old new more = omega (arith, ints)
 pub moves_once : MoneyMovesOnce
 moves_once = record {
   charged_once = λ plans history report one account listed less.
-    let rs = reports history (session_of report) in
-    let same = share-same plans account report one rs listed less (first_of rs) refl in
-    let step = owned-report (charge_of plans) history report account in
-    let still : charged plans (entry.Report report ∷ history) account ≡ charged plans history account = omega (arith, step, same) in
-    ap (λ n. pos (credited history account) -ℤ pos n) still;
+      let rs = reports history (session_of report) in
+      let same = share-same plans account report one rs listed less (first_of rs) refl in
+      let step = owned-report (charge_of plans) history report account in
+      let still : charged plans (entry.Report report ∷ history) account ≡ charged plans history account = omega (arith, step, same) in
+      ap (λ n. pos (credited history account) -ℤ pos n) still;
   none_back = λ plans history report account good.
-    let rs = reports history (session_of report) in
-    let more = share-more plans account report rs good (first_of rs) refl in
-    let step = owned-report (charge_of plans) history report account in
-    let grown : charged plans history account ≤ charged plans (entry.Report report ∷ history) account = omega (arith, step, more) in
-    lower (credited history account) (charged plans history account) (charged plans (entry.Report report ∷ history) account) grown;
+      let rs = reports history (session_of report) in
+      let more = share-more plans account report rs good (first_of rs) refl in
+      let step = owned-report (charge_of plans) history report account in
+      let grown : charged plans history account ≤ charged plans (entry.Report report ∷ history) account = omega (arith, step, more) in
+      lower (credited history account) (charged plans history account) (charged plans (entry.Report report ∷ history) account) grown;
   restart = balance-restart;
 }

@@ -2,6 +2,8 @@
 use Rattle.std.specs.Prelude.{◌≡◌, ◌==◌, ℕ, ◌+◌, ◌*◌, ◌-◌, ◌^◌, nat_le, Bool, IsTrue, ◌||◌, Option, None, Some, unwrap_or, is_none, List, [], ◌∷◌, if◌then◌else◌, option_and_then}
 use Rattle.std.specs.List.{list_any}
 use Rattle.radius_codec.specs.Attributes.{value_of, word}
+use Rattle.radius_codec.specs.declared.attribute_types.TheConstants.{USER_NAME, FRAMED_IP_ADDRESS, CLASS, CALLING_STATION_ID, ACCT_STATUS_TYPE, ACCT_DELAY_TIME, ACCT_INPUT_OCTETS, ACCT_OUTPUT_OCTETS, ACCT_SESSION_ID, ACCT_SESSION_TIME, ACCT_TERMINATE_CAUSE, ACCT_INPUT_GIGAWORDS, ACCT_OUTPUT_GIGAWORDS}
+use Rattle.acct_model.specs.declared.status_values.TheConstants.{START, STOP, INTERIM_UPDATE, ACCOUNTING_ON, ACCOUNTING_OFF}
 use Rattle.acct_model.specs.Report.{ReportFacts}
 use Rattle.acct_model.specs.declared.entry.Entry.{Entry}
 use Rattle.acct_model.specs.declared.entry.Entry.TheVariants as entry
@@ -32,28 +34,34 @@ count_at kind attributes = unwrap_or (number_at kind attributes) 0
 
 -- Acct-Input-Octets and Acct-Input-Gigawords, the wraps of that counter
 abbrev pub input_of : Attributes → ℕ
-input_of attributes = 2 ^ 32 * count_at 52 attributes + count_at 42 attributes
+input_of attributes = 2 ^ 32 * count_at ACCT_INPUT_GIGAWORDS attributes + count_at ACCT_INPUT_OCTETS attributes
 
 -- Acct-Output-Octets and Acct-Output-Gigawords
 abbrev pub output_of : Attributes → ℕ
-output_of attributes = 2 ^ 32 * count_at 53 attributes + count_at 43 attributes
+output_of attributes = 2 ^ 32 * count_at ACCT_OUTPUT_GIGAWORDS attributes + count_at ACCT_OUTPUT_OCTETS attributes
 
 -- Acct-Status-Type, if it is there and is a number
 abbrev pub status_of : Attributes → Option ℕ
-status_of attributes = option_and_then word (value_of 40 attributes)
+status_of attributes = option_and_then word (value_of ACCT_STATUS_TYPE attributes)
 
 -- Start, Stop and Interim-Update
 abbrev pub kind_of : ℕ → Option ReportKind
-kind_of status = if status == 1 then Some Start else if status == 2 then Some Stop else if status == 3 then Some Interim else None
+kind_of status =
+    if status == START then Some Start
+    else if status == STOP then Some Stop
+    else if status == INTERIM_UPDATE then Some Interim
+    else None
 
 -- Accounting-On and Accounting-Off
 abbrev pub is_restart : ℕ → Bool
-is_restart status = status == 7 || status == 8
+is_restart status = status == ACCOUNTING_ON || status == ACCOUNTING_OFF
 
 -- The numbers and the address that a report may have: Framed-IP-Address, Acct-Delay-Time, the octets, Acct-Session-Time,
 -- Acct-Terminate-Cause and the gigawords.
 abbrev pub number_types : List ℕ
-number_types = 8 ∷ 41 ∷ 42 ∷ 43 ∷ 46 ∷ 49 ∷ 52 ∷ 53 ∷ []
+number_types =
+    FRAMED_IP_ADDRESS ∷ ACCT_DELAY_TIME ∷ ACCT_INPUT_OCTETS ∷ ACCT_OUTPUT_OCTETS ∷ ACCT_SESSION_TIME
+    ∷ ACCT_TERMINATE_CAUSE ∷ ACCT_INPUT_GIGAWORDS ∷ ACCT_OUTPUT_GIGAWORDS ∷ []
 
 -- one of them hasn't four octets
 abbrev pub has_bad_number : Attributes → Bool
@@ -62,7 +70,7 @@ has_bad_number attributes = list_any (λ kind. is_none (number_at kind attribute
 -- what is wrong with a report's attributes
 abbrev pub report_fault : Attributes → Option EntryError
 report_fault attributes =
-    if is_none (value_of 44 attributes) then Some NoSessionId
+    if is_none (value_of ACCT_SESSION_ID attributes) then Some NoSessionId
     else if has_bad_number attributes then Some BadField
     else if nat_le (2 ^ 63) (input_of attributes + output_of attributes) then Some TotalTooLarge
     else None
@@ -77,23 +85,23 @@ status_fault attributes (Some status) =
 
 -- the first refusal that holds
 abbrev pub refusal_of : Attributes → Option EntryError
-refusal_of attributes = if is_none (value_of 40 attributes) then Some NoStatus else status_fault attributes (status_of attributes)
+refusal_of attributes = if is_none (value_of ACCT_STATUS_TYPE attributes) then Some NoStatus else status_fault attributes (status_of attributes)
 
 -- The report of a kind that the attributes of a client's packet spell, which came at a moment.
 abbrev pub report_of : List ℕ → Attributes → ℕ → ReportKind → ReportFacts
 report_of name attributes moment reported = record {
   client = name;
-  session = octets_at 44 attributes;
-  user = octets_at 1 attributes;
-  class = octets_at 25 attributes;
+  session = octets_at ACCT_SESSION_ID attributes;
+  user = octets_at USER_NAME attributes;
+  class = octets_at CLASS attributes;
   kind = reported;
   input = input_of attributes;
   output = output_of attributes;
-  seconds = count_at 46 attributes;
-  when = moment - count_at 41 attributes;
-  cause = count_at 49 attributes;
-  calling = octets_at 31 attributes;
-  framed = value_of 8 attributes;
+  seconds = count_at ACCT_SESSION_TIME attributes;
+  when = moment - count_at ACCT_DELAY_TIME attributes;
+  cause = count_at ACCT_TERMINATE_CAUSE attributes;
+  calling = octets_at CALLING_STATION_ID attributes;
+  framed = value_of FRAMED_IP_ADDRESS attributes;
 }
 
 -- the entry that the attributes spell

@@ -1,5 +1,6 @@
--- Octets shown as text.
-use Rattle.std.specs.Prelude.{ℕ, ◌/◌, ◌%◌, ◌==◌, nat_lt, nat_le, Bool, true, ◌||◌, List, [], ◌∷◌, if◌then◌else◌}
+-- Octets and addresses shown as text.
+use Rattle.std.specs.Prelude.{ℕ, ◌/◌, ◌%◌, ◌==◌, nat_lt, nat_le, Bool, true, ◌||◌, Option, None, Some, List, [], ◌∷◌, if◌then◌else◌}
+use Rattle.std.specs.Net.Text.{ipv4_text}
 use Rattle.std.specs.List.{flat_map}
 use Rattle.std.specs.Fmt.{digit_glyph}
 
@@ -12,5 +13,11 @@ abbrev pub shown_octet : ℕ → List ℕ
 shown_octet octet =
     if is_escaped octet then 37 ∷ digit_glyph true (octet / 16 % 16) ∷ digit_glyph true (octet % 16) ∷ [] else octet ∷ []
 
+-- octets as text, one after the other
 abbrev pub shown : List ℕ → List ℕ
 shown octets = flat_map shown_octet octets
+
+-- an IPv4 address as text: four decimal numbers separated by dots, and no text for none
+abbrev pub shown_address : Option (List ℕ) → List ℕ
+shown_address None = []
+shown_address (Some octets) = ipv4_text octets

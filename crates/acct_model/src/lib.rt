@@ -10,7 +10,7 @@
 //!    sessions, their owners and greatest totals, the vouchers, and each account's balance.
 #![tactic(auto)]
 
-mod attribute_types;
+mod address;
 mod entry;
 mod first_values;
 pub mod laws;
@@ -20,9 +20,11 @@ mod plans;
 mod reading;
 mod report;
 mod shown;
+pub mod status_values;
 mod text;
 mod top_up;
 
+pub use address::{address_of, show_address};
 pub use entry::{Entry, Restart};
 pub use octets::Octets;
 pub use plan::{Plan, price};

@@ -4,12 +4,13 @@ ghost use Rattle.acct_model.specs.declared.reading.EntryError.TheVariants.{Memor
 ghost use Rattle.radius_codec.specs.Attributes.{value_of};
 ghost use Rattle.acct_model.specs.Entries as spec;
 
-use crate::attribute_types::*;
 use crate::entry::{Entry, Restart};
 use crate::first_values::{FirstValues, TYPES};
 use crate::octets::Octets;
 use crate::report::{Report, ReportKind};
+use crate::status_values;
 use crate::text::Text;
+use radius_codec::attribute_types::*;
 use radius_codec::{Packet, word_of};
 use std::alloc::{AllocError, Global};
 use thiserror::Error;
@@ -85,7 +86,7 @@ pub fn entry_of(
     let Some(status) = word_of(value) else {
         return Err(EntryError::UnknownStatus);
     };
-    if status == 7 || status == 8 {
+    if status == status_values::ACCOUNTING_ON || status == status_values::ACCOUNTING_OFF {
         let client = Text::from_str(alloc, client)?;
         return Ok(Entry::Restart(Restart { client }));
     }
@@ -104,9 +105,9 @@ fn kind_of(status: u32) -> Option<ReportKind>
     ensures { result ≡ spec.kind_of status }
 {
     match status {
-        1 => Some(ReportKind::Start),
-        2 => Some(ReportKind::Stop),
-        3 => Some(ReportKind::Interim),
+        status_values::START => Some(ReportKind::Start),
+        status_values::STOP => Some(ReportKind::Stop),
+        status_values::INTERIM_UPDATE => Some(ReportKind::Interim),
         _ => None,
     }
 }
@@ -184,8 +185,8 @@ fn output_of(attributes: &FirstValues<'_, '_>) -> u64
 
 // The four octets of the first Framed-IP-Address.
 fn address_of(attributes: &FirstValues<'_, '_>) -> Option<[u8; 4]>
-    requires { is_none (spec.number_at 8 attributes.now) ≡ false }
-    ensures { result ≡ value_of 8 attributes.now }
+    requires { is_none (spec.number_at FRAMED_IP_ADDRESS attributes.now) ≡ false }
+    ensures { result ≡ value_of FRAMED_IP_ADDRESS attributes.now }
 {
     match attributes.first(FRAMED_IP_ADDRESS) {
         Some([a, b, c, d]) => Some([*a, *b, *c, *d]),

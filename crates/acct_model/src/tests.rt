@@ -1,6 +1,6 @@
 use crate::{
     Entry, EntryError, Octets, Plan, PlanError, Plans, Report, ReportKind, Text, TopUp, TopUpError,
-    entry_of, price, show, unshow,
+    address_of, entry_of, price, show, show_address, unshow,
 };
 use radius_codec::{read, sign_request};
 use std::alloc::Global;
@@ -262,6 +262,34 @@ fn shows_octets(rt: HostRuntime) -> Result<(), Fail> {
     // A `%` without two hexadecimal digits stands for itself.
     assert!(rt; unshow(rt.alloc(), "%4g")?.as_slice() == b"%4g".as_slice());
     Ok(())
+}
+
+// Addresses of RFC 5737 and of a private net; 0 stands once alone and once at the end of a number.
+#[test]
+fn shows_and_reads_addresses(rt: HostRuntime) -> Result<(), Fail> {
+    assert!(rt; show_address(rt.alloc(), None)?.as_str() == "");
+    for (octets, text) in [
+        ([203, 0, 113, 7], "203.0.113.7"),
+        ([10, 200, 30, 254], "10.200.30.254"),
+    ] {
+        assert!(rt; show_address(rt.alloc(), Some(octets))?.as_str() == text);
+        assert_eq!(rt; address_of(text), Some(octets));
+    }
+    Ok(())
+}
+
+#[test]
+fn reads_no_other_addresses(rt: HostRuntime) {
+    for text in [
+        "",
+        "203.0.113",
+        "203.0.113.07",
+        "203.0.113.256",
+        "203.0.113.7.1",
+        " 203.0.113.7",
+    ] {
+        assert_eq!(rt; address_of(text), None, "of {text}");
+    }
 }
 
 #[test]

@@ -4,6 +4,8 @@ use Rattle.std.specs.List.{filter}
 use Rattle.byteorder.specs.Endian.{big_bytes}
 use Rattle.md5.specs.Md5.{md5}
 use Rattle.radius_codec.specs.Attributes.{spellings, AreShort, Spells}
+use Rattle.radius_codec.specs.declared.attribute_types.TheConstants.{PROXY_STATE}
+use Rattle.radius_codec.specs.declared.codes.TheConstants.{ACCOUNTING_REQUEST, ACCOUNTING_RESPONSE}
 use Rattle.radius_codec.specs.declared.packet.CodecError.{CodecError}
 use Rattle.radius_codec.specs.declared.packet.CodecError.TheVariants.{TooShort, BadLength, BadAttribute}
 
@@ -77,25 +79,27 @@ sealed code identifier place octets secret =
 
 -- The Accounting-Request of this identifier and these attribute octets (RFC 2866, section 4.1).
 abbrev pub request_octets : ℕ → List ℕ → List ℕ → List ℕ
-request_octets identifier octets secret = sealed 4 identifier request_place octets secret
+request_octets identifier octets secret = sealed ACCOUNTING_REQUEST identifier request_place octets secret
 
 -- The bytes begin with an Accounting-Request of this identifier and list of attributes.
 abbrev pub IsRequestOf : List ℕ → ℕ → List (ℕ × List ℕ) → Type 0
 IsRequestOf bytes identifier attributes =
-    (authenticator : List ℕ) × Framed bytes 4 identifier authenticator attributes
+    (authenticator : List ℕ)
+    × Framed bytes ACCOUNTING_REQUEST identifier authenticator attributes
 
--- The attributes of type 33, Proxy-State, in their order (RFC 2865, section 5.33).
+-- The attributes of the type Proxy-State in their order (RFC 2865, section 5.33).
 abbrev pub proxy_states : List (ℕ × List ℕ) → List (ℕ × List ℕ)
-proxy_states attributes = filter (λ attribute. attribute.0 == 33) attributes
+proxy_states attributes = filter (λ attribute. attribute.0 == PROXY_STATE) attributes
 
 -- The Accounting-Response to a request of this identifier, authenticator and list of attributes
 -- (RFC 2866, section 4.2): in its digest the request's authenticator stands in the place of its own.
 abbrev pub reply_octets : ℕ → List ℕ → List (ℕ × List ℕ) → List ℕ → List ℕ
 reply_octets identifier authenticator attributes secret =
-    sealed 5 identifier authenticator (spellings (proxy_states attributes)) secret
+    sealed ACCOUNTING_RESPONSE identifier authenticator (spellings (proxy_states attributes)) secret
 
 -- The bytes begin with an Accounting-Response to a request of this identifier and list of
 -- attributes: its identifier, its Proxy-States and no other attribute (RFC 2866, section 4.2).
 abbrev pub IsReplyOf : List ℕ → ℕ → List (ℕ × List ℕ) → Type 0
 IsReplyOf bytes identifier attributes =
-    (authenticator : List ℕ) × Framed bytes 5 identifier authenticator (proxy_states attributes)
+    (authenticator : List ℕ)
+    × Framed bytes ACCOUNTING_RESPONSE identifier authenticator (proxy_states attributes)

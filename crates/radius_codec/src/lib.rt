@@ -22,8 +22,10 @@
 //!    caller's array, of which no octet past the packet changes.
 #![tactic(auto)]
 
+pub mod attribute_types;
 mod attributes;
 mod authenticator;
+pub mod codes;
 mod limits;
 mod packet;
 mod request;

@@ -1,4 +1,4 @@
-//! The sizes, codes and types that the RFCs give, each named once.
+//! The sizes that the RFCs give, each named once.
 
 // Octets before the attributes: code, identifier, Length and authenticator (RFC 2866, section 3).
 pub(crate) const HEADER: usize = 20;
@@ -20,12 +20,3 @@ pub(crate) const LONGEST_VALUE: usize = 253;
 
 // Octets of a number or an address (RFC 2865, section 5).
 pub(crate) const WORD: usize = 4;
-
-// The code of an Accounting-Request (RFC 2866, section 4.1).
-pub(crate) const ACCOUNTING_REQUEST: u8 = 4;
-
-// The code of an Accounting-Response (RFC 2866, section 4.2).
-pub(crate) const ACCOUNTING_RESPONSE: u8 = 5;
-
-// The type of a Proxy-State (RFC 2865, section 5.33).
-pub(crate) const PROXY_STATE: u8 = 33;

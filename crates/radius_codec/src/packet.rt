@@ -10,7 +10,8 @@ use thiserror::Error;
 /// A packet (RFC 2866, section 3), whose attributes lie in the datagram that it was read from.
 #[derive(Drop)]
 pub struct Packet<'a> {
-    /// What the packet is: 4 for an Accounting-Request, 5 for an Accounting-Response.
+    /// What the packet is, as `codes` names it: an Accounting-Request, an Accounting-Response or
+    /// another.
     pub code: u8,
     /// The identifier, which a response takes from its request.
     pub id: u8,

@@ -1,11 +1,10 @@
 //! Accounting-Requests written into an array.
-ghost use Rattle.std.specs.Prelude.{◌≡◌, ◌+◌, ◌<◌, ◌++◌, length, take, drop, List, ℕ, IfOk, OnErr, OnSome, IfSome, IfNone};
+ghost use Rattle.std.specs.Prelude.{◌≡◌, ◌+◌, ◌<◌, ◌≤◌, ◌++◌, length, take, drop, List, ℕ, IfOk, OnErr, OnSome, IfSome, IfNone};
 ghost use Rattle.radius_codec.specs.Attributes.{spellings, Fits, pairs};
 ghost use Rattle.radius_codec.specs.Packet.{request_octets, IsSigned, IsRequestOf};
 
-use crate::limits::{
-    ACCOUNTING_REQUEST, ATTRIBUTE_HEADER, AUTHENTICATOR, HEADER, LONGEST_VALUE, MOST_ATTRIBUTES,
-};
+use crate::codes::ACCOUNTING_REQUEST;
+use crate::limits::{ATTRIBUTE_HEADER, AUTHENTICATOR, HEADER, LONGEST_VALUE, MOST_ATTRIBUTES};
 use crate::writing::{put_attribute, seal};
 use thiserror::Error;
 
@@ -32,6 +31,7 @@ pub fn write_request(
         out.new ≡ request_octets identifier (spellings (pairs attributes.now)) secret.now
         ++ drop size out.old) }
     ensures size { IfOk result (λ size. size ≡ 20 + length (spellings (pairs attributes.now))) }
+    ensures most { IfOk result (λ size. size ≤ 4096) }
     ensures signed { IfOk result (λ size. IsSigned (take size out.new) secret.now) }
     // It is read as these attributes, whatever octets follow.
     ensures read { IfOk result (λ size. (behind : List ℕ) →
@@ -71,6 +71,7 @@ pub fn sign_request(
     ensures written { IfOk result (λ size.
         out.new ≡ request_octets identifier octets.now secret.now ++ drop size out.old) }
     ensures size { IfOk result (λ size. size ≡ 20 + length octets.now) }
+    ensures most { IfOk result (λ size. size ≤ 4096) }
     ensures signed { IfOk result (λ size. IsSigned (take size out.new) secret.now) }
 
     ensures too_long { OnErr result (4076 < length octets.now) }

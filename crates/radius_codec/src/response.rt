@@ -1,10 +1,12 @@
 //! Accounting-Responses written into an array.
-ghost use Rattle.std.specs.Prelude.{◌≡◌, ◌+◌, ◌++◌, length, take, drop};
+ghost use Rattle.std.specs.Prelude.{◌≡◌, ◌+◌, ◌≤◌, ◌++◌, length, take, drop};
 ghost use Rattle.radius_codec.specs.Attributes.{spellings, Fits};
 ghost use Rattle.radius_codec.specs.Packet.{proxy_states, reply_octets, IsReplyOf};
 
+use crate::attribute_types::PROXY_STATE;
 use crate::attributes::Attributes;
-use crate::limits::{ACCOUNTING_RESPONSE, HEADER, PROXY_STATE};
+use crate::codes::ACCOUNTING_RESPONSE;
+use crate::limits::HEADER;
 use crate::packet::Packet;
 use crate::writing::{put_attribute, seal};
 
@@ -16,6 +18,7 @@ pub fn write_response(request: &Packet<'_>, secret: &[u8], out: &mut [u8; 4096])
         reply_octets request.now.id request.now.authenticator request.now.attributes secret.now
         ++ drop result out.old }
     ensures size { result ≡ 20 + length (spellings (proxy_states request.now.attributes)) }
+    ensures most { result ≤ 4096 }
     ensures reply { IsReplyOf (take result out.new) request.now.id request.now.attributes }
 {
     let end = put_proxy_states(out, &request.attributes);
