@@ -4,22 +4,23 @@ use Rattle.std.proofs.lemmas.List.{take_at, drop_at, append-nil, length-take-le,
 use borrow.Rule.Slice.PartMut.{put_mid}
 use Rattle.md5.proofs.StandardFacts.{length-md5}
 use Rattle.radius_codec.specs.Attributes.{spellings, Fits}
-use Rattle.radius_codec.specs.Packet.{head_octets, digest, request_place, length_field, Framed, IsRequestOf, IsReplyOf, IsSigned, sealed, request_octets, proxy_states, reply_octets}
+use Rattle.radius_codec.specs.Packet.{head_octets, digest, request_place, length_field, Framed, IsRequestOf, IsReplyOf, HasDigest, sealed, request_octets, proxy_states, reply_octets}
 
 pub length-sealed : (code identifier : ℕ) (place octets secret : List ℕ) → length (sealed code identifier place octets secret) ≡ 20 + length octets
 length-sealed code identifier place octets secret =
     let head = head_octets code identifier (20 + length octets) in
     omega (arith, length-append (digest head place octets secret) octets, length-md5 (head ++ place ++ octets ++ secret))
 
--- a request carries the digest of itself
-pub IsSigned-request : (identifier : ℕ) (octets secret : List ℕ) → IsSigned (request_octets identifier octets secret) secret
-IsSigned-request identifier octets secret =
-    let head = head_octets 4 identifier (20 + length octets) in
-    let sum = digest head request_place octets secret in
-    let long : length sum ≡ 16 = length-md5 (head ++ request_place ++ octets ++ secret) in
+-- a sealed packet carries the digest of itself
+pub HasDigest-sealed : (code identifier : ℕ) (place octets secret : List ℕ)
+    → HasDigest (sealed code identifier place octets secret) place secret
+HasDigest-sealed code identifier place octets secret =
+    let head = head_octets code identifier (20 + length octets) in
+    let sum = digest head place octets secret in
+    let long : length sum ≡ 16 = length-md5 (head ++ place ++ octets ++ secret) in
     let front : take 16 (sum ++ octets) ≡ sum = take_at sum octets 16 long in
     let back : drop 16 (sum ++ octets) ≡ octets = drop_at sum octets 16 long in
-    front ∙ sym (ap (λ xs. digest head request_place xs secret) back)
+    front ∙ sym (ap (λ xs. digest head place xs secret) back)
 
 -- what a write between two places leaves from the first of them on
 pub drop-put_mid_from : (from size end : ℕ) (xs ys : List ℕ) → from ≤ length xs → end ≡ from + size → drop from (put_mid from size xs ys) ≡ ys ++ drop end xs

@@ -64,10 +64,21 @@ digest head place octets secret = md5 (head ++ place ++ octets ++ secret)
 abbrev pub request_place : List ℕ
 request_place = replicate 16 0
 
--- The front's authenticator is the digest of the front, as a request, and the secret.
+-- The front's authenticator is the digest of the front, with these octets in the authenticator's
+-- place, and the secret.
+abbrev pub HasDigest : List ℕ → List ℕ → List ℕ → Type 0
+HasDigest front place secret =
+    take 16 (drop 4 front) ≡ digest (take 4 front) place (drop 20 front) secret
+
+-- The front is signed as a request: its authenticator is its Request Authenticator.
 abbrev pub IsSigned : List ℕ → List ℕ → Type 0
-IsSigned front secret =
-    take 16 (drop 4 front) ≡ digest (take 4 front) request_place (drop 20 front) secret
+IsSigned front secret = HasDigest front request_place secret
+
+-- The front is signed as a response to a request of this authenticator, which stands in the
+-- authenticator's place in the digest: its authenticator is its Response Authenticator (RFC 2866,
+-- section 3).
+abbrev pub IsSignedResponse : List ℕ → List ℕ → List ℕ → Type 0
+IsSignedResponse front request_authenticator secret = HasDigest front request_authenticator secret
 
 -- A packet of these attribute octets, with its digest as the authenticator.
 abbrev pub sealed : ℕ → ℕ → List ℕ → List ℕ → List ℕ → List ℕ

@@ -1,6 +1,6 @@
 //! Authenticators: MD5 over a packet and the shared secret.
 ghost use Rattle.std.specs.Prelude.{◌≡◌, ◌≤◌, ◌↔◌, IsTrue, length};
-ghost use Rattle.radius_codec.specs.Packet.{digest, IsSigned};
+ghost use Rattle.radius_codec.specs.Packet.{digest, HasDigest, IsSigned, IsSignedResponse};
 
 use crate::limits::{AUTHENTICATOR, HEADER};
 use md5::{Digest, Md5};
@@ -11,7 +11,31 @@ pub fn request_matches(front: &[u8], secret: &[u8]) -> bool
     requires { 20 ≤ length front.now }
     ensures { IsTrue result ↔ IsSigned front.now secret.now }
 {
-    let wanted = digest_of(&front[..4], &[0; AUTHENTICATOR], &front[HEADER..], secret);
+    has_digest(front, &[0; AUTHENTICATOR], secret)
+}
+
+/// Whether a response's authenticator is the digest of the response, the authenticator of the
+/// request that it answers, and the secret (RFC 2866, section 3). `front` is the whole packet
+/// without padding, as the function `front` gives it. Code and identifier are not compared with the
+/// request's.
+pub fn response_matches(
+    front: &[u8],
+    request_authenticator: &[u8; AUTHENTICATOR],
+    secret: &[u8],
+) -> bool
+    requires { 20 ≤ length front.now }
+    ensures { IsTrue result ↔
+        IsSignedResponse front.now request_authenticator.now secret.now }
+{
+    has_digest(front, request_authenticator, secret)
+}
+
+// Whether a packet's authenticator is the packet's digest with `place` in the authenticator's place.
+fn has_digest(front: &[u8], place: &[u8], secret: &[u8]) -> bool
+    requires { 20 ≤ length front.now }
+    ensures { IsTrue result ↔ HasDigest front.now place.now secret.now }
+{
+    let wanted = digest_of(&front[..4], place, &front[HEADER..], secret);
     &front[4..HEADER] == wanted.as_slice()
 }
 

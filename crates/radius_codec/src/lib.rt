@@ -33,7 +33,7 @@ mod response;
 mod writing;
 
 pub use attributes::{AttributeIter, Attributes, word_of};
-pub use authenticator::request_matches;
+pub use authenticator::{request_matches, response_matches};
 pub use packet::{CodecError, Packet, front, read};
 pub use request::{TooLong, sign_request, write_request};
 pub use response::write_response;

@@ -1,7 +1,7 @@
 //! Accounting-Responses written into an array.
 ghost use Rattle.std.specs.Prelude.{◌≡◌, ◌+◌, ◌≤◌, ◌++◌, length, take, drop};
 ghost use Rattle.radius_codec.specs.Attributes.{spellings, Fits};
-ghost use Rattle.radius_codec.specs.Packet.{proxy_states, reply_octets, IsReplyOf};
+ghost use Rattle.radius_codec.specs.Packet.{proxy_states, reply_octets, IsReplyOf, IsSignedResponse};
 
 use crate::attribute_types::PROXY_STATE;
 use crate::attributes::Attributes;
@@ -20,6 +20,7 @@ pub fn write_response(request: &Packet<'_>, secret: &[u8], out: &mut [u8; 4096])
     ensures size { result ≡ 20 + length (spellings (proxy_states request.now.attributes)) }
     ensures most { result ≤ 4096 }
     ensures reply { IsReplyOf (take result out.new) request.now.id request.now.attributes }
+    ensures signed { IsSignedResponse (take result out.new) request.now.authenticator secret.now }
 {
     let end = put_proxy_states(out, &request.attributes);
     seal(

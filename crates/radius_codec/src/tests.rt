@@ -1,8 +1,9 @@
 //! Packets whose octets come from outside: worked by hand, by another MD5, or by other clients.
+use crate::attribute_types::*;
 use crate::foreign_packets::{FOREIGN_PACKETS, SECRET};
 use crate::{
-    CodecError, TooLong, front, read, request_matches, sign_request, word_of, write_request,
-    write_response,
+    CodecError, TooLong, codes, front, read, request_matches, response_matches, sign_request,
+    word_of, write_request, write_response,
 };
 use md5::{Digest, Md5};
 use std::test::Fail;
@@ -118,6 +119,35 @@ fn gets(request: &[u8], response: &[u8]) -> Result<bool, Fail> {
     let packet = read(request)?;
     let mut reply = [FILL; 4096];
     Ok(write_response(&packet, SECRET, &mut reply) == 20 && &reply[..20] == response)
+}
+
+// The responses to foreign requests match the authenticators of these, under their secret alone.
+#[test]
+fn foreign_responses_match(rt: HostRuntime) -> Result<(), Fail> {
+    for foreign in &FOREIGN_PACKETS {
+        let authenticator = read(foreign.request)?.authenticator;
+        assert_eq!(rt;
+            matches_found(foreign.response, authenticator)?,
+            (true, false, false),
+            "{}",
+            foreign.client
+        );
+    }
+    Ok(())
+}
+
+// Whether a response matches under the secret, under another secret, and with another authenticator
+// of its request.
+fn matches_found(response: &[u8], mut authenticator: [u8; 16]) -> Result<(bool, bool, bool), Fail> {
+    let octets = front(response)?;
+    if octets.len() < 20 {
+        return Err(Fail::from("a front has 20 octets at least"));
+    }
+    let matches = response_matches(octets, &authenticator, SECRET);
+    let other_secret = response_matches(octets, &authenticator, b"xyzzy5462");
+    authenticator[15] ^= 1;
+    let other_request = response_matches(octets, &authenticator, SECRET);
+    Ok((matches, other_secret, other_request))
 }
 
 // RFC 2865, section 5: a number has four octets, the high one first.
@@ -267,23 +297,64 @@ fn have_come_back(request: &[u8], long: &[u8]) -> Result<bool, Fail> {
     )
 }
 
+// The numbers and texts of the errors.
+const ERRORS: [(CodecError, u8, &str); 3] = [
+    (CodecError::TooShort, 1, "a packet has 20 octets at least"),
+    (
+        CodecError::BadLength,
+        2,
+        "the Length field is below 20, above 4096 or above the datagram's octets",
+    ),
+    (
+        CodecError::BadAttribute,
+        3,
+        "an attribute's Length is below 2 or runs past the end of the packet",
+    ),
+];
+
 #[test]
-fn messages(rt: HostRuntime) -> Result<(), Fail> {
-    let alloc = rt.alloc();
-    for (error, want) in [
-        (CodecError::TooShort, "a packet has 20 octets at least"),
-        (
-            CodecError::BadLength,
-            "the Length field is below 20, above 4096 or above the datagram's octets",
-        ),
-        (
-            CodecError::BadAttribute,
-            "an attribute's Length is below 2 or runs past the end of the packet",
-        ),
-    ] {
-        assert_eq!(rt; format!(in alloc; "{error}")?.as_str(), want);
+fn errors_have_numbers_and_texts(rt: HostRuntime) -> Result<(), Fail> {
+    for (error, number, text) in ERRORS {
+        assert_eq!(rt; error as u8, number, "{text}");
+        assert_eq!(rt; format!(in rt.alloc(); "{error}")?.as_str(), text);
     }
-    let want = "the attributes take more octets than a packet has room for";
-    assert_eq!(rt; format!(in alloc; "{TooLong}")?.as_str(), want);
+    let text = format!(in rt.alloc(); "{TooLong}")?;
+    assert_eq!(rt;
+        text.as_str(),
+        "the attributes take more octets than a packet has room for"
+    );
     Ok(())
+}
+
+// The numbers that RFC 2865, RFC 2866 and RFC 2869 give.
+#[test]
+fn names_stand_for_the_numbers_of_the_rfcs(rt: HostRuntime) {
+    assert_eq!(rt;
+        (codes::ACCOUNTING_REQUEST, codes::ACCOUNTING_RESPONSE),
+        (4, 5)
+    );
+    assert_eq!(rt;
+        [
+            USER_NAME,
+            FRAMED_IP_ADDRESS,
+            CLASS,
+            CALLING_STATION_ID,
+            PROXY_STATE
+        ],
+        [1, 8, 25, 31, 33]
+    );
+    assert_eq!(rt;
+        [
+            ACCT_STATUS_TYPE,
+            ACCT_DELAY_TIME,
+            ACCT_INPUT_OCTETS,
+            ACCT_OUTPUT_OCTETS,
+            ACCT_SESSION_ID,
+            ACCT_SESSION_TIME,
+            ACCT_TERMINATE_CAUSE,
+            ACCT_INPUT_GIGAWORDS,
+            ACCT_OUTPUT_GIGAWORDS,
+        ],
+        [40, 41, 42, 43, 44, 46, 49, 52, 53]
+    );
 }

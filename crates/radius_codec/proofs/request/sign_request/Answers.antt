@@ -1,6 +1,6 @@
 use Rattle.std.proofs.Common.{◌≡◌, length, ◌+◌, ◌-◌, ◌++◌, drop, take, arith, ◌∙◌, ap, sym, refl, rules, subst}
 use Rattle.radius_codec.specs.Packet.{request_place, IsSigned}
-use Rattle.radius_codec.proofs.Sealing.{drop-put_mid_from, sealed_in, take-sealed, IsSigned-request}
+use Rattle.radius_codec.proofs.Sealing.{drop-put_mid_from, sealed_in, take-sealed, HasDigest-sealed}
 use Rattle.radius_codec.proofs.request.sign_request.Goals as goal
 
 pub returns-clause-written : goal.returns-clause-written
@@ -14,4 +14,4 @@ returns-clause-written c =
 pub returns-clause-signed : goal.returns-clause-signed
 returns-clause-signed c =
     let front = ap (take (20 + length c.args.octets.now)) (returns-clause-written c) ∙ take-sealed 4 c.args.identifier request_place c.args.octets.now c.args.secret.now (drop (20 + length c.args.octets.now) c.args.out.now) in
-    subst (λ xs. IsSigned xs c.args.secret.now) (sym front) (IsSigned-request c.args.identifier c.args.octets.now c.args.secret.now)
+    subst (λ xs. IsSigned xs c.args.secret.now) (sym front) (HasDigest-sealed 4 c.args.identifier request_place c.args.octets.now c.args.secret.now)

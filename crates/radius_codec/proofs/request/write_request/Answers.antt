@@ -2,7 +2,7 @@ use Rattle.std.proofs.Common.{◌≡◌, length, ◌+◌, ◌++◌, drop, take, 
 use Rattle.std.proofs.lemmas.List.{drop_at, length-take-le}
 use Rattle.radius_codec.specs.Attributes.{spellings, pairs, Fits}
 use Rattle.radius_codec.specs.Packet.{request_octets, request_place, IsSigned, IsRequestOf}
-use Rattle.radius_codec.proofs.Sealing.{sealed_in, take-sealed, IsSigned-request, IsRequestOf-request}
+use Rattle.radius_codec.proofs.Sealing.{sealed_in, take-sealed, HasDigest-sealed, IsRequestOf-request}
 use Rattle.radius_codec.proofs.request.write_request.Goals as goal
 
 pub returns-clause-written : goal.returns-clause-written
@@ -25,7 +25,7 @@ front c =
 
 pub returns-clause-signed : goal.returns-clause-signed
 returns-clause-signed c =
-    subst (λ xs. IsSigned xs c.args.secret.now) (sym (front c)) (IsSigned-request c.args.identifier (spellings (pairs c.args.attributes.now)) c.args.secret.now)
+    subst (λ xs. IsSigned xs c.args.secret.now) (sym (front c)) (HasDigest-sealed 4 c.args.identifier request_place (spellings (pairs c.args.attributes.now)) c.args.secret.now)
 
 pub returns-clause-read : goal.returns-clause-read
 returns-clause-read c behind =

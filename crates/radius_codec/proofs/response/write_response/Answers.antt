@@ -1,8 +1,8 @@
 use Rattle.std.proofs.Common.{◌≡◌, length, ◌+◌, ◌++◌, drop, take, arith, ◌∙◌, ap, sym, subst, rules, append_assoc}
 use Rattle.std.proofs.lemmas.List.{drop_at, length-take-le}
 use Rattle.radius_codec.specs.Attributes.{spellings}
-use Rattle.radius_codec.specs.Packet.{proxy_states, reply_octets, IsReplyOf}
-use Rattle.radius_codec.proofs.Sealing.{sealed_in, take-sealed, IsReplyOf-reply}
+use Rattle.radius_codec.specs.Packet.{proxy_states, reply_octets, IsReplyOf, IsSignedResponse}
+use Rattle.radius_codec.proofs.Sealing.{sealed_in, take-sealed, IsReplyOf-reply, HasDigest-sealed}
 use Rattle.radius_codec.proofs.response.write_response.Goals as goal
 
 pub returns-clause-written : goal.returns-clause-written
@@ -27,3 +27,10 @@ pub returns-clause-reply : goal.returns-clause-reply
 returns-clause-reply c =
     let request = c.args.request.now in
     subst (λ xs. IsReplyOf xs request.id request.attributes) (sym (front c)) (IsReplyOf-reply request.id request.authenticator request.attributes c.args.secret.now c.put_proxy_states-end.ensures.fits)
+
+pub returns-clause-signed : goal.returns-clause-signed
+returns-clause-signed c =
+    let request = c.args.request.now in
+    let states = spellings (proxy_states request.attributes) in
+    subst (λ xs. IsSignedResponse xs request.authenticator c.args.secret.now) (sym (front c))
+    (HasDigest-sealed 5 request.id request.authenticator states c.args.secret.now)
