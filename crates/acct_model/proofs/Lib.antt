@@ -1,12 +1,40 @@
+-- the least blocks that cover octets
 pub mod Blocks
+-- the first fault of plans, and the plan of each class where there is none
 pub mod PlanFaults
+-- what the refusals of a packet's attributes say
 pub mod Refusals
+-- shown octets read back
 pub mod Escapes
+-- the tests `bytes_eq`, `same_session` and `same_voucher` decide equality
 pub mod Same
+-- sums over the distinct elements of a list
 pub mod Distinct
+-- what one more entry does to a balance
 pub mod Balances
+-- the accounts that own a session or a voucher
 pub mod Known
+-- which elements mapped, filtered and tested lists have
+pub mod Lists
+-- which sessions, reports, vouchers and accounts a history has
 pub mod Members
+-- the worked rows of prices and shown octets
 pub mod WorkedRows
+-- the first values of a packet's attributes, as they are found
 pub mod FirstValues
+-- what reports, restarts and repeated vouchers do to balances
 pub mod Money
+-- sums over the distinct elements of two lists that have the same elements
+pub mod Sums
+-- reports and top-ups that say the same of every account
+pub mod Alike
+-- which reports and top-ups a list's claims come from
+pub mod Claimed
+-- entries that say nothing but their claims
+pub mod Bare
+-- when two lists of entries have the same balances
+pub mod Agree
+-- what is accepted again moves no balance
+pub mod Repeats
+-- the law `BalancesAgree`
+pub mod Agreement

@@ -15,7 +15,8 @@ use Rattle.acct_model.specs.History.{session_of, reports, first_of, greatest_tot
 use Rattle.acct_model.specs.Laws.{MoneyMovesOnce}
 use Rattle.acct_model.proofs.Blocks.{IsLeastBlocks-started}
 use Rattle.acct_model.proofs.PlanFaults.{IsPlan, IsPlan-found}
-use Rattle.acct_model.proofs.Members.{below_greatest, nowhere}
+use Rattle.acct_model.proofs.Lists.{nowhere}
+use Rattle.acct_model.proofs.Members.{below_greatest}
 use Rattle.acct_model.proofs.Balances.{owned-report, first_of-none, share-known, share-later, balance-restart}
 
 -- more octets start no fewer blocks

@@ -7,4 +7,6 @@ pub mod Entries
 pub mod FirstValues
 pub mod Shown
 pub mod History
+pub mod Claims
+pub mod Agreement
 pub mod Laws
