@@ -1,6 +1,8 @@
 -- the least blocks that cover octets
 pub mod Blocks
--- the first fault of plans, and the plan of each class where there is none
+-- the first fault of a list from a place on, and what passes where there is none
+pub mod Faults
+-- what plans without a fault keep, and the plan of each class where there is none
 pub mod PlanFaults
 -- what the refusals of a packet's attributes say
 pub mod Refusals

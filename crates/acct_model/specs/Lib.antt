@@ -2,6 +2,7 @@ pub mod Report
 pub mod Vouchers
 pub mod TopUpFaults
 pub mod Plans
+pub mod Faults
 pub mod PlanFaults
 pub mod Entries
 pub mod FirstValues

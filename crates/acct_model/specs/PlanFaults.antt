@@ -1,21 +1,22 @@
 -- What is wrong with plans.
-use Rattle.std.specs.Prelude.{◌≡◌, ℕ, Bool, Option, None, Some, List, [], ◌∷◌, ◌++◌, nat_le, not, ◌&&◌, if◌then◌else◌, ◌^◌}
+use Rattle.std.specs.Prelude.{◌≡◌, ℕ, Bool, Option, None, Some, List, nat_le, not, ◌&&◌, if◌then◌else◌, ◌^◌}
 use Rattle.std.specs.List.{list_any}
 use Rattle.std.specs.Option.{option_or}
 use Rattle.acct_model.specs.declared.plan.Plan.{Plan}
 use Rattle.acct_model.specs.declared.plans.PlanError.{PlanError}
 use Rattle.acct_model.specs.declared.plans.PlanError.TheVariants.{NoDefault, TwicePlanned, BadBlock, BadUnit}
+use Rattle.acct_model.specs.Faults.{first_fault}
 use Rattle.acct_model.specs.Plans.{has_class, default_class}
 
--- 1 to 2^53
+-- a block is 1 to 2^53 octets
 abbrev pub is_block : ℕ → Bool
 is_block block = nat_le 1 block && nat_le block (2 ^ 53)
 
--- 0 to 10^9
+-- a unit is 0 to 10^9
 abbrev pub is_unit : ℕ → Bool
 is_unit unit = nat_le unit (10 ^ 9)
 
--- what is wrong with a plan behind earlier ones
+-- what is wrong with a plan that comes after earlier ones
 abbrev pub plan_fault : List Plan → Plan → Option PlanError
 plan_fault earlier plan =
     if not (is_block plan.block) then Some BadBlock
@@ -23,14 +24,13 @@ plan_fault earlier plan =
     else if list_any (has_class plan.class) earlier then Some TwicePlanned
     else None
 
--- the first fault of plans behind earlier ones
-abbrev pub faults_behind : List Plan → List Plan → Option PlanError
-faults_behind earlier [] = if list_any (has_class default_class) earlier then None else Some NoDefault
-faults_behind earlier (plan ∷ plans) = option_or (plan_fault earlier plan) (faults_behind (earlier ++ plan ∷ []) plans)
+-- what is wrong with plans of which none is `default`
+abbrev pub default_fault : List Plan → Option PlanError
+default_fault plans = if list_any (has_class default_class) plans then None else Some NoDefault
 
--- the first fault of a list of plans
+-- the first fault of a list of plans: each in its turn, and at last that `default` has none
 abbrev pub fault_of : List Plan → Option PlanError
-fault_of plans = faults_behind [] plans
+fault_of plans = option_or (first_fault plan_fault plans) (default_fault plans)
 
 -- what the plans of a site keep
 pub record ArePlans (plans : List Plan) : Type 0 where

@@ -1,0 +1,13 @@
+-- Lists whose elements are judged in turn, each by those before it.
+use Rattle.std.specs.Prelude.{Option, None, List, [], ◌∷◌, ◌++◌}
+use Rattle.std.specs.Option.{option_or}
+
+-- The first fault of elements that come after earlier ones: each is judged by all before it.
+abbrev pub first_fault_after : {X E : Type 0} → (List X → X → Option E) → List X → List X → Option E
+first_fault_after fault earlier [] = None
+first_fault_after fault earlier (x ∷ later) =
+    option_or (fault earlier x) (first_fault_after fault (earlier ++ x ∷ []) later)
+
+-- The first fault of a list.
+abbrev pub first_fault : {X E : Type 0} → (List X → X → Option E) → List X → Option E
+first_fault fault list = first_fault_after fault [] list
