@@ -6,9 +6,7 @@ pub mod Walks
 pub mod Rows
 pub mod Steps
 pub mod Calls
-pub mod Tells
+pub mod StepLemmas
+pub mod Exits
 pub mod RowLaws
 pub mod WalkLaws
-pub mod Reversed
-pub mod Charging
-pub mod AfreshRows

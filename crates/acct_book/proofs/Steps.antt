@@ -10,7 +10,7 @@ use Rattle.acct_model.specs.declared.entry.Entry.TheVariants as entry
 use Rattle.acct_model.specs.Report.{ReportFacts}
 use Rattle.acct_model.specs.Vouchers.{TopUpFacts}
 use Rattle.acct_model.specs.Plans.{plan_for, price_under}
-use Rattle.acct_model.specs.History.{session_of, reports, first_of, greatest_total, is_owner, plan_of, charge_of, share, all_topups, topup_of, balance_of, is_known, InRange, Agrees}
+use Rattle.acct_model.specs.History.{session_of, reports, first_of, greatest_total, is_owner, plan_of, charge_of, share, all_topups, topup_of, balance_of, is_known, InRange, Agrees, Admissible}
 use Rattle.acct_model.proofs.Same.{Decides-bytes_eq}
 use Rattle.acct_model.proofs.Balances.{reports-own, first_of-none, balance-report, balance-report-other, balance-topup, balance-topup-other}
 use Rattle.acct_model.proofs.Known.{is_known-report, is_known-topup, balance-unknown}
@@ -18,11 +18,18 @@ use Rattle.acct_book.specs.declared.key.Key.{Key}
 use Rattle.acct_book.specs.Row.{RowFacts}
 use Rattle.acct_book.specs.Content.{Content, same_key, key_of, kept_balance, with_session, with_topup, with_closed}
 use Rattle.acct_book.specs.Rows.{row_from, row_of_reports, is_restarted, row_of}
-use Rattle.acct_book.specs.Next.{report_key, next_row, charge_of_row, charge_before}
+use Rattle.acct_book.specs.Charge.{charge_of_row}
+use Rattle.acct_book.specs.Next.{report_key, next_row, charge_before}
 use Rattle.acct_book.specs.Stands.{Stands}
-use Rattle.acct_book.specs.Outcome.{IsNew, IsOverLimit}
+use Rattle.acct_book.specs.Outcome.{IsFresh, IsOverLimit, Adds}
 use Rattle.acct_book.proofs.Keys.{octets_refl, octets_are, octets_sym, key_is}
 use Rattle.acct_book.proofs.Rows.{greatest-total, row_of-report, row_of-other, row_of-restart}
+
+-- the entry may be accepted and no voucher of it was kept, and the content stands for the history with it
+pub record IsNew (plans : List Plan) (history : List Entry) (next : Entry) (content : Content) : Type 0 where
+  pub admissible : Admissible plans history next
+  pub fresh : IsFresh history next
+  pub stands : Stands plans content (next ∷ history)
 
 -- ---- what a row tells of its session
 
@@ -280,3 +287,8 @@ restart_new plans c history x st =
       in_range = st.in_range;
     } in
     record { admissible = record { agrees = tt; in_range = st.in_range }; fresh = tt; stands = stands }
+
+pub restart_adds : (plans : List Plan) (c : Content) (x : Restart) (client : List ℕ) → client ≡ x.client → Adds plans (entry.Restart x) c (with_closed c client)
+restart_adds plans c x client is history st =
+    let new = restart_new plans c history x st in
+    (new.admissible, new.fresh, subst (λ k. Stands plans (with_closed c k) (entry.Restart x ∷ history)) (sym is) new.stands)

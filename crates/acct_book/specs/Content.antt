@@ -44,9 +44,13 @@ with_topup content topup balance = record {
   topups = update bytes_eq content.topups topup.voucher (Some topup);
 }
 
--- a live session is closed, with the cause 11 (NAS Reboot: RFC 2866, section 5.10)
+-- the cause of a session that a restart of its client closed: NAS Reboot (RFC 2866, section 5.10)
+abbrev pub nas_reboot : ℕ
+nas_reboot = 11
+
+-- a live session is closed by a restart of its client
 abbrev pub closed_row : RowFacts → SessionState → RowFacts
-closed_row row Live = record { client = row.client; session = row.session; account = row.account; class = row.class; input = row.input; output = row.output; seconds = row.seconds; first = row.first; last = row.last; state = Closed; cause = 11; calling = row.calling; framed = row.framed }
+closed_row row Live = record row { state = Closed; cause = nas_reboot }
 closed_row row Closed = row
 closed_row row Stopped = row
 

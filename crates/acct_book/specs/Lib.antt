@@ -6,7 +6,8 @@ pub mod Memory
 pub mod Book
 pub mod Walk
 pub mod Stands
+pub mod Step
+pub mod Charge
 pub mod Outcome
 pub mod Next
 pub mod Laws
-pub mod Afresh

@@ -5,11 +5,11 @@ use Rattle.acct_model.specs.declared.plan.Plan.{Plan}
 use Rattle.acct_model.specs.declared.report.ReportKind.{ReportKind}
 use Rattle.acct_model.specs.declared.report.ReportKind.TheVariants.{Start, Stop, Interim}
 use Rattle.acct_model.specs.Report.{ReportFacts}
-use Rattle.acct_model.specs.Plans.{plan_for, price_under}
 use Rattle.acct_book.specs.declared.key.Key.{Key}
 use Rattle.acct_book.specs.declared.row.SessionState.{SessionState}
 use Rattle.acct_book.specs.declared.row.SessionState.TheVariants.{Live, Closed, Stopped}
 use Rattle.acct_book.specs.Row.{RowFacts}
+use Rattle.acct_book.specs.Charge.{charge_of_row}
 use Rattle.acct_book.specs.Rows.{higher, counters}
 
 -- the key of a report's session
@@ -57,13 +57,9 @@ first_row r = record {
 abbrev pub raised_counters : RowFacts → ReportFacts → ℕ × ℕ
 raised_counters row r = higher (counters r) (row.input, row.output)
 
--- the row after a later report
+-- the row after a later report: client, session, account and class stay the first report's
 abbrev pub raised_row : RowFacts → ReportFacts → RowFacts
-raised_row row r = record {
-  client = row.client;
-  session = row.session;
-  account = row.account;
-  class = row.class;
+raised_row row r = record row {
   input = (raised_counters row r).0;
   output = (raised_counters row r).1;
   seconds = max r.seconds row.seconds;
@@ -80,10 +76,7 @@ abbrev pub next_row : Option RowFacts → ReportFacts → RowFacts
 next_row None r = first_row r
 next_row (Some row) r = raised_row row r
 
--- the price of a row's total
-abbrev pub charge_of_row : List Plan → RowFacts → ℕ
-charge_of_row plans row = price_under (plan_for plans row.class) (row.input + row.output)
-
+-- what a session cost before, which is nothing where it has no row
 abbrev pub charge_before : List Plan → Option RowFacts → ℕ
 charge_before plans None = 0
 charge_before plans (Some row) = charge_of_row plans row

@@ -11,6 +11,7 @@ use Rattle.acct_book.specs.declared.recording.RecordError.{RecordError}
 use Rattle.acct_book.specs.declared.recording.RecordError.TheVariants.{VoucherDiffers, BalanceLimit, Unavailable}
 use Rattle.acct_book.specs.Content.{Content}
 use Rattle.acct_book.specs.Stands.{Stands}
+use Rattle.acct_book.specs.Step.{IsStep}
 
 -- no voucher with the entry's number is kept
 abbrev pub IsFresh : List Entry → Entry → Type 0
@@ -38,12 +39,6 @@ account_of history (entry.Report report) = option_map (λ first. first.user) (fi
 account_of history (entry.Restart restart) = None
 account_of history (entry.TopUp topup) = Some topup.account
 
--- the entry may be accepted and no voucher of it was kept, and the content stands for the history with it
-pub record IsNew (plans : List Plan) (history : List Entry) (next : Entry) (content : Content) : Type 0 where
-  pub admissible : Admissible plans history next
-  pub fresh : IsFresh history next
-  pub stands : Stands plans content (next ∷ history)
-
 -- no voucher of the entry was kept, and with it the balance of its account, now this one, would be out of range
 pub record IsOverLimit (plans : List Plan) (history : List Entry) (next : Entry) (balance : ℤ) : Type 0 where
   pub fresh : IsFresh history next
@@ -52,22 +47,41 @@ pub record IsOverLimit (plans : List Plan) (history : List Entry) (next : Entry)
   pub carried : balance ≡ balance_of plans history account
   pub out_of_range : InRange (balance_of plans (next ∷ history) account) → ⊥
 
--- what each answer says
-abbrev pub Told : List Plan → List Entry → Entry → Content → Result Recorded RecordError → Type 0
-Told plans history next content (Ok New) = IsNew plans history next content
-Told plans history next content (Ok Repeat) = IsRepeated history next
-Told plans history next content (Err (VoucherDiffers kept)) = Differs history next kept
-Told plans history next content (Err (BalanceLimit balance)) = IsOverLimit plans history next balance
-Told plans history next content (Err Unavailable) = Unit {0}
-
--- the entry may be accepted, and the content stands for the history with it
-abbrev pub MayAdd : List Plan → List Entry → Entry → Content → Type 0
-MayAdd plans history next content = Admissible plans history next × Stands plans content (next ∷ history)
-
--- What each answer says of the history, and the history then.
-abbrev pub Tells : List Plan → List Entry → Entry → Result Recorded RecordError → List Entry → Type 0
-Tells plans history next (Ok New) after = Admissible plans history next × IsFresh history next × (after ≡ next ∷ history)
+-- what each answer says of the history before, and which history is told after it
+abbrev pub Tells : List Plan → List Entry → Entry → Result Recorded RecordError → List Entry
+    → Type 0
+Tells plans history next (Ok New) after =
+    Admissible plans history next × IsFresh history next × (after ≡ next ∷ history)
 Tells plans history next (Ok Repeat) after = IsRepeated history next × (after ≡ history)
-Tells plans history next (Err (VoucherDiffers kept)) after = Differs history next kept × (after ≡ history)
-Tells plans history next (Err (BalanceLimit balance)) after = IsOverLimit plans history next balance × (after ≡ history)
+Tells plans history next (Err (VoucherDiffers kept)) after =
+    Differs history next kept × (after ≡ history)
+Tells plans history next (Err (BalanceLimit balance)) after =
+    IsOverLimit plans history next balance × (after ≡ history)
 Tells plans history next (Err Unavailable) after = after ≡ history
+
+-- with the entry the new content stands for whatever history the old one stood for
+abbrev pub Adds : List Plan → Entry → Content → Content → Type 0
+Adds plans next old new = (history : List Entry) → Stands plans old history
+    → Admissible plans history next
+    × IsFresh history next
+    × Stands plans new (next ∷ history)
+
+-- in whatever history the content stands for, the entry is kept already
+abbrev pub Repeats : List Plan → Entry → Content → Type 0
+Repeats plans next content = (history : List Entry) → Stands plans content history
+    → IsRepeated history next
+
+-- whatever history the content stands for, the entry is refused so
+abbrev pub Refuses : List Plan → Entry → Content → RecordError → Type 0
+Refuses plans next content error = (history : List Entry) → Stands plans content history
+    → Tells plans history next (Err error) history
+
+-- A call that records this entry, or refuses it: who answers is open, and whoever doesn't answer New
+-- has changed nothing.
+abbrev pub Records : {B : Type 0} → List Plan → Entry → (B → Content)
+    → (B → Type 0) → (B → Type 0) → (B → Type 0) → (B → Content → Type 0) → B → B
+    → Result Recorded RecordError → Type 0
+Records plans next content is_sound is_open is_steady left old new result =
+    IsStep plans content is_sound is_open is_steady left old new
+    (result ≢ Err Unavailable) (result ≢ Ok New)
+    (λ history after. Tells plans history next result after) (λ asked. asked ≡ next)

@@ -12,13 +12,14 @@
 //!    content with its whole effect, and of an open book it is the content alone.
 #![tactic(auto)]
 
-#[cfg(test)]
-mod afresh;
 mod book;
+mod charging;
 pub mod fakes;
 mod key;
 pub mod laws;
 mod memory_book;
+#[cfg(test)]
+mod oracle;
 mod raising;
 mod recording;
 mod row;
@@ -28,6 +29,7 @@ mod tests;
 mod tests_afresh;
 
 pub use book::{Book, Unavailable};
+pub use charging::charge;
 pub use key::Key;
 pub use memory_book::MemBook;
 pub use recording::{RecordError, Recorded, record};

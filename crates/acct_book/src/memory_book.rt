@@ -10,20 +10,17 @@ ghost use Rattle.std.specs.Option.{option_copied};
 ghost use Rattle.std.specs.BTreeMap as tree;
 ghost use Rattle.std.specs.BTreeMap.{IsUnchanged, Updates};
 ghost use Rattle.std.specs.Map.{update};
-ghost use Rattle.acct_book.specs.Content.{HasOwnKeys, key_of, closed_by};
+ghost use Rattle.acct_book.specs.Content.{HasOwnKeys};
 ghost use Rattle.acct_book.specs.Maps.{octets_cmp, key_cmp, content_from, balance_at};
 ghost use Rattle.acct_book.specs.Walk.{IsNext};
 
 use crate::book::{Book, Unavailable};
 use crate::key::Key;
-use crate::row::{Row, SessionState};
+use crate::row::Row;
 use acct_model::TopUp;
 use std::alloc::{AllocError, Global};
 use std::collections::BTreeMap;
 use std::ops::Bound;
-
-/// The cause of a session that a restart of its client closed: NAS Reboot (RFC 2866, section 5.10).
-const NAS_REBOOT: u32 = 11;
 
 /// A book in memory. It is always sound, open and steady, and a crash leaves nothing of it.
 ///
@@ -70,7 +67,7 @@ impl Book for MemBook {
     fn session(&mut self, key: &Key) -> Result<Option<Row>, Unavailable> {
         match self.rows.get(key) {
             None => Ok(None),
-            Some(row) => Ok(Some(copy_row(self.alloc, row)?)),
+            Some(row) => Ok(Some(row.copy(self.alloc)?)),
         }
     }
 
@@ -86,8 +83,8 @@ impl Book for MemBook {
     }
 
     fn put_session(&mut self, row: &Row, balance: i64) -> Result<(), Unavailable> {
-        let key = key_of_row(self.alloc, row)?;
-        let copy = copy_row(self.alloc, row)?;
+        let key = row.key(self.alloc)?;
+        let copy = row.copy(self.alloc)?;
         let name = row.account.as_slice();
         let account = owned(self.alloc, name)?;
         put_both(
@@ -119,7 +116,7 @@ impl Book for MemBook {
 
     fn close_client(&mut self, client: &str) -> Result<(), Unavailable> {
         self.rows.retain(|_, row| {
-            close(row, client);
+            row.close(client);
             true
         });
         Ok(())
@@ -136,7 +133,7 @@ impl Book for MemBook {
     fn next_session(&mut self, after: Option<&Key>) -> Result<Option<Row>, Unavailable> {
         match entry_after(&self.rows, after) {
             None => Ok(None),
-            Some((_, row)) => Ok(Some(copy_row(self.alloc, row)?)),
+            Some((_, row)) => Ok(Some(row.copy(self.alloc)?)),
         }
     }
 
@@ -241,16 +238,6 @@ fn put_first<K: Ord + Drop, V: Drop>(
     }
 }
 
-// Closes a live session of the client.
-pub(crate) fn close(row: &mut Row, client: &str)
-    ensures { row.new ≡ closed_by client.now row.old }
-{
-    if row.client.as_str() == client && row.state == SessionState::Live {
-        row.state = SessionState::Closed;
-        row.cause = NAS_REBOOT;
-    }
-}
-
 // The rows of an account, in the order of the map.
 fn rows_of(alloc: Global, map: &BTreeMap<Key, Row>, account: &[u8]) -> Result<Vec<Row>, AllocError>
     ensures kept { IfOk result (λ rows. rows.items ≡ filter (λ row. bytes_eq account.now row.account) (tree.values map.now)) }
@@ -260,7 +247,7 @@ fn rows_of(alloc: Global, map: &BTreeMap<Key, Row>, account: &[u8]) -> Result<Ve
     let mut rows = Vec::new(alloc);
     for (_, row) in map {
         if account == row.account.as_slice() {
-            rows.push(copy_row(alloc, row)?)?;
+            rows.push(row.copy(alloc)?)?;
         }
     }
     Ok(rows)
@@ -341,37 +328,6 @@ fn text_start(alloc: Global, after: Option<&str>) -> Result<Option<String>, Allo
         None => Ok(None),
         Some(text) => Ok(Some(String::from_str(alloc, text)?)),
     }
-}
-
-// The key of a row.
-fn key_of_row(alloc: Global, row: &Row) -> Result<Key, AllocError>
-    ensures { IfOk result (λ key. key ≡ key_of row.now) }
-{
-    Ok(Key {
-        client: row.client.copy(alloc)?,
-        session: row.session.copy(alloc)?,
-    })
-}
-
-// The same row again.
-fn copy_row(alloc: Global, row: &Row) -> Result<Row, AllocError>
-    ensures { IfOk result (λ copy. copy ≡ row.now) }
-{
-    Ok(Row {
-        client: row.client.copy(alloc)?,
-        session: row.session.copy(alloc)?,
-        account: row.account.copy(alloc)?,
-        class: row.class.copy(alloc)?,
-        input: row.input,
-        output: row.output,
-        seconds: row.seconds,
-        first: row.first,
-        last: row.last,
-        state: row.state,
-        cause: row.cause,
-        calling: row.calling.copy(alloc)?,
-        framed: row.framed,
-    })
 }
 
 // The same top-up again.

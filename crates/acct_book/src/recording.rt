@@ -10,20 +10,20 @@
 //! 6. A balance that would leave its range is refused, whoever else has what balance.
 //! 7. Every growth and every test comes before the one call that writes, so a refusal changes nothing. Only that call's whole effect
 //!    can a crash leave besides.
-ghost use Rattle.std.specs.Prelude.{◌≡◌, ◌≢◌, ◌⊎◌, ◌+◌, ◌^◌, ◌<◌, List, Ok, Err, IfOk, IfNone, IfSome, pos, ◌+ℤ◌, ◌-ℤ◌};
+ghost use Rattle.std.specs.Prelude.{◌≡◌, ◌≢◌, ◌+◌, ◌^◌, ◌<◌, Err, IfOk, IfErr, IfNone, IfSome, MatchOption, pos, ◌+ℤ◌, ◌-ℤ◌};
 ghost use Rattle.acct_model.specs.declared.entry.Entry.{Entry};
 ghost use Rattle.acct_model.specs.History.{InRange};
-ghost use Rattle.acct_book.specs.Next.{report_key, next_row, charge_of_row, charge_before};
-ghost use Rattle.acct_book.specs.Stands.{Stands};
-ghost use Rattle.acct_book.specs.Outcome.{Told, Tells, MayAdd};
-ghost use Rattle.acct_book.specs.Content.{Content};
-ghost use Rattle.acct_book.specs.Book.{Only};
+ghost use Rattle.acct_book.specs.Book.{Reads};
+ghost use Rattle.acct_book.specs.Content.{with_session, with_topup};
+ghost use Rattle.acct_book.specs.Next.{report_key, next_row, charge_before};
+ghost use Rattle.acct_book.specs.Outcome.{Adds, Repeats, Refuses, Records};
 
 use crate::book::{Book, Unavailable};
+use crate::charging::charge;
 use crate::key::Key;
 use crate::raising::{new_row, raise};
 use crate::row::Row;
-use acct_model::{Entry, Plans, Report, Restart, TopUp, price};
+use acct_model::{Entry, Plans, Report, Restart, TopUp};
 use std::alloc::{AllocError, Global};
 use thiserror::Error;
 
@@ -87,18 +87,8 @@ pub fn record<B: Book>(
     plans: &Plans,
     entry: &Entry,
 ) -> Result<Recorded, RecordError>
-    ensures was_sound { B.is_sound book.new → B.is_sound book.old }
-    ensures was_open { B.is_open book.new → B.is_open book.old }
-    ensures keeps_steady { B.is_steady book.old → B.is_steady book.new }
-    ensures answers { B.is_sound book.new → result ≢ Err RecordError.Unavailable → B.is_open book.new }
-    ensures unchanged { B.is_open book.new → result ≢ Ok Recorded.New → B.content book.new ≡ B.content book.old }
-    ensures told { B.is_sound book.new → (history : List Entry) → (B.is_open book.old → Stands plans.now (B.content book.old) history)
-        → Told plans.now history entry.now (B.content book.new) result }
-    ensures step { B.is_sound book.new → (history : List Entry) → (B.is_open book.old → Stands plans.now (B.content book.old) history)
-        → (after : List Entry) × Tells plans.now history entry.now result after × (B.is_open book.new → Stands plans.now (B.content book.new) after) }
-    ensures left { B.is_sound book.new → (history : List Entry) → (B.is_open book.old → Stands plans.now (B.content book.old) history)
-        → (c : Content) → B.left book.new c → B.left book.old c ⊎ (B.is_open book.old × MayAdd plans.now history entry.now c) }
-    ensures settled { B.is_sound book.new → result ≢ Err RecordError.Unavailable → Only (B.content book.new) (B.left book.new) }
+    ensures { Records plans.now entry.now B.content B.is_sound B.is_open B.is_steady B.left
+        book.old book.new result }
 {
     match entry {
         Entry::Report(report) => record_report(alloc, book, plans, report),
@@ -113,28 +103,93 @@ fn record_report<B: Book>(
     plans: &Plans,
     report: &Report,
 ) -> Result<Recorded, RecordError>
-    ensures was_sound { B.is_sound book.new → B.is_sound book.old }
-    ensures was_open { B.is_open book.new → B.is_open book.old }
-    ensures keeps_steady { B.is_steady book.old → B.is_steady book.new }
-    ensures answers { B.is_sound book.new → result ≢ Err RecordError.Unavailable → B.is_open book.new }
-    ensures unchanged { B.is_open book.new → result ≢ Ok Recorded.New → B.content book.new ≡ B.content book.old }
-    ensures told { B.is_sound book.new → (history : List Entry) → (B.is_open book.old → Stands plans.now (B.content book.old) history)
-        → Told plans.now history (Entry.Report report.now) (B.content book.new) result }
-    ensures left { B.is_sound book.new → (history : List Entry) → (B.is_open book.old → Stands plans.now (B.content book.old) history)
-        → (c : Content) → B.left book.new c → B.left book.old c ⊎ (B.is_open book.old × MayAdd plans.now history (Entry.Report report.now) c) }
-    ensures settled { B.is_sound book.new → result ≢ Err RecordError.Unavailable → Only (B.content book.new) (B.left book.new) }
+    ensures { Records plans.now (Entry.Report report.now) B.content B.is_sound B.is_open
+        B.is_steady B.left book.old book.new result }
+{
+    let (row, balance) = debited(alloc, book, plans, report)?;
+    book.put_session(&row, balance)?;
+    Ok(Recorded::New)
+}
+
+fn record_restart<B: Book>(
+    book: &mut B,
+    plans: &Plans,
+    restart: &Restart,
+) -> Result<Recorded, RecordError>
+    ensures { Records plans.now (Entry.Restart restart.now) B.content B.is_sound B.is_open
+        B.is_steady B.left book.old book.new result }
+{
+    book.close_client(restart.client.as_str())?;
+    Ok(Recorded::New)
+}
+
+fn record_topup<B: Book>(
+    book: &mut B,
+    plans: &Plans,
+    topup: &TopUp,
+) -> Result<Recorded, RecordError>
+    ensures { Records plans.now (Entry.TopUp topup.now) B.content B.is_sound B.is_open
+        B.is_steady B.left book.old book.new result }
+{
+    let Some(balance) = credited(book, plans, topup)? else {
+        return Ok(Recorded::Repeat);
+    };
+    book.put_topup(topup, balance)?;
+    Ok(Recorded::New)
+}
+
+// The row of a report's session with the report, and the balance of its account then.
+fn debited<B: Book>(
+    alloc: Global,
+    book: &mut B,
+    plans: &Plans,
+    report: &Report,
+) -> Result<(Row, i64), RecordError>
+    ensures reads { Reads B.content B.is_sound B.is_open B.is_steady B.left
+        book.old book.new result }
+    ensures answers { B.is_sound book.new → result ≢ Err RecordError.Unavailable
+        → B.is_open book.new }
+    ensures added { B.is_open book.new → IfOk result (λ next.
+        Adds plans.now (Entry.Report report.now) (B.content book.old)
+        (with_session (B.content book.old) next.0 next.1)) }
+    ensures refused { B.is_open book.new → IfErr result (
+        Refuses plans.now (Entry.Report report.now) (B.content book.old)) }
 {
     let key = key_for(alloc, report)?;
     let found = book.session(&key)?;
     let (row, before) = advance(alloc, plans, found, report)?;
     let after = charge(plans, &row);
     let balance = book.balance(row.account.as_slice())?;
-    let new = match moved(balance, before, after) {
-        None => return Err(RecordError::BalanceLimit(balance)),
-        Some(new) => new,
-    };
-    book.put_session(&row, new)?;
-    Ok(Recorded::New)
+    match moved(balance, before, after) {
+        Some(next) => Ok((row, next)),
+        None => Err(RecordError::BalanceLimit(balance)),
+    }
+}
+
+// The balance of a top-up's account with the top-up, and none where it is kept already.
+fn credited<B: Book>(book: &mut B, plans: &Plans, topup: &TopUp) -> Result<Option<i64>, RecordError>
+    ensures reads { Reads B.content B.is_sound B.is_open B.is_steady B.left
+        book.old book.new result }
+    ensures answers { B.is_sound book.new → result ≢ Err RecordError.Unavailable
+        → B.is_open book.new }
+    ensures added { B.is_open book.new → IfOk result (λ balance. MatchOption balance
+        (Repeats plans.now (Entry.TopUp topup.now) (B.content book.old))
+        (λ next. Adds plans.now (Entry.TopUp topup.now) (B.content book.old)
+        (with_topup (B.content book.old) topup.now next))) }
+    ensures refused { B.is_open book.new → IfErr result (
+        Refuses plans.now (Entry.TopUp topup.now) (B.content book.old)) }
+{
+    if let Some(kept) = book.voucher(topup.voucher.as_str())? {
+        if kept.account == topup.account && kept.sum == topup.sum {
+            return Ok(None);
+        }
+        return Err(RecordError::VoucherDiffers(kept));
+    }
+    let balance = book.balance(topup.account.as_slice())?;
+    match moved(balance, u128::from(topup.sum), 0) {
+        Some(next) => Ok(Some(next)),
+        None => Err(RecordError::BalanceLimit(balance)),
+    }
 }
 
 // The key of a report's session.
@@ -167,15 +222,6 @@ fn advance(
     }
 }
 
-// The price of a row's total.
-fn charge(plans: &Plans, row: &Row) -> u128
-    ensures exact { result ≡ charge_of_row plans.now row.now }
-    ensures small { result < 2 ^ 93 }
-{
-    let plan = plans.plan_of(row.class.as_slice());
-    price(plan, row.input + row.output)
-}
-
 // The balance with one price back and another debited, where it may be kept.
 fn moved(balance: i64, back: u128, debit: u128) -> Option<i64>
     requires back { back < 2 ^ 93 }
@@ -189,55 +235,4 @@ fn moved(balance: i64, back: u128, debit: u128) -> Option<i64>
         return None;
     }
     Some(moved as i64)
-}
-
-fn record_restart<B: Book>(
-    book: &mut B,
-    plans: &Plans,
-    restart: &Restart,
-) -> Result<Recorded, RecordError>
-    ensures was_sound { B.is_sound book.new → B.is_sound book.old }
-    ensures was_open { B.is_open book.new → B.is_open book.old }
-    ensures keeps_steady { B.is_steady book.old → B.is_steady book.new }
-    ensures answers { B.is_sound book.new → result ≢ Err RecordError.Unavailable → B.is_open book.new }
-    ensures unchanged { B.is_open book.new → result ≢ Ok Recorded.New → B.content book.new ≡ B.content book.old }
-    ensures told { B.is_sound book.new → (history : List Entry) → (B.is_open book.old → Stands plans.now (B.content book.old) history)
-        → Told plans.now history (Entry.Restart restart.now) (B.content book.new) result }
-    ensures left { B.is_sound book.new → (history : List Entry) → (B.is_open book.old → Stands plans.now (B.content book.old) history)
-        → (c : Content) → B.left book.new c → B.left book.old c ⊎ (B.is_open book.old × MayAdd plans.now history (Entry.Restart restart.now) c) }
-    ensures settled { B.is_sound book.new → result ≢ Err RecordError.Unavailable → Only (B.content book.new) (B.left book.new) }
-{
-    book.close_client(restart.client.as_str())?;
-    Ok(Recorded::New)
-}
-
-fn record_topup<B: Book>(
-    book: &mut B,
-    plans: &Plans,
-    topup: &TopUp,
-) -> Result<Recorded, RecordError>
-    ensures was_sound { B.is_sound book.new → B.is_sound book.old }
-    ensures was_open { B.is_open book.new → B.is_open book.old }
-    ensures keeps_steady { B.is_steady book.old → B.is_steady book.new }
-    ensures answers { B.is_sound book.new → result ≢ Err RecordError.Unavailable → B.is_open book.new }
-    ensures unchanged { B.is_open book.new → result ≢ Ok Recorded.New → B.content book.new ≡ B.content book.old }
-    ensures told { B.is_sound book.new → (history : List Entry) → (B.is_open book.old → Stands plans.now (B.content book.old) history)
-        → Told plans.now history (Entry.TopUp topup.now) (B.content book.new) result }
-    ensures left { B.is_sound book.new → (history : List Entry) → (B.is_open book.old → Stands plans.now (B.content book.old) history)
-        → (c : Content) → B.left book.new c → B.left book.old c ⊎ (B.is_open book.old × MayAdd plans.now history (Entry.TopUp topup.now) c) }
-    ensures settled { B.is_sound book.new → result ≢ Err RecordError.Unavailable → Only (B.content book.new) (B.left book.new) }
-{
-    if let Some(kept) = book.voucher(topup.voucher.as_str())? {
-        if kept.account == topup.account && kept.sum == topup.sum {
-            return Ok(Recorded::Repeat);
-        }
-        return Err(RecordError::VoucherDiffers(kept));
-    }
-    let balance = book.balance(topup.account.as_slice())?;
-    let new = match moved(balance, u128::from(topup.sum), 0) {
-        None => return Err(RecordError::BalanceLimit(balance)),
-        Some(new) => new,
-    };
-    book.put_topup(topup, new)?;
-    Ok(Recorded::New)
 }

@@ -1,5 +1,9 @@
 //! What a book keeps of a session.
+ghost use Rattle.std.specs.Prelude.{◌≡◌, ◌+◌, ◌^◌, ◌<◌, IfOk};
+
+use crate::key::Key;
 use acct_model::{Octets, Text};
+use std::alloc::{AllocError, Global};
 use std::fmt;
 use std::marker::Model;
 
@@ -23,6 +27,9 @@ impl fmt::Display for SessionState {
         })
     }
 }
+
+/// The cause of a session that a restart of its client closed: NAS Reboot (RFC 2866, section 5.10).
+const NAS_REBOOT: u32 = 11;
 
 /// What is kept of a session. Its input and output are at most 2^63 - 1 octets together, and its moments are below 2^53.
 #[derive(Debug, Drop)]
@@ -63,4 +70,57 @@ impl Model for Row {
     ghost view = { λ r. record { client = r.client; session = r.session; account = r.account; class = r.class; input = r.input; output = r.output; seconds = r.seconds; first = r.first; last = r.last; state = r.state; cause = r.cause; calling = r.calling; framed = r.framed } };
 
     ghost invariant = { λ r. IsRow r.input r.output r.first r.last };
+}
+
+impl Row {
+    ghost use Rattle.acct_book.specs.Content.{key_of, closed_by};
+
+    /// The octets of the session, input and output together.
+    pub fn total(&self) -> u64
+        ensures exact { result ≡ self.now.input + self.now.output }
+        ensures bound { result < 2 ^ 63 }
+    {
+        self.input + self.output
+    }
+
+    /// The key that the row stands under.
+    pub fn key(&self, alloc: Global) -> Result<Key, AllocError>
+        ensures { IfOk result (λ key. key ≡ key_of self.now) }
+    {
+        Ok(Key {
+            client: self.client.copy(alloc)?,
+            session: self.session.copy(alloc)?,
+        })
+    }
+
+    /// The same row again.
+    pub fn copy(&self, alloc: Global) -> Result<Row, AllocError>
+        ensures { IfOk result (λ copy. copy ≡ self.now) }
+    {
+        Ok(Row {
+            client: self.client.copy(alloc)?,
+            session: self.session.copy(alloc)?,
+            account: self.account.copy(alloc)?,
+            class: self.class.copy(alloc)?,
+            input: self.input,
+            output: self.output,
+            seconds: self.seconds,
+            first: self.first,
+            last: self.last,
+            state: self.state,
+            cause: self.cause,
+            calling: self.calling.copy(alloc)?,
+            framed: self.framed,
+        })
+    }
+
+    /// Closes the session where it is live and this client's, as a restart of the client does.
+    pub fn close(&mut self, client: &str)
+        ensures { self.new ≡ closed_by client.now self.old }
+    {
+        if self.client.as_str() == client && self.state == SessionState::Live {
+            self.state = SessionState::Closed;
+            self.cause = NAS_REBOOT;
+        }
+    }
 }

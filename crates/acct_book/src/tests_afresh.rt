@@ -1,7 +1,7 @@
 ghost use Rattle.std.specs.Prelude.{◌<◌};
 
-use crate::afresh::{balance_afresh, row_afresh};
-use crate::{Book, Key, MemBook, Recorded, Row, record};
+use crate::oracle::{Name, Oracle, Said, Tariff};
+use crate::{Book, Key, MemBook, Recorded, record};
 use acct_model::{Entry, Octets, Plan, Plans, Report, ReportKind, Restart, Text, TopUp};
 use std::alloc::Global;
 use std::test::Fail;
@@ -81,69 +81,60 @@ impl Numbers {
     }
 }
 
-fn plan(alloc: Global, class: &str, block: u64, unit: u64) -> Result<Plan, Fail> {
-    let class = Octets::from_slice(alloc, class.as_bytes())?;
-    Ok(Plan { class, block, unit })
-}
+// The last tariff is that of a class without one.
+const TARIFFS: [Tariff; 2] = [
+    Tariff {
+        class: "a",
+        block: 1000,
+        unit: 10,
+    },
+    Tariff {
+        class: "default",
+        block: 700,
+        unit: 3,
+    },
+];
 
+// The plans of the tariffs.
 fn plans(alloc: Global) -> Result<Plans, Fail> {
     let mut plans = Vec::new(alloc);
-    plans.push(plan(alloc, "a", 1000, 10)?)?;
-    plans.push(plan(alloc, "default", 700, 3)?)?;
+    for tariff in TARIFFS {
+        plans.push(Plan {
+            class: Octets::from_slice(alloc, tariff.class.as_bytes())?,
+            block: tariff.block,
+            unit: tariff.unit,
+        })?;
+    }
     Ok(Plans::new(plans)?)
 }
 
-// Whether two rows say the same of a session.
-fn are_same(one: &Row, other: &Row) -> bool {
-    one.account == other.account
-        && one.class == other.class
-        && one.input == other.input
-        && one.output == other.output
-        && one.seconds == other.seconds
-        && one.first == other.first
-        && one.last == other.last
-        && one.state == other.state
-        && one.cause == other.cause
-        && one.calling == other.calling
-        && one.framed == other.framed
-}
-
-fn has_row_afresh(
+// Whether the book keeps for a session what the oracle says.
+fn has_row(
     alloc: Global,
     book: &mut MemBook,
-    list: &[Entry],
-    key: &Key,
+    oracle: Oracle<'_>,
+    name: Name<'_>,
 ) -> Result<bool, Fail> {
-    let kept = book.session(key)?;
-    let afresh = row_afresh(alloc, list, key)?;
-    Ok(are_both(kept.as_ref(), afresh.as_ref()))
+    let key = Key {
+        client: Text::from_str(alloc, name.client)?,
+        session: Octets::from_slice(alloc, name.session)?,
+    };
+    let kept = book.session(&key)?;
+    Ok(kept.as_ref().map(|row| Said::by(row)) == oracle.row(name))
 }
 
-// Whether there is neither row, or both say the same.
-fn are_both(one: Option<&Row>, other: Option<&Row>) -> bool {
-    match (one, other) {
-        (None, None) => true,
-        (Some(one), Some(other)) => are_same(one, other),
-        _ => false,
-    }
-}
-
-// Whether the book has the balances and rows of the entries that it accepted, for each account and session of the numbers.
-fn stands_for(
-    alloc: Global,
-    book: &mut MemBook,
-    plans: &Plans,
-    list: &[Entry],
-) -> Result<bool, Fail> {
+// Whether the book has the balances and rows of the entries that it accepted, for each account and
+// session of the numbers.
+fn stands_for(alloc: Global, book: &mut MemBook, list: &[Entry]) -> Result<bool, Fail> {
+    let oracle = Oracle {
+        entries: list,
+        tariffs: &TARIFFS,
+    };
     for client in NAMES {
-        let account = client.as_bytes();
-        if balance_afresh(list, plans, account) != Some(book.balance(account)?) {
+        if book.balance(client.as_bytes())? != oracle.balance(client.as_bytes())
+            || !has_sessions(alloc, book, oracle, client)?
+        {
             return Ok(false);
-        }
-        for session in NAMES {
-            if !has_session_afresh(alloc, book, list, client, session)? {
-                return Ok(false);
-            }
         }
     }
     Ok(true)
@@ -151,18 +142,20 @@ fn stands_for(
 
 const NAMES: [&str; 4] = ["a", "b", "", "ab"];
 
-fn has_session_afresh(
+// Whether the book keeps for each session of a client what the oracle says.
+fn has_sessions(
     alloc: Global,
     book: &mut MemBook,
-    list: &[Entry],
+    oracle: Oracle<'_>,
     client: &str,
-    session: &str,
 ) -> Result<bool, Fail> {
-    let key = Key {
-        client: Text::from_str(alloc, client)?,
-        session: Octets::from_slice(alloc, session.as_bytes())?,
-    };
-    has_row_afresh(alloc, book, list, &key)
+    for session in NAMES {
+        let session = session.as_bytes();
+        if !has_row(alloc, book, oracle, Name { client, session })? {
+            return Ok(false);
+        }
+    }
+    Ok(true)
 }
 
 // Records the entries that the numbers give, and keeps those that are new.
@@ -182,19 +175,23 @@ fn recorded(
     Ok(list)
 }
 
-// Three hundred histories of at most twelve entries: copies, late totals, restarts and vouchers in any order.
-#[test]
-fn books_stand_for_their_histories(rt: HostRuntime) -> Result<(), Fail> {
-    let alloc = rt.alloc();
+// Whether so many histories of at most twelve entries are kept as the oracle says: copies, late
+// totals, restarts and vouchers in any order.
+fn stand_for_their_histories(alloc: Global, histories: u32) -> Result<bool, Fail> {
     let plans = plans(alloc)?;
     let mut numbers = Numbers { state: 1 };
-    for history in 0..300 {
+    for _ in 0..histories {
         let mut book = MemBook::new(alloc);
         let list = recorded(alloc, &mut book, &plans, &mut numbers)?;
-        assert!(rt;
-            stands_for(alloc, &mut book, &plans, &list)?,
-            "history {history}"
-        );
+        if !stands_for(alloc, &mut book, &list)? {
+            return Ok(false);
+        }
     }
+    Ok(true)
+}
+
+#[test]
+fn books_stand_for_their_histories(rt: HostRuntime) -> Result<(), Fail> {
+    assert!(rt; stand_for_their_histories(rt.alloc(), 300)?);
     Ok(())
 }

@@ -12,8 +12,7 @@ use Rattle.acct_wire.specs.declared.client.Client.{Client}
 use Rattle.acct_wire.specs.declared.reason.Reason.{Reason}
 use Rattle.acct_wire.specs.declared.reason.Reason.TheVariants.{UnknownClient, TooShort, BadLength, WrongCode, BadAuthenticator, BadAttribute, NoStatus, UnknownStatus, NoSessionId, BadField, TotalTooLarge, BalanceLimit, Unavailable}
 use Rattle.acct_wire.specs.Clients.{client_at}
-use Rattle.acct_wire.specs.Datagrams.{IsRequest, BeginsFront, BeginsRequest, BeginsSigned, IsMisspelled, IsSpelled, BreaksFirst, IsBroken, Breaks}
-use Rattle.acct_wire.specs.Outcomes.{IsAsking}
+use Rattle.acct_wire.specs.Datagrams.{IsRequest, BeginsFront, BeginsRequest, BeginsSigned, IsMisspelled, IsSpelled, BreaksFirst, IsBroken, IsAsking, reason_of}
 use Rattle.acct_wire.specs.Laws.{OneRuleIsBrokenFirst, AskingBreaksNone}
 
 -- some attributes are spelled behind a signed request's first twenty octets
@@ -123,15 +122,6 @@ breaks_next secret bytes TotalTooLarge breaks kept = misspelled_none secret byte
 breaks_next secret bytes BalanceLimit breaks kept = breaks
 breaks_next secret bytes Unavailable breaks kept = breaks
 
--- the reason of a refusal of attributes
-abbrev reason_of : EntryError → Reason
-reason_of entry.NoStatus = NoStatus
-reason_of entry.UnknownStatus = UnknownStatus
-reason_of entry.NoSessionId = NoSessionId
-reason_of entry.BadField = BadField
-reason_of entry.TotalTooLarge = TotalTooLarge
-reason_of entry.Memory = Unavailable
-
 -- the reason of the rule behind so many
 abbrev reason_behind : ℕ → Reason
 reason_behind zero = TooShort
@@ -190,25 +180,9 @@ spelled_none : (secret bytes : List ℕ) (reason : Reason) → IsSpelled secret 
 spelled_none secret bytes reason spelled breaks =
     breaks_next secret bytes reason breaks (keeps_up_to secret bytes 6 (suc (kept_before reason)) (five_at_most secret bytes reason (early_or_late secret bytes reason breaks)) spelled)
 
--- the source is no client's, or the bytes break a rule
+-- the source is no client's
 abbrev IsUnknown : List Client → List ℕ → Reason → Type 0
-IsUnknown clients source reason = (reason ≡ UnknownClient) × (client_at source clients ≡ None)
-
-unknown_or_broken : (clients : List Client) (source bytes : List ℕ) (reason : Reason) → Breaks clients source bytes reason
-    → IsUnknown clients source reason ⊎ IsBroken clients source bytes reason
-unknown_or_broken clients source bytes UnknownClient breaks = inl (refl, breaks)
-unknown_or_broken clients source bytes TooShort breaks = inr breaks
-unknown_or_broken clients source bytes BadLength breaks = inr breaks
-unknown_or_broken clients source bytes WrongCode breaks = inr breaks
-unknown_or_broken clients source bytes BadAuthenticator breaks = inr breaks
-unknown_or_broken clients source bytes BadAttribute breaks = inr breaks
-unknown_or_broken clients source bytes NoStatus breaks = inr breaks
-unknown_or_broken clients source bytes UnknownStatus breaks = inr breaks
-unknown_or_broken clients source bytes NoSessionId breaks = inr breaks
-unknown_or_broken clients source bytes BadField breaks = inr breaks
-unknown_or_broken clients source bytes TotalTooLarge breaks = inr breaks
-unknown_or_broken clients source bytes BalanceLimit breaks = absurd breaks
-unknown_or_broken clients source bytes Unavailable breaks = absurd breaks
+IsUnknown clients source reason = (client_at source clients ≡ None) × (reason ≡ UnknownClient)
 
 -- a source has one client at most
 client_one : (found : Option Client) (c d : Client) → found ≡ Some c → found ≡ Some d → d ≡ c
@@ -216,20 +190,20 @@ client_one found c d x y = let same : Some d ≡ Some c = sym y ∙ x in cc
 
 both_one : (clients : List Client) (source bytes : List ℕ) (one other : Reason)
     → IsUnknown clients source one ⊎ IsBroken clients source bytes one → IsUnknown clients source other ⊎ IsBroken clients source bytes other → one ≡ other
-both_one clients source bytes one other (inl x) (inl y) = x.0 ∙ sym y.0
-both_one clients source bytes one other (inl x) (inr (c, at, y)) = let clash : Some c ≡ None = sym at ∙ x.1 in cc
-both_one clients source bytes one other (inr (c, at, x)) (inl y) = let clash : Some c ≡ None = sym at ∙ y.1 in cc
+both_one clients source bytes one other (inl x) (inl y) = x.1 ∙ sym y.1
+both_one clients source bytes one other (inl x) (inr (c, at, y)) = let clash : Some c ≡ None = sym at ∙ x.0 in cc
+both_one clients source bytes one other (inr (c, at, x)) (inl y) = let clash : Some c ≡ None = sym at ∙ y.0 in cc
 both_one clients source bytes one other (inr (c, at, x)) (inr (d, also, y)) =
     first_one c.secret bytes one other x (subst (λ k. BreaksFirst k.secret bytes other) (client_one (client_at source clients) c d at also) y)
 
 pub once : OneRuleIsBrokenFirst
-once clients source bytes one other x y = both_one clients source bytes one other (unknown_or_broken clients source bytes one x) (unknown_or_broken clients source bytes other y)
+once clients source bytes one other x y = both_one clients source bytes one other x y
 
 asks_none : (clients : List Client) (source bytes : List ℕ) (reason : Reason) → IsAsking clients source bytes
     → IsUnknown clients source reason ⊎ IsBroken clients source bytes reason → ⊥
-asks_none clients source bytes reason (c, at, spelled) (inl y) = let clash : Some c ≡ None = sym at ∙ y.1 in cc
+asks_none clients source bytes reason (c, at, spelled) (inl y) = let clash : Some c ≡ None = sym at ∙ y.0 in cc
 asks_none clients source bytes reason (c, at, spelled) (inr (d, also, y)) =
     spelled_none c.secret bytes reason spelled (subst (λ k. BreaksFirst k.secret bytes reason) (client_one (client_at source clients) c d at also) y)
 
 pub asking : AskingBreaksNone
-asking clients source bytes reason asks breaks = asks_none clients source bytes reason asks (unknown_or_broken clients source bytes reason breaks)
+asking clients source bytes reason asks breaks = asks_none clients source bytes reason asks breaks

@@ -1,4 +1,6 @@
+-- what an answer says, put together from its parts
 pub mod AnswerParts
-pub mod Faults
+-- why a datagram has one judgement
 pub mod Judgement
+-- why it asks for one entry
 pub mod Asked

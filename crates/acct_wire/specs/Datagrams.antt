@@ -1,12 +1,12 @@
 -- How a datagram is judged: the first rule that it breaks, or the entry that it asks to be recorded.
-use Rattle.std.specs.Prelude.{◌≡◌, ◌≢◌, ℕ, ◌≤◌, List, length, drop, slice_index, Some, None}
+use Rattle.std.specs.Prelude.{◌≡◌, ◌≢◌, ◌⊎◌, ℕ, ◌≤◌, List, length, drop, slice_index, Some, None}
 use Rattle.radius_codec.specs.Attributes.{Spells}
 use Rattle.radius_codec.specs.Packet.{HasFront, front_of, Framed, IsFrontFault, IsSigned}
 use Rattle.radius_codec.specs.declared.packet.CodecError.TheVariants as codec
 use Rattle.acct_model.specs.declared.entry.Entry.{Entry}
 use Rattle.acct_model.specs.declared.reading.EntryError.{EntryError}
 use Rattle.acct_model.specs.declared.reading.EntryError.TheVariants as entry
-use Rattle.acct_model.specs.Entries.{Attributes, refusal_of, IsEntryOf}
+use Rattle.acct_model.specs.Entries.{Attributes, refusal_of, Refuses, IsEntryOf}
 use Rattle.acct_wire.specs.declared.client.Client.{Client}
 use Rattle.acct_wire.specs.declared.reason.Reason.{Reason}
 use Rattle.acct_wire.specs.declared.reason.Reason.TheVariants.{UnknownClient, TooShort, BadLength, WrongCode, BadAuthenticator, BadAttribute, NoStatus, UnknownStatus, NoSessionId, BadField, TotalTooLarge, BalanceLimit, Unavailable}
@@ -67,19 +67,9 @@ IsBroken clients source bytes reason = (client : Client) × (client_at source cl
 
 -- the first rule that a datagram breaks: its source is no client's, or its bytes break one
 abbrev pub Breaks : List Client → List ℕ → List ℕ → Reason → Type 0
-Breaks clients source bytes UnknownClient = client_at source clients ≡ None
-Breaks clients source bytes TooShort = IsBroken clients source bytes TooShort
-Breaks clients source bytes BadLength = IsBroken clients source bytes BadLength
-Breaks clients source bytes WrongCode = IsBroken clients source bytes WrongCode
-Breaks clients source bytes BadAuthenticator = IsBroken clients source bytes BadAuthenticator
-Breaks clients source bytes BadAttribute = IsBroken clients source bytes BadAttribute
-Breaks clients source bytes NoStatus = IsBroken clients source bytes NoStatus
-Breaks clients source bytes UnknownStatus = IsBroken clients source bytes UnknownStatus
-Breaks clients source bytes NoSessionId = IsBroken clients source bytes NoSessionId
-Breaks clients source bytes BadField = IsBroken clients source bytes BadField
-Breaks clients source bytes TotalTooLarge = IsBroken clients source bytes TotalTooLarge
-Breaks clients source bytes BalanceLimit = ⊥
-Breaks clients source bytes Unavailable = ⊥
+Breaks clients source bytes reason =
+    ((client_at source clients ≡ None) × (reason ≡ UnknownClient))
+    ⊎ IsBroken clients source bytes reason
 
 -- The datagram is a client's signed request that spells this entry.
 pub record Asks (clients : List Client) (source bytes : List ℕ) (moment : ℕ) (client : Client) (identifier : ℕ) (authenticator : List ℕ) (attributes : Attributes) (asked : Entry) : Type 0 where
@@ -87,3 +77,38 @@ pub record Asks (clients : List Client) (source bytes : List ℕ) (moment : ℕ)
   pub request : IsRequest client.secret bytes identifier authenticator attributes
   pub faultless : refusal_of attributes ≡ None
   pub spelled : IsEntryOf client.name attributes moment asked
+
+-- The datagram asks for this entry: it is some client's signed request that spells it.
+pub record AsksFor (clients : List Client) (source bytes : List ℕ) (moment : ℕ) (asked : Entry)
+  : Type 0 where
+  pub client : Client
+  pub identifier : ℕ
+  pub authenticator : List ℕ
+  pub attributes : Attributes
+  pub asks : Asks clients source bytes moment client identifier authenticator attributes asked
+
+-- The datagram is a client's signed request that spells some entry, whenever it comes.
+abbrev pub IsAsking : List Client → List ℕ → List ℕ → Type 0
+IsAsking clients source bytes =
+    (client : Client) × (client_at source clients ≡ Some client) × IsSpelled client.secret bytes
+
+-- ---- how attributes are read
+
+-- the attributes are faultless and spell this entry
+abbrev pub SpellsEntry : List ℕ → Attributes → ℕ → Entry → Type 0
+SpellsEntry name attributes moment asked =
+    (refusal_of attributes ≡ None) × IsEntryOf name attributes moment asked
+
+-- how a refusal of attributes is a reason
+abbrev pub reason_of : EntryError → Reason
+reason_of entry.NoStatus = NoStatus
+reason_of entry.UnknownStatus = UnknownStatus
+reason_of entry.NoSessionId = NoSessionId
+reason_of entry.BadField = BadField
+reason_of entry.TotalTooLarge = TotalTooLarge
+reason_of entry.Memory = Unavailable
+
+-- the attributes are refused so
+abbrev pub RefusesAs : Attributes → Reason → Type 0
+RefusesAs attributes reason =
+    (error : EntryError) × Refuses (refusal_of attributes) error × (reason ≡ reason_of error)

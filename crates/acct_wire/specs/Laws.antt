@@ -4,8 +4,7 @@ use Rattle.acct_model.specs.declared.entry.Entry.{Entry}
 use Rattle.acct_model.specs.Entries.{Attributes}
 use Rattle.acct_wire.specs.declared.client.Client.{Client}
 use Rattle.acct_wire.specs.declared.reason.Reason.{Reason}
-use Rattle.acct_wire.specs.Datagrams.{Breaks, Asks}
-use Rattle.acct_wire.specs.Outcomes.{IsAsking}
+use Rattle.acct_wire.specs.Datagrams.{Breaks, Asks, IsAsking}
 
 -- no datagram breaks two rules first
 abbrev pub OneRuleIsBrokenFirst : Type 0

@@ -2,5 +2,4 @@ pub mod Clients
 pub mod ClientFaults
 pub mod Datagrams
 pub mod Outcomes
-pub mod Spelling
 pub mod Laws

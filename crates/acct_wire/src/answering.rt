@@ -1,24 +1,17 @@
 //! A datagram judged, recorded and answered.
-ghost use Rattle.std.specs.Prelude.{◌≡◌, ◌≢◌, ◌⊎◌, ◌<◌, ◌^◌, List, Some, IfOk, IfErr};
-ghost use Rattle.acct_model.specs.declared.entry.Entry.{Entry};
-ghost use Rattle.acct_book.specs.Book.{Only};
-ghost use Rattle.acct_book.specs.Content.{Content};
-ghost use Rattle.acct_book.specs.Stands.{Stands};
-ghost use Rattle.acct_wire.specs.Clients.{client_at};
-ghost use Rattle.acct_wire.specs.Datagrams.{IsRequest, BreaksFirst};
-ghost use Rattle.acct_wire.specs.Spelling.{SpellsEntry, RefusesAs};
-ghost use Rattle.acct_wire.specs.Outcomes.{IsDecidedAlone, IsToldByBook, IsDrop, IsReply, Steps, ReplyFits, MayAddAsked, Judges};
+ghost use Rattle.std.specs.Prelude.{◌≡◌, ◌⊎◌, ◌≤◌, ◌<◌, ◌^◌, IfOk, IfErr};
+ghost use Rattle.acct_book.specs.Step.{IsStep};
+ghost use Rattle.acct_wire.specs.Datagrams.{IsRequest, BreaksFirst, Breaks, Asks, AsksFor, IsAsking, SpellsEntry, reason_of as reason_in, RefusesAs};
+ghost use Rattle.acct_wire.specs.Outcomes.{Judges, IsDecidedAlone, Writes, IsTold, IsDrop, Steps};
 
-use crate::client::Clients;
+use crate::client::{Client, Clients};
 use crate::datagram::Datagram;
 use crate::reason::Reason;
 use acct_book::{Book, RecordError, record};
 use acct_model::{Entry, EntryError, Plans, entry_of};
+use radius_codec::codes::ACCOUNTING_REQUEST;
 use radius_codec::{CodecError, Packet, front, read, request_matches, write_response};
 use std::alloc::Global;
-
-/// The code of an Accounting-Request (RFC 2866, section 3).
-const ACCOUNTING_REQUEST: u8 = 4;
 
 /// What became of a datagram.
 #[derive(Clone, Copy, PartialEq, Eq, Debug)]
@@ -29,11 +22,13 @@ pub enum Outcome {
     Drop(Reason),
 }
 
-/// Answers a datagram over a book whose content stands for a history under these plans: judges it, records its entry and writes the reply
-/// to the front of `out` (RFC 2866, sections 3 and 4). A reply comes only after the entry was recorded; after a drop book and `out` are as before.
+/// Answers a datagram over a book whose content stands for a history under these plans: judges it,
+/// records its entry and writes the reply to the front of `out` (RFC 2866, sections 3 and 4). A reply
+/// comes only after the entry was recorded; after a drop the content and `out` are as before.
 ///
-/// For a report it asks the book for one row and one balance and writes both by one call, for a restart it closes the client's sessions by one
-/// call; beyond that its cost is that of reading the datagram, and of going through the clients once.
+/// For a report it asks the book for one row and one balance and writes both by one call, for a
+/// restart it closes the client's sessions by one call; beyond that its cost is that of reading the
+/// datagram, and of going through the clients once.
 pub fn answer<B: Book>(
     alloc: Global,
     clients: &Clients,
@@ -42,47 +37,70 @@ pub fn answer<B: Book>(
     datagram: &Datagram<'_>,
     out: &mut [u8; 4096],
 ) -> Outcome
-    ensures was_sound { B.is_sound book.new → B.is_sound book.old }
-    ensures was_open { B.is_open book.new → B.is_open book.old }
-    ensures keeps_steady { B.is_steady book.old → B.is_steady book.new }
+    // What is judged of the datagram alone, over any book, and what the array then holds.
+    ensures judged { Judges clients.now datagram.now.source datagram.now.bytes.now result }
+    ensures written { Writes clients.now datagram.now.source datagram.now.bytes.now
+        out.old out.new result }
 
-    // What the outcome says of the datagram alone, whatever the book.
-    ensures judged { Judges clients.now datagram.now.source datagram.now.bytes.now out.old out.new result }
-
-    // The first eleven reasons leave the book alone, and what the book told says that it is open.
+    // The first eleven reasons leave the book alone. Else it makes a step, from history to history.
     ensures alone { IsDecidedAlone result → book.new ≡ book.old }
-    ensures answers { B.is_sound book.new → IsToldByBook result → B.is_open book.new }
-    ensures unchanged { B.is_open book.new → IsDrop result → B.content book.new ≡ B.content book.old }
-
-    ensures step { B.is_sound book.new → (history : List Entry) → (B.is_open book.old → Stands plans.now (B.content book.old) history)
-        → Steps clients.now plans.now history datagram.now.source datagram.now.bytes.now datagram.now.moment out.old out.new
-        (λ entries. B.is_open book.new → Stands plans.now (B.content book.new) entries) result }
-    ensures fits { ReplyFits result }
-    ensures silent { IsDrop result → out.new ≡ out.old }
-
-    // What a crash may leave: what it could before, or that with the whole effect of the entry.
-    ensures left { B.is_sound book.new → (history : List Entry) → (B.is_open book.old → Stands plans.now (B.content book.old) history)
-        → (c : Content) → B.left book.new c → B.left book.old c
-        ⊎ (B.is_open book.old × MayAddAsked clients.now plans.now history datagram.now.source datagram.now.bytes.now datagram.now.moment c) }
-    ensures settled { B.is_sound book.new → IsReply result → B.content book.new ≢ B.content book.old
-        → Only (B.content book.new) (B.left book.new) }
+    ensures step { IsStep plans.now B.content B.is_sound B.is_open B.is_steady B.left
+        book.old book.new (IsTold result) (IsDrop result)
+        (λ history after. Steps clients.now plans.now datagram.now.source datagram.now.bytes.now
+        datagram.now.moment result history after)
+        (λ asked. AsksFor clients.now datagram.now.source datagram.now.bytes.now
+        datagram.now.moment asked) }
 {
-    let Some(client) = clients.at(datagram.source) else {
-        return Outcome::Drop(Reason::UnknownClient);
-    };
-    let secret = client.secret.as_slice();
-    let packet = match request_in(secret, datagram.bytes) {
-        Ok(packet) => packet,
+    let request = match requested(alloc, clients, datagram) {
+        Ok(request) => request,
         Err(reason) => return Outcome::Drop(reason),
     };
-    let entry = match asked_of(alloc, client.name.as_str(), &packet, datagram.moment) {
-        Ok(entry) => entry,
-        Err(reason) => return Outcome::Drop(reason),
-    };
-    match record(alloc, book, plans, &entry) {
-        Ok(_) => Outcome::Reply(write_response(&packet, secret, out)),
+    match record(alloc, book, plans, &request.entry) {
+        Ok(_) => {
+            let secret = request.client.secret.as_slice();
+            Outcome::Reply(write_response(&request.packet, secret, out))
+        }
         Err(RecordError::BalanceLimit(_)) => Outcome::Drop(Reason::BalanceLimit),
         Err(_) => Outcome::Drop(Reason::Unavailable),
+    }
+}
+
+// A client's signed request, and the entry that it spells.
+#[derive(Drop)]
+struct Request<'c, 'b> {
+    client: &'c Client,
+    packet: Packet<'b>,
+    entry: Entry,
+}
+
+// What a datagram asks for, judged without the book.
+fn requested<'c, 'b>(
+    alloc: Global,
+    clients: &'c Clients,
+    datagram: &Datagram<'b>,
+) -> Result<Request<'c, 'b>, Reason>
+    ensures asks { IfOk result (λ request. Asks clients.now datagram.now.source
+        datagram.now.bytes.now datagram.now.moment request.client.now request.packet.id
+        request.packet.authenticator request.packet.attributes request.entry) }
+    ensures dropped { IfErr result (λ reason.
+        Breaks clients.now datagram.now.source datagram.now.bytes.now reason
+        ⊎ ((reason ≡ Reason.Unavailable)
+        × IsAsking clients.now datagram.now.source datagram.now.bytes.now)) }
+{
+    let Some(client) = clients.at(datagram.source) else {
+        return Err(Reason::UnknownClient);
+    };
+    let packet = match request_in(client.secret.as_slice(), datagram.bytes) {
+        Ok(packet) => packet,
+        Err(reason) => return Err(reason),
+    };
+    match asked_of(alloc, client.name.as_str(), &packet, datagram.moment) {
+        Ok(entry) => Ok(Request {
+            client,
+            packet,
+            entry,
+        }),
+        Err(reason) => Err(reason),
     }
 }
 
@@ -116,11 +134,20 @@ fn asked_of(alloc: Global, name: &str, packet: &Packet<'_>, moment: u64) -> Resu
 {
     match entry_of(alloc, name, packet, moment) {
         Ok(entry) => Ok(entry),
-        Err(EntryError::NoStatus) => Err(Reason::NoStatus),
-        Err(EntryError::UnknownStatus) => Err(Reason::UnknownStatus),
-        Err(EntryError::NoSessionId) => Err(Reason::NoSessionId),
-        Err(EntryError::BadField) => Err(Reason::BadField),
-        Err(EntryError::TotalTooLarge) => Err(Reason::TotalTooLarge),
-        Err(EntryError::Memory) => Err(Reason::Unavailable),
+        Err(error) => Err(reason_of(error)),
+    }
+}
+
+// How a refusal of attributes is a reason.
+fn reason_of(error: EntryError) -> Reason
+    ensures { result ≡ reason_in error }
+{
+    match error {
+        EntryError::NoStatus => Reason::NoStatus,
+        EntryError::UnknownStatus => Reason::UnknownStatus,
+        EntryError::NoSessionId => Reason::NoSessionId,
+        EntryError::BadField => Reason::BadField,
+        EntryError::TotalTooLarge => Reason::TotalTooLarge,
+        EntryError::Memory => Reason::Unavailable,
     }
 }
