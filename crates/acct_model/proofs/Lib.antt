@@ -30,6 +30,10 @@ pub mod Money
 pub mod Sums
 -- reports and top-ups that say the same of every account
 pub mod Alike
+-- the first top-up by a number, and what agrees with all top-ups
+pub mod TopUps
+-- the laws of plans
+pub mod PlanLaws
 -- which reports and top-ups a list's claims come from
 pub mod Claimed
 -- entries that say nothing but their claims

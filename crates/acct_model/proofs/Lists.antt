@@ -1,8 +1,8 @@
 -- Which elements lists have: mapped, filtered and tested lists.
 use Rattle.std.proofs.Common.{◌≡◌, ◌<◌, ◌⊎◌, inl, inr, Bool, true, false, cond, ◌||◌, List, [], ◌∷◌, map, refl, sym, ◌∙◌, ap, subst, arith, true≢false}
-use Rattle.std.proofs.lemmas.List.Elements.{Contains-append_left, Contains-append_right, Contains-append_cases, Contains-push_cases}
-use Rattle.std.specs.Prelude.{Contains}
-use Rattle.std.specs.List.{list_any, filter}
+use Rattle.std.proofs.lemmas.List.Elements.{Contains-append_left, Contains-append_right, Contains-append_cases, Contains-push_cases, All-weaker, All-contains_itself}
+use Rattle.std.specs.Prelude.{Contains, All, None, Some}
+use Rattle.std.specs.List.{list_any, filter, find, Any}
 
 pub here : {X : Type 0} (x : X) (xs : List X) → Contains (x ∷ xs) x
 here x xs = Contains-append_left (x ∷ []) xs x (0, omega arith, refl)
@@ -80,4 +80,34 @@ found_same p (z ∷ xs) e =
     elim (p z) as (λ b. p z ≡ b → (b || list_any p xs) ≡ true → (y : _) × Contains (z ∷ xs) y × (p y ≡ true)) [
       | true ↦ λ is h. (z, here z xs, is)
       | false ↦ λ is h. let rest = found_same p xs h in (rest.0, deeper z rest.0 xs rest.1, rest.2)
+    ] refl e
+
+-- what holds of each element that a list has, holds of all
+pub all_listed : {X : Type 0} (P : X → Type 0) (xs : List X) → ((x : X) → Contains xs x → P x) → All P xs
+all_listed P xs each = All-weaker (Contains xs) P each xs (All-contains_itself xs)
+
+pub any_listed : {X : Type 0} (P : X → Type 0) (xs : List X) (x : X) → Contains xs x → P x → Any P xs
+any_listed P xs x there holds = (there.0, x, there.1, there.2, holds)
+
+pub listed_any : {X : Type 0} (P : X → Type 0) (xs : List X) → Any P xs → (x : X) × Contains xs x × P x
+listed_any P xs (k, x, within, is, holds) = (x, (k, within, is), holds)
+
+-- ---- what `find` finds
+
+pub find-none : {X : Type 0} (p : X → Bool) (xs : List X) → find p xs ≡ None → list_any p xs ≡ false
+find-none p [] e = refl
+find-none p (x ∷ xs) e =
+    elim (p x) as (λ b. cond b (Some x) (find p xs) ≡ None → (b || list_any p xs) ≡ false) [
+      | true ↦ λ h. cc
+      | false ↦ λ h. find-none p xs h
+    ] e
+
+-- what is found stands in the list and passes
+pub find-some : {X : Type 0} (p : X → Bool) (xs : List X) (found : X) → find p xs ≡ Some found
+    → Contains xs found × (p found ≡ true)
+find-some p [] found e = cc
+find-some p (x ∷ xs) found e =
+    elim (p x) as (λ b. p x ≡ b → cond b (Some x) (find p xs) ≡ Some found → Contains (x ∷ xs) found × (p found ≡ true)) [
+      | true ↦ λ is h. let same : x ≡ found = cc in (subst (λ v. Contains (x ∷ xs) v) same (here x xs), ap p (sym same) ∙ is)
+      | false ↦ λ is h. let rest = find-some p xs found h in (deeper x found xs rest.0, rest.1)
     ] refl e

@@ -1,23 +1,24 @@
--- Why a report is charged once, and gives no money back.
-use Rattle.std.proofs.Common.{◌≡◌, ℕ, ◌+◌, ◌*◌, ◌<◌, ◌≤◌, Bool, true, false, cond, List, [], ◌∷◌, refl, sym, ◌∙◌, ap, subst, arith}
+-- What reports, top-ups and restarts do to balances, and what a session costs.
+use Rattle.std.proofs.Common.{◌≡◌, ℕ, ◌<◌, ◌≤◌, Bool, true, false, cond, List, ◌∷◌, refl, sym, ◌∙◌, ap, subst, arith}
 use Rattle.std.proofs.Math.Nat.{mul-le-mul_left}
 use Rattle.std.proofs.lemmas.Int.{ints}
 use Rattle.std.specs.Prelude.{pos, ◌-ℤ◌, ◌≤ℤ◌, bytes_eq, max, Contains, Option, Some, None}
 use Rattle.std.specs.List.{find}
 use Rattle.std.specs.Option.{option_or}
 use Rattle.acct_model.specs.declared.plan.Plan.{Plan}
-use Rattle.acct_model.specs.declared.entry.Entry.{Entry}
 use Rattle.acct_model.specs.declared.entry.Entry.TheVariants as entry
 use Rattle.acct_model.specs.Report.{ReportFacts, total}
 use Rattle.acct_model.specs.Plans.{started_blocks, price_of, plan_for, price_under, has_class, default_class}
 use Rattle.acct_model.specs.PlanFaults.{fault_of}
-use Rattle.acct_model.specs.History.{session_of, reports, first_of, greatest_total, charge_of, share, charged, credited, balance_of}
-use Rattle.acct_model.specs.Laws.{MoneyMovesOnce}
+use Rattle.acct_model.specs.History.{session_of, reports, first_of, is_owner, greatest_total, plan_of, charge_of, voucher_of, share, charged, credited}
+use Rattle.acct_model.specs.MoneyLaws.{SessionIsCharged, ReportsAreChargedOnce, VouchersAreCreditedOnce, MoneyMovesOnce}
 use Rattle.acct_model.proofs.Blocks.{IsLeastBlocks-started}
-use Rattle.acct_model.proofs.PlanFaults.{IsPlan, IsPlan-found}
+use Rattle.acct_model.proofs.PlanFaults.{IsPlan-found}
 use Rattle.acct_model.proofs.Lists.{nowhere}
 use Rattle.acct_model.proofs.Members.{below_greatest}
-use Rattle.acct_model.proofs.Balances.{owned-report, first_of-none, share-known, share-later, balance-restart}
+use Rattle.acct_model.proofs.Balances.{reports-own, owned-report, first_of-none, share-known, share-later, balance-report-other, balance-topup, balance-topup-other, balance-restart}
+use Rattle.acct_model.proofs.Repeats.{credited_repeated}
+use Rattle.acct_model.proofs.Same.{Decides-bytes_eq, Decides-false}
 
 -- more octets start no fewer blocks
 price_of-more : (plan : Plan) (n m : ℕ) → 0 < plan.block → n ≤ m → price_of plan n ≤ price_of plan m
@@ -63,19 +64,49 @@ share-same plans account report one rs listed less (Some first) is =
 lower : (credit old new : ℕ) → old ≤ new → (pos credit -ℤ pos new) ≤ℤ (pos credit -ℤ pos old)
 lower credit old new more = omega (arith, ints)
 
-pub moves_once : MoneyMovesOnce
-moves_once = record {
-  charged_once = λ plans history report one account listed less.
+pub charged_once : ReportsAreChargedOnce
+charged_once = record {
+  once = λ plans history report one account listed less.
       let rs = reports history (session_of report) in
       let same = share-same plans account report one rs listed less (first_of rs) refl in
       let step = owned-report (charge_of plans) history report account in
       let still : charged plans (entry.Report report ∷ history) account ≡ charged plans history account = omega (arith, step, same) in
       ap (λ n. pos (credited history account) -ℤ pos n) still;
+  owner = λ plans history report first account is other.
+      let first_is = sym (ap first_of (reports-own history report)) ∙ is in
+      let no_owner : bytes_eq account first.user ≡ false = Decides-false (bytes_eq account first.user) (Decides-bytes_eq account first.user) other in
+      balance-report-other plans history report account (ap (is_owner account) first_is ∙ no_owner);
   none_back = λ plans history report account good.
       let rs = reports history (session_of report) in
       let more = share-more plans account report rs good (first_of rs) refl in
       let step = owned-report (charge_of plans) history report account in
       let grown : charged plans history account ≤ charged plans (entry.Report report ∷ history) account = omega (arith, step, more) in
       lower (credited history account) (charged plans history account) (charged plans (entry.Report report ∷ history) account) grown;
-  restart = balance-restart;
 }
+
+pub credited_once : VouchersAreCreditedOnce
+credited_once = record {
+  credited = balance-topup;
+  once = λ plans history topup one account listed number account_is sum_is.
+      let same : voucher_of one ≡ voucher_of topup = λ i. (number i, sum_is i) in
+      let still = credited_repeated history topup one account listed account_is same in
+      ap (λ n. pos n -ℤ pos (charged plans history account)) still;
+  owner = balance-topup-other;
+}
+
+pub moves_once : MoneyMovesOnce
+moves_once = record {
+  reports = charged_once;
+  topups = credited_once;
+  restarts = record {
+    moves = balance-restart;
+    admissible = λ plans history restart in_range. record { agrees = tt; in_range = in_range };
+  };
+}
+
+-- what a session costs, by its least blocks
+pub session_charged : SessionIsCharged
+session_charged plans history name first plan is planned some =
+    let n = greatest_total (reports history name) in
+    let paid : plan_of plans (first_of (reports history name)) ≡ Some plan = ap (plan_of plans) is ∙ planned in
+    (started_blocks plan.block n, IsLeastBlocks-started plan.block n some, ap (λ o. price_under o n) paid)

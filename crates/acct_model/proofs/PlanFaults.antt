@@ -1,36 +1,17 @@
 -- What the faults of a list of plans say.
-use Rattle.std.proofs.Common.{◌≡◌, ℕ, ◌<◌, ◌≤◌, ◌^◌, Bool, true, false, cond, not, ◌&&◌, ◌||◌, Option, None, Some, List, [], ◌∷◌, refl, sym, ◌∙◌, ap, subst, arith}
+use Rattle.std.proofs.Common.{◌≡◌, ℕ, ◌<◌, ◌≤◌, ◌^◌, Bool, true, false, cond, not, ◌&&◌, ◌||◌, Option, None, Some, List, [], ◌∷◌, refl, sym, ◌∙◌, arith}
 use Rattle.std.proofs.lemmas.Bool.{true≢false}
 use Rattle.std.proofs.lemmas.Bool.Decides.{nat_tests}
 use Rattle.std.specs.List.{find, list_any}
 use Rattle.std.specs.Option.{option_or}
 use Rattle.std.specs.Prelude.{is_some, nat_le, Contains, IsSome}
 use Rattle.acct_model.specs.declared.plan.Plan.{Plan}
-use Rattle.acct_model.specs.declared.plans.PlanError.{PlanError}
 use Rattle.acct_model.specs.declared.plans.PlanError.TheVariants.{NoDefault, TwicePlanned, BadBlock, BadUnit}
 use Rattle.acct_model.specs.Faults.{first_fault}
 use Rattle.acct_model.specs.Plans.{has_class, default_class, plan_for}
 use Rattle.acct_model.specs.PlanFaults.{is_block, is_unit, plan_fault, default_fault, fault_of}
 use Rattle.acct_model.proofs.Faults.{first_none, second_none, passed}
-use Rattle.acct_model.proofs.Lists.{here, deeper}
-
-find-none : {X : Type 0} (p : X → Bool) (xs : List X) → find p xs ≡ None → list_any p xs ≡ false
-find-none p [] e = refl
-find-none p (x ∷ xs) e =
-    elim (p x) as (λ b. cond b (Some x) (find p xs) ≡ None → (b || list_any p xs) ≡ false) [
-      | true ↦ λ h. cc
-      | false ↦ λ h. find-none p xs h
-    ] e
-
--- what is found stands in the list and passes
-pub find-some : {X : Type 0} (p : X → Bool) (xs : List X) (found : X) → find p xs ≡ Some found
-    → Contains xs found × (p found ≡ true)
-find-some p [] found e = cc
-find-some p (x ∷ xs) found e =
-    elim (p x) as (λ b. p x ≡ b → cond b (Some x) (find p xs) ≡ Some found → Contains (x ∷ xs) found × (p found ≡ true)) [
-      | true ↦ λ is h. let same : x ≡ found = cc in (subst (λ v. Contains (x ∷ xs) v) same (here x xs), ap p (sym same) ∙ is)
-      | false ↦ λ is h. let rest = find-some p xs found h in (deeper x found xs rest.0, rest.1)
-    ] refl e
+use Rattle.acct_model.proofs.Lists.{find-none, find-some}
 
 pub is_some-find : {X : Type 0} (p : X → Bool) (xs : List X) → is_some (find p xs) ≡ list_any p xs
 is_some-find p [] = refl
@@ -40,7 +21,7 @@ is_some-find p (x ∷ xs) =
       | false ↦ is_some-find p xs
     ]
 
-default_there : (plans : List Plan) → default_fault plans ≡ None → list_any (has_class default_class) plans ≡ true
+pub default_there : (plans : List Plan) → default_fault plans ≡ None → list_any (has_class default_class) plans ≡ true
 default_there plans e =
     elim (list_any (has_class default_class) plans) as (λ b. cond b None (Some NoDefault) ≡ None → b ≡ true) [
       | true ↦ λ h. refl
@@ -59,7 +40,7 @@ pub record IsPlan (plan : Plan) : Type 0 where
   pub most : plan.block ≤ 2 ^ 53
   pub unit : plan.unit ≤ 10 ^ 9
 
-tests : (block unit twice : Bool)
+pub tests : (block unit twice : Bool)
     → cond (not block) (Some BadBlock) (cond (not unit) (Some BadUnit) (cond twice (Some TwicePlanned) None)) ≡ None
     → (block ≡ true) × (unit ≡ true) × (twice ≡ false)
 tests true true true e = cc

@@ -35,7 +35,7 @@ charged_repeated plans history r q account there same le =
     let own = share_repeated plans account r q (reports history (session_of r)) (to_session (session_of r) (all_reports history) q there (sym same)) le in
     omega (arith, step, own)
 
-credited_repeated : (history : List Entry) (t u : TopUpFacts) (account : List ℕ) → Contains (all_topups history) u → u.account ≡ t.account → voucher_of u ≡ voucher_of t
+pub credited_repeated : (history : List Entry) (t u : TopUpFacts) (account : List ℕ) → Contains (all_topups history) u → u.account ≡ t.account → voucher_of u ≡ voucher_of t
     → credited (entry.TopUp t ∷ history) account ≡ credited history account
 credited_repeated history t u account there owner same =
     credited-among (entry.TopUp t ∷ history) history account

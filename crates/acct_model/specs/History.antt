@@ -3,7 +3,7 @@
 -- A history is the list of accepted entries, **the newest first**: a history H with one more entry e is e ∷ H, and what was
 -- accepted first stands deepest. It holds no totals and no balances: each is computed from the entries alone.
 use Rattle.std.specs.Prelude.{◌≡◌, ℕ, ◌^◌, max, Bool, false, ◌&&◌, ◌||◌, Option, None, Some, List, [], ◌∷◌, if◌then◌else◌, map, ℤ, pos, ◌-ℤ◌, ◌≤ℤ◌, ◌==◌, bytes_eq}
-use Rattle.std.specs.List.{filter, filter_map, list_any, sum_by}
+use Rattle.std.specs.List.{All, filter, filter_map, list_any, sum_by}
 use Rattle.std.specs.Option.{option_or}
 use Rattle.acct_model.specs.declared.plan.Plan.{Plan}
 use Rattle.acct_model.specs.declared.entry.Entry.{Entry}
@@ -139,12 +139,11 @@ AreInRange plans history = (account : List ℕ) → InRange (balance_of plans hi
 
 -- each top-up by this number is to this account and of this sum
 abbrev pub Agrees : List Entry → TopUpFacts → Type 0
-Agrees [] topup = Unit {0}
-Agrees (entry.Report report ∷ older) topup = Agrees older topup
-Agrees (entry.Restart restart ∷ older) topup = Agrees older topup
-Agrees (entry.TopUp other ∷ older) topup =
-    (other.voucher ≡ topup.voucher → (other.account ≡ topup.account) × (other.sum ≡ topup.sum)) × Agrees older topup
+Agrees history topup =
+    All (λ other. other.voucher ≡ topup.voucher
+    → (other.account ≡ topup.account) × (other.sum ≡ topup.sum)) (all_topups history)
 
+-- a top-up agrees with all top-ups of the history; other entries always do
 abbrev pub AgreesWithAll : List Entry → Entry → Type 0
 AgreesWithAll history (entry.Report report) = Unit {0}
 AgreesWithAll history (entry.Restart restart) = Unit {0}

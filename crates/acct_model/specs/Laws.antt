@@ -1,25 +1,13 @@
--- Laws above the definitions, in the subject's own words. The functions of the module `laws` have them as their contracts.
-use Rattle.std.specs.Prelude.{◌≡◌, ℕ, ◌<◌, ◌≤◌, ◌↔◌, ◌⊎◌, IsTrue, IsSome, None, Some, List, [], ◌∷◌, ◌++◌, Contains, All, ◌≤ℤ◌}
+-- Laws above histories and shown octets, in the subject's own words. Functions of the module `laws`
+-- have them as their contracts.
+use Rattle.std.specs.Prelude.{◌≡◌, ◌≢◌, ℕ, ◌<◌, ◌≤◌, ◌↔◌, ◌⊎◌, IsTrue, None, Some, List, [], ◌∷◌, ◌++◌, Contains, All}
 use Rattle.std.specs.List.{IsDistinct}
 use Rattle.percent_encoding.specs.Percent.{percent_decode}
-use Rattle.acct_model.specs.declared.plan.Plan.{Plan}
 use Rattle.acct_model.specs.declared.entry.Entry.{Entry}
-use Rattle.acct_model.specs.declared.entry.Entry.TheVariants as entry
-use Rattle.acct_model.specs.declared.entry.Restart.{Restart}
 use Rattle.acct_model.specs.Report.{ReportFacts, total}
 use Rattle.acct_model.specs.Vouchers.{TopUpFacts}
-use Rattle.acct_model.specs.Plans.{started_blocks, IsLeastBlocks, plan_for}
-use Rattle.acct_model.specs.PlanFaults.{fault_of}
 use Rattle.acct_model.specs.Shown.{shown}
-use Rattle.acct_model.specs.History.{SessionName, session_of, same_session, all_reports, reports, sessions, first_of, greatest_total, all_topups, voucher_of, Voucher, same_voucher, vouchers, is_known, balance_of}
-
--- the blocks that n octets start cover them, and fewer don't
-abbrev pub StartedBlocksAreLeast : Type 0
-StartedBlocksAreLeast = (block n : ℕ) → 0 < block → IsLeastBlocks block n (started_blocks block n)
-
--- among plans without a fault each class has one
-abbrev pub EachClassIsPlanned : Type 0
-EachClassIsPlanned = (plans : List Plan) (class : List ℕ) → fault_of plans ≡ None → IsSome (plan_for plans class)
+use Rattle.acct_model.specs.History.{SessionName, session_of, same_session, all_reports, reports, sessions, first_of, greatest_total, all_topups, topup_of, voucher_of, Voucher, same_voucher, vouchers, is_known}
 
 -- shown octets read back
 abbrev pub ShownReadsBack : Type 0
@@ -61,12 +49,14 @@ abbrev pub KnownAccountsOwn : Type 0
 KnownAccountsOwn = (history : List Entry) (account : List ℕ)
     → IsTrue (is_known history account) ↔ (OwnsSession history account ⊎ OwnsVoucher history account)
 
--- what a report and a restart do to balances: a report is charged once, none gives money back, and a restart moves no money
-pub record MoneyMovesOnce : Type 0 where
-  pub charged_once : (plans : List Plan) (history : List Entry) (report one : ReportFacts) (account : List ℕ)
-      → Contains (reports history (session_of report)) one → total report ≤ total one
-      → balance_of plans (entry.Report report ∷ history) account ≡ balance_of plans history account
-  pub none_back : (plans : List Plan) (history : List Entry) (report : ReportFacts) (account : List ℕ) → fault_of plans ≡ None
-      → balance_of plans (entry.Report report ∷ history) account ≤ℤ balance_of plans history account
-  pub restart : (plans : List Plan) (history : List Entry) (restart : Restart) (account : List ℕ)
-      → balance_of plans (entry.Restart restart ∷ history) account ≡ balance_of plans history account
+-- The top-up by a number is one of the history's: no top-up by the number was accepted before it.
+-- There is none exactly where the history has no top-up by the number.
+pub record TopUpIsFirst : Type 0 where
+  pub first : (history : List Entry) (number : List ℕ) (topup : TopUpFacts)
+      → topup_of history number ≡ Some topup
+      → (later : List TopUpFacts) × (earlier : List TopUpFacts)
+      × (all_topups history ≡ later ++ topup ∷ earlier) × (topup.voucher ≡ number)
+      × All (λ other. other.voucher ≢ number) earlier
+  pub none : (history : List Entry) (number : List ℕ)
+      → (topup_of history number ≡ None)
+      ↔ All (λ topup. topup.voucher ≢ number) (all_topups history)

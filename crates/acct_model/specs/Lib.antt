@@ -11,3 +11,5 @@ pub mod History
 pub mod Claims
 pub mod Agreement
 pub mod Laws
+pub mod PlanLaws
+pub mod MoneyLaws

@@ -1,9 +1,25 @@
 //! Laws above the definitions: functions without effect, whose contracts are the laws.
-ghost use Rattle.acct_model.specs.Laws.{StartedBlocksAreLeast, EachClassIsPlanned, ShownReadsBack, FirstIsDeepest, GreatestTotalIsReached, SessionsAreReported, VouchersAreToppedUp, KnownAccountsOwn, MoneyMovesOnce};
+ghost use Rattle.acct_model.specs.Laws.{ShownReadsBack, FirstIsDeepest, GreatestTotalIsReached};
+ghost use Rattle.acct_model.specs.Laws.{SessionsAreReported, VouchersAreToppedUp};
+ghost use Rattle.acct_model.specs.Laws.{TopUpIsFirst, KnownAccountsOwn};
+ghost use Rattle.acct_model.specs.PlanLaws.{StartedBlocksAreLeast, FaultlessPlansKeepBounds};
+ghost use Rattle.acct_model.specs.PlanLaws.{EachClassIsPlanned, PlanIsOfItsClass};
+ghost use Rattle.acct_model.specs.MoneyLaws.{SessionIsCharged, MoneyMovesOnce};
 
-/// The blocks that a price counts cover the octets, and fewer don't.
+/// The blocks that a price counts cover the octets, and fewer do not.
 pub fn started_blocks_are_least()
     ensures { StartedBlocksAreLeast }
+{}
+
+/// Plans have no fault exactly if each block is 1 to 2^53, each unit at most 10^9, no two have one
+/// class, and one has the class `default`.
+pub fn faultless_plans_keep_bounds()
+    ensures { FaultlessPlansKeepBounds }
+{}
+
+/// The plan of a class has the class, or no plan has it and it is `default`.
+pub fn plan_is_of_its_class()
+    ensures { PlanIsOfItsClass }
 {}
 
 /// Among plans without a fault each class has one.
@@ -41,7 +57,18 @@ pub fn known_accounts_own()
     ensures { KnownAccountsOwn }
 {}
 
-/// A report whose session has one of no lower total moves no balance, no report gives money back, and a restart moves no money.
+/// The top-up by a number stands in the history, and none by the number was accepted before it.
+pub fn topup_is_first()
+    ensures { TopUpIsFirst }
+{}
+
+/// A session costs its plan's unit for each of the least blocks that cover its greatest total.
+pub fn session_is_charged()
+    ensures { SessionIsCharged }
+{}
+
+/// A report moves a balance only where its total is above all of its session, and gives no money
+/// back; a voucher is credited once; a restart moves no money and is always admissible.
 pub fn money_moves_once()
     ensures { MoneyMovesOnce }
 {}

@@ -1,0 +1,69 @@
+-- Laws of charges and balances, in the subject's own words. Functions of the module `laws` have
+-- them as their contracts.
+use Rattle.std.specs.Prelude.{◌≡◌, ◌≢◌, ℕ, ◌*◌, ◌<◌, ◌≤◌, None, Some, List, ◌∷◌, Contains, pos, ◌+ℤ◌, ◌≤ℤ◌}
+use Rattle.acct_model.specs.declared.plan.Plan.{Plan}
+use Rattle.acct_model.specs.declared.entry.Entry.{Entry}
+use Rattle.acct_model.specs.declared.entry.Entry.TheVariants as entry
+use Rattle.acct_model.specs.declared.entry.Restart.{Restart}
+use Rattle.acct_model.specs.Report.{ReportFacts, total}
+use Rattle.acct_model.specs.Vouchers.{TopUpFacts}
+use Rattle.acct_model.specs.Plans.{IsLeastBlocks, plan_for}
+use Rattle.acct_model.specs.PlanFaults.{fault_of}
+use Rattle.acct_model.specs.History.{SessionName, session_of, reports, first_of, greatest_total, charge_of, all_topups, topup_of, balance_of, AreInRange, Admissible}
+
+-- A session costs the unit of its plan, which the class of its first report names, for each of the
+-- least blocks that cover its greatest total.
+abbrev pub SessionIsCharged : Type 0
+SessionIsCharged = (plans : List Plan) (history : List Entry) (name : SessionName)
+    (first : ReportFacts) (plan : Plan)
+    → first_of (reports history name) ≡ Some first
+    → plan_for plans first.class ≡ Some plan
+    → 0 < plan.block
+    → (blocks : ℕ) × IsLeastBlocks plan.block (greatest_total (reports history name)) blocks
+    × (charge_of plans (reports history name) ≡ plan.unit * blocks)
+
+-- What reports do to balances: a report moves no balance but that of its session's owner and none
+-- at all where its total was reached before, and no report gives money back.
+pub record ReportsAreChargedOnce : Type 0 where
+  pub once : (plans : List Plan) (history : List Entry) (report one : ReportFacts) (account : List ℕ)
+      → Contains (reports history (session_of report)) one → total report ≤ total one
+      → balance_of plans (entry.Report report ∷ history) account ≡ balance_of plans history account
+  pub owner : (plans : List Plan) (history : List Entry) (report first : ReportFacts)
+      (account : List ℕ)
+      → first_of (reports (entry.Report report ∷ history) (session_of report)) ≡ Some first
+      → account ≢ first.user
+      → balance_of plans (entry.Report report ∷ history) account ≡ balance_of plans history account
+  pub none_back : (plans : List Plan) (history : List Entry) (report : ReportFacts)
+      (account : List ℕ) → fault_of plans ≡ None
+      → balance_of plans (entry.Report report ∷ history) account
+      ≤ℤ balance_of plans history account
+
+-- What top-ups do to balances: a top-up by a new number raises its account's balance by its sum,
+-- one whose number, account and sum stand in the history moves none, and none moves another
+-- account's.
+pub record VouchersAreCreditedOnce : Type 0 where
+  pub credited : (plans : List Plan) (history : List Entry) (topup : TopUpFacts)
+      → topup_of history topup.voucher ≡ None
+      → balance_of plans (entry.TopUp topup ∷ history) topup.account
+      ≡ balance_of plans history topup.account +ℤ pos topup.sum
+  pub once : (plans : List Plan) (history : List Entry) (topup one : TopUpFacts) (account : List ℕ)
+      → Contains (all_topups history) one → one.voucher ≡ topup.voucher
+      → one.account ≡ topup.account → one.sum ≡ topup.sum
+      → balance_of plans (entry.TopUp topup ∷ history) account ≡ balance_of plans history account
+  pub owner : (plans : List Plan) (history : List Entry) (topup : TopUpFacts) (account : List ℕ)
+      → account ≢ topup.account
+      → balance_of plans (entry.TopUp topup ∷ history) account ≡ balance_of plans history account
+
+-- A restart moves no balance, and so it is admissible wherever the balances are in range.
+pub record RestartsMoveNothing : Type 0 where
+  pub moves : (plans : List Plan) (history : List Entry) (restart : Restart) (account : List ℕ)
+      → balance_of plans (entry.Restart restart ∷ history) account
+      ≡ balance_of plans history account
+  pub admissible : (plans : List Plan) (history : List Entry) (restart : Restart)
+      → AreInRange plans history → Admissible plans history (entry.Restart restart)
+
+-- what reports, top-ups and restarts do to balances
+pub record MoneyMovesOnce : Type 0 where
+  pub reports : ReportsAreChargedOnce
+  pub topups : VouchersAreCreditedOnce
+  pub restarts : RestartsMoveNothing
