@@ -1,6 +1,9 @@
+use crate::status_values::{
+    ACCOUNTING_OFF, ACCOUNTING_ON, INTERIM_UPDATE, START as START_VALUE, STOP,
+};
 use crate::{
-    Entry, EntryError, Octets, Plan, PlanError, Plans, Report, ReportKind, Text, TopUp, TopUpError,
-    address_of, entry_of, price, show, show_address, unshow,
+    Entry, EntryError, NoMemory, Octets, Plan, PlanError, Plans, Report, ReportKind, Text, TopUp,
+    TopUpError, address_of, entry_of, price, show, show_address, unshow,
 };
 use radius_codec::{read, sign_request};
 use std::alloc::Global;
@@ -262,6 +265,106 @@ fn shows_octets(rt: HostRuntime) -> Result<(), Fail> {
     // A `%` without two hexadecimal digits stands for itself.
     assert!(rt; unshow(rt.alloc(), "%4g")?.as_slice() == b"%4g".as_slice());
     Ok(())
+}
+
+// The numbers and texts of the errors of plans.
+const PLAN_ERRORS: [(PlanError, u8, &str); 4] = [
+    (PlanError::NoDefault, 1, "there is no plan default"),
+    (
+        PlanError::TwicePlanned,
+        2,
+        "an earlier plan has the same class",
+    ),
+    (
+        PlanError::BadBlock,
+        3,
+        "the block is not 1 to 9007199254740992",
+    ),
+    (PlanError::BadUnit, 4, "the unit is not 0 to 1000000000"),
+];
+
+#[test]
+fn plan_errors_have_numbers_and_texts(rt: HostRuntime) -> Result<(), Fail> {
+    for (error, number, text) in PLAN_ERRORS {
+        assert_eq!(rt; error as u8, number, "{text}");
+        assert_eq!(rt; format!(in rt.alloc(); "{error}")?.as_str(), text);
+    }
+    Ok(())
+}
+
+// The numbers and texts of the errors of entries.
+const ENTRY_ERRORS: [(EntryError, u8, &str); 6] = [
+    (EntryError::NoStatus, 1, "there is no Acct-Status-Type"),
+    (
+        EntryError::UnknownStatus,
+        2,
+        "the Acct-Status-Type is unknown",
+    ),
+    (EntryError::NoSessionId, 3, "there is no Acct-Session-Id"),
+    (
+        EntryError::BadField,
+        4,
+        "a number or address is not 4 octets",
+    ),
+    (
+        EntryError::TotalTooLarge,
+        5,
+        "the total is above 9223372036854775807 octets",
+    ),
+    (EntryError::Memory, 6, "out of memory"),
+];
+
+#[test]
+fn entry_errors_have_numbers_and_texts(rt: HostRuntime) -> Result<(), Fail> {
+    for (error, number, text) in ENTRY_ERRORS {
+        assert_eq!(rt; error as u8, number, "{text}");
+        assert_eq!(rt; format!(in rt.alloc(); "{error}")?.as_str(), text);
+    }
+    Ok(())
+}
+
+// The numbers and texts of the errors of top-ups.
+const TOPUP_ERRORS: [(TopUpError, u8, &str); 4] = [
+    (
+        TopUpError::BadVoucher,
+        1,
+        "the voucher's number is not 1 to 32 of A-Z, 0-9 and -",
+    ),
+    (
+        TopUpError::BadAccount,
+        2,
+        "the account is not 1 to 253 octets",
+    ),
+    (TopUpError::BadSum, 3, "the sum is not 1 to 1000000000000"),
+    (TopUpError::Memory, 4, "out of memory"),
+];
+
+#[test]
+fn topup_errors_have_numbers_and_texts(rt: HostRuntime) -> Result<(), Fail> {
+    for (error, number, text) in TOPUP_ERRORS {
+        assert_eq!(rt; error as u8, number, "{text}");
+        assert_eq!(rt; format!(in rt.alloc(); "{error}")?.as_str(), text);
+    }
+    assert_eq!(rt;
+        format!(in rt.alloc(); "{NoMemory}")?.as_str(),
+        "out of memory"
+    );
+    Ok(())
+}
+
+// The values of RFC 2866, section 5.1.
+#[test]
+fn status_values_are_those_of_the_rfc(rt: HostRuntime) {
+    assert_eq!(rt;
+        [
+            START_VALUE,
+            STOP,
+            INTERIM_UPDATE,
+            ACCOUNTING_ON,
+            ACCOUNTING_OFF
+        ],
+        [1, 2, 3, 7, 8]
+    );
 }
 
 // Addresses of RFC 5737 and of a private net; 0 stands once alone and once at the end of a number.
