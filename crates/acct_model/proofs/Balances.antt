@@ -1,5 +1,6 @@
 -- How one more entry moves a balance.
-use Rattle.std.proofs.Common.{◌≡◌, ◌≢◌, ℕ, ◌+◌, true, false, cond, ◌||◌, List, [], ◌∷◌, map, refl, ap, arith}
+use Rattle.std.proofs.Common.{◌≡◌, ◌≢◌, ℕ, ◌+◌, true, false, cond, ◌||◌, List, [], ◌∷◌, map, refl}
+use Rattle.std.proofs.Common.{ap, arith}
 use Rattle.std.proofs.lemmas.Int.{ints}
 use Rattle.std.specs.Prelude.{pos, ◌-ℤ◌, ◌+ℤ◌, bytes_eq, max, Option, Some, None}
 use Rattle.std.specs.List.{list_any, sum_by, filter}
@@ -11,71 +12,99 @@ use Rattle.acct_model.specs.declared.entry.Entry.TheVariants as entry
 use Rattle.acct_model.specs.Report.{ReportFacts, total}
 use Rattle.acct_model.specs.Vouchers.{TopUpFacts}
 use Rattle.acct_model.specs.Plans.{plan_for, price_under}
-use Rattle.acct_model.specs.History.{SessionName, session_of, same_session, all_reports, reports, distinct, first_of, greatest_total, is_owner, plan_of, charge_of, share, owned, charged, all_topups, topups, topup_of, Voucher, voucher_of, same_voucher, credited, balance_of}
-use Rattle.acct_model.proofs.Same.{Decides-bytes_eq, Decides-same_session, Decides-same_voucher, Decides-false}
+use Rattle.acct_model.specs.History.{SessionName, session_of, same_session, all_reports, reports}
+use Rattle.acct_model.specs.History.{distinct, first_of, greatest_total, is_owner, plan_of}
+use Rattle.acct_model.specs.History.{charge_of, share, owned, charged, all_topups, topups, topup_of}
+use Rattle.acct_model.specs.History.{Voucher, voucher_of, same_voucher, credited, balance_of}
+use Rattle.acct_model.proofs.Same.{Decides-bytes_eq, Decides-same_session, Decides-same_voucher}
+use Rattle.acct_model.proofs.Same.{Decides-false}
 use Rattle.acct_model.proofs.Distinct.{sum_by-distinct-more}
 
 -- ---- reports
 
 -- the reports of the report's own session
 pub reports-own : (history : List Entry) (report : ReportFacts)
-    → reports (entry.Report report ∷ history) (session_of report) ≡ report ∷ reports history (session_of report)
+    → reports (entry.Report report ∷ history) (session_of report) ≡ report
+    ∷ reports history (session_of report)
 reports-own history report =
     let s = session_of report in
-    ap (λ b. cond b (report ∷ reports history s) (reports history s)) ((Decides-same_session s s).1 refl)
+    ap (λ b. cond b (report ∷ reports history s) (reports history s))
+    ((Decides-same_session s s).1 refl)
 
 -- the reports of any other session
-pub reports-other : (history : List Entry) (report : ReportFacts) (name : SessionName) → name ≢ session_of report
+pub reports-other : (history : List Entry) (report : ReportFacts) (name : SessionName)
+    → name ≢ session_of report
     → reports (entry.Report report ∷ history) name ≡ reports history name
 reports-other history report name other =
     ap (λ b. cond b (report ∷ reports history name) (reports history name))
-    (Decides-false (same_session name (session_of report)) (Decides-same_session name (session_of report)) other)
+    (Decides-false (same_session name (session_of report))
+    (Decides-same_session name (session_of report)) other)
 
 of_session : SessionName → List ReportFacts → List ReportFacts
 of_session name rs = filter (λ r. same_session name (session_of r)) rs
 
 -- a session without a report weighs nothing
-share_listed : (weight : List ReportFacts → ℕ) (account : List ℕ) (name : SessionName) (rs : List ReportFacts)
-    → cond (list_any (same_session name) (map session_of rs)) (share weight account (of_session name rs)) 0 ≡ share weight account (of_session name rs)
+share_listed : (weight : List ReportFacts → ℕ) (account : List ℕ) (name : SessionName)
+    (rs : List ReportFacts)
+    → cond (list_any (same_session name) (map session_of rs))
+    (share weight account (of_session name rs)) 0 ≡ share weight account (of_session name rs)
 unfolding of_session
 share_listed weight account name [] = refl
 share_listed weight account name (r ∷ rs) =
-    elim (same_session name (session_of r)) as (λ b. cond (b || list_any (same_session name) (map session_of rs)) (share weight account (cond b (r ∷ of_session name rs) (of_session name rs))) 0
+    elim (same_session name (session_of r)) as (λ b.
+    cond (b || list_any (same_session name) (map session_of rs))
+    (share weight account (cond b (r ∷ of_session name rs) (of_session name rs))) 0
     ≡ share weight account (cond b (r ∷ of_session name rs) (of_session name rs))) [
       | true ↦ refl
       | false ↦ share_listed weight account name rs
     ]
 
 -- A report changes what its own session weighs, and nothing else.
-pub owned-report : (weight : List ReportFacts → ℕ) (history : List Entry) (report : ReportFacts) (account : List ℕ)
-    → owned weight (entry.Report report ∷ history) account + share weight account (reports history (session_of report))
-    ≡ owned weight history account + share weight account (report ∷ reports history (session_of report))
+pub owned-report : (weight : List ReportFacts → ℕ) (history : List Entry) (report : ReportFacts)
+    (account : List ℕ)
+    → owned weight (entry.Report report ∷ history) account + share weight account
+    (reports history (session_of report))
+    ≡ owned weight history account + share weight account
+    (report ∷ reports history (session_of report))
 unfolding of_session
 owned-report weight history report account =
     let s = session_of report in
     let before : SessionName → ℕ = λ name. share weight account (reports history name) in
-    let after : SessionName → ℕ = λ name. share weight account (reports (entry.Report report ∷ history) name) in
-    let agree : (name : SessionName) → name ≢ s → after name ≡ before name = λ name other. ap (share weight account) (reports-other history report name other) in
-    let own : after s ≡ share weight account (report ∷ reports history s) = ap (share weight account) (reports-own history report) in
-    let step = sum_by-distinct-more same_session Decides-same_session before after s agree (map session_of (all_reports history)) in
-    let listed : cond (list_any (same_session s) (map session_of (all_reports history))) (before s) 0 ≡ before s = share_listed weight account s (all_reports history) in
+    let after : SessionName
+    → ℕ = λ name. share weight account (reports (entry.Report report ∷ history) name) in
+    let agree : (name : SessionName) → name ≢ s
+    → after name ≡ before name =
+    λ name other. ap (share weight account) (reports-other history report name other) in
+    let own : after s ≡ share weight account (report ∷ reports history s) =
+    ap (share weight account) (reports-own history report) in
+    let step = sum_by-distinct-more same_session Decides-same_session before after s agree
+    (map session_of (all_reports history)) in
+    let listed : cond (list_any (same_session s) (map session_of (all_reports history)))
+    (before s) 0 ≡ before s = share_listed weight account s (all_reports history) in
     omega (arith, step, listed, own)
 
 -- An account's balance moves by the difference of what the report's session costs it.
-pub balance-report : (plans : List Plan) (history : List Entry) (report : ReportFacts) (account : List ℕ)
+pub balance-report : (plans : List Plan) (history : List Entry) (report : ReportFacts)
+    (account : List ℕ)
     → balance_of plans (entry.Report report ∷ history) account
-    ≡ (balance_of plans history account +ℤ pos (share (charge_of plans) account (reports history (session_of report))))
+    ≡ (balance_of plans history account +ℤ pos
+    (share (charge_of plans) account (reports history (session_of report))))
     -ℤ pos (share (charge_of plans) account (report ∷ reports history (session_of report)))
 balance-report plans history report account =
-    moved (credited history account) (charged plans (entry.Report report ∷ history) account) (share (charge_of plans) account (reports history (session_of report)))
-    (charged plans history account) (share (charge_of plans) account (report ∷ reports history (session_of report))) (owned-report (charge_of plans) history report account)
+    moved (credited history account) (charged plans (entry.Report report ∷ history) account)
+    (share (charge_of plans) account (reports history (session_of report)))
+    (charged plans history account)
+    (share (charge_of plans) account (report ∷ reports history (session_of report)))
+    (owned-report (charge_of plans) history report account)
   where
-    moved : (credit new before old after : ℕ) → new + before ≡ old + after → pos credit -ℤ pos new ≡ ((pos credit -ℤ pos old) +ℤ pos before) -ℤ pos after
+    moved : (credit new before old after : ℕ) → new + before ≡ old + after
+        → pos credit -ℤ pos new ≡ ((pos credit -ℤ pos old) +ℤ pos before) -ℤ pos after
     moved credit new before old after h = omega (arith, ints)
 
 -- ---- the first of a list
 
-pub first_of-more : {X : Type 0} (x y : X) (older : List X) → first_of older ≡ Some y → first_of (x ∷ older) ≡ Some y
+pub first_of-more : {X : Type 0} (x y : X) (older : List X) → first_of older ≡ Some y
+    → first_of (x ∷ older) ≡ Some y
 first_of-more x y older is = ap (λ o. option_or o (Some x)) is
 
 or_some : {X : Type 0} (o : Option X) (x : X) → option_or o (Some x) ≢ None
@@ -91,110 +120,159 @@ first_of-none (x ∷ xs) e = absurd (or_some (first_of xs) x e)
 
 -- a session's first report
 pub share-first : (plans : List Plan) (account : List ℕ) (report : ReportFacts)
-    → share (charge_of plans) account (report ∷ []) ≡ cond (bytes_eq account report.user) (price_under (plan_for plans report.class) (total report)) 0
+    → share (charge_of plans) account (report ∷ [])
+    ≡ cond (bytes_eq account report.user)
+    (price_under (plan_for plans report.class) (total report)) 0
 share-first plans account report =
-    ap (λ n. cond (bytes_eq account report.user) (price_under (plan_for plans report.class) n) 0) (let e : max (total report) 0 ≡ total report = omega arith in e)
+    ap (λ n. cond (bytes_eq account report.user) (price_under (plan_for plans report.class) n) 0)
+    (let e : max (total report) 0 ≡ total report = omega arith in e)
 
 -- a session whose first report is known
-pub share-known : (plans : List Plan) (account : List ℕ) (first : ReportFacts) (rs : List ReportFacts) → first_of rs ≡ Some first
-    → share (charge_of plans) account rs ≡ cond (bytes_eq account first.user) (price_under (plan_for plans first.class) (greatest_total rs)) 0
+pub share-known : (plans : List Plan) (account : List ℕ) (first : ReportFacts)
+    (rs : List ReportFacts) → first_of rs ≡ Some first
+    → share (charge_of plans) account rs
+    ≡ cond (bytes_eq account first.user)
+    (price_under (plan_for plans first.class) (greatest_total rs)) 0
 share-known plans account first rs is =
     ap (λ o. cond (is_owner account o) (price_under (plan_of plans o) (greatest_total rs)) 0) is
 
 -- a later report of it
-pub share-later : (plans : List Plan) (account : List ℕ) (first report : ReportFacts) (rs : List ReportFacts) → first_of rs ≡ Some first
-    → share (charge_of plans) account (report ∷ rs) ≡ cond (bytes_eq account first.user) (price_under (plan_for plans first.class) (max (total report) (greatest_total rs))) 0
-share-later plans account first report rs is = share-known plans account first (report ∷ rs) (first_of-more report first rs is)
+pub share-later : (plans : List Plan) (account : List ℕ) (first report : ReportFacts)
+    (rs : List ReportFacts) → first_of rs ≡ Some first
+    → share (charge_of plans) account (report ∷ rs)
+    ≡ cond (bytes_eq account first.user)
+    (price_under (plan_for plans first.class) (max (total report) (greatest_total rs))) 0
+share-later plans account first report rs is =
+    share-known plans account first (report ∷ rs) (first_of-more report first rs is)
 
 -- who owns a session after a report
 pub is_owner-later : (account : List ℕ) (report : ReportFacts) (rs : List ReportFacts)
-    → is_owner account (first_of (report ∷ rs)) ≡ is_owner account (option_or (first_of rs) (Some report))
+    → is_owner account (first_of (report ∷ rs))
+    ≡ is_owner account (option_or (first_of rs) (Some report))
 is_owner-later account report rs = refl
 
-other_share : (weight : List ReportFacts → ℕ) (account : List ℕ) (report : ReportFacts) (rs : List ReportFacts) (o : Option ReportFacts)
+other_share : (weight : List ReportFacts → ℕ) (account : List ℕ) (report : ReportFacts)
+    (rs : List ReportFacts) (o : Option ReportFacts)
     → is_owner account (option_or o (Some report)) ≡ false → is_owner account o ≡ false
 other_share weight account report rs None e = refl
 other_share weight account report rs (Some first) e = e
 
 -- whoever doesn't own the session after the report didn't before
-pub share-other : (weight : List ReportFacts → ℕ) (account : List ℕ) (report : ReportFacts) (rs : List ReportFacts)
-    → is_owner account (first_of (report ∷ rs)) ≡ false → (share weight account (report ∷ rs) ≡ 0) × (share weight account rs ≡ 0)
-share-other weight account report rs e =
-    (ap (λ b. cond b (weight (report ∷ rs)) 0) e, ap (λ b. cond b (weight rs) 0) (other_share weight account report rs (first_of rs) e))
+pub share-other : (weight : List ReportFacts → ℕ) (account : List ℕ) (report : ReportFacts)
+    (rs : List ReportFacts)
+    → is_owner account (first_of (report ∷ rs)) ≡ false → (share weight account (report ∷ rs) ≡ 0)
+    × (share weight account rs ≡ 0)
+share-other weight account report rs e = (
+  ap (λ b. cond b (weight (report ∷ rs)) 0) e,
+  ap (λ b. cond b (weight rs) 0)
+      (other_share weight account report rs (first_of rs) e),
+)
 
 -- A report moves no balance but its session's owner's.
-pub balance-report-other : (plans : List Plan) (history : List Entry) (report : ReportFacts) (account : List ℕ)
+pub balance-report-other : (plans : List Plan) (history : List Entry) (report : ReportFacts)
+    (account : List ℕ)
     → is_owner account (first_of (report ∷ reports history (session_of report))) ≡ false
     → balance_of plans (entry.Report report ∷ history) account ≡ balance_of plans history account
 balance-report-other plans history report account e =
-    let none = share-other (charge_of plans) account report (reports history (session_of report)) e in
+    let none = share-other (charge_of plans) account report
+    (reports history (session_of report)) e in
     let step = owned-report (charge_of plans) history report account in
-    let same : charged plans (entry.Report report ∷ history) account ≡ charged plans history account = omega (arith, step, none.0, none.1) in
+    let same : charged plans (entry.Report report ∷ history) account
+    ≡ charged plans history account = omega (arith, step, none.0, none.1) in
     ap (λ n. pos (credited history account) -ℤ pos n) same
 
 -- ---- top-ups
 
-pub topups-own : (history : List Entry) (topup : TopUpFacts) → topups (entry.TopUp topup ∷ history) topup.account ≡ topup ∷ topups history topup.account
+pub topups-own : (history : List Entry) (topup : TopUpFacts)
+    → topups (entry.TopUp topup ∷ history) topup.account ≡ topup ∷ topups history topup.account
 topups-own history topup =
     let a = topup.account in
     ap (λ b. cond b (topup ∷ topups history a) (topups history a)) ((Decides-bytes_eq a a).1 refl)
 
-pub topups-other : (history : List Entry) (topup : TopUpFacts) (account : List ℕ) → account ≢ topup.account → topups (entry.TopUp topup ∷ history) account ≡ topups history account
+pub topups-other : (history : List Entry) (topup : TopUpFacts) (account : List ℕ)
+    → account ≢ topup.account
+    → topups (entry.TopUp topup ∷ history) account ≡ topups history account
 topups-other history topup account other =
-    ap (λ b. cond b (topup ∷ topups history account) (topups history account)) (Decides-false (bytes_eq account topup.account) (Decides-bytes_eq account topup.account) other)
+    ap (λ b. cond b (topup ∷ topups history account) (topups history account))
+    (Decides-false (bytes_eq account topup.account)
+    (Decides-bytes_eq account topup.account) other)
 
 -- A top-up to an account raises what its vouchers give by the sum, unless that voucher is there.
 pub credited-topup : (history : List Entry) (topup : TopUpFacts)
-    → credited (entry.TopUp topup ∷ history) topup.account + cond (list_any (same_voucher (voucher_of topup)) (map voucher_of (topups history topup.account))) topup.sum 0
+    → credited (entry.TopUp topup ∷ history) topup.account + cond
+    (list_any (same_voucher (voucher_of topup)) (map voucher_of (topups history topup.account)))
+    topup.sum 0
     ≡ credited history topup.account + topup.sum
 credited-topup history topup =
-    let sums = ap (λ ts. sum_by (λ v. v.1) (distinct same_voucher (map voucher_of ts))) (topups-own history topup) in
-    let step = sum_by-distinct-more same_voucher Decides-same_voucher (λ v. v.1) (λ v. v.1) (voucher_of topup) (λ k other. refl) (map voucher_of (topups history topup.account)) in
+    let sums = ap (λ ts. sum_by (λ v. v.1) (distinct same_voucher (map voucher_of ts)))
+    (topups-own history topup) in
+    let step = sum_by-distinct-more same_voucher Decides-same_voucher (λ v. v.1) (λ v. v.1)
+    (voucher_of topup) (λ k other. refl) (map voucher_of (topups history topup.account)) in
     omega (arith, sums, step)
 
 -- A top-up moves no other account's balance.
-pub balance-topup-other : (plans : List Plan) (history : List Entry) (topup : TopUpFacts) (account : List ℕ) → account ≢ topup.account
+pub balance-topup-other : (plans : List Plan) (history : List Entry) (topup : TopUpFacts)
+    (account : List ℕ) → account ≢ topup.account
     → balance_of plans (entry.TopUp topup ∷ history) account ≡ balance_of plans history account
 balance-topup-other plans history topup account other =
-    ap (λ ts. pos (sum_by (λ v. v.1) (distinct same_voucher (map voucher_of ts))) -ℤ pos (charged plans history account)) (topups-other history topup account other)
+    ap (λ ts. pos (sum_by (λ v. v.1) (distinct same_voucher (map voucher_of ts))) -ℤ pos
+    (charged plans history account)) (topups-other history topup account other)
 
 by_number : List ℕ → List TopUpFacts → List TopUpFacts
 by_number number ts = filter (λ t. bytes_eq number t.voucher) ts
 
 -- no top-up by a number, so no voucher of that number
-fresh_among : (voucher : Voucher) (account : List ℕ) (ts : List TopUpFacts) → by_number voucher.0 ts ≡ []
-    → list_any (same_voucher voucher) (map voucher_of (filter (λ t. bytes_eq account t.account) ts)) ≡ false
+fresh_among : (voucher : Voucher) (account : List ℕ) (ts : List TopUpFacts)
+    → by_number voucher.0 ts ≡ []
+    → list_any (same_voucher voucher) (map voucher_of (filter (λ t. bytes_eq account t.account) ts))
+    ≡ false
 unfolding by_number
 fresh_among voucher account [] e = refl
 fresh_among voucher account (t ∷ ts) e =
-    elim (bytes_eq voucher.0 t.voucher) as (λ r. bytes_eq voucher.0 t.voucher ≡ r → cond r (t ∷ by_number voucher.0 ts) (by_number voucher.0 ts) ≡ []
-    → list_any (same_voucher voucher) (map voucher_of (cond (bytes_eq account t.account) (t ∷ filter (λ u. bytes_eq account u.account) ts) (filter (λ u. bytes_eq account u.account) ts))) ≡ false) [
+    elim (bytes_eq voucher.0 t.voucher) as (λ r. bytes_eq voucher.0 t.voucher ≡ r
+    → cond r (t ∷ by_number voucher.0 ts) (by_number voucher.0 ts) ≡ []
+    → list_any (same_voucher voucher)
+    (map voucher_of (cond (bytes_eq account t.account)
+    (t ∷ filter (λ u. bytes_eq account u.account) ts)
+    (filter (λ u. bytes_eq account u.account) ts))) ≡ false) [
       | true ↦ λ is h. cc
       | false ↦ λ is h.
           let rest = fresh_among voucher account ts h in
-          elim (bytes_eq account t.account) as (λ b. list_any (same_voucher voucher) (map voucher_of (cond b (t ∷ filter (λ u. bytes_eq account u.account) ts) (filter (λ u. bytes_eq account u.account) ts))) ≡ false) [
+          elim (bytes_eq account t.account) as (λ b.
+          list_any (same_voucher voucher)
+          (map voucher_of (cond b (t ∷ filter (λ u. bytes_eq account u.account) ts)
+          (filter (λ u. bytes_eq account u.account) ts))) ≡ false) [
             | true ↦ rw (is, rest) refl
             | false ↦ rest
           ]
     ] refl e
 
 -- A top-up by a number that is new raises its account's balance by the sum.
-pub balance-topup : (plans : List Plan) (history : List Entry) (topup : TopUpFacts) → topup_of history topup.voucher ≡ None
-    → balance_of plans (entry.TopUp topup ∷ history) topup.account ≡ balance_of plans history topup.account +ℤ pos topup.sum
+pub balance-topup : (plans : List Plan) (history : List Entry) (topup : TopUpFacts)
+    → topup_of history topup.voucher ≡ None
+    → balance_of plans (entry.TopUp topup ∷ history) topup.account
+    ≡ balance_of plans history topup.account +ℤ pos topup.sum
 unfolding by_number
 balance-topup plans history topup fresh =
-    let none = fresh_among (voucher_of topup) topup.account (all_topups history) (first_of-none (filter (λ t. bytes_eq topup.voucher t.voucher) (all_topups history)) fresh) in
+    let none = fresh_among (voucher_of topup) topup.account (all_topups history)
+    (first_of-none (filter (λ t. bytes_eq topup.voucher t.voucher) (all_topups history)) fresh)
+    in
     let step = credited-topup history topup in
-    let raised : credited (entry.TopUp topup ∷ history) topup.account ≡ credited history topup.account + topup.sum =
+    let raised : credited (entry.TopUp topup ∷ history) topup.account
+    ≡ credited history topup.account + topup.sum =
     omega (arith, step, ap (λ b. cond b topup.sum 0) none) in
-    more (credited history topup.account) (credited (entry.TopUp topup ∷ history) topup.account) topup.sum (charged plans history topup.account) raised
+    more (credited history topup.account)
+    (credited (entry.TopUp topup ∷ history) topup.account) topup.sum
+    (charged plans history topup.account) raised
   where
-    more : (old new amount cost : ℕ) → new ≡ old + amount → pos new -ℤ pos cost ≡ (pos old -ℤ pos cost) +ℤ pos amount
+    more : (old new amount cost : ℕ) → new ≡ old + amount
+        → pos new -ℤ pos cost ≡ (pos old -ℤ pos cost) +ℤ pos amount
     more old new amount cost h = omega (arith, ints)
 
 -- ---- restarts
 
 -- A restart moves no balance.
-pub balance-restart : (plans : List Plan) (history : List Entry) (restart : Restart) (account : List ℕ)
+pub balance-restart : (plans : List Plan) (history : List Entry) (restart : Restart)
+    (account : List ℕ)
     → balance_of plans (entry.Restart restart ∷ history) account ≡ balance_of plans history account
 balance-restart plans history restart account = refl

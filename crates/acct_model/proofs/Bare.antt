@@ -10,13 +10,32 @@ use Rattle.acct_model.specs.declared.entry.Entry.TheVariants as entry
 use Rattle.acct_model.specs.Report.{ReportFacts, total}
 use Rattle.acct_model.specs.Vouchers.{TopUpFacts}
 use Rattle.acct_model.specs.Plans.{price_under}
-use Rattle.acct_model.specs.History.{SessionName, session_of, same_session, all_reports, reports, distinct, first_of, greatest_total, is_owner, plan_of, charge_of, share, charged, all_topups, voucher_of, same_voucher, credited, balance_of}
-use Rattle.acct_model.specs.Claims.{ReportClaim, TopUpClaim, Claim, OfReport, OfTopUp, report_claim, topup_claim, claims}
+use Rattle.acct_model.specs.History.{SessionName, session_of, same_session, all_reports, reports}
+use Rattle.acct_model.specs.History.{distinct, first_of, greatest_total, is_owner, plan_of}
+use Rattle.acct_model.specs.History.{charge_of, share, charged, all_topups, voucher_of}
+use Rattle.acct_model.specs.History.{same_voucher, credited, balance_of}
+use Rattle.acct_model.specs.Claims.{ReportClaim, TopUpClaim, Claim, OfReport, OfTopUp, report_claim}
+use Rattle.acct_model.specs.Claims.{topup_claim, claims}
 use Rattle.acct_model.specs.Agreement.{BalancesAreEqual}
 
 -- the report and the top-up that say a claim and nothing else
 report_by : ReportClaim → ReportFacts
-report_by c = record { client = c.client; session = c.session; user = c.user; class = c.class; kind = Interim; input = c.input; output = c.output; seconds = 0; when = 0; cause = 0; calling = []; framed = None }
+report_by c = record {
+  client = c.client;
+  session = c.session;
+  user = c.user;
+  class =
+      c.class;
+  kind = Interim;
+  input = c.input;
+  output = c.output;
+  seconds = 0;
+  when = 0;
+  cause =
+      0;
+  calling = [];
+  framed = None;
+}
 
 topup_by : TopUpClaim → TopUpFacts
 topup_by c = record { voucher = c.voucher; account = c.account; sum = c.sum; when = 0 }
@@ -56,23 +75,31 @@ named_bare [] = refl
 named_bare (r ∷ rs) = ap (λ names. session_of r ∷ names) (named_bare rs)
 
 session_bare : (name : SessionName) (rs : List ReportFacts)
-    → filter (λ r. same_session name (session_of r)) (map bare_report rs) ≡ map bare_report (filter (λ r. same_session name (session_of r)) rs)
+    → filter (λ r. same_session name (session_of r)) (map bare_report rs)
+    ≡ map bare_report (filter (λ r. same_session name (session_of r)) rs)
 unfolding bare_report report_by
 session_bare name [] = refl
 session_bare name (r ∷ rs) =
-    elim (same_session name (session_of r)) as (λ b. cond b (bare_report r ∷ filter (λ x. same_session name (session_of x)) (map bare_report rs)) (filter (λ x. same_session name (session_of x)) (map bare_report rs))
-    ≡ map bare_report (cond b (r ∷ filter (λ x. same_session name (session_of x)) rs) (filter (λ x. same_session name (session_of x)) rs))) [
+    elim (same_session name (session_of r)) as (λ b.
+    cond b (bare_report r ∷ filter (λ x. same_session name (session_of x)) (map bare_report rs))
+    (filter (λ x. same_session name (session_of x)) (map bare_report rs))
+    ≡ map bare_report (cond b (r ∷ filter (λ x. same_session name (session_of x)) rs)
+    (filter (λ x. same_session name (session_of x)) rs))) [
       | true ↦ ap (λ xs. bare_report r ∷ xs) (session_bare name rs)
       | false ↦ session_bare name rs
     ]
 
-option_or_map : {X Y : Type 0} (f : X → Y) (o : Option X) (x : X) → option_or (option_map f o) (Some (f x)) ≡ option_map f (option_or o (Some x))
+option_or_map : {X Y : Type 0} (f : X → Y) (o : Option X) (x : X)
+    → option_or (option_map f o) (Some (f x)) ≡ option_map f (option_or o (Some x))
 option_or_map f None x = refl
 option_or_map f (Some y) x = refl
 
-first_bare : (rs : List ReportFacts) → first_of (map bare_report rs) ≡ option_map bare_report (first_of rs)
+first_bare : (rs : List ReportFacts)
+    → first_of (map bare_report rs) ≡ option_map bare_report (first_of rs)
 first_bare [] = refl
-first_bare (r ∷ rs) = ap (λ o. option_or o (Some (bare_report r))) (first_bare rs) ∙ option_or_map bare_report (first_of rs) r
+first_bare (r ∷ rs) =
+    ap (λ o. option_or o (Some (bare_report r))) (first_bare rs)
+    ∙ option_or_map bare_report (first_of rs) r
 
 greatest_bare : (rs : List ReportFacts) → greatest_total (map bare_report rs) ≡ greatest_total rs
 unfolding bare_report report_by
@@ -80,51 +107,74 @@ greatest_bare [] = refl
 greatest_bare (r ∷ rs) = ap (λ n. max (total r) n) (greatest_bare rs)
 
 cost_bare : (plans : List Plan) (account : List ℕ) (first : Option ReportFacts) (n : ℕ)
-    → cond (is_owner account (option_map bare_report first)) (price_under (plan_of plans (option_map bare_report first)) n) 0
+    → cond (is_owner account (option_map bare_report first))
+    (price_under (plan_of plans (option_map bare_report first)) n) 0
     ≡ cond (is_owner account first) (price_under (plan_of plans first) n) 0
 unfolding bare_report report_by
 cost_bare plans account None n = refl
 cost_bare plans account (Some first) n = refl
 
-share_bare : (plans : List Plan) (account : List ℕ) (rs : List ReportFacts) → share (charge_of plans) account (map bare_report rs) ≡ share (charge_of plans) account rs
+share_bare : (plans : List Plan) (account : List ℕ) (rs : List ReportFacts)
+    → share (charge_of plans) account (map bare_report rs) ≡ share (charge_of plans) account rs
 share_bare plans account rs =
     let parts : share (charge_of plans) account (map bare_report rs)
-    ≡ cond (is_owner account (option_map bare_report (first_of rs))) (price_under (plan_of plans (option_map bare_report (first_of rs))) (greatest_total rs)) 0 =
-    λ i. cond (is_owner account (first_bare rs i)) (price_under (plan_of plans (first_bare rs i)) (greatest_bare rs i)) 0 in
+    ≡ cond (is_owner account (option_map bare_report (first_of rs)))
+    (price_under (plan_of plans (option_map bare_report (first_of rs))) (greatest_total rs)) 0 =
+    λ i. cond (is_owner account (first_bare rs i))
+    (price_under (plan_of plans (first_bare rs i)) (greatest_bare rs i)) 0 in
     parts ∙ cost_bare plans account (first_of rs) (greatest_total rs)
 
-charged_bare : (plans : List Plan) (es : List Entry) (account : List ℕ) → charged plans (bare es) account ≡ charged plans es account
+charged_bare : (plans : List Plan) (es : List Entry) (account : List ℕ)
+    → charged plans (bare es) account ≡ charged plans es account
 charged_bare plans es account =
-    let shares : (name : SessionName) → share (charge_of plans) account (reports (bare es) name) ≡ share (charge_of plans) account (reports es name) =
-    λ name. ap (λ rs. share (charge_of plans) account (filter (λ r. same_session name (session_of r)) rs)) (reports_bare es)
+    let shares : (name : SessionName)
+    → share (charge_of plans) account (reports (bare es) name)
+    ≡ share (charge_of plans) account (reports es name) =
+    λ name. ap (λ rs. share (charge_of plans) account
+    (filter (λ r. same_session name (session_of r)) rs)) (reports_bare es)
     ∙ ap (share (charge_of plans) account) (session_bare name (all_reports es))
     ∙ share_bare plans account (reports es name) in
-    let names : map session_of (all_reports (bare es)) ≡ map session_of (all_reports es) = ap (map session_of) (reports_bare es) ∙ named_bare (all_reports es) in
+    let names : map session_of (all_reports (bare es)) ≡ map session_of (all_reports es) =
+    ap (map session_of) (reports_bare es) ∙ named_bare (all_reports es) in
     λ i. sum_by (λ name. shares name i) (distinct same_session (names i))
 
 -- ---- top-ups
 
 vouchers_bare : (account : List ℕ) (ts : List TopUpFacts)
-    → map voucher_of (filter (λ t. bytes_eq account t.account) (map bare_topup ts)) ≡ map voucher_of (filter (λ t. bytes_eq account t.account) ts)
+    → map voucher_of (filter (λ t. bytes_eq account t.account) (map bare_topup ts))
+    ≡ map voucher_of (filter (λ t. bytes_eq account t.account) ts)
 unfolding bare_topup topup_by
 vouchers_bare account [] = refl
 vouchers_bare account (t ∷ ts) =
-    elim (bytes_eq account t.account) as (λ b. map voucher_of (cond b (bare_topup t ∷ filter (λ x. bytes_eq account x.account) (map bare_topup ts)) (filter (λ x. bytes_eq account x.account) (map bare_topup ts)))
-    ≡ map voucher_of (cond b (t ∷ filter (λ x. bytes_eq account x.account) ts) (filter (λ x. bytes_eq account x.account) ts))) [
+    elim (bytes_eq account t.account) as (λ b.
+    map voucher_of (cond b
+    (bare_topup t ∷ filter (λ x. bytes_eq account x.account) (map bare_topup ts))
+    (filter (λ x. bytes_eq account x.account) (map bare_topup ts)))
+    ≡ map voucher_of (cond b (t ∷ filter (λ x. bytes_eq account x.account) ts)
+    (filter (λ x. bytes_eq account x.account) ts))) [
       | true ↦ ap (λ vs. voucher_of t ∷ vs) (vouchers_bare account ts)
       | false ↦ vouchers_bare account ts
     ]
 
-credited_bare : (es : List Entry) (account : List ℕ) → credited (bare es) account ≡ credited es account
+credited_bare : (es : List Entry) (account : List ℕ)
+    → credited (bare es) account ≡ credited es account
 credited_bare es account =
-    ap (λ ts. sum_by (λ v. v.1) (distinct same_voucher (map voucher_of (filter (λ t. bytes_eq account t.account) ts)))) (topups_bare es)
-    ∙ ap (λ vs. sum_by (λ v. v.1) (distinct same_voucher vs)) (vouchers_bare account (all_topups es))
+    ap (λ ts. sum_by (λ v. v.1)
+    (distinct same_voucher (map voucher_of (filter (λ t. bytes_eq account t.account) ts))))
+    (topups_bare es)
+    ∙ ap (λ vs. sum_by (λ v. v.1) (distinct same_voucher vs))
+    (vouchers_bare account (all_topups es))
 
-balance_bare : (plans : List Plan) (es : List Entry) (account : List ℕ) → balance_of plans (bare es) account ≡ balance_of plans es account
-balance_bare plans es account = λ i. pos (credited_bare es account i) -ℤ pos (charged_bare plans es account i)
+balance_bare : (plans : List Plan) (es : List Entry) (account : List ℕ)
+    → balance_of plans (bare es) account ≡ balance_of plans es account
+balance_bare plans es account =
+    λ i. pos (credited_bare es account i) -ℤ pos (charged_bare plans es account i)
 
 -- Lists with the same claims in the same order have the same balances.
-pub balance-claims : (plans : List Plan) (these those : List Entry) → claims these ≡ claims those → BalancesAreEqual plans these those
+pub balance-claims : (plans : List Plan) (these those : List Entry) → claims these ≡ claims those
+    → BalancesAreEqual plans these those
 unfolding bare
 balance-claims plans these those same account =
-    sym (balance_bare plans these account) ∙ ap (λ cs. balance_of plans (map entry_by cs) account) same ∙ balance_bare plans those account
+    sym (balance_bare plans these account)
+    ∙ ap (λ cs. balance_of plans (map entry_by cs) account) same
+    ∙ balance_bare plans those account

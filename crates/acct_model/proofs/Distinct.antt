@@ -1,5 +1,6 @@
 -- Sums over lists in which each element stands once.
-use Rattle.std.proofs.Common.{◌≡◌, ◌≢◌, ℕ, ◌+◌, ◌≤◌, Bool, true, false, cond, ◌||◌, List, [], ◌∷◌, refl, sym, ◌∙◌, subst, arith, true≢false}
+use Rattle.std.proofs.Common.{◌≡◌, ◌≢◌, ℕ, ◌+◌, ◌≤◌, Bool, true, false, cond, ◌||◌, List, [], ◌∷◌}
+use Rattle.std.proofs.Common.{refl, sym, ◌∙◌, subst, arith, true≢false}
 use Rattle.std.proofs.lemmas.List.Sums.{sum_by-cons}
 use Rattle.std.specs.Bool.{Decides}
 use Rattle.std.specs.List.{list_any, sum_by}
@@ -27,46 +28,65 @@ added : {K : Type 0} (f g : K → ℕ) (s : K) (ks : List K) (m : Bool)
 added f g s ks true h = h
 added f g s ks false h = omega (arith, h, sum_by-cons g s ks)
 
-grown : {K : Type 0} (f : K → ℕ) (s : K) (ks : List K) (m : Bool) → sum_by f ks ≤ sum_by f (cond m ks (s ∷ ks))
+grown : {K : Type 0} (f : K → ℕ) (s : K) (ks : List K) (m : Bool)
+    → sum_by f ks ≤ sum_by f (cond m ks (s ∷ ks))
 grown f s ks true = omega arith
 grown f s ks false = omega (arith, sum_by-cons f s ks)
 
 module _ {K : Type 0} (same : K → K → Bool) (decides : (a b : K) → Decides (same a b) (a ≡ b)) where
   -- two functions that agree but at s
   sum_by-distinct-changed : (f g : K → ℕ) (s : K) → ((k : K) → k ≢ s → g k ≡ f k) → (ks : List K)
-      → sum_by g (distinct same ks) + cond (list_any (same s) ks) (f s) 0 ≡ sum_by f (distinct same ks) + cond (list_any (same s) ks) (g s) 0
+      → sum_by g (distinct same ks) + cond (list_any (same s) ks) (f s) 0
+      ≡ sum_by f (distinct same ks) + cond (list_any (same s) ks) (g s) 0
   sum_by-distinct-changed f g s agree [] = refl
   sum_by-distinct-changed f g s agree (k ∷ ks) =
       let before = sum_by-distinct-changed f g s agree ks in
-      elim (same s k) as (λ r. same s k ≡ r → sum_by g (distinct same (k ∷ ks)) + cond (r || list_any (same s) ks) (f s) 0 ≡ sum_by f (distinct same (k ∷ ks)) + cond (r || list_any (same s) ks) (g s) 0) [
-        | true ↦ λ e. subst (λ x. sum_by g (distinct same (x ∷ ks)) + f s ≡ sum_by f (distinct same (x ∷ ks)) + g s) ((decides s k).0 e)
+      elim (same s k) as (λ r. same s k ≡ r
+      → sum_by g (distinct same (k ∷ ks)) + cond (r || list_any (same s) ks) (f s) 0
+      ≡ sum_by f (distinct same (k ∷ ks)) + cond (r || list_any (same s) ks) (g s) 0) [
+        | true ↦ λ e. subst (λ x. sum_by g (distinct same (x ∷ ks)) + f s
+            ≡ sum_by f (distinct same (x ∷ ks)) + g s) ((decides s k).0 e)
             (changed_here f g s (distinct same ks) (list_any (same s) ks) before)
         | false ↦ λ e.
-            let other : g k ≡ f k = agree k (λ is. true≢false (sym ((decides s k).1 (sym is)) ∙ e)) in
-            changed_there f g k (distinct same ks) (list_any (same k) ks) (cond (list_any (same s) ks) (f s) 0) (cond (list_any (same s) ks) (g s) 0) other before
+            let other : g k ≡ f k =
+            agree k (λ is. true≢false (sym ((decides s k).1 (sym is)) ∙ e)) in
+            changed_there f g k (distinct same ks) (list_any (same k) ks)
+            (cond (list_any (same s) ks) (f s) 0)
+            (cond (list_any (same s) ks) (g s) 0) other before
       ] refl
 
-  -- One more element s, and a function that differs from the old one at s alone: the sum gains what s gains, where an
+  -- One more element s, and a function that differs from the old one at s alone: the sum gains what
+  -- s gains, where an
   -- element that is new counted 0 before.
   pub sum_by-distinct-more : (f g : K → ℕ) (s : K) → ((k : K) → k ≢ s → g k ≡ f k) → (ks : List K)
-      → sum_by g (distinct same (s ∷ ks)) + cond (list_any (same s) ks) (f s) 0 ≡ sum_by f (distinct same ks) + g s
-  sum_by-distinct-more f g s agree ks = added f g s (distinct same ks) (list_any (same s) ks) (sum_by-distinct-changed f g s agree ks)
+      → sum_by g (distinct same (s ∷ ks)) + cond (list_any (same s) ks) (f s) 0
+      ≡ sum_by f (distinct same ks) + g s
+  sum_by-distinct-more f g s agree ks =
+      added f g s (distinct same ks) (list_any (same s) ks) (sum_by-distinct-changed f g s agree ks)
 
   -- a sum over more elements is no less
-  pub sum_by-distinct-le : (f : K → ℕ) (s : K) (ks : List K) → sum_by f (distinct same ks) ≤ sum_by f (distinct same (s ∷ ks))
+  pub sum_by-distinct-le : (f : K → ℕ) (s : K) (ks : List K)
+      → sum_by f (distinct same ks) ≤ sum_by f (distinct same (s ∷ ks))
   sum_by-distinct-le f s ks = grown f s (distinct same ks) (list_any (same s) ks)
 
   -- each element is a part of the sum
-  pub le-sum_by-distinct : (f : K → ℕ) (s : K) (ks : List K) → list_any (same s) ks ≡ true → f s ≤ sum_by f (distinct same ks)
+  pub le-sum_by-distinct : (f : K → ℕ) (s : K) (ks : List K) → list_any (same s) ks ≡ true
+      → f s ≤ sum_by f (distinct same ks)
   le-sum_by-distinct f s [] none = absurd (true≢false (sym none))
   le-sum_by-distinct f s (k ∷ ks) there =
-      elim (same s k) as (λ r. same s k ≡ r → (r || list_any (same s) ks) ≡ true → f s ≤ sum_by f (distinct same (k ∷ ks))) [
+      elim (same s k) as (λ r. same s k ≡ r → (r || list_any (same s) ks) ≡ true
+      → f s ≤ sum_by f (distinct same (k ∷ ks))) [
         | true ↦ λ e _.
-            elim (list_any (same s) ks) as (λ r. list_any (same s) ks ≡ r → f s ≤ sum_by f (distinct same (k ∷ ks))) [
+            elim (list_any (same s) ks) as (λ r. list_any (same s) ks ≡ r
+            → f s ≤ sum_by f (distinct same (k ∷ ks))) [
               | true ↦ λ h. omega (arith, le-sum_by-distinct f s ks h, sum_by-distinct-le f k ks)
-              | false ↦ λ h. subst (λ x. f s ≤ sum_by f (distinct same (x ∷ ks))) ((decides s k).0 e)
-                  (let at_s : f s ≤ sum_by f (cond false (distinct same ks) (s ∷ distinct same ks)) = omega (arith, sum_by-cons f s (distinct same ks)) in
-                  subst (λ b. f s ≤ sum_by f (cond b (distinct same ks) (s ∷ distinct same ks))) (sym h) at_s)
+              | false ↦ λ h. subst (λ x. f s ≤ sum_by f (distinct same (x ∷ ks)))
+                  ((decides s k).0 e)
+                  (let at_s : f s ≤ sum_by f
+                  (cond false (distinct same ks) (s ∷ distinct same ks)) =
+                  omega (arith, sum_by-cons f s (distinct same ks)) in
+                  subst (λ b. f s ≤ sum_by f (cond b (distinct same ks) (s ∷ distinct same ks)))
+                  (sym h) at_s)
             ] refl
         | false ↦ λ e h. omega (arith, le-sum_by-distinct f s ks h, sum_by-distinct-le f k ks)
       ] refl there

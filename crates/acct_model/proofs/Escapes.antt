@@ -1,5 +1,6 @@
 -- The crate's percent-encoding with this set of octets is what `shown` says.
-use Rattle.std.proofs.Common.{◌≡◌, ℕ, zero, suc, ◌<◌, ◌≤◌, inl, inr, Bool, true, false, cond, ◌&&◌, ◌||◌, not, List, [], ◌∷◌, ◌++◌, refl, sym, ◌∙◌, ap, subst, arith}
+use Rattle.std.proofs.Common.{◌≡◌, ℕ, zero, suc, ◌<◌, ◌≤◌, inl, inr, Bool, true, false, cond, ◌&&◌}
+use Rattle.std.proofs.Common.{◌||◌, not, List, [], ◌∷◌, ◌++◌, refl, sym, ◌∙◌, ap, subst, arith}
 use Rattle.std.proofs.lemmas.Bool.{true≢false, cases_lt, cases_eq, le-ltb, le-leb}
 use Rattle.std.specs.Prelude.{nat_lt, ◌==◌}
 use Rattle.percent_encoding.specs.declared.ascii_set.AsciiSet.{AsciiSet}
@@ -57,13 +58,15 @@ escaped_large : (octet : ℕ) → 128 ≤ octet → should_percent_encode set oc
 unfolding should_percent_encode
 escaped_large octet large =
     let left = ap (λ b. not b || contains set octet) (le-ltb octet 128 large) in
-    let right = ap (λ b. (nat_lt octet 32 || octet == 127 || octet == 37) || b) (le-leb 128 octet large) in
+    let right = ap (λ b. (nat_lt octet 32 || octet == 127 || octet == 37) || b)
+    (le-leb 128 octet large) in
     left ∙ sym (right ∙ or-true (nat_lt octet 32 || octet == 127 || octet == 37))
 
 escaped : (octet : ℕ) → should_percent_encode set octet ≡ is_escaped octet
 unfolding agrees
 escaped octet = elim (cases_lt octet 128) [
-  | inl small ↦ same-true (should_percent_encode set octet) (is_escaped octet) (below-each agrees 128 agree_below octet small)
+  | inl small ↦ same-true (should_percent_encode set octet) (is_escaped octet)
+      (below-each agrees 128 agree_below octet small)
   | inr large ↦ escaped_large octet large
 ]
 
@@ -71,8 +74,10 @@ pub percent_encode-shown : (octets : List ℕ) → percent_encode set octets ≡
 unfolding percent_encode percent_encode_byte
 percent_encode-shown [] = refl
 percent_encode-shown (octet ∷ rest) =
-    rw (percent_encode-shown rest) (ap (λ b. cond b (percent_encode_byte octet) (octet ∷ []) ++ shown rest) (escaped octet))
+    rw (percent_encode-shown rest)
+    (ap (λ b. cond b (percent_encode_byte octet) (octet ∷ []) ++ shown rest) (escaped octet))
 
 -- shown octets read back
 pub decoded-shown : (octets : List ℕ) → All IsByte octets → percent_decode (shown octets) ≡ octets
-decoded-shown octets small = ap percent_decode (sym (percent_encode-shown octets)) ∙ round_trip set octets refl small
+decoded-shown octets small =
+    ap percent_decode (sym (percent_encode-shown octets)) ∙ round_trip set octets refl small

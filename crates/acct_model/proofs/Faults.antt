@@ -1,5 +1,6 @@
 -- The first fault of a list, from a place on and where there is none.
-use Rattle.std.proofs.Common.{◌≡◌, ℕ, ◌+◌, ◌<◌, ◌≤◌, inl, inr, Option, None, Some, List, [], ◌∷◌, ◌++◌, length, take, drop, get_or, refl, sym, ◌∙◌, ap, subst}
+use Rattle.std.proofs.Common.{◌≡◌, ℕ, ◌+◌, ◌<◌, ◌≤◌, inl, inr, Option, None, Some, List, [], ◌∷◌}
+use Rattle.std.proofs.Common.{◌++◌, length, take, drop, get_or, refl, sym, ◌∙◌, ap, subst}
 use Rattle.std.proofs.lemmas.List.{drop_more, take_more, drop_all}
 use Rattle.std.specs.Prelude.{Contains}
 use Rattle.std.specs.Option.{option_or}
@@ -28,18 +29,22 @@ module _ {X E : Type 0} (fault : List X → X → Option E) where
       let front : take (i + 1) xs ≡ take i xs ++ x ∷ [] =
       take_more xs i x within ∙ ap (λ y. take i xs ++ y ∷ []) (sym is) in
       ap (first_fault_after fault (take i xs)) rest
-      ∙ ap (λ ys. option_or (fault (take i xs) x) (first_fault_after fault ys (drop (i + 1) xs))) (sym front)
+      ∙ ap (λ ys. option_or (fault (take i xs) x) (first_fault_after fault ys (drop (i + 1) xs)))
+      (sym front)
 
   pub faults_from-all : (xs : List X) (i : ℕ) → length xs ≤ i → faults_from i xs ≡ None
   faults_from-all xs i all = ap (first_fault_after fault (take i xs)) (drop_all i xs all)
 
   -- where there is no fault, each element passes, judged by some that stand before it
-  pub passed : (earlier xs : List X) → first_fault_after fault earlier xs ≡ None → (x : X) → Contains xs x
+  pub passed : (earlier xs : List X) → first_fault_after fault earlier xs ≡ None → (x : X)
+      → Contains xs x
       → (before : List X) × (fault before x ≡ None)
   passed earlier [] none x there = absurd (nowhere x there)
   passed earlier (y ∷ xs) none x there =
-      let here_none = first_none (fault earlier y) (first_fault_after fault (earlier ++ y ∷ []) xs) none in
-      let rest_none = second_none (fault earlier y) (first_fault_after fault (earlier ++ y ∷ []) xs) none in
+      let here_none = first_none (fault earlier y)
+      (first_fault_after fault (earlier ++ y ∷ []) xs) none in
+      let rest_none = second_none (fault earlier y)
+      (first_fault_after fault (earlier ++ y ∷ []) xs) none in
       elim (front_or_behind y x xs there) [
         | inl is ↦ (earlier, subst (λ v. fault earlier v ≡ None) is here_none)
         | inr later ↦ passed (earlier ++ y ∷ []) xs rest_none x later

@@ -24,7 +24,12 @@ Decides-false false d not = refl
 pub Decides-same_session : (a b : SessionName) → Decides (same_session a b) (a ≡ b)
 Decides-same_session a b = (
   λ e. let both = and_both (bytes_eq a.client b.client) (bytes_eq a.session b.session) e in
-      λ i. record { client = (Decides-bytes_eq a.client b.client).0 both.0 i; session = (Decides-bytes_eq a.session b.session).0 both.1 i },
+      λ i. record {
+        client =
+            (Decides-bytes_eq a.client b.client).0 both.0 i;
+        session =
+            (Decides-bytes_eq a.session b.session).0 both.1 i;
+      },
   λ e. both_and (bytes_eq a.client b.client) (bytes_eq a.session b.session)
       ((Decides-bytes_eq a.client b.client).1 (ap (λ (k : SessionName). k.client) e))
       ((Decides-bytes_eq a.session b.session).1 (ap (λ (k : SessionName). k.session) e)),
@@ -32,7 +37,9 @@ Decides-same_session a b = (
 
 pub Decides-same_voucher : (a b : Voucher) → Decides (same_voucher a b) (a ≡ b)
 Decides-same_voucher (a, x) (b, y) = (
-  λ e. let both = and_both (bytes_eq a b) (x == y) e in cc ((Decides-bytes_eq a b).0 both.0, (Decides-eqb x y).0 both.1),
-  λ e. let left : a ≡ b = ap (λ (k : Voucher). k.0) e in let right : x ≡ y = ap (λ (k : Voucher). k.1) e in
+  λ e. let both = and_both (bytes_eq a b) (x == y) e in
+      cc ((Decides-bytes_eq a b).0 both.0, (Decides-eqb x y).0 both.1),
+  λ e. let left : a ≡ b =
+      ap (λ (k : Voucher). k.0) e in let right : x ≡ y = ap (λ (k : Voucher). k.1) e in
       both_and (bytes_eq a b) (x == y) ((Decides-bytes_eq a b).1 left) ((Decides-eqb x y).1 right),
 )

@@ -8,7 +8,8 @@ use Rattle.acct_model.specs.declared.report.ReportKind.TheVariants.{Interim}
 use Rattle.acct_model.specs.History.{balance_of, is_known}
 
 abbrev plans : List Plan
-plans = record { class = codes "gold"; block = 1048576; unit = 10 } ∷ record { class = codes "default"; block = 1000000; unit = 5 } ∷ []
+plans = record { class = codes "gold"; block = 1048576; unit = 10 }
+    ∷ record { class = codes "default"; block = 1000000; unit = 5 } ∷ []
 
 -- an interim update of a session of `al`
 abbrev update : List ℕ → List ℕ → ℕ → Entry
@@ -28,19 +29,24 @@ update session class octets = entry.Report (record {
 })
 
 abbrev topup : List ℕ → List ℕ → ℕ → Entry
-topup voucher account amount = entry.TopUp (record { voucher = voucher; account = account; sum = amount; when = 1000 })
+topup voucher account amount =
+    entry.TopUp (record { voucher = voucher; account = account; sum = amount; when = 1000 })
 
 abbrev al : List Entry → ℤ
 al history = balance_of plans history (codes "al")
 
--- the newest entry stands first: totals 0, 1, 1,048,576 and 1,048,577 of one session cost 0, 10, 10 and 20
+-- the newest entry stands first: totals 0, 1, 1,048,576 and 1,048,577 of one session cost 0, 10, 10
+-- and 20
 rises_0 : al (update (codes "s2") (codes "gold") 0 ∷ []) ≡ pos 0
 rises_0 = refl
 
-rises_1 : al (update (codes "s2") (codes "gold") 1 ∷ update (codes "s2") (codes "gold") 0 ∷ []) ≡ negsuc 9
+rises_1 : al (update (codes "s2") (codes "gold") 1 ∷ update (codes "s2") (codes "gold") 0 ∷ [])
+    ≡ negsuc 9
 rises_1 = refl
 
-rises_3 : al (update (codes "s2") (codes "gold") 1048577 ∷ update (codes "s2") (codes "gold") 1048576 ∷ update (codes "s2") (codes "gold") 1 ∷ update (codes "s2") (codes "gold") 0 ∷ []) ≡ negsuc 19
+rises_3 : al (update (codes "s2") (codes "gold") 1048577
+    ∷ update (codes "s2") (codes "gold") 1048576 ∷ update (codes "s2") (codes "gold") 1
+    ∷ update (codes "s2") (codes "gold") 0 ∷ []) ≡ negsuc 19
 rises_3 = refl
 
 -- a total of 2^32 octets costs 40,960
@@ -48,21 +54,27 @@ gigaword : al (update (codes "s3") (codes "gold") 4294967296 ∷ []) ≡ negsuc 
 gigaword = refl
 
 -- a lower total that comes later changes nothing, and one that comes first is overtaken
-lower_later : al (update (codes "s4") (codes "gold") 1048576 ∷ update (codes "s4") (codes "gold") 3145728 ∷ []) ≡ negsuc 29
+lower_later : al (update (codes "s4") (codes "gold") 1048576
+    ∷ update (codes "s4") (codes "gold") 3145728 ∷ []) ≡ negsuc 29
 lower_later = refl
 
-lower_first : al (update (codes "s4") (codes "gold") 3145728 ∷ update (codes "s4") (codes "gold") 1048576 ∷ []) ≡ negsuc 29
+lower_first : al (update (codes "s4") (codes "gold") 3145728
+    ∷ update (codes "s4") (codes "gold") 1048576 ∷ []) ≡ negsuc 29
 lower_first = refl
 
 -- the Class of the first report counts
-gold_first : al (update (codes "s9") [] 3000000 ∷ update (codes "s9") (codes "gold") 3000000 ∷ []) ≡ negsuc 29
+gold_first : al (update (codes "s9") [] 3000000 ∷ update (codes "s9") (codes "gold") 3000000 ∷ [])
+    ≡ negsuc 29
 gold_first = refl
 
-none_first : al (update (codes "s9") (codes "gold") 3000000 ∷ update (codes "s9") [] 3000000 ∷ []) ≡ negsuc 14
+none_first : al (update (codes "s9") (codes "gold") 3000000 ∷ update (codes "s9") [] 3000000 ∷ [])
+    ≡ negsuc 14
 none_first = refl
 
 -- a voucher that comes twice counts once, and one to another account not at all
-vouchers : al (topup (codes "V-2") (codes "bo") 300 ∷ topup (codes "V-1") (codes "al") 500 ∷ update (codes "s2") (codes "gold") 1048577 ∷ topup (codes "V-1") (codes "al") 500 ∷ []) ≡ pos 480
+vouchers : al (topup (codes "V-2") (codes "bo") 300 ∷ topup (codes "V-1") (codes "al") 500
+    ∷ update (codes "s2") (codes "gold") 1048577 ∷ topup (codes "V-1") (codes "al") 500 ∷ [])
+    ≡ pos 480
 vouchers = refl
 
 -- who owns a session or a voucher is known

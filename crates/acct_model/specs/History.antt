@@ -1,8 +1,10 @@
 -- What a history says of sessions, vouchers and balances.
 --
--- A history is the list of accepted entries, **the newest first**: a history H with one more entry e is e ∷ H, and what was
--- accepted first stands deepest. It holds no totals and no balances: each is computed from the entries alone.
-use Rattle.std.specs.Prelude.{◌≡◌, ℕ, ◌^◌, max, Bool, false, ◌&&◌, ◌||◌, Option, None, Some, List, [], ◌∷◌, if◌then◌else◌, map, ℤ, pos, ◌-ℤ◌, ◌≤ℤ◌, ◌==◌, bytes_eq}
+-- A history is the list of accepted entries, **the newest first**: a history H with one more entry
+-- e is e ∷ H, and what was accepted first stands deepest. It holds no totals and no balances: each is
+-- computed from the entries alone.
+use Rattle.std.specs.Prelude.{◌≡◌, ℕ, ◌^◌, max, Bool, false, ◌&&◌, ◌||◌, Option, None, Some, List}
+use Rattle.std.specs.Prelude.{[], ◌∷◌, if◌then◌else◌, map, ℤ, pos, ◌-ℤ◌, ◌≤ℤ◌, ◌==◌, bytes_eq}
 use Rattle.std.specs.List.{All, filter, filter_map, list_any, sum_by}
 use Rattle.std.specs.Option.{option_or}
 use Rattle.acct_model.specs.declared.plan.Plan.{Plan}
@@ -19,23 +21,28 @@ pub record SessionName : Type 0 where
   pub client : List ℕ
   pub session : List ℕ
 
+-- the session that a report is of
 abbrev pub session_of : ReportFacts → SessionName
 session_of report = record { client = report.client; session = report.session }
 
+-- two names are of one session
 abbrev pub same_session : SessionName → SessionName → Bool
 same_session a b = bytes_eq a.client b.client && bytes_eq a.session b.session
 
+-- the report that an entry is, if it is one
 abbrev pub report_in : Entry → Option ReportFacts
 report_in (entry.Report report) = Some report
 report_in (entry.Restart restart) = None
 report_in (entry.TopUp topup) = None
 
+-- all reports of a history
 abbrev pub all_reports : List Entry → List ReportFacts
 all_reports history = filter_map report_in history
 
 -- the reports of one session
 abbrev pub reports : List Entry → SessionName → List ReportFacts
-reports history name = filter (λ report. same_session name (session_of report)) (all_reports history)
+reports history name =
+    filter (λ report. same_session name (session_of report)) (all_reports history)
 
 -- each element once: one that stands again deeper in the list is left out
 abbrev pub distinct : {X : Type 0} → (X → X → Bool) → List X → List X
@@ -51,6 +58,7 @@ abbrev pub first_of : {X : Type 0} → List X → Option X
 first_of [] = None
 first_of (x ∷ older) = option_or (first_of older) (Some x)
 
+-- the largest of some numbers, 0 of none
 abbrev pub largest : List ℕ → ℕ
 largest [] = 0
 largest (n ∷ ns) = max n (largest ns)
@@ -81,7 +89,8 @@ share weight account reports = if is_owner account (first_of reports) then weigh
 
 -- the weights of all sessions that the account owns, added up
 abbrev pub owned : (List ReportFacts → ℕ) → List Entry → List ℕ → ℕ
-owned weight history account = sum_by (λ name. share weight account (reports history name)) (sessions history)
+owned weight history account =
+    sum_by (λ name. share weight account (reports history name)) (sessions history)
 
 -- what the sessions of an account cost
 abbrev pub charged : List Plan → List Entry → List ℕ → ℕ
@@ -89,11 +98,13 @@ charged plans history account = owned (charge_of plans) history account
 
 -- ---- what vouchers give
 
+-- the top-up that an entry is, if it is one
 abbrev pub topup_in : Entry → Option TopUpFacts
 topup_in (entry.Report report) = None
 topup_in (entry.Restart restart) = None
 topup_in (entry.TopUp topup) = Some topup
 
+-- all top-ups of a history
 abbrev pub all_topups : List Entry → List TopUpFacts
 all_topups history = filter_map topup_in history
 
@@ -103,15 +114,18 @@ topups history account = filter (λ topup. bytes_eq account topup.account) (all_
 
 -- the first top-up by a number
 abbrev pub topup_of : List Entry → List ℕ → Option TopUpFacts
-topup_of history number = first_of (filter (λ topup. bytes_eq number topup.voucher) (all_topups history))
+topup_of history number =
+    first_of (filter (λ topup. bytes_eq number topup.voucher) (all_topups history))
 
 -- a voucher is its number and its sum
 abbrev pub Voucher : Type 0
 Voucher = List ℕ × ℕ
 
+-- the voucher of a top-up
 abbrev pub voucher_of : TopUpFacts → Voucher
 voucher_of topup = (topup.voucher, topup.sum)
 
+-- two vouchers are one
 abbrev pub same_voucher : Voucher → Voucher → Bool
 same_voucher a b = bytes_eq a.0 b.0 && a.1 == b.1
 
@@ -125,15 +139,18 @@ credited history account = sum_by (λ voucher. voucher.1) (vouchers history acco
 
 -- ---- balances
 
--- the balance of an account: what its distinct vouchers give, less the price of each of its sessions' greatest total
+-- the balance of an account: what its distinct vouchers give, less the price of each of its
+-- sessions' greatest total
 abbrev pub balance_of : List Plan → List Entry → List ℕ → ℤ
-balance_of plans history account = pos (credited history account) -ℤ pos (charged plans history account)
+balance_of plans history account =
+    pos (credited history account) -ℤ pos (charged plans history account)
 
 -- a balance may be kept from -2^62 to 2^62
 pub record InRange (balance : ℤ) : Type 0 where
   pub low : (pos 0 -ℤ pos (2 ^ 62)) ≤ℤ balance
   pub high : balance ≤ℤ pos (2 ^ 62)
 
+-- every balance of a history is in range
 abbrev pub AreInRange : List Plan → List Entry → Type 0
 AreInRange plans history = (account : List ℕ) → InRange (balance_of plans history account)
 
@@ -149,7 +166,8 @@ AgreesWithAll history (entry.Report report) = Unit {0}
 AgreesWithAll history (entry.Restart restart) = Unit {0}
 AgreesWithAll history (entry.TopUp topup) = Agrees history topup
 
--- The entry may be accepted: no voucher comes with another account or sum, and every balance stays in range.
+-- The entry may be accepted: no voucher comes with another account or sum, and every balance stays
+-- in range.
 pub record Admissible (plans : List Plan) (history : List Entry) (next : Entry) : Type 0 where
   pub agrees : AgreesWithAll history next
   pub in_range : AreInRange plans (next ∷ history)

@@ -1,53 +1,68 @@
 -- Laws above histories and shown octets, in the subject's own words. Functions of the module `laws`
 -- have them as their contracts.
-use Rattle.std.specs.Prelude.{◌≡◌, ◌≢◌, ℕ, ◌<◌, ◌≤◌, ◌↔◌, ◌⊎◌, IsTrue, None, Some, List, [], ◌∷◌, ◌++◌, Contains, All}
+use Rattle.std.specs.Prelude.{◌≡◌, ◌≢◌, ℕ, ◌<◌, ◌≤◌, ◌↔◌, ◌⊎◌, IsTrue, None, Some, List, [], ◌∷◌}
+use Rattle.std.specs.Prelude.{◌++◌, Contains, All}
 use Rattle.std.specs.List.{IsDistinct}
 use Rattle.percent_encoding.specs.Percent.{percent_decode}
 use Rattle.acct_model.specs.declared.entry.Entry.{Entry}
 use Rattle.acct_model.specs.Report.{ReportFacts, total}
 use Rattle.acct_model.specs.Vouchers.{TopUpFacts}
 use Rattle.acct_model.specs.Shown.{shown}
-use Rattle.acct_model.specs.History.{SessionName, session_of, same_session, all_reports, reports, sessions, first_of, greatest_total, all_topups, topup_of, voucher_of, Voucher, same_voucher, vouchers, is_known}
+use Rattle.acct_model.specs.History.{SessionName, session_of, same_session, all_reports, reports}
+use Rattle.acct_model.specs.History.{sessions, first_of, greatest_total, all_topups, topup_of}
+use Rattle.acct_model.specs.History.{voucher_of, Voucher, same_voucher, vouchers, is_known}
 
 -- shown octets read back
 abbrev pub ShownReadsBack : Type 0
-ShownReadsBack = (octets : List ℕ) → All (λ octet. octet < 256) octets → percent_decode (shown octets) ≡ octets
+ShownReadsBack = (octets : List ℕ) → All (λ octet. octet < 256) octets
+    → percent_decode (shown octets) ≡ octets
 
 -- of a session's reports the first is the deepest, whatever came later
 abbrev pub FirstIsDeepest : Type 0
-FirstIsDeepest = (later : List ReportFacts) (report : ReportFacts) → first_of (later ++ report ∷ []) ≡ Some report
+FirstIsDeepest = (later : List ReportFacts) (report : ReportFacts)
+    → first_of (later ++ report ∷ []) ≡ Some report
 
 -- the greatest total is that of one of the reports, and none is above it
 pub record GreatestTotalIsReached : Type 0 where
   pub reached : (report : ReportFacts) (older : List ReportFacts)
-      → (one : ReportFacts) × Contains (report ∷ older) one × (total one ≡ greatest_total (report ∷ older))
-  pub bound : (reports : List ReportFacts) (one : ReportFacts) → Contains reports one → total one ≤ greatest_total reports
+      → (one : ReportFacts) × Contains (report ∷ older) one
+      × (total one ≡ greatest_total (report ∷ older))
+  pub bound : (reports : List ReportFacts) (one : ReportFacts) → Contains reports one
+      → total one ≤ greatest_total reports
 
 -- the sessions are those of the reports, each once
 pub record SessionsAreReported : Type 0 where
   pub listed : (history : List Entry) (name : SessionName)
-      → Contains (sessions history) name ↔ ((report : ReportFacts) × Contains (all_reports history) report × (session_of report ≡ name))
+      → Contains (sessions history) name
+      ↔ ((report : ReportFacts) × Contains (all_reports history) report
+      × (session_of report ≡ name))
   pub once : (history : List Entry) → IsDistinct same_session (sessions history)
 
 -- the vouchers of an account are those of the top-ups to it, each once
 pub record VouchersAreToppedUp : Type 0 where
   pub listed : (history : List Entry) (account : List ℕ) (voucher : Voucher)
       → Contains (vouchers history account) voucher
-      ↔ ((topup : TopUpFacts) × Contains (all_topups history) topup × (topup.account ≡ account) × (voucher_of topup ≡ voucher))
-  pub once : (history : List Entry) (account : List ℕ) → IsDistinct same_voucher (vouchers history account)
+      ↔ ((topup : TopUpFacts) × Contains (all_topups history) topup × (topup.account ≡ account)
+      × (voucher_of topup ≡ voucher))
+  pub once : (history : List Entry) (account : List ℕ)
+      → IsDistinct same_voucher (vouchers history account)
 
 -- the account is the user of some session's first report
 abbrev pub OwnsSession : List Entry → List ℕ → Type 0
 OwnsSession history account =
-    (name : SessionName) × (first : ReportFacts) × (first_of (reports history name) ≡ Some first) × (first.user ≡ account)
+    (name : SessionName) × (first : ReportFacts) × (first_of (reports history name) ≡ Some first)
+    × (first.user ≡ account)
 
+-- the account has a top-up
 abbrev pub OwnsVoucher : List Entry → List ℕ → Type 0
-OwnsVoucher history account = (topup : TopUpFacts) × Contains (all_topups history) topup × (topup.account ≡ account)
+OwnsVoucher history account =
+    (topup : TopUpFacts) × Contains (all_topups history) topup × (topup.account ≡ account)
 
 -- the accounts of a history are those that own a session or a voucher
 abbrev pub KnownAccountsOwn : Type 0
 KnownAccountsOwn = (history : List Entry) (account : List ℕ)
-    → IsTrue (is_known history account) ↔ (OwnsSession history account ⊎ OwnsVoucher history account)
+    → IsTrue (is_known history account)
+    ↔ (OwnsSession history account ⊎ OwnsVoucher history account)
 
 -- The top-up by a number is one of the history's: no top-up by the number was accepted before it.
 -- There is none exactly where the history has no top-up by the number.

@@ -1,6 +1,7 @@
 -- Laws of charges and balances, in the subject's own words. Functions of the module `laws` have
 -- them as their contracts.
-use Rattle.std.specs.Prelude.{◌≡◌, ◌≢◌, ℕ, ◌*◌, ◌<◌, ◌≤◌, None, Some, List, ◌∷◌, Contains, pos, ◌+ℤ◌, ◌≤ℤ◌}
+use Rattle.std.specs.Prelude.{◌≡◌, ◌≢◌, ℕ, ◌*◌, ◌<◌, ◌≤◌, None, Some, List, ◌∷◌, Contains, pos}
+use Rattle.std.specs.Prelude.{◌+ℤ◌, ◌≤ℤ◌}
 use Rattle.acct_model.specs.declared.plan.Plan.{Plan}
 use Rattle.acct_model.specs.declared.entry.Entry.{Entry}
 use Rattle.acct_model.specs.declared.entry.Entry.TheVariants as entry
@@ -9,7 +10,9 @@ use Rattle.acct_model.specs.Report.{ReportFacts, total}
 use Rattle.acct_model.specs.Vouchers.{TopUpFacts}
 use Rattle.acct_model.specs.Plans.{IsLeastBlocks, plan_for}
 use Rattle.acct_model.specs.PlanFaults.{fault_of}
-use Rattle.acct_model.specs.History.{SessionName, session_of, reports, first_of, greatest_total, charge_of, all_topups, topup_of, balance_of, AreInRange, Admissible}
+use Rattle.acct_model.specs.History.{SessionName, session_of, reports, first_of, greatest_total}
+use Rattle.acct_model.specs.History.{charge_of, all_topups, topup_of, balance_of, AreInRange}
+use Rattle.acct_model.specs.History.{Admissible}
 
 -- A session costs the unit of its plan, which the class of its first report names, for each of the
 -- least blocks that cover its greatest total.
@@ -25,7 +28,8 @@ SessionIsCharged = (plans : List Plan) (history : List Entry) (name : SessionNam
 -- What reports do to balances: a report moves no balance but that of its session's owner and none
 -- at all where its total was reached before, and no report gives money back.
 pub record ReportsAreChargedOnce : Type 0 where
-  pub once : (plans : List Plan) (history : List Entry) (report one : ReportFacts) (account : List ℕ)
+  pub once : (plans : List Plan) (history : List Entry) (report one : ReportFacts)
+      (account : List ℕ)
       → Contains (reports history (session_of report)) one → total report ≤ total one
       → balance_of plans (entry.Report report ∷ history) account ≡ balance_of plans history account
   pub owner : (plans : List Plan) (history : List Entry) (report first : ReportFacts)

@@ -1,10 +1,12 @@
 -- What is wrong with plans.
-use Rattle.std.specs.Prelude.{◌≡◌, ℕ, Bool, Option, None, Some, List, nat_le, not, ◌&&◌, if◌then◌else◌, ◌^◌}
+use Rattle.std.specs.Prelude.{◌≡◌, ℕ, Bool, Option, None, Some, List, nat_le, not, ◌&&◌}
+use Rattle.std.specs.Prelude.{if◌then◌else◌, ◌^◌}
 use Rattle.std.specs.List.{list_any}
 use Rattle.std.specs.Option.{option_or}
 use Rattle.acct_model.specs.declared.plan.Plan.{Plan}
 use Rattle.acct_model.specs.declared.plans.PlanError.{PlanError}
-use Rattle.acct_model.specs.declared.plans.PlanError.TheVariants.{NoDefault, TwicePlanned, BadBlock, BadUnit}
+use Rattle.acct_model.specs.declared.plans.PlanError.TheVariants.{NoDefault, TwicePlanned, BadBlock}
+use Rattle.acct_model.specs.declared.plans.PlanError.TheVariants.{BadUnit}
 use Rattle.acct_model.specs.Faults.{first_fault}
 use Rattle.acct_model.specs.Plans.{has_class, default_class}
 

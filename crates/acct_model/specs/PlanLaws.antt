@@ -1,6 +1,7 @@
 -- Laws above plans and prices, in the subject's own words. Functions of the module `laws` have them
 -- as their contracts.
-use Rattle.std.specs.Prelude.{◌≡◌, ◌≢◌, ℕ, ◌<◌, ◌≤◌, ◌^◌, ◌↔◌, ◌⊎◌, IsSome, None, Some, List, Contains, All}
+use Rattle.std.specs.Prelude.{◌≡◌, ◌≢◌, ℕ, ◌<◌, ◌≤◌, ◌^◌, ◌↔◌, ◌⊎◌, IsSome, None, Some, List}
+use Rattle.std.specs.Prelude.{Contains, All}
 use Rattle.std.specs.List.{AllPairs, Any}
 use Rattle.acct_model.specs.declared.plan.Plan.{Plan}
 use Rattle.acct_model.specs.Plans.{started_blocks, IsLeastBlocks, default_class, plan_for}

@@ -1,5 +1,6 @@
 -- Plans and prices.
-use Rattle.std.specs.Prelude.{ℕ, ◌+◌, ◌-◌, ◌*◌, ◌/◌, ◌≤◌, Bool, Option, None, Some, List, codes, bytes_eq}
+use Rattle.std.specs.Prelude.{ℕ, ◌+◌, ◌-◌, ◌*◌, ◌/◌, ◌≤◌, Bool, Option, None, Some, List, codes}
+use Rattle.std.specs.Prelude.{bytes_eq}
 use Rattle.std.specs.List.{find}
 use Rattle.std.specs.Option.{option_or}
 use Rattle.acct_model.specs.declared.plan.Plan.{Plan}
@@ -12,11 +13,12 @@ started_blocks block n = (n + (block - 1)) / block
 abbrev pub price_of : Plan → ℕ → ℕ
 price_of plan n = plan.unit * started_blocks plan.block n
 
--- k blocks cover n octets, and fewer don't
+-- k blocks cover n octets, and fewer do not
 pub record IsLeastBlocks (block n k : ℕ) : Type 0 where
   pub covers : n ≤ k * block
   pub least : (j : ℕ) → n ≤ j * block → k ≤ j
 
+-- the plan has the class
 abbrev pub has_class : List ℕ → Plan → Bool
 has_class class plan = bytes_eq class plan.class
 
@@ -26,7 +28,8 @@ default_class = codes "default"
 
 -- the plan of a class, else the plan `default`
 abbrev pub plan_for : List Plan → List ℕ → Option Plan
-plan_for plans class = option_or (find (has_class class) plans) (find (has_class default_class) plans)
+plan_for plans class =
+    option_or (find (has_class class) plans) (find (has_class default_class) plans)
 
 -- the price of n octets under a plan, if there is one
 abbrev pub price_under : Option Plan → ℕ → ℕ

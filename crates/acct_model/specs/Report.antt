@@ -2,6 +2,7 @@
 use Rattle.std.specs.Prelude.{ℕ, ◌+◌, ◌<◌, ◌^◌, List, Option}
 use Rattle.acct_model.specs.declared.report.ReportKind.{ReportKind}
 
+-- a report: who sent it of which session, and what it says (RFC 2866, section 5)
 pub record ReportFacts : Type 0 where
   pub client : List ℕ
   pub session : List ℕ

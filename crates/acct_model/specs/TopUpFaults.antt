@@ -1,7 +1,8 @@
 -- What is wrong with a top-up.
 use Rattle.std.specs.Prelude.{◌≡◌, ℕ, not, Option, None, Some, List, if◌then◌else◌}
 use Rattle.acct_model.specs.declared.top_up.TopUpError.{TopUpError}
-use Rattle.acct_model.specs.declared.top_up.TopUpError.TheVariants.{BadVoucher, BadAccount, BadSum, Memory}
+use Rattle.acct_model.specs.declared.top_up.TopUpError.TheVariants.{BadVoucher, BadAccount, BadSum}
+use Rattle.acct_model.specs.declared.top_up.TopUpError.TheVariants.{Memory}
 use Rattle.acct_model.specs.Vouchers.{is_voucher_number, is_voucher_account, is_voucher_sum}
 
 -- the first fault

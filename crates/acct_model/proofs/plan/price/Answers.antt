@@ -7,7 +7,11 @@ pub overflow_mul-result : goal.overflow_mul-result
 overflow_mul-result c =
     let small : c.args.plan.now.unit < 2 ^ 64 = search rules in
     rw (c.from-2.ensures, c.from-block.ensures, c.from.ensures)
-    (omega (arith, price_fits c.args.plan.now.unit c.args.plan.now.block c.args.total c.requires small c.ranges.total.fits))
+    (omega (
+      arith,
+      price_fits c.args.plan.now.unit c.args.plan.now.block c.args.total c.requires
+          small c.ranges.total.fits,
+    ))
 
 pub returns-clause-least : goal.returns-clause-least
 returns-clause-least c = (
@@ -18,4 +22,5 @@ returns-clause-least c = (
 
 pub returns-clause-most : goal.returns-clause-most
 returns-clause-most c =
-    rw (c.from-2.ensures, c.from-block.ensures, c.from.ensures) (price-le c.args.plan.now.unit c.args.plan.now.block c.args.total c.requires)
+    rw (c.from-2.ensures, c.from-block.ensures, c.from.ensures)
+    (price-le c.args.plan.now.unit c.args.plan.now.block c.args.total c.requires)

@@ -10,6 +10,8 @@ returns-in-Some-report_fault-clause-refused c =
     let on : c.in-Some-word_of.status ≡ 7 → ⊥ = search rules in
     let off : c.in-Some-word_of.status ≡ 8 → ⊥ = search rules in
     let known = sym c.kind_of.ensures ∙ c.in-Some-kind_of.is in
-    let same = refusal_of-report c.of-attributes.result c.in-Some.value.now c.in-Some-word_of.status c.in-Some-kind_of.kind found spelled on off known in
-    let fault = Refuses-report c.of-attributes.result c.in-Some-report_fault.fault (sym c.in-Some-report_fault.ensures) in
+    let same = refusal_of-report c.of-attributes.result c.in-Some.value.now c.in-Some-word_of.status
+    c.in-Some-kind_of.kind found spelled on off known in
+    let fault = Refuses-report c.of-attributes.result c.in-Some-report_fault.fault
+    (sym c.in-Some-report_fault.ensures) in
     rw (sym c.of-attributes.ensures) (rw same fault)

@@ -6,5 +6,7 @@ use Rattle.acct_model.proofs.shown.show.Goals as goal
 pub returns-in-Ok : goal.returns-in-Ok
 returns-in-Ok c =
     c.in-Ok.ensures.ok
-    ∙ ap (λ front. front ++ percent_encode c.percent_encode.result.ascii_set c.percent_encode.result.bytes.now) c.new-text.ensures.bytes
+    ∙ ap (λ front. front
+    ++ percent_encode c.percent_encode.result.ascii_set c.percent_encode.result.bytes.now)
+    c.new-text.ensures.bytes
     ∙ c.percent_encode.ensures.text ∙ percent_encode-shown c.args.octets.now

@@ -8,17 +8,22 @@ use Rattle.acct_model.proofs.plans.Plans.plan_of.Goals as goal
 pub unreachable-requires : goal.unreachable-requires
 unreachable-requires c =
     default_found c.self.inside.plans.items c.self.invariant.faultless
-    (ap (find (has_class default_class)) (sym c.deref-in-None.ensures.value) ∙ sym c.in-None-find_plan.ensures)
+    (ap (find (has_class default_class)) (sym c.deref-in-None.ensures.value)
+    ∙ sym c.in-None-find_plan.ensures)
 
 own : (c : goal.In-Some) → IsPlan c.in-Some.plan.now
 own c =
-    IsPlan-found (has_class c.args.class.now) c.self.inside.plans.items c.in-Some.plan.now c.self.invariant.faultless
-    (ap (find (has_class c.args.class.now)) (sym c.deref.ensures.value) ∙ sym c.find_plan.ensures ∙ ap option_copied c.in-Some.is)
+    IsPlan-found (has_class c.args.class.now) c.self.inside.plans.items c.in-Some.plan.now
+    c.self.invariant.faultless
+    (ap (find (has_class c.args.class.now)) (sym c.deref.ensures.value) ∙ sym c.find_plan.ensures
+    ∙ ap option_copied c.in-Some.is)
 
 other : (c : goal.In-Some-find_plan) → IsPlan c.in-Some-find_plan.plan.now
 other c =
-    IsPlan-found (has_class default_class) c.self.inside.plans.items c.in-Some-find_plan.plan.now c.self.invariant.faultless
-    (ap (find (has_class default_class)) (sym c.deref-in-None.ensures.value) ∙ sym c.find_plan-in-None.ensures ∙ ap option_copied c.in-Some-find_plan.is)
+    IsPlan-found (has_class default_class) c.self.inside.plans.items c.in-Some-find_plan.plan.now
+    c.self.invariant.faultless
+    (ap (find (has_class default_class)) (sym c.deref-in-None.ensures.value)
+    ∙ sym c.find_plan-in-None.ensures ∙ ap option_copied c.in-Some-find_plan.is)
 
 pub returns-in-Some-clause-block : goal.returns-in-Some-clause-block
 returns-in-Some-clause-block c = (own c).block
