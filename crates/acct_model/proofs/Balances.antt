@@ -157,7 +157,7 @@ other_share : (weight : List ReportFacts → ℕ) (account : List ℕ) (report :
 other_share weight account report rs None e = refl
 other_share weight account report rs (Some first) e = e
 
--- whoever doesn't own the session after the report didn't before
+-- whoever does not own the session after the report didn't before
 pub share-other : (weight : List ReportFacts → ℕ) (account : List ℕ) (report : ReportFacts)
     (rs : List ReportFacts)
     → is_owner account (first_of (report ∷ rs)) ≡ false → (share weight account (report ∷ rs) ≡ 0)

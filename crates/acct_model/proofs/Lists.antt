@@ -16,7 +16,7 @@ deeper x y xs h = Contains-append_right (x ∷ []) xs y h
 pub nowhere : {X : Type 0} (x : X) → Contains [] x → ⊥
 nowhere x h = let small : h.0 < 0 = h.1 in omega arith
 
--- an element stands in front or behind
+-- an element stands first or later
 pub front_or_behind : {X : Type 0} (x y : X) (xs : List X) → Contains (x ∷ xs) y → (x ≡ y)
     ⊎ Contains xs y
 front_or_behind x y xs h = elim (Contains-append_cases (x ∷ []) xs y h) [

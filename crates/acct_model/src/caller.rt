@@ -1,4 +1,5 @@
-//! A whole caller of this crate and of `radius_codec`: the one that `docs/CODEC.md` shows, line for line.
+//! A whole caller of this crate and of `radius_codec`: the one that `docs/CODEC.md` shows, line for
+//! line.
 ghost use Rattle.std.specs.Prelude.{◌^◌, ◌<◌};
 
 use crate::{Entry, entry_of};
@@ -11,7 +12,8 @@ const SECRET: &[u8] = b"xyzzy5461";
 // Acct-Status-Type Start, Acct-Session-Id `s1` and User-Name `al`.
 const START: [(u8, &[u8]); 3] = [(40, &[0, 0, 0, 1]), (44, b"s1"), (1, b"al")];
 
-// The session id that a client's datagram reports, and the size of the response, which is written into `reply`.
+// The session id that a client's datagram reports, and the size of the response, which is written
+// into `reply`.
 fn answer(
     alloc: Global,
     datagram: &[u8],

@@ -29,7 +29,8 @@ impl<'p, 'a> Model for FirstValues<'p, 'a> {
 }
 
 impl<'p, 'a> FirstValues<'p, 'a> {
-    /// The first values of these attributes, found in one walk and put at their places in `values`, where none stands yet.
+    /// The first values of these attributes, found in one walk and put at their places in `values`,
+    /// where none stands yet.
     pub(crate) fn of(
         attributes: &'p Attributes<'a>,
         values: &'p mut [Option<&'a [u8]>; TYPES],

@@ -1,13 +1,17 @@
 //! What a RADIUS accounting server accepts and what it charges: entries, plans and prices.
 //!
-//! 1. An entry is a report of a session (RFC 2866, section 5.1: Start, Interim-Update, Stop), a restart of a client
-//!    (Accounting-On, Accounting-Off) or a top-up by a voucher. `entry_of` reads reports and restarts from a packet's attributes.
-//! 2. A session is named by the client that sent it and its Acct-Session-Id. It is charged to the User-Name of its first
-//!    accepted report, by the plan that the Class of that report names.
-//! 3. A total is input and output together, gigawords counted (RFC 2869, sections 5.1 and 5.2), at most 2^63 - 1 octets.
-//! 4. A plan's price is its unit for each block that was started. A class without a plan is priced by the plan `default`.
-//! 5. A history is the list of accepted entries, the newest first; `specs/History.antt` says what follows from it: the
-//!    sessions, their owners and greatest totals, the vouchers, and each account's balance.
+//! 1. An entry is a report of a session (RFC 2866, section 5.1: Start, Interim-Update, Stop), a
+//!    restart of a client (Accounting-On, Accounting-Off) or a top-up by a voucher. `entry_of`
+//!    reads reports and restarts from a packet's attributes.
+//! 2. A session is named by the client that sent it and its Acct-Session-Id. It is charged to the
+//!    User-Name of its first accepted report, by the plan that the Class of that report names.
+//! 3. A total is input and output together, gigawords counted (RFC 2869, sections 5.1 and 5.2), at
+//!    most 2^63 - 1 octets.
+//! 4. A plan's price is its unit for each block that was started. A class without a plan is priced
+//!    by the plan `default`.
+//! 5. A history is the list of accepted entries, the newest first; `specs/History.antt` says what
+//!    follows from it: the sessions, their owners and greatest totals, the vouchers, and each
+//!    account's balance. The module `laws` says what holds of all histories.
 #![tactic(auto)]
 
 mod address;

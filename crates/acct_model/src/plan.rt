@@ -19,7 +19,8 @@ pub struct Plan {
 pub fn price(plan: &Plan, total: u64) -> u128
     requires { 0 < plan.now.block }
     ensures exact { result ≡ price_of plan.now total }
-    ensures least { (blocks : ℕ) × IsLeastBlocks plan.now.block total blocks × (result ≡ plan.now.unit * blocks) }
+    ensures least { (blocks : ℕ) × IsLeastBlocks plan.now.block total blocks
+        × (result ≡ plan.now.unit * blocks) }
     ensures most { result ≤ total * plan.now.unit }
 {
     let unit = plan.unit;

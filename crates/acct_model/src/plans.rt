@@ -16,7 +16,8 @@ const GREATEST_BLOCK: u64 = 1 << 53;
 /// The greatest unit.
 const GREATEST_UNIT: u64 = 1_000_000_000;
 
-/// Plans of which each class has one at most and `default` has one. Each block is 1 to 2^53 and each unit 0 to 10^9.
+/// Plans of which each class has one at most and `default` has one. Each block is 1 to 2^53 and
+/// each unit 0 to 10^9.
 #[derive(Drop)]
 pub struct Plans {
     plans: Vec<Plan>,
@@ -35,7 +36,7 @@ impl Model for Plans {
     ghost invariant = { λ p. ArePlans p.plans.items };
 }
 
-/// Why plans can't be the plans of a site.
+/// Why plans cannot be the plans of a site.
 #[derive(Clone, Copy, PartialEq, Eq, Debug, Error)]
 pub enum PlanError {
     /// No plan has the class `default`.
@@ -44,10 +45,10 @@ pub enum PlanError {
     /// An earlier plan has the same class.
     #[error("an earlier plan has the same class")]
     TwicePlanned = 2,
-    /// The block isn't 1 to 2^53.
+    /// The block is not 1 to 2^53.
     #[error("the block is not 1 to 9007199254740992")]
     BadBlock = 3,
-    /// The unit isn't 0 to 10^9.
+    /// The unit is not 0 to 10^9.
     #[error("the unit is not 0 to 1000000000")]
     BadUnit = 4,
 }
@@ -59,14 +60,15 @@ impl Plans {
     ///
     /// # Errors
     ///
-    /// The first fault: each plan in its turn for `BadBlock`, `BadUnit` and `TwicePlanned`, and at last `NoDefault`.
+    /// The first fault: each plan in its turn for `BadBlock`, `BadUnit` and `TwicePlanned`, and at
+    /// last `NoDefault`.
     pub fn new(plans: Vec<Plan>) -> Result<Plans, PlanError>
         ensures kept { IfOk result (λ kept. kept ≡ plans.items) }
         ensures faultless { OnOk result (fault_of plans.items ≡ None) }
         ensures fault { IfErr result (λ fault. fault_of plans.items ≡ Some fault) }
     {
         for i in 0..plans.len() {
-            if let Some(fault) = fault_behind(&plans[..i], &plans[i]) {
+            if let Some(fault) = fault_after(&plans[..i], &plans[i]) {
                 return Err(fault);
             }
         }
@@ -99,8 +101,8 @@ impl Plans {
     }
 }
 
-// What is wrong with a plan behind earlier ones.
-fn fault_behind(earlier: &[Plan], plan: &Plan) -> Option<PlanError>
+// What is wrong with a plan that comes after earlier ones.
+fn fault_after(earlier: &[Plan], plan: &Plan) -> Option<PlanError>
     ensures { result ≡ plan_fault earlier.now plan.now }
 {
     if plan.block == 0 || plan.block > GREATEST_BLOCK {

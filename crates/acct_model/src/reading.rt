@@ -33,13 +33,14 @@ pub enum EntryError {
     /// There is no Acct-Status-Type.
     #[error("there is no Acct-Status-Type")]
     NoStatus = 1,
-    /// Acct-Status-Type isn't four octets, or none of Start, Stop, Interim-Update, Accounting-On and Accounting-Off.
+    /// Acct-Status-Type is not four octets, or none of Start, Stop, Interim-Update, Accounting-On
+    /// and Accounting-Off.
     #[error("the Acct-Status-Type is unknown")]
     UnknownStatus = 2,
     /// A report has no Acct-Session-Id.
     #[error("there is no Acct-Session-Id")]
     NoSessionId = 3,
-    /// A number or address of a report isn't four octets.
+    /// A number or address of a report is not four octets.
     #[error("a number or address is not 4 octets")]
     BadField = 4,
     /// A report's input and output are above 2^63 - 1 octets together.
@@ -61,8 +62,9 @@ impl From<AllocError> for EntryError {
     }
 }
 
-/// The entry that a client's packet spells, which came at `moment`, in seconds since 1970 (RFC 2866, section 5). The first attribute of
-/// each type counts. Of a restart the status alone is read.
+/// The entry that a client's packet spells, which came at `moment`, in seconds since 1970 (RFC
+/// 2866, section 5). The first attribute of each type counts. Of a restart the status alone is
+/// read.
 ///
 /// # Errors
 ///
@@ -149,7 +151,8 @@ fn report_of(
 ) -> Result<Report, AllocError>
     requires moment { moment < 2 ^ 53 }
     requires faultless { spec.report_fault attributes.now ≡ None }
-    ensures { IfOk result (λ report. report ≡ spec.report_of client.now attributes.now moment kind) }
+    ensures { IfOk result (λ report.
+        report ≡ spec.report_of client.now attributes.now moment kind) }
 {
     Ok(Report {
         client: Text::from_str(alloc, client)?,
@@ -213,7 +216,7 @@ fn count_at(attributes: &FirstValues<'_, '_>, kind: u8) -> u32
     number_at(attributes, kind).unwrap_or(0)
 }
 
-// The first number of a type: 0 where it is absent, none where it hasn't four octets.
+// The first number of a type: 0 where it is absent, none where it has not four octets.
 fn number_at(attributes: &FirstValues<'_, '_>, kind: u8) -> Option<u32>
     requires { kind < 54 }
     ensures { result ≡ spec.number_at kind attributes.now }

@@ -14,27 +14,32 @@ pub enum ReportKind {
     Interim,
 }
 
-/// One report of a session. Its input and output are at most 2^63 - 1 octets together, and its `when` is below 2^53.
+/// One report of a session. Its input and output are at most 2^63 - 1 octets together, and its
+/// `when` is below 2^53.
 #[derive(Debug, Drop)]
 pub struct Report {
     /// The name of the client, the access server that sent the report.
     pub client: Text,
     /// Acct-Session-Id (RFC 2866, section 5.5), which may have no octets.
     pub session: Octets,
-    /// User-Name (RFC 2865, section 5.1), empty where absent: the account, if this is the session's first report.
+    /// User-Name (RFC 2865, section 5.1), empty where absent: the account, if this is the session's
+    /// first report.
     pub user: Octets,
-    /// Class (RFC 2865, section 5.25), empty where absent: it names the plan, if this is the session's first report.
+    /// Class (RFC 2865, section 5.25), empty where absent: it names the plan, if this is the
+    /// session's first report.
     pub class: Octets,
     /// Start, Stop or Interim-Update.
     pub kind: ReportKind,
-    /// Octets received from the user's port, gigawords counted (RFC 2866, section 5.3; RFC 2869, section 5.1).
+    /// Octets received from the user's port, gigawords counted (RFC 2866, section 5.3; RFC 2869,
+    /// section 5.1).
     pub input: u64,
-    /// Octets sent to the user's port, gigawords counted (RFC 2866, section 5.4; RFC 2869, section 5.2).
+    /// Octets sent to the user's port, gigawords counted (RFC 2866, section 5.4; RFC 2869, section
+    /// 5.2).
     pub output: u64,
     /// Acct-Session-Time in seconds (RFC 2866, section 5.7), 0 where absent.
     pub seconds: u32,
-    /// When the report was made: the moment it came at less its Acct-Delay-Time (RFC 2866, section 5.2), in seconds since
-    /// 1970, and 0 where the delay is larger.
+    /// When the report was made: the moment it came at less its Acct-Delay-Time (RFC 2866, section
+    /// 5.2), in seconds since 1970, and 0 where the delay is larger.
     pub when: u64,
     /// Acct-Terminate-Cause (RFC 2866, section 5.10), 0 where absent.
     pub cause: u32,
@@ -49,7 +54,20 @@ impl Model for Report {
 
     ghost Value = { ReportFacts };
 
-    ghost view = { λ r. record { client = r.client; session = r.session; user = r.user; class = r.class; kind = r.kind; input = r.input; output = r.output; seconds = r.seconds; when = r.when; cause = r.cause; calling = r.calling; framed = r.framed } };
+    ghost view = { λ r. record {
+      client = r.client;
+      session = r.session;
+      user = r.user;
+      class = r.class;
+      kind = r.kind;
+      input = r.input;
+      output = r.output;
+      seconds = r.seconds;
+      when = r.when;
+      cause = r.cause;
+      calling = r.calling;
+      framed = r.framed;
+    } };
 
     ghost invariant = { λ r. IsReport r.input r.output r.when };
 }

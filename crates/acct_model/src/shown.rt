@@ -14,12 +14,12 @@ pub struct NoMemory;
 
 const ESCAPED: AsciiSet = ascii_set!(CONTROLS.add(b'%'));
 
-/// The octets as text: octets 0 to 31, 127, `%` and all past ASCII as `%` and two upper-case hexadecimal digits, every other octet
-/// as itself.
+/// The octets as text: octets 0 to 31, 127, `%` and all past ASCII as `%` and two upper-case
+/// hexadecimal digits, every other octet as itself.
 ///
 /// # Errors
 ///
-/// `NoMemory` where the text can't be grown.
+/// `NoMemory` where the text cannot be grown.
 pub fn show(alloc: Global, octets: &[u8]) -> Result<String, NoMemory>
     ensures { IfOk result (λ text. string_bytes text ≡ shown octets.now) }
 {
@@ -30,11 +30,12 @@ pub fn show(alloc: Global, octets: &[u8]) -> Result<String, NoMemory>
     }
 }
 
-/// The octets that a text shows: each `%` with two hexadecimal digits is the octet that these spell, all else stands for itself.
+/// The octets that a text shows: each `%` with two hexadecimal digits is the octet that these
+/// spell, all else stands for itself.
 ///
 /// # Errors
 ///
-/// `NoMemory` where the octets can't be grown.
+/// `NoMemory` where the octets cannot be grown.
 pub fn unshow(alloc: Global, text: &str) -> Result<Vec<u8>, NoMemory>
     ensures { IfOk result (λ octets. octets.items ≡ decoded text.now) }
 {

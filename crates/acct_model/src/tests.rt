@@ -90,7 +90,8 @@ fn delays_end_at_the_beginning(rt: HostRuntime) -> Result<(), Fail> {
     Ok(())
 }
 
-// Of an Accounting-On and an Accounting-Off the status alone is read: the Acct-Delay-Time here is no number.
+// Of an Accounting-On and an Accounting-Off the status alone is read: the Acct-Delay-Time here is
+// no number.
 #[test]
 fn spells_restarts(rt: HostRuntime) -> Result<(), Fail> {
     for status in [7, 8] {

@@ -16,8 +16,8 @@ const LONGEST_ACCOUNT: usize = 253;
 /// The greatest sum of one voucher.
 const GREATEST_SUM: u64 = 1_000_000_000_000;
 
-/// A voucher that is credited to an account. Its number is 1 to 32 of the characters `A` to `Z`, `0` to `9` and `-`, its account 1 to 253
-/// octets, its sum 1 to 10^12, and its moment below 2^53.
+/// A voucher that is credited to an account. Its number is 1 to 32 of the characters `A` to `Z`,
+/// `0` to `9` and `-`, its account 1 to 253 octets, its sum 1 to 10^12, and its moment below 2^53.
 #[derive(Debug, Drop)]
 pub struct TopUp {
     /// The voucher's number.
@@ -35,7 +35,12 @@ impl Model for TopUp {
 
     ghost Value = { TopUpFacts };
 
-    ghost view = { λ t. record { voucher = t.voucher; account = t.account; sum = t.sum; when = t.when } };
+    ghost view = { λ t. record {
+      voucher = t.voucher;
+      account = t.account;
+      sum = t.sum;
+      when = t.when;
+    } };
 
     ghost invariant = { λ t. IsTopUp t.voucher t.account t.sum t.when };
 }
@@ -43,13 +48,13 @@ impl Model for TopUp {
 /// Why there is no top-up by a voucher, in the order in which it is tested.
 #[derive(Clone, Copy, PartialEq, Eq, Debug, Error)]
 pub enum TopUpError {
-    /// The number isn't 1 to 32 of the characters `A` to `Z`, `0` to `9` and `-`.
+    /// The number is not 1 to 32 of the characters `A` to `Z`, `0` to `9` and `-`.
     #[error("the voucher's number is not 1 to 32 of A-Z, 0-9 and -")]
     BadVoucher = 1,
-    /// The account isn't 1 to 253 octets.
+    /// The account is not 1 to 253 octets.
     #[error("the account is not 1 to 253 octets")]
     BadAccount = 2,
-    /// The sum isn't 1 to 10^12.
+    /// The sum is not 1 to 10^12.
     #[error("the sum is not 1 to 1000000000000")]
     BadSum = 3,
     /// Memory was refused.
@@ -71,7 +76,8 @@ impl From<AllocError> for TopUpError {
 impl TopUp {
     ghost use Rattle.acct_model.specs.TopUpFaults.{topup_fault, IsTopUpError};
 
-    /// A top-up, if its number, account and sum are in their bounds. `when` is in seconds since 1970.
+    /// A top-up, if its number, account and sum are in their bounds. `when` is in seconds since
+    /// 1970.
     ///
     /// # Errors
     ///
@@ -84,7 +90,12 @@ impl TopUp {
         when: u64,
     ) -> Result<TopUp, TopUpError>
         requires { when < 2 ^ 53 }
-        ensures kept { IfOk result (λ topup. topup ≡ record { voucher = voucher.now; account = account.now; sum = sum; when = when }) }
+        ensures kept { IfOk result (λ topup. topup ≡ record {
+          voucher = voucher.now;
+          account = account.now;
+          sum = sum;
+          when = when;
+        }) }
         ensures faultless { OnOk result (topup_fault voucher.now account.now sum ≡ None) }
         ensures refused { IfErr result (IsTopUpError (topup_fault voucher.now account.now sum)) }
     {
