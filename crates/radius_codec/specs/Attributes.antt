@@ -1,5 +1,6 @@
 -- Attributes: a type and a value each (RFC 2865, section 5).
-use Rattle.std.specs.Prelude.{◌≡◌, ◌==◌, ℕ, zero, suc, ◌+◌, ◌-◌, ◌≤◌, Option, None, Some, List, [], ◌∷◌, length, take, drop, map, if◌then◌else◌}
+use Rattle.std.specs.Prelude.{◌≡◌, ◌==◌, ℕ, zero, suc, ◌+◌, ◌-◌, ◌≤◌, Option, None, Some, List, []}
+use Rattle.std.specs.Prelude.{◌∷◌, length, take, drop, map, if◌then◌else◌}
 use Rattle.std.specs.Borrow.{Bor}
 use Rattle.std.specs.List.{flat_map, AllByRecursion}
 use Rattle.byteorder.specs.Endian.{big_number}
@@ -9,7 +10,7 @@ use Rattle.byteorder.specs.Endian.{big_number}
 abbrev pub spelling : ℕ × List ℕ → List ℕ
 spelling attribute = attribute.0 ∷ (length attribute.1 + 2) ∷ attribute.1
 
--- The octets of a list of attributes, one behind the other.
+-- The octets of a list of attributes, one after the other.
 abbrev pub spellings : List (ℕ × List ℕ) → List ℕ
 spellings attributes = flat_map spelling attributes
 

@@ -1,5 +1,6 @@
 -- Packets and their authenticators (RFC 2866, section 3).
-use Rattle.std.specs.Prelude.{◌≡◌, ◌==◌, ℕ, ◌+◌, ◌*◌, ◌<◌, ◌≤◌, List, ◌∷◌, ◌++◌, length, take, drop, replicate, slice_index}
+use Rattle.std.specs.Prelude.{◌≡◌, ◌==◌, ℕ, ◌+◌, ◌*◌, ◌<◌, ◌≤◌, List, ◌∷◌, ◌++◌, length, take, drop}
+use Rattle.std.specs.Prelude.{replicate, slice_index}
 use Rattle.std.specs.List.{filter}
 use Rattle.byteorder.specs.Endian.{big_bytes}
 use Rattle.md5.specs.Md5.{md5}
@@ -7,7 +8,8 @@ use Rattle.radius_codec.specs.Attributes.{spellings, AreShort, Spells}
 use Rattle.radius_codec.specs.declared.attribute_types.TheConstants.{PROXY_STATE}
 use Rattle.radius_codec.specs.declared.codes.TheConstants.{ACCOUNTING_REQUEST, ACCOUNTING_RESPONSE}
 use Rattle.radius_codec.specs.declared.packet.CodecError.{CodecError}
-use Rattle.radius_codec.specs.declared.packet.CodecError.TheVariants.{TooShort, BadLength, BadAttribute}
+use Rattle.radius_codec.specs.declared.packet.CodecError.TheVariants.{TooShort, BadLength}
+use Rattle.radius_codec.specs.declared.packet.CodecError.TheVariants.{BadAttribute}
 
 -- The Length field: the octets at places 2 and 3, the high one first (RFC 2866, section 3).
 abbrev pub length_field : List ℕ → ℕ
@@ -20,19 +22,21 @@ pub record HasFront (bytes : List ℕ) : Type 0 where
   pub most : length_field bytes ≤ 4096
   pub there : length_field bytes ≤ length bytes
 
--- The octets that the Length field counts; what stands behind them is padding (RFC 2866, section
+-- The octets that the Length field counts; what comes after them is padding (RFC 2866, section
 -- 3).
 abbrev pub front_of : List ℕ → List ℕ
 front_of bytes = take (length_field bytes) bytes
 
 -- The bytes begin with a packet of this code, identifier, authenticator and list of attributes (RFC
 -- 2866, section 3).
-pub record Framed (bytes : List ℕ) (code identifier : ℕ) (authenticator : List ℕ) (attributes : List (ℕ × List ℕ)) : Type 0 where
+pub record Framed (bytes : List ℕ) (code identifier : ℕ) (authenticator : List ℕ)
+    (attributes : List (ℕ × List ℕ)) : Type 0 where
   pub size : 20 ≤ length bytes
   pub field : HasFront bytes
   pub sixteen : length authenticator ≡ 16
   pub short : AreShort attributes
-  pub front : front_of bytes ≡ code ∷ identifier ∷ slice_index bytes 2 ∷ slice_index bytes 3 ∷ (authenticator ++ spellings attributes)
+  pub front : front_of bytes ≡ code ∷ identifier ∷ slice_index bytes 2 ∷ slice_index bytes 3
+      ∷ (authenticator ++ spellings attributes)
 
 -- What is wrong with bytes that have no front.
 abbrev pub IsFrontFault : List ℕ → CodecError → Type 0
@@ -41,7 +45,7 @@ IsFrontFault bytes BadLength = (20 ≤ length bytes) × (HasFront bytes → ⊥)
 IsFrontFault bytes BadAttribute = ⊥
 
 -- What is wrong with bytes that begin with no packet: they have no front, or no list of attributes
--- is spelled behind the first twenty octets of it (RFC 2866, section 5).
+-- is spelled after the first twenty octets of it (RFC 2866, section 5).
 abbrev pub IsFault : List ℕ → CodecError → Type 0
 IsFault bytes TooShort = IsFrontFault bytes TooShort
 IsFault bytes BadLength = IsFrontFault bytes BadLength
@@ -90,7 +94,8 @@ sealed code identifier place octets secret =
 
 -- The Accounting-Request of this identifier and these attribute octets (RFC 2866, section 4.1).
 abbrev pub request_octets : ℕ → List ℕ → List ℕ → List ℕ
-request_octets identifier octets secret = sealed ACCOUNTING_REQUEST identifier request_place octets secret
+request_octets identifier octets secret =
+    sealed ACCOUNTING_REQUEST identifier request_place octets secret
 
 -- The bytes begin with an Accounting-Request of this identifier and list of attributes.
 abbrev pub IsRequestOf : List ℕ → ℕ → List (ℕ × List ℕ) → Type 0
@@ -103,7 +108,8 @@ abbrev pub proxy_states : List (ℕ × List ℕ) → List (ℕ × List ℕ)
 proxy_states attributes = filter (λ attribute. attribute.0 == PROXY_STATE) attributes
 
 -- The Accounting-Response to a request of this identifier, authenticator and list of attributes
--- (RFC 2866, section 4.2): in its digest the request's authenticator stands in the place of its own.
+-- (RFC 2866, section 4.2): in its digest the request's authenticator stands in the place of its
+-- own.
 abbrev pub reply_octets : ℕ → List ℕ → List (ℕ × List ℕ) → List ℕ → List ℕ
 reply_octets identifier authenticator attributes secret =
     sealed ACCOUNTING_RESPONSE identifier authenticator (spellings (proxy_states attributes)) secret

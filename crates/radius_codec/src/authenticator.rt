@@ -30,7 +30,7 @@ pub fn response_matches(
     has_digest(front, request_authenticator, secret)
 }
 
-// Whether a packet's authenticator is the packet's digest with `place` in the authenticator's place.
+// Whether a packet's authenticator is its digest with `place` in the authenticator's place.
 fn has_digest(front: &[u8], place: &[u8], secret: &[u8]) -> bool
     requires { 20 ≤ length front.now }
     ensures { IsTrue result ↔ HasDigest front.now place.now secret.now }

@@ -66,7 +66,7 @@ pub fn read(bytes: &[u8]) -> Result<Packet<'_>, CodecError>
     })
 }
 
-/// The octets of a datagram that its Length field counts, without the padding behind them (RFC
+/// The octets of a datagram that its Length field counts, without the padding after them (RFC
 /// 2866, section 3). The attributes are not looked at.
 ///
 /// # Errors

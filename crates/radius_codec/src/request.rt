@@ -1,5 +1,6 @@
 //! Accounting-Requests written into an array.
-ghost use Rattle.std.specs.Prelude.{◌≡◌, ◌+◌, ◌<◌, ◌≤◌, ◌++◌, length, take, drop, List, ℕ, IfOk, OnErr, OnSome, IfSome, IfNone};
+ghost use Rattle.std.specs.Prelude.{◌≡◌, ◌+◌, ◌<◌, ◌≤◌, ◌++◌, length, take, drop, List, ℕ};
+ghost use Rattle.std.specs.Prelude.{IfOk, OnErr, OnSome, IfSome, IfNone};
 ghost use Rattle.radius_codec.specs.Attributes.{spellings, Fits, pairs};
 ghost use Rattle.radius_codec.specs.Packet.{request_octets, IsSigned, IsRequestOf};
 
@@ -34,8 +35,8 @@ pub fn write_request(
     ensures most { IfOk result (λ size. size ≤ 4096) }
     ensures signed { IfOk result (λ size. IsSigned (take size out.new) secret.now) }
     // It is read as these attributes, whatever octets follow.
-    ensures read { IfOk result (λ size. (behind : List ℕ) →
-        IsRequestOf (take size out.new ++ behind) identifier (pairs attributes.now)) }
+    ensures read { IfOk result (λ size. (after : List ℕ) →
+        IsRequestOf (take size out.new ++ after) identifier (pairs attributes.now)) }
 
     ensures too_long { OnErr result (Fits (pairs attributes.now) → ⊥) }
     ensures err { OnErr result (out.new ≡ out.old) }
@@ -56,8 +57,8 @@ pub fn write_request(
 }
 
 /// Writes the Accounting-Request whose attributes stand spelled in `octets`, which are taken as
-/// they are, signs it with the secret (RFC 2866, section 3), and gives its size in octets. Octets of
-/// `out` past it stay as they were.
+/// they are, signs it with the secret (RFC 2866, section 3), and gives its size in octets. Octets
+/// of `out` past it stay as they were.
 ///
 /// # Errors
 ///
@@ -112,7 +113,7 @@ fn octets_needed(attributes: &[(u8, &[u8])]) -> Option<usize>
     Some(size)
 }
 
-// Writes attributes behind the first twenty octets, and says where they end.
+// Writes attributes after the first twenty octets, and says where they end.
 fn put_attributes(out: &mut [u8; 4096], attributes: &[(u8, &[u8])]) -> usize
     requires { Fits (pairs attributes.now) }
     ensures octets { out.new ≡

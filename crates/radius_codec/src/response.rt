@@ -1,7 +1,8 @@
 //! Accounting-Responses written into an array.
 ghost use Rattle.std.specs.Prelude.{◌≡◌, ◌+◌, ◌≤◌, ◌++◌, length, take, drop};
 ghost use Rattle.radius_codec.specs.Attributes.{spellings, Fits};
-ghost use Rattle.radius_codec.specs.Packet.{proxy_states, reply_octets, IsReplyOf, IsSignedResponse};
+ghost use Rattle.radius_codec.specs.Packet.{proxy_states, reply_octets, IsReplyOf};
+ghost use Rattle.radius_codec.specs.Packet.{IsSignedResponse};
 
 use crate::attribute_types::PROXY_STATE;
 use crate::attributes::Attributes;
@@ -34,7 +35,7 @@ pub fn write_response(request: &Packet<'_>, secret: &[u8], out: &mut [u8; 4096])
     end
 }
 
-// Writes the Proxy-States among the attributes behind the first twenty octets, and says where they
+// Writes the Proxy-States among the attributes after the first twenty octets, and says where they
 // end.
 fn put_proxy_states(out: &mut [u8; 4096], attributes: &Attributes<'_>) -> usize
     ensures octets { out.new ≡

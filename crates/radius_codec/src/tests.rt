@@ -219,7 +219,8 @@ fn lengths(rt: HostRuntime) -> Result<(), Fail> {
     Ok(())
 }
 
-// Whether both readers find this fault in a datagram of this size and Length: behind the first twenty octets empty attributes of type 2.
+// Whether both readers find this fault in a datagram of this size and Length: after the first
+// twenty octets empty attributes of type 2.
 fn has_fault(size: usize, length: [u8; 2], want: Option<CodecError>) -> Result<bool, Fail> {
     let mut datagram = [2; 4097];
     datagram[2..4].copy_from_slice(&length);
@@ -237,7 +238,8 @@ fn longest_requests(rt: HostRuntime) -> Result<(), Fail> {
     Ok(())
 }
 
-// What comes of writing fifteen attributes of 255 octets and one with a value of this many. An array is written just where they fit.
+// What comes of writing fifteen attributes of 255 octets and one with a value of this many. An
+// array is written just where they fit.
 fn sixteen_written(last: usize) -> Result<Result<usize, TooLong>, Fail> {
     let octets = [0; 254];
     let mut attributes = [(1, &octets[..253]); 16];

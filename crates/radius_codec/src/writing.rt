@@ -1,4 +1,4 @@
-//! The two steps of every packet that is written: attributes behind the first twenty octets, then
+//! The two steps of every packet that is written: attributes after the first twenty octets, then
 //! those twenty.
 ghost use Rattle.std.specs.Prelude.{◌≡◌, ◌+◌, ◌-◌, ◌≤◌, ◌++◌, length, take, drop};
 ghost use Rattle.radius_codec.specs.Attributes.{spelling};
@@ -24,7 +24,7 @@ pub(crate) fn put_attribute(out: &mut [u8; 4096], at: usize, kind: u8, value: &[
     end
 }
 
-// Writes the first twenty octets of the packet that ends at `end`, behind which its attributes
+// Writes the first twenty octets of the packet that ends at `end`, after which its attributes
 // stand. `place` is what the digest covers in the authenticator's place.
 pub(crate) fn seal(
     out: &mut [u8; 4096],

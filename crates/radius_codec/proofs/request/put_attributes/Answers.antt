@@ -3,6 +3,9 @@ use Rattle.radius_codec.proofs.request.put_attributes.Goals as goal
 
 pub loop-kind-preserved : goal.loop-kind-preserved
 loop-kind-preserved c =
-    AttributesLeft_step c.args.out.now c.loop-kind.out c.put_attribute-end.new.out c.loop-kind.end c.put_attribute-end.result _ _ _ _
-    c.loop-kind.invariant (pairs-drop_more c.args.attributes.now c.loop-kind.kind-index _ c.loop-kind-test.true)
-    c.put_attribute-end.array_long c.put_attribute-end.ensures.end c.put_attribute-end.ensures.octets
+    AttributesLeft_step c.args.out.now c.loop-kind.out c.put_attribute-end.new.out c.loop-kind.end
+    c.put_attribute-end.result _ _ _ _
+    c.loop-kind.invariant
+    (pairs-drop_more c.args.attributes.now c.loop-kind.kind-index _ c.loop-kind-test.true)
+    c.put_attribute-end.array_long c.put_attribute-end.ensures.end
+    c.put_attribute-end.ensures.octets
