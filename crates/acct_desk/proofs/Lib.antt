@@ -1,0 +1,4 @@
+pub mod FieldLemmas
+pub mod FramingLemmas
+pub mod RouteLemmas
+pub mod KeyLemmas

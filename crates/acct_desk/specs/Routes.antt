@@ -1,0 +1,38 @@
+-- The paths of the desk.
+use Rattle.std.specs.Prelude.{ℕ, List, [], ◌∷◌, Option, Some, None, codes, bytes_eq, if◌then◌else◌}
+use Rattle.matchit.specs.Rows.{RowsOf}
+use Rattle.matchit.specs.Router.{RouteOf}
+use Rattle.acct_desk.specs.declared.routes.Endpoint.{Endpoint}
+use Rattle.acct_desk.specs.declared.routes.Endpoint.TheVariants.{Balance, Sessions, MyTopUps, TopUps, Overruns}
+
+-- what stands at a path
+abbrev pub endpoint_of : List ℕ → Option Endpoint
+endpoint_of path =
+    if bytes_eq (codes "/me/balance") path then Some Balance
+    else if bytes_eq (codes "/me/sessions") path then Some Sessions
+    else if bytes_eq (codes "/me/topups") path then Some MyTopUps
+    else if bytes_eq (codes "/overruns") path then Some Overruns
+    else if bytes_eq (codes "/topups") path then Some TopUps
+    else None
+
+-- the method of an endpoint
+abbrev pub method_of : Endpoint → List ℕ
+method_of Balance = codes "GET"
+method_of Sessions = codes "GET"
+method_of MyTopUps = codes "GET"
+method_of TopUps = codes "POST"
+method_of Overruns = codes "GET"
+
+-- a route without parameters
+abbrev pub literal_row : List ℕ → Endpoint → List ℕ × RouteOf Endpoint
+literal_row text endpoint = (text, record { pattern = text; text = text; names = []; value = endpoint })
+
+-- the rows of the desk's router
+abbrev pub desk_rows : RowsOf (RouteOf Endpoint)
+desk_rows =
+    literal_row (codes "/me/balance") Balance
+    ∷ literal_row (codes "/me/sessions") Sessions
+    ∷ literal_row (codes "/me/topups") MyTopUps
+    ∷ literal_row (codes "/overruns") Overruns
+    ∷ literal_row (codes "/topups") TopUps
+    ∷ []

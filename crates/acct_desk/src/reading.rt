@@ -1,0 +1,165 @@
+//! Reading a request.
+//!
+//! The octets are parsed again only where that may end the reading, so that a request that comes octet by octet costs a few parses and
+//! not one for each octet.
+ghost use Rattle.std.specs.Prelude.{◌≡◌, ◌≤◌, ◌<◌, false, IfOk, OnOk, IfNone, vec_len, length, All};
+ghost use Rattle.httparse.specs.Spans.{IsHeaderWithin};
+ghost use Rattle.std.specs.Io.KnownBytes.{Consumes, IsAtEnd};
+ghost use Rattle.acct_desk.specs.Reading.{IsSettled, Ends, Adds};
+
+use crate::framing::{HEAD_LIMIT, Reach, declared_length, extent};
+use crate::head::FIELD_LIMIT;
+use httparse::spans::{EMPTY_HEADER_SPAN, HeaderSpan, parse_request};
+use httparse::{Error as HeadError, Status};
+use std::alloc::Global;
+use std::io::{ErrorKind, Read};
+use thiserror::Error;
+
+/// The most octets that are taken of a request.
+const OCTET_LIMIT: usize = 12288;
+
+/// The most reads for a request.
+const TURN_LIMIT: usize = 16384;
+
+/// Why no request was read. The reader is given up.
+#[derive(Clone, Copy, Debug, PartialEq, Eq, Error)]
+pub enum ReadFault {
+    /// The reader failed.
+    #[error("the reader failed")]
+    Failed = 1,
+    /// The request was still open after 16,384 reads.
+    #[error("the request was still open after 16384 reads")]
+    TooManyTurns = 2,
+    /// Memory was refused.
+    #[error("out of memory")]
+    Memory = 3,
+}
+
+/// The octets of one request: at most 12,288 of the reader's, by at most 16,384 reads. Reading ends where `extent` isn't `More`, where
+/// nothing that follows can make a request of them, at 12,288 octets, or at the reader's end. A read that was interrupted is tried again.
+///
+/// # Errors
+///
+/// `Failed` where the reader fails, `TooManyTurns` past the reads, `Memory` where the octets can't be grown.
+pub fn read_request<R: Read>(alloc: Global, reader: &mut R) -> Result<Vec<u8>, ReadFault>
+    ensures prefix { IfOk result (λ bytes. Consumes (R.remaining reader.old) (R.remaining reader.new) bytes.items) }
+    ensures limit { IfOk result (λ bytes. vec_len bytes ≤ 12288) }
+    ensures ends { IfOk result (λ bytes. Ends bytes.items (R.remaining reader.new)) }
+{
+    let mut bytes = Vec::new(alloc);
+    let mut watch = Watch {
+        next: 1,
+        ends: true,
+    };
+    for _ in 0..TURN_LIMIT {
+        let before = bytes.len();
+        if !read_some(reader, &mut bytes)? || bytes.len() == OCTET_LIMIT {
+            return Ok(bytes);
+        }
+        if watch.is_due(&bytes, before) {
+            match look(&bytes) {
+                None => return Ok(bytes),
+                Some(later) => watch = later,
+            }
+        }
+    }
+    Err(ReadFault::TooManyTurns)
+}
+
+// One read: adds octets, and says whether there may be more.
+fn read_some<R: Read>(reader: &mut R, bytes: &mut Vec<u8>) -> Result<bool, ReadFault>
+    requires { vec_len bytes.old < 12288 }
+    ensures adds { OnOk result (Adds (R.remaining reader.old) (R.remaining reader.new) bytes.old.items bytes.new.items) }
+    ensures limit { OnOk result (vec_len bytes.new ≤ 12288) }
+    ensures end { IfOk result (λ more. more ≡ false → IsAtEnd (R.remaining reader.new)) }
+{
+    let mut buffer = [0u8; 1024];
+    let room = (OCTET_LIMIT - bytes.len()).min(buffer.len());
+    match reader.read(&mut buffer[..room]) {
+        Ok(0) => Ok(false),
+        Ok(count) => match bytes.extend_from_slice(&buffer[..count]) {
+            Ok(()) => Ok(true),
+            Err(_) => Err(ReadFault::Memory),
+        },
+        Err(error) if error.kind() == ErrorKind::Interrupted => Ok(true),
+        Err(_) => Err(ReadFault::Failed),
+    }
+}
+
+// When an open request is worth another look.
+#[derive(Clone, Copy)]
+struct Watch {
+    // At this many octets.
+    next: usize,
+    // And before that where a head ends.
+    ends: bool,
+}
+
+impl Watch {
+    fn is_due(self, bytes: &[u8], before: usize) -> bool {
+        bytes.len() >= self.next || (self.ends && has_head_end(bytes, before))
+    }
+}
+
+// None where no further octets are wanted, else when to look again. Without a head that is at twice the octets, so that what can be no
+// request is given up soon, at little cost.
+fn look(bytes: &[u8]) -> Option<Watch>
+    ensures { IfNone result (IsSettled bytes.now) }
+{
+    let Reach::More = extent(bytes) else {
+        return None;
+    };
+    let mut headers = [EMPTY_HEADER_SPAN; FIELD_LIMIT];
+    match parse_request(bytes, &mut headers) {
+        Ok(Status::Complete(head)) => Some(Watch {
+            next: end_of(bytes, &headers[..head.headers], head.len),
+            ends: false,
+        }),
+        Ok(Status::Partial) => Some(Watch {
+            next: bytes.len().saturating_mul(2).min(HEAD_LIMIT),
+            ends: true,
+        }),
+        Err(HeadError::TooManyHeaders) => Some(Watch {
+            next: HEAD_LIMIT,
+            ends: false,
+        }),
+        Err(_) => None,
+    }
+}
+
+// How many octets the request has that begins with a head of this length.
+fn end_of(bytes: &[u8], headers: &[HeaderSpan], head: usize) -> usize
+    requires { All (IsHeaderWithin (length bytes.now)) headers.now }
+{
+    match declared_length(bytes, headers) {
+        Some(body) => head.saturating_add(usize::try_from(body).unwrap_or(usize::MAX)),
+        None => head,
+    }
+}
+
+// Whether a head ends in the octets past the first ones.
+fn has_head_end(bytes: &[u8], before: usize) -> bool {
+    for end in before..bytes.len() {
+        if ends_head(&bytes[..end + 1]) {
+            return true;
+        }
+    }
+    false
+}
+
+// Whether octets end with an empty line behind one that isn't empty.
+fn ends_head(bytes: &[u8]) -> bool {
+    let lines = match bytes {
+        [lines @ .., b'\n', b'\n'] => lines,
+        [lines @ .., b'\n', b'\r', b'\n'] => lines,
+        _ => return false,
+    };
+    let line = match lines {
+        [line @ .., b'\r'] => line,
+        _ => lines,
+    };
+    match line {
+        [.., last] => *last != b'\n',
+        [] => false,
+    }
+}
