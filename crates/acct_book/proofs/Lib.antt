@@ -1,12 +1,26 @@
+-- the orders of keys and octets
 pub mod Keys
+-- what an ordered map's write does to the function that it is seen as
 pub mod MapSteps
+-- the calls of the book in memory, as effects on its content
 pub mod MemSteps
+-- the lists that a book gives: each member, once and in order
 pub mod Listed
+-- the next member of an ordered map
 pub mod Walks
+-- the row of a session after one more entry
 pub mod Rows
+-- what one accepted entry does to a content that stands for a history
 pub mod Steps
+-- what the calls of a book give together
 pub mod Calls
+-- how a step is put together, for whoever asks a book to record
 pub mod StepLemmas
+-- what `record` says at its exits
 pub mod Exits
+-- why a row says what it says of its session's reports
 pub mod RowLaws
+-- why a walk meets each member once
 pub mod WalkLaws
+-- why the entries of others leave an account's part as it is
+pub mod Parts

@@ -11,3 +11,4 @@ pub mod Charge
 pub mod Outcome
 pub mod Next
 pub mod Laws
+pub mod Part

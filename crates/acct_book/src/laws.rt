@@ -1,8 +1,10 @@
 //! Laws of books, as functions without effect.
-ghost use Rattle.std.specs.Prelude.{◌≡◌, ◌↔◌, List, []};
+ghost use Rattle.std.specs.Prelude.{ℕ, ◌≡◌, ◌↔◌, List, []};
 ghost use Rattle.acct_model.specs.declared.plan.Plan.{Plan};
 ghost use Rattle.acct_book.specs.Content.{Content, empty_content};
+ghost use Rattle.acct_model.specs.declared.entry.Entry.{Entry};
 ghost use Rattle.acct_book.specs.Laws.{RowsAreOfReports};
+ghost use Rattle.acct_book.specs.Part.{OtherPartsStay};
 ghost use Rattle.acct_book.specs.Stands.{Stands};
 ghost use Rattle.acct_book.specs.Walk.{WalksMeetAll};
 
@@ -41,4 +43,10 @@ pub fn rows_are_of_reports()
 /// order.
 pub fn walks_meet_all()
     ensures { (content : Content) → WalksMeetAll content }
+{}
+
+/// An accepted report of a session that another account owns, and an accepted top-up to another account, leave the part of an account as
+/// it is: its balance, its rows and its top-ups.
+pub fn part_stays()
+    ensures { (plans : List Plan) (history : List Entry) (account : List ℕ) → OtherPartsStay plans history account }
 {}
