@@ -4,3 +4,6 @@ pub mod KeyFaults
 pub mod Request
 pub mod Head
 pub mod Reading
+pub mod TopUpBodies
+pub mod Asks
+pub mod AskView

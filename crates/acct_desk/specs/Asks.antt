@@ -1,0 +1,95 @@
+-- What a request asks: the first line of the desk's cases that settles it without the book, or what is asked of the book.
+use Rattle.std.specs.Prelude.{◌≡◌, ℕ, ◌==◌, List, length, slice_range, codes, bytes_eq, Option, Some, None, option_and_then, if◌then◌else◌}
+use Rattle.std.specs.List.{before_first, slice_get}
+use Rattle.std.specs.Str.{is_utf8}
+use Rattle.httparse.specs.Grammar.{RequestHead, print_request}
+use Rattle.serde_json.specs.Data.{Data}
+use Rattle.serde_json.specs.Read as json
+use Rattle.acct_model.specs.Vouchers.{TopUpFacts}
+use Rattle.acct_desk.specs.declared.framing.Reach.{Reach}
+use Rattle.acct_desk.specs.declared.framing.Reach.TheVariants.{More, Whole, Bad, TooLarge}
+use Rattle.acct_desk.specs.declared.routes.Endpoint.{Endpoint}
+use Rattle.acct_desk.specs.declared.routes.Endpoint.TheVariants.{Balance, Sessions, MyTopUps, TopUps, Overruns}
+use Rattle.acct_desk.specs.declared.keys.Role.{Role}
+use Rattle.acct_desk.specs.declared.keys.Role.TheVariants.{Account, Cashier}
+use Rattle.acct_desk.specs.declared.keys.DeskKey.{DeskKey}
+use Rattle.acct_desk.specs.declared.asking.Page.{Page}
+use Rattle.acct_desk.specs.declared.asking.Page.TheVariants as page
+use Rattle.acct_desk.specs.declared.asking.Refusal.{Refusal}
+use Rattle.acct_desk.specs.declared.asking.Refusal.TheVariants as refusal
+use Rattle.acct_desk.specs.Request.{IsHeadOf, reach_of, reach_of_fields, fields_of, values_of}
+use Rattle.acct_desk.specs.Routes.{endpoint_of, method_of}
+use Rattle.acct_desk.specs.Keys.{role_at}
+use Rattle.acct_desk.specs.TopUpBodies.{topup_of_value}
+
+-- what a request asks: nothing that the desk takes, a page of the key's account, the accounts that are over, or a top-up
+pub data Ask : Type 0 where
+  refused : Refusal → Ask
+  me : Page → List ℕ → Ask
+  overruns : Ask
+  credit : TopUpFacts → Ask
+
+-- the body as JSON
+abbrev pub json_of : List ℕ → Option Data
+json_of body = if is_utf8 body then json.read body else None
+
+abbrev pub ask_of_topup : Option TopUpFacts → Ask
+ask_of_topup None = refused refusal.BadTopUp
+ask_of_topup (Some topup) = credit topup
+
+abbrev pub ask_of_json : Option Data → ℕ → Ask
+ask_of_json None moment = refused refusal.BadRequest
+ask_of_json (Some value) moment = ask_of_topup (topup_of_value value moment)
+
+-- what a bearer of this role asks at this endpoint
+abbrev pub ask_of_role : Endpoint → Role → List ℕ → ℕ → Ask
+ask_of_role Balance (Account account) body moment = me page.Balance account
+ask_of_role Balance Cashier body moment = refused refusal.NotAllowed
+ask_of_role Sessions (Account account) body moment = me page.Sessions account
+ask_of_role Sessions Cashier body moment = refused refusal.NotAllowed
+ask_of_role MyTopUps (Account account) body moment = me page.TopUps account
+ask_of_role MyTopUps Cashier body moment = refused refusal.NotAllowed
+ask_of_role TopUps (Account account) body moment = refused refusal.NotAllowed
+ask_of_role TopUps Cashier body moment = ask_of_json (json_of body) moment
+ask_of_role Overruns (Account account) body moment = refused refusal.NotAllowed
+ask_of_role Overruns Cashier body moment = overruns
+
+abbrev pub ask_of_key : Endpoint → Option Role → List ℕ → ℕ → Ask
+ask_of_key endpoint None body moment = refused refusal.NoKey
+ask_of_key endpoint (Some role) body moment = ask_of_role endpoint role body moment
+
+abbrev pub ask_of_endpoint : Option Endpoint → List ℕ → Option Role → List ℕ → ℕ → Ask
+ask_of_endpoint None method role body moment = refused refusal.NoPath
+ask_of_endpoint (Some endpoint) method role body moment =
+    if bytes_eq method (method_of endpoint) then ask_of_key endpoint role body moment
+    else refused (refusal.WrongMethod endpoint)
+
+-- the path of a target: up to its first `?`
+abbrev pub path_of : List ℕ → List ℕ
+path_of target = before_first (λ octet. octet == 63) target
+
+-- the role of the key whose token is the first value of Desk-Key
+abbrev pub role_of_fields : List DeskKey → List (List ℕ × List ℕ) → Option Role
+role_of_fields keys fields = option_and_then (λ token. role_at token keys) (slice_get (values_of (codes "desk-key") fields) 0)
+
+abbrev pub ask_of_reach : Reach → (ℕ → Ask) → Ask
+ask_of_reach More next = refused refusal.BadRequest
+ask_of_reach Bad next = refused refusal.BadRequest
+ask_of_reach TooLarge next = refused refusal.TooLarge
+ask_of_reach (Whole end) next = next end
+
+-- what a request asks that begins with a head of this length, target, method and fields
+abbrev pub ask_of_fields : List DeskKey → List ℕ → ℕ → ℕ → List ℕ → List ℕ → List (List ℕ × List ℕ) → Ask
+ask_of_fields keys request moment head target method fields =
+    ask_of_reach (reach_of_fields head (length request) fields) (λ end.
+      ask_of_endpoint (endpoint_of (path_of target)) method (role_of_fields keys fields) (slice_range request head end) moment)
+
+-- what the octets ask that begin with this head, or with none
+abbrev pub ask_of : List DeskKey → List ℕ → ℕ → Option RequestHead → Ask
+ask_of keys request moment None = ask_of_reach (reach_of None (length request)) (λ _. refused refusal.BadRequest)
+ask_of keys request moment (Some head) =
+    ask_of_fields keys request moment (length (print_request head)) head.target head.method (fields_of head)
+
+-- the octets of a request ask this of a desk with these keys, at this moment
+abbrev pub Asks : List DeskKey → List ℕ → ℕ → Ask → Type 0
+Asks keys request moment ask = (head : Option RequestHead) × IsHeadOf request head × (ask ≡ ask_of keys request moment head)

@@ -1,0 +1,216 @@
+//! What a request asks.
+ghost use Rattle.std.specs.Prelude.{◌≡◌, ◌≤◌, ◌<◌, ◌^◌, IfOk, IsUtf8, All, length, map, None};
+ghost use Rattle.std.specs.Option.{option_copied};
+ghost use Rattle.httparse.specs.Spans.{IsHeaderWithin, IsWithin, span_bytes, header_bytes};
+ghost use Rattle.acct_desk.specs.Request.{reach_of};
+ghost use Rattle.acct_desk.specs.Routes.{endpoint_of};
+ghost use Rattle.acct_desk.specs.Asks.{Ask as Asked, json_of, ask_of_json, ask_of_role, ask_of_endpoint, path_of, role_of_fields, ask_of_fields, ask_of_reach, refused, Asks};
+ghost use Rattle.acct_desk.specs.AskView.{ask_view};
+
+use crate::framing::{HEAD_LIMIT, Reach, front_of, reach_by_fields};
+use crate::head::{FIELD_LIMIT, head_of, values_named};
+use crate::keys::{Keys, Role};
+use crate::routes::{Endpoint, method_text};
+use crate::top_up_body::{BodyError, topup_of_body};
+use acct_model::{NoMemory, TopUp};
+use httparse::spans::{EMPTY_HEADER_SPAN, HeaderSpan, RequestSpans};
+use std::alloc::Global;
+
+// Why a request is refused, whatever the book says.
+#[derive(Clone, Copy, Debug, PartialEq, Eq)]
+pub(crate) enum Refusal {
+    BadRequest,
+    TooLarge,
+    NoPath,
+    WrongMethod(Endpoint),
+    NoKey,
+    NotAllowed,
+    BadTopUp,
+}
+
+// What an account may see of itself.
+#[derive(Clone, Copy, Debug, PartialEq, Eq)]
+pub(crate) enum Page {
+    Balance,
+    Sessions,
+    TopUps,
+}
+
+// What a request asks.
+#[derive(Drop)]
+pub(crate) enum Ask<'k> {
+    // Nothing of the book.
+    Refused(Refusal),
+    // A page of the account of its key.
+    Me(Page, &'k [u8]),
+    // The accounts that are over.
+    Overruns,
+    // To credit a voucher.
+    Credit(TopUp),
+}
+
+// What the octets of a request ask.
+pub(crate) fn ask_of_octets<'k>(
+    alloc: Global,
+    keys: &'k Keys,
+    request: &[u8],
+    moment: u64,
+) -> Result<Ask<'k>, NoMemory>
+    requires { moment < 2 ^ 53 }
+    ensures asks { IfOk result (λ ask. Asks keys.now request.now moment (ask_view ask)) }
+    ensures some { (ask : Asked) × Asks keys.now request.now moment ask }
+{
+    let front = front_of(request);
+    let mut headers = [EMPTY_HEADER_SPAN; FIELD_LIMIT];
+    let Some(spans) = head_of(front, &mut headers) else {
+        return Ok(Ask::Refused(refusal_of_length(request.len())));
+    };
+    ask_of_spans(
+        alloc,
+        keys,
+        request,
+        front,
+        spans,
+        &headers[..spans.headers],
+        moment,
+    )
+}
+
+// Why so many octets without a head are refused.
+fn refusal_of_length(there: usize) -> Refusal
+    ensures { ask_of_reach (reach_of None there) (λ _. refused Refusal.BadRequest) ≡ refused result }
+{
+    if there < HEAD_LIMIT {
+        Refusal::BadRequest
+    } else {
+        Refusal::TooLarge
+    }
+}
+
+// What a request asks whose head has these spans.
+fn ask_of_spans<'k>(
+    alloc: Global,
+    keys: &'k Keys,
+    request: &[u8],
+    front: &[u8],
+    spans: RequestSpans,
+    headers: &[HeaderSpan],
+    moment: u64,
+) -> Result<Ask<'k>, NoMemory>
+    requires fields { All (IsHeaderWithin (length front.now)) headers.now }
+    requires method { IsWithin (length front.now) spans.method }
+    requires path { IsWithin (length front.now) spans.path }
+    requires target { IsUtf8 (span_bytes front.now spans.path) }
+    requires short { spans.len ≤ 8192 }
+    requires bounded { moment < 2 ^ 53 }
+    ensures { IfOk result (λ ask. ask_view ask ≡ ask_of_fields keys.now request.now moment
+        spans.len (span_bytes front.now spans.path) (span_bytes front.now spans.method)
+        (map (header_bytes front.now) headers.now)) }
+{
+    match reach_by_fields(front, headers, spans.len, request.len()) {
+        Reach::More | Reach::Bad => Ok(Ask::Refused(Refusal::BadRequest)),
+        Reach::TooLarge => Ok(Ask::Refused(Refusal::TooLarge)),
+        Reach::Whole(end) => {
+            let endpoint = endpoint_of_target(keys, spans.path.of(front));
+            let role = role_of_fields(keys, front, headers);
+            let body = &request[spans.len..end];
+            ask_of_parts(
+                alloc,
+                endpoint,
+                spans.method.of(front),
+                role,
+                body,
+                moment,
+            )
+        }
+    }
+}
+
+// What stands at the path of a target.
+fn endpoint_of_target(keys: &Keys, target: &[u8]) -> Option<Endpoint>
+    requires { IsUtf8 target.now }
+    ensures { result ≡ endpoint_of (path_of target.now) }
+{
+    match str::from_utf8(target) {
+        Ok(target) => keys.endpoint_at(path_part(target)),
+        Err(_) => unreachable!(),
+    }
+}
+
+// The path of a target.
+fn path_part(target: &str) -> &str
+    ensures { result.now ≡ path_of target.now }
+{
+    match target.split_once('?') {
+        Some((path, _)) => path,
+        None => target,
+    }
+}
+
+// What the first Desk-Key lets its bearer do.
+fn role_of_fields<'k>(keys: &'k Keys, front: &[u8], headers: &[HeaderSpan]) -> Option<&'k Role>
+    requires { All (IsHeaderWithin (length front.now)) headers.now }
+    ensures { option_copied result ≡ role_of_fields keys.now (map (header_bytes front.now) headers.now) }
+{
+    let token = values_named(front, headers, "desk-key").first?;
+    keys.role_of(token)
+}
+
+// What a request with this endpoint, method, role and body asks.
+fn ask_of_parts<'k>(
+    alloc: Global,
+    endpoint: Option<Endpoint>,
+    method: &[u8],
+    role: Option<&'k Role>,
+    body: &[u8],
+    moment: u64,
+) -> Result<Ask<'k>, NoMemory>
+    requires { moment < 2 ^ 53 }
+    ensures { IfOk result (λ ask. ask_view ask
+        ≡ ask_of_endpoint endpoint method.now (option_copied role.entry) body.now moment) }
+{
+    let Some(endpoint) = endpoint else {
+        return Ok(Ask::Refused(Refusal::NoPath));
+    };
+    if method != method_text(endpoint).as_bytes() {
+        return Ok(Ask::Refused(Refusal::WrongMethod(endpoint)));
+    }
+    match role {
+        None => Ok(Ask::Refused(Refusal::NoKey)),
+        Some(role) => ask_of_role(alloc, endpoint, role, body, moment),
+    }
+}
+
+// What a bearer of this role asks.
+fn ask_of_role<'k>(
+    alloc: Global,
+    endpoint: Endpoint,
+    role: &'k Role,
+    body: &[u8],
+    moment: u64,
+) -> Result<Ask<'k>, NoMemory>
+    requires { moment < 2 ^ 53 }
+    ensures { IfOk result (λ ask. ask_view ask ≡ ask_of_role endpoint role.now body.now moment) }
+{
+    match (endpoint, role) {
+        (Endpoint::Balance, Role::Account(account)) => Ok(Ask::Me(Page::Balance, account.as_slice())),
+        (Endpoint::Sessions, Role::Account(account)) => Ok(Ask::Me(Page::Sessions, account.as_slice())),
+        (Endpoint::MyTopUps, Role::Account(account)) => Ok(Ask::Me(Page::TopUps, account.as_slice())),
+        (Endpoint::Overruns, Role::Cashier) => Ok(Ask::Overruns),
+        (Endpoint::TopUps, Role::Cashier) => ask_of_post(alloc, body, moment),
+        _ => Ok(Ask::Refused(Refusal::NotAllowed)),
+    }
+}
+
+// What a POST of this body asks.
+fn ask_of_post<'k>(alloc: Global, body: &[u8], moment: u64) -> Result<Ask<'k>, NoMemory>
+    requires { moment < 2 ^ 53 }
+    ensures { IfOk result (λ ask. ask_view ask ≡ ask_of_json (json_of body.now) moment) }
+{
+    match topup_of_body(alloc, body, moment) {
+        Ok(topup) => Ok(Ask::Credit(topup)),
+        Err(BodyError::NotJson) => Ok(Ask::Refused(Refusal::BadRequest)),
+        Err(BodyError::NoTopUp) => Ok(Ask::Refused(Refusal::BadTopUp)),
+        Err(BodyError::Memory) => Err(NoMemory),
+    }
+}
