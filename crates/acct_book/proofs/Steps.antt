@@ -12,6 +12,7 @@ use Rattle.acct_model.specs.Vouchers.{TopUpFacts}
 use Rattle.acct_model.specs.Plans.{plan_for, price_under}
 use Rattle.acct_model.specs.History.{session_of, reports, first_of, greatest_total, is_owner, plan_of, charge_of, share, all_topups, topup_of, balance_of, is_known, InRange, Agrees, Admissible}
 use Rattle.acct_model.proofs.Same.{Decides-bytes_eq}
+use Rattle.acct_model.proofs.TopUps.{Agrees-fresh}
 use Rattle.acct_model.proofs.Balances.{reports-own, first_of-none, balance-report, balance-report-other, balance-topup, balance-topup-other}
 use Rattle.acct_model.proofs.Known.{is_known-report, is_known-topup, balance-unknown}
 use Rattle.acct_book.specs.declared.key.Key.{Key}
@@ -207,23 +208,6 @@ report_over plans c history r st over =
 abbrev by_number : List ℕ → List TopUpFacts → List TopUpFacts
 by_number number ts = filter (λ t. bytes_eq number t.voucher) ts
 
-or_none : (o : Option TopUpFacts) (t : TopUpFacts) → option_or o (Some t) ≡ None → ⊥
-or_none None t e = cc
-or_none (Some u) t e = cc
-
-older_none : (t : TopUpFacts) (ts : List TopUpFacts) (b : Bool) → first_of (cond b (t ∷ ts) ts) ≡ None → (b ≡ false) × (first_of ts ≡ None)
-older_none t ts true e = absurd (or_none (first_of ts) t e)
-older_none t ts false e = (refl, e)
-
--- a number that isn't kept agrees with each top-up
-pub no_other : (history : List Entry) (t : TopUpFacts) → topup_of history t.voucher ≡ None → Agrees history t
-no_other [] t h = tt
-no_other (entry.Report r ∷ older) t h = no_other older t h
-no_other (entry.Restart r ∷ older) t h = no_other older t h
-no_other (entry.TopUp u ∷ older) t h =
-    let none = older_none u (by_number t.voucher (all_topups older)) (bytes_eq t.voucher u.voucher) h in
-    ((λ is. absurd (true≢false (sym ((Decides-bytes_eq t.voucher u.voucher).1 (sym is)) ∙ none.0))), no_other older t none.1)
-
 -- the first top-up by each number, after one by a number that isn't kept
 topups_at : (history : List Entry) (t : TopUpFacts) (n : List ℕ) (b : Bool) → topup_of history t.voucher ≡ None → bytes_eq t.voucher n ≡ b → bytes_eq n t.voucher ≡ b
     → cond b (Some t) (topup_of history n) ≡ first_of (cond b (t ∷ by_number n (all_topups history)) (by_number n (all_topups history)))
@@ -262,7 +246,7 @@ topup_new plans c history t st none fits =
       topups = λ n. ap (λ o. cond (bytes_eq t.voucher n) (Some t) o) (st.topups n) ∙ topups_after history t n h;
       in_range = λ a. range_at plans history next a m (test a) (own a) (other a) fits (st.in_range a);
     } in
-    record { admissible = record { agrees = no_other history t h; in_range = stands.in_range }; fresh = h; stands = stands }
+    record { admissible = record { agrees = Agrees-fresh history t h; in_range = stands.in_range }; fresh = h; stands = stands }
 
 pub topup_over : (plans : List Plan) (c : Content) (history : List Entry) (t : TopUpFacts) → Stands plans c history → c.topups t.voucher ≡ None → (InRange (kept_balance c t.account +ℤ pos t.sum) → ⊥)
     → IsOverLimit plans history (entry.TopUp t) (kept_balance c t.account)

@@ -1,6 +1,7 @@
 //! Laws of books, as functions without effect.
 ghost use Rattle.std.specs.Prelude.{ℕ, ◌≡◌, ◌↔◌, List, []};
 ghost use Rattle.acct_model.specs.declared.plan.Plan.{Plan};
+ghost use Rattle.acct_model.specs.Agreement.{BalancesAgree};
 ghost use Rattle.acct_book.specs.Content.{Content, empty_content};
 ghost use Rattle.acct_model.specs.declared.entry.Entry.{Entry};
 ghost use Rattle.acct_book.specs.Laws.{RowsAreOfReports};
@@ -43,6 +44,13 @@ pub fn rows_are_of_reports()
 /// order.
 pub fn walks_meet_all()
     ensures { (content : Content) → WalksMeetAll content }
+{}
+
+/// Order and repetition: the same claims, in whatever order, with whatever repeats, delays and
+/// restarts between them, give the same balances. A claim is what an entry says that a balance
+/// depends on: a report's session, user, class and octets, a top-up's number, account and sum.
+pub fn balances_agree()
+    ensures { BalancesAgree }
 {}
 
 /// An accepted report of a session that another account owns, and an accepted top-up to another account, leave the part of an account as
