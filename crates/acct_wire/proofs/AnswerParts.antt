@@ -1,5 +1,6 @@
 -- What an answer says, put together from what its parts say.
-use Rattle.std.proofs.Common.{◌≡◌, ◌≢◌, ℕ, ◌+◌, ◌≤◌, ◌⊎◌, inl, inr, ⊎_elim, List, ◌∷◌, ◌++◌, length, drop, refl, sym, ap, ◌∙◌, subst}
+use Rattle.std.proofs.Common.{◌≡◌, ◌≢◌, ℕ, ◌+◌, ◌≤◌, ◌⊎◌, inl, inr, ⊎_elim, List, ◌∷◌, ◌++◌, length}
+use Rattle.std.proofs.Common.{drop, refl, sym, ap, ◌∙◌, subst}
 use Rattle.std.specs.Prelude.{Some, None, Result, Ok, Err}
 use Rattle.radius_codec.specs.Attributes.{spellings}
 use Rattle.radius_codec.specs.Packet.{proxy_states, reply_octets}
@@ -20,11 +21,13 @@ use Rattle.acct_book.specs.Step.{IsStep}
 use Rattle.acct_book.proofs.StepLemmas.{step_none, IsStep-map}
 use Rattle.acct_wire.specs.declared.client.Client.{Client}
 use Rattle.acct_wire.specs.declared.reason.Reason.{Reason}
-use Rattle.acct_wire.specs.declared.reason.Reason.TheVariants.{UnknownClient, BalanceLimit, Unavailable}
+use Rattle.acct_wire.specs.declared.reason.Reason.TheVariants.{UnknownClient, BalanceLimit}
+use Rattle.acct_wire.specs.declared.reason.Reason.TheVariants.{Unavailable}
 use Rattle.acct_wire.specs.declared.answering.Outcome.{Outcome}
 use Rattle.acct_wire.specs.declared.answering.Outcome.TheVariants.{Reply, Drop}
 use Rattle.acct_wire.specs.Clients.{client_at}
-use Rattle.acct_wire.specs.Datagrams.{IsRequest, IsSpelled, BreaksFirst, Breaks, Asks, AsksFor, IsAsking, reason_of, RefusesAs}
+use Rattle.acct_wire.specs.Datagrams.{IsRequest, IsSpelled, BreaksFirst, Breaks, Asks, AsksFor}
+use Rattle.acct_wire.specs.Datagrams.{IsAsking, reason_of, RefusesAs}
 use Rattle.acct_wire.specs.Outcomes.{IsOfBook, Judges, IsTold, IsDrop, Steps}
 
 -- ---- the datagram alone
@@ -137,8 +140,8 @@ limit_step clients plans source bytes moment content is_sound is_open is_steady 
     (λ _ clash. let no : Err (failed.BalanceLimit balance) ≡ Err failed.Unavailable = sym is ∙ clash in cc)
     (λ _ clash. let no : Err (failed.BalanceLimit balance) ≡ Ok New = sym is ∙ clash in cc)
     (λ history after tells.
-        let told = subst (λ r. Tells plans history asked r after) is tells in
-        (told.1, λ _. (asked, asks, λ admissible. told.0.out_of_range (admissible.in_range told.0.account))))
+    let told = subst (λ r. Tells plans history asked r after) is tells in
+    (told.1, λ _. (asked, asks, λ admissible. told.0.out_of_range (admissible.in_range told.0.account))))
     (λ e same. subst (AsksFor clients source bytes moment) (sym same) asks)
 
 -- its entry was not recorded

@@ -1,5 +1,6 @@
 -- Why a datagram asks for one entry.
-use Rattle.std.proofs.Common.{◌≡◌, ℕ, Bool, true, false, ◌||◌, List, ◌∷◌, ◌++◌, drop, refl, sym, ◌∙◌, ap, subst, arith}
+use Rattle.std.proofs.Common.{◌≡◌, ℕ, Bool, true, false, ◌||◌, List, ◌∷◌, ◌++◌, drop, refl, sym}
+use Rattle.std.proofs.Common.{◌∙◌, ap, subst, arith}
 use Rattle.std.specs.Prelude.{Option, Some, None, IsTrue, slice_index, ◌==◌}
 use Rattle.std.proofs.lemmas.Bool.Decides.{nat_tests}
 use Rattle.radius_codec.specs.Packet.{front_of}
@@ -8,7 +9,8 @@ use Rattle.radius_codec.proofs.Spelling.{append_parts, Spells_one, Spells-framed
 use Rattle.acct_model.specs.declared.entry.Entry.{Entry}
 use Rattle.acct_model.specs.declared.entry.Entry.TheVariants as entries
 use Rattle.acct_model.specs.declared.report.ReportKind.{ReportKind}
-use Rattle.acct_model.specs.Entries.{Attributes, status_of, kind_of, is_restart, report_of, IsEntryOf}
+use Rattle.acct_model.specs.Entries.{Attributes, status_of, kind_of, is_restart, report_of}
+use Rattle.acct_model.specs.Entries.{IsEntryOf}
 use Rattle.acct_wire.specs.declared.client.Client.{Client}
 use Rattle.acct_wire.specs.Datagrams.{Asks}
 use Rattle.acct_wire.specs.Laws.{OneEntryIsAsked}

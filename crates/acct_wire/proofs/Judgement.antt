@@ -1,5 +1,7 @@
--- A datagram has one judgement: the rules that its bytes keep before the first that they break are counted.
-use Rattle.std.proofs.Common.{◌≡◌, ◌⊎◌, inl, inr, ℕ, zero, suc, ◌+◌, ◌-◌, ◌<◌, ◌≤◌, Option, List, length, drop, refl, sym, ◌∙◌, ap, subst, arith}
+-- A datagram has one judgement: the rules that its bytes keep before the first that they break are
+-- counted.
+use Rattle.std.proofs.Common.{◌≡◌, ◌⊎◌, inl, inr, ℕ, zero, suc, ◌+◌, ◌-◌, ◌<◌, ◌≤◌, Option, List}
+use Rattle.std.proofs.Common.{length, drop, refl, sym, ◌∙◌, ap, subst, arith}
 use Rattle.std.proofs.lemmas.Bool.{cases_order}
 use Rattle.std.specs.Prelude.{Some, None, slice_index}
 use Rattle.radius_codec.specs.Attributes.{Spells}
@@ -10,9 +12,16 @@ use Rattle.acct_model.specs.declared.reading.EntryError.TheVariants as entry
 use Rattle.acct_model.specs.Entries.{Attributes, refusal_of}
 use Rattle.acct_wire.specs.declared.client.Client.{Client}
 use Rattle.acct_wire.specs.declared.reason.Reason.{Reason}
-use Rattle.acct_wire.specs.declared.reason.Reason.TheVariants.{UnknownClient, TooShort, BadLength, WrongCode, BadAuthenticator, BadAttribute, NoStatus, UnknownStatus, NoSessionId, BadField, TotalTooLarge, BalanceLimit, Unavailable}
+use Rattle.acct_wire.specs.declared.reason.Reason.TheVariants.{UnknownClient, TooShort, BadLength}
+use Rattle.acct_wire.specs.declared.reason.Reason.TheVariants.{WrongCode, BadAuthenticator}
+use Rattle.acct_wire.specs.declared.reason.Reason.TheVariants.{BadAttribute, NoStatus}
+use Rattle.acct_wire.specs.declared.reason.Reason.TheVariants.{UnknownStatus, NoSessionId, BadField}
+use Rattle.acct_wire.specs.declared.reason.Reason.TheVariants.{TotalTooLarge, BalanceLimit}
+use Rattle.acct_wire.specs.declared.reason.Reason.TheVariants.{Unavailable}
 use Rattle.acct_wire.specs.Clients.{client_at}
-use Rattle.acct_wire.specs.Datagrams.{IsRequest, BeginsFront, BeginsRequest, BeginsSigned, IsMisspelled, IsSpelled, BreaksFirst, IsBroken, IsAsking, reason_of}
+use Rattle.acct_wire.specs.Datagrams.{IsRequest, BeginsFront, BeginsRequest, BeginsSigned}
+use Rattle.acct_wire.specs.Datagrams.{IsMisspelled, IsSpelled, BreaksFirst, IsBroken, IsAsking}
+use Rattle.acct_wire.specs.Datagrams.{reason_of}
 use Rattle.acct_wire.specs.Laws.{OneRuleIsBrokenFirst, AskingBreaksNone}
 
 -- some attributes are spelled behind a signed request's first twenty octets

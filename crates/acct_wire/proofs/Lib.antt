@@ -4,3 +4,5 @@ pub mod AnswerParts
 pub mod Judgement
 -- why it asks for one entry
 pub mod Asked
+-- why no two clients share a name or an address
+pub mod ClientLaws

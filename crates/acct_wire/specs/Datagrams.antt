@@ -1,4 +1,5 @@
--- How a datagram is judged: the first rule that it breaks, or the entry that it asks to be recorded.
+-- How a datagram is judged: the first rule that it breaks, or the entry that it asks to be
+-- recorded.
 use Rattle.std.specs.Prelude.{◌≡◌, ◌≢◌, ◌⊎◌, ℕ, ◌≤◌, List, length, drop, slice_index, Some, None}
 use Rattle.radius_codec.specs.Attributes.{Spells}
 use Rattle.radius_codec.specs.Packet.{HasFront, front_of, Framed, IsFrontFault, IsSigned}
@@ -9,11 +10,18 @@ use Rattle.acct_model.specs.declared.reading.EntryError.TheVariants as entry
 use Rattle.acct_model.specs.Entries.{Attributes, refusal_of, Refuses, IsEntryOf}
 use Rattle.acct_wire.specs.declared.client.Client.{Client}
 use Rattle.acct_wire.specs.declared.reason.Reason.{Reason}
-use Rattle.acct_wire.specs.declared.reason.Reason.TheVariants.{UnknownClient, TooShort, BadLength, WrongCode, BadAuthenticator, BadAttribute, NoStatus, UnknownStatus, NoSessionId, BadField, TotalTooLarge, BalanceLimit, Unavailable}
+use Rattle.acct_wire.specs.declared.reason.Reason.TheVariants.{UnknownClient, TooShort, BadLength}
+use Rattle.acct_wire.specs.declared.reason.Reason.TheVariants.{WrongCode, BadAuthenticator}
+use Rattle.acct_wire.specs.declared.reason.Reason.TheVariants.{BadAttribute, NoStatus}
+use Rattle.acct_wire.specs.declared.reason.Reason.TheVariants.{UnknownStatus, NoSessionId, BadField}
+use Rattle.acct_wire.specs.declared.reason.Reason.TheVariants.{TotalTooLarge, BalanceLimit}
+use Rattle.acct_wire.specs.declared.reason.Reason.TheVariants.{Unavailable}
 use Rattle.acct_wire.specs.Clients.{client_at}
 
--- The bytes begin with an Accounting-Request of this identifier, authenticator and list of attributes, signed with the secret (RFC 2866, section 3).
-pub record IsRequest (secret bytes : List ℕ) (identifier : ℕ) (authenticator : List ℕ) (attributes : Attributes) : Type 0 where
+-- The bytes begin with an Accounting-Request of this identifier, authenticator and list of
+-- attributes, signed with the secret (RFC 2866, section 3).
+pub record IsRequest (secret bytes : List ℕ) (identifier : ℕ) (authenticator : List ℕ)
+    (attributes : Attributes) : Type 0 where
   pub framed : Framed bytes 4 identifier authenticator attributes
   pub signed : IsSigned (front_of bytes) secret
 
@@ -36,7 +44,8 @@ pub record BeginsSigned (secret bytes : List ℕ) : Type 0 where
 abbrev pub IsMisspelled : List ℕ → List ℕ → EntryError → Type 0
 IsMisspelled secret bytes error =
     (identifier : ℕ) × (authenticator : List ℕ) × (attributes : Attributes)
-    × IsRequest secret bytes identifier authenticator attributes × (refusal_of attributes ≡ Some error)
+    × IsRequest secret bytes identifier authenticator attributes
+    × (refusal_of attributes ≡ Some error)
 
 -- a signed request whose attributes spell an entry
 abbrev pub IsSpelled : List ℕ → List ℕ → Type 0
@@ -44,15 +53,18 @@ IsSpelled secret bytes =
     (identifier : ℕ) × (authenticator : List ℕ) × (attributes : Attributes)
     × IsRequest secret bytes identifier authenticator attributes × (refusal_of attributes ≡ None)
 
--- The first rule that the bytes of a client with this secret break: each line says that they keep all those above it. The reasons that are no
--- rule of the bytes are broken by none.
+-- The first rule that the bytes of a client with this secret break: each line says that they keep
+-- all those above it. The reasons that are no rule of the bytes are broken by none.
 abbrev pub BreaksFirst : List ℕ → List ℕ → Reason → Type 0
 BreaksFirst secret bytes UnknownClient = ⊥
 BreaksFirst secret bytes TooShort = IsFrontFault bytes codec.TooShort
 BreaksFirst secret bytes BadLength = IsFrontFault bytes codec.BadLength
 BreaksFirst secret bytes WrongCode = BeginsFront bytes × (slice_index (front_of bytes) 0 ≢ 4)
-BreaksFirst secret bytes BadAuthenticator = BeginsRequest bytes × (IsSigned (front_of bytes) secret → ⊥)
-BreaksFirst secret bytes BadAttribute = BeginsSigned secret bytes × ((attributes : Attributes) → Spells (drop 20 (front_of bytes)) attributes → ⊥)
+BreaksFirst secret bytes BadAuthenticator =
+    BeginsRequest bytes × (IsSigned (front_of bytes) secret → ⊥)
+BreaksFirst secret bytes BadAttribute =
+    BeginsSigned secret bytes
+    × ((attributes : Attributes) → Spells (drop 20 (front_of bytes)) attributes → ⊥)
 BreaksFirst secret bytes NoStatus = IsMisspelled secret bytes entry.NoStatus
 BreaksFirst secret bytes UnknownStatus = IsMisspelled secret bytes entry.UnknownStatus
 BreaksFirst secret bytes NoSessionId = IsMisspelled secret bytes entry.NoSessionId
@@ -63,7 +75,10 @@ BreaksFirst secret bytes Unavailable = ⊥
 
 -- the source is a client's, and the bytes break this rule first
 abbrev pub IsBroken : List Client → List ℕ → List ℕ → Reason → Type 0
-IsBroken clients source bytes reason = (client : Client) × (client_at source clients ≡ Some client) × BreaksFirst client.secret bytes reason
+IsBroken clients source bytes reason =
+    (client : Client)
+    × (client_at source clients ≡ Some client)
+    × BreaksFirst client.secret bytes reason
 
 -- the first rule that a datagram breaks: its source is no client's, or its bytes break one
 abbrev pub Breaks : List Client → List ℕ → List ℕ → Reason → Type 0
@@ -72,7 +87,9 @@ Breaks clients source bytes reason =
     ⊎ IsBroken clients source bytes reason
 
 -- The datagram is a client's signed request that spells this entry.
-pub record Asks (clients : List Client) (source bytes : List ℕ) (moment : ℕ) (client : Client) (identifier : ℕ) (authenticator : List ℕ) (attributes : Attributes) (asked : Entry) : Type 0 where
+pub record Asks (clients : List Client) (source bytes : List ℕ) (moment : ℕ) (client : Client)
+    (identifier : ℕ) (authenticator : List ℕ) (attributes : Attributes) (asked : Entry)
+    : Type 0 where
   pub known : client_at source clients ≡ Some client
   pub request : IsRequest client.secret bytes identifier authenticator attributes
   pub faultless : refusal_of attributes ≡ None
@@ -80,7 +97,7 @@ pub record Asks (clients : List Client) (source bytes : List ℕ) (moment : ℕ)
 
 -- The datagram asks for this entry: it is some client's signed request that spells it.
 pub record AsksFor (clients : List Client) (source bytes : List ℕ) (moment : ℕ) (asked : Entry)
-  : Type 0 where
+    : Type 0 where
   pub client : Client
   pub identifier : ℕ
   pub authenticator : List ℕ

@@ -1,9 +1,11 @@
--- A law of how datagrams are judged.
-use Rattle.std.specs.Prelude.{◌≡◌, ℕ, List}
+-- Laws of how datagrams are judged, and of the clients of a site.
+use Rattle.std.specs.Prelude.{◌≡◌, ◌≢◌, ℕ, List, None}
+use Rattle.std.specs.List.{AllPairs}
 use Rattle.acct_model.specs.declared.entry.Entry.{Entry}
 use Rattle.acct_model.specs.Entries.{Attributes}
 use Rattle.acct_wire.specs.declared.client.Client.{Client}
 use Rattle.acct_wire.specs.declared.reason.Reason.{Reason}
+use Rattle.acct_wire.specs.ClientFaults.{fault_of}
 use Rattle.acct_wire.specs.Datagrams.{Breaks, Asks, IsAsking}
 
 -- no datagram breaks two rules first
@@ -18,6 +20,13 @@ AskingBreaksNone = (clients : List Client) (source bytes : List ℕ) (reason : R
 
 -- a datagram asks for one entry, by one request of one client
 abbrev pub OneEntryIsAsked : Type 0
-OneEntryIsAsked = (clients : List Client) (source bytes : List ℕ) (moment : ℕ) (c d : Client) (i j : ℕ) (a b : List ℕ) (ps qs : Attributes) (one other : Entry)
-    → Asks clients source bytes moment c i a ps one → Asks clients source bytes moment d j b qs other
+OneEntryIsAsked = (clients : List Client) (source bytes : List ℕ) (moment : ℕ)
+    (c d : Client) (i j : ℕ) (a b : List ℕ) (ps qs : Attributes) (one other : Entry)
+    → Asks clients source bytes moment c i a ps one
+    → Asks clients source bytes moment d j b qs other
     → (c ≡ d) × (i ≡ j) × (a ≡ b) × (ps ≡ qs) × (one ≡ other)
+
+-- no two clients of a site share a name or an address
+abbrev pub ClientsDiffer : Type 0
+ClientsDiffer = (clients : List Client) → fault_of clients ≡ None
+    → AllPairs (λ one other. (one.name ≢ other.name) × (one.address ≢ other.address)) clients

@@ -20,8 +20,8 @@ use Rattle.acct_wire.specs.Datagrams.{Breaks, IsRequest, AsksFor, IsAsking}
 abbrev pub IsOfBook : Reason → Type 0
 IsOfBook reason = (reason ≡ BalanceLimit) ⊎ (reason ≡ Unavailable)
 
--- A reply means that the datagram asks for an entry. A drop names the first rule that is broken; the
--- two last reasons are given only where an entry is asked for.
+-- A reply means that the datagram asks for an entry. A drop names the first rule that is broken;
+-- the two last reasons are given only where an entry is asked for.
 abbrev pub Judges : List Client → List ℕ → List ℕ → Outcome → Type 0
 Judges clients source bytes (Reply size) = IsAsking clients source bytes
 Judges clients source bytes (Drop reason) =
@@ -37,7 +37,7 @@ IsDecidedAlone (Drop reason) = IsOfBook reason → ⊥
 -- The array begins with the reply to the datagram's request (RFC 2866, section 3), and is otherwise
 -- as before.
 pub record IsReplyTo (clients : List Client) (source bytes before after : List ℕ) (size : ℕ)
-  : Type 0 where
+    : Type 0 where
   pub client : Client
   pub identifier : ℕ
   pub authenticator : List ℕ
@@ -79,6 +79,6 @@ Steps clients plans source bytes moment (Reply size) history after =
 Steps clients plans source bytes moment (Drop reason) history after =
     (after ≡ history)
     × (reason ≡ BalanceLimit
-        → (asked : Entry)
-        × AsksFor clients source bytes moment asked
-        × (Admissible plans history asked → ⊥))
+    → (asked : Entry)
+    × AsksFor clients source bytes moment asked
+    × (Admissible plans history asked → ⊥))

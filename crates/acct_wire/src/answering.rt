@@ -1,7 +1,9 @@
 //! A datagram judged, recorded and answered.
 ghost use Rattle.std.specs.Prelude.{◌≡◌, ◌⊎◌, ◌≤◌, ◌<◌, ◌^◌, IfOk, IfErr};
 ghost use Rattle.acct_book.specs.Step.{IsStep};
-ghost use Rattle.acct_wire.specs.Datagrams.{IsRequest, BreaksFirst, Breaks, Asks, AsksFor, IsAsking, SpellsEntry, reason_of as reason_in, RefusesAs};
+ghost use Rattle.acct_wire.specs.Datagrams.{IsRequest, BreaksFirst, Breaks, Asks, AsksFor};
+ghost use Rattle.acct_wire.specs.Datagrams.{IsAsking, SpellsEntry, reason_of as reason_in};
+ghost use Rattle.acct_wire.specs.Datagrams.{RefusesAs};
 ghost use Rattle.acct_wire.specs.Outcomes.{Judges, IsDecidedAlone, Writes, IsTold, IsDrop, Steps};
 
 use crate::client::{Client, Clients};
@@ -23,8 +25,8 @@ pub enum Outcome {
 }
 
 /// Answers a datagram over a book whose content stands for a history under these plans: judges it,
-/// records its entry and writes the reply to the front of `out` (RFC 2866, sections 3 and 4). A reply
-/// comes only after the entry was recorded; after a drop the content and `out` are as before.
+/// records its entry and writes the reply to the front of `out` (RFC 2866, sections 3 and 4). A
+/// reply comes only after the entry was recorded; after a drop the content and `out` are as before.
 ///
 /// For a report it asks the book for one row and one balance and writes both by one call, for a
 /// restart it closes the client's sessions by one call; beyond that its cost is that of reading the
@@ -106,7 +108,8 @@ fn requested<'c, 'b>(
 
 // The signed request at the front of a datagram.
 fn request_in<'b>(secret: &[u8], bytes: &'b [u8]) -> Result<Packet<'b>, Reason>
-    ensures request { IfOk result (λ packet. IsRequest secret.now bytes.now packet.id packet.authenticator packet.attributes) }
+    ensures request { IfOk result (λ packet. IsRequest secret.now bytes.now packet.id
+        packet.authenticator packet.attributes) }
     ensures breaks { IfErr result (BreaksFirst secret.now bytes.now) }
 {
     let octets = match front(bytes) {

@@ -1,7 +1,7 @@
 //! Accounting-Requests that other programs sent, and the one right Accounting-Response to each.
 //!
-//! Each request was taken from the loopback device as hostapd 2.10, radclient 3.2.1 or pyrad 2.1 sent it. An independent dissector
-//! confirmed both authenticators under the secret `xyzzy5461`.
+//! Each request was taken from the loopback device as hostapd 2.10, radclient 3.2.1 or pyrad 2.1
+//! sent it. An independent dissector confirmed both authenticators under the secret `xyzzy5461`.
 
 // A request and its response, in octets.
 pub(crate) struct ForeignPacket {

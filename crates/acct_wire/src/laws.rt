@@ -1,9 +1,16 @@
-//! A law above the definitions: a function without effect, whose contract is the law.
+//! Laws above the definitions: functions without effect, whose contracts are the laws.
 ghost use Rattle.acct_wire.specs.Laws.{OneRuleIsBrokenFirst, AskingBreaksNone, OneEntryIsAsked};
+ghost use Rattle.acct_wire.specs.Laws.{ClientsDiffer};
 
-/// A datagram has one judgement: no two rules are the first that it breaks, and one that asks for an entry breaks none.
+/// A datagram has one judgement: no two rules are the first that it breaks, one that asks for an
+/// entry breaks none, and it asks for one entry, by one request of one client.
 pub fn one_judgement()
     ensures once { OneRuleIsBrokenFirst }
     ensures asking { AskingBreaksNone }
     ensures entry { OneEntryIsAsked }
+{}
+
+/// No two clients of a site share a name or an address.
+pub fn clients_differ()
+    ensures { ClientsDiffer }
 {}

@@ -1,10 +1,15 @@
-//! Datagrams answered: from the octets that an access server sent to the octets of the reply, over a book.
+//! Datagrams answered: from the octets that an access server sent to the octets of the reply, over
+//! a book.
 //!
-//! 1. The client is the one whose address is the datagram's source. Its secret signs the request and the reply, its name names its sessions.
-//! 2. A datagram is tested by eleven rules in their order (`Reason`, 1 to 11), and the first that it breaks drops it. These tests take no memory
-//!    and leave the book alone. No datagram breaks two rules first (`laws`).
-//! 3. The entry of a datagram that keeps them all is recorded, and only then is the reply written (RFC 2866, section 4). Writing it takes no memory.
-//! 4. An entry that would take a balance out of range is dropped (12), and so is one that the book or memory refuses (13). Nothing has changed then.
+//! 1. The client is the one whose address is the datagram's source. Its secret signs the request
+//!    and the reply, its name names its sessions.
+//! 2. A datagram is tested by eleven rules in their order (`Reason`, 1 to 11), and the first that
+//!    it breaks drops it. These tests take no memory and leave the book alone. No datagram breaks
+//!    two rules first (`laws`).
+//! 3. The entry of a datagram that keeps them all is recorded, and only then is the reply written
+//!    (RFC 2866, section 4). Writing it takes no memory.
+//! 4. An entry that would take a balance out of range is dropped (12), and so is one that the book
+//!    or memory refuses (13). Nothing has changed then.
 #![tactic(auto)]
 
 mod answering;

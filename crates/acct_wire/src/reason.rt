@@ -1,7 +1,8 @@
 //! Why a datagram is dropped.
 use thiserror::Error;
 
-/// Why a datagram is dropped, in the order in which it is tested. The number of a reason is the one that operators see.
+/// Why a datagram is dropped, in the order in which it is tested. The number of a reason is the one
+/// that operators see.
 #[derive(Clone, Copy, PartialEq, Eq, Debug, Error)]
 pub enum Reason {
     /// No client has the address that it came from (RFC 2866, section 3).

@@ -1,4 +1,5 @@
-//! Datagrams whose outcome comes from outside: worked by hand, by another MD5, or from other clients.
+//! Datagrams whose outcome comes from outside: worked by hand, by another MD5, or from other
+//! clients.
 use crate::foreign_packets::FOREIGN_PACKETS;
 use crate::sample_site::{AP1, INTERIM_UPDATE, Report, START, STOP, STRANGER, Site, client, gold};
 use crate::{ClientError, Clients, Outcome, Reason};
@@ -58,9 +59,9 @@ fn is_of_al(site: &mut Site<MemBook>) -> Result<bool, Fail> {
     Ok(row.account.as_slice() == b"al".as_slice() && row.class.as_slice().is_empty())
 }
 
-// Whether the reports of a list, over an empty book, have these outcomes, and their users these balances after each. Prices by hand:
-// `gold` costs 10 for each 1,048,576 octets, no Class 5 for each 1,000,000, `dear` 1,000,000,000 for each octet. All reports have
-// one identifier.
+// Whether the reports of a list, over an empty book, have these outcomes, and their users these
+// balances after each. Prices by hand: `gold` costs 10 for each 1,048,576 octets, no Class 5 for
+// each 1,000,000, `dear` 1,000,000,000 for each octet. All reports have one identifier.
 fn are_charged(alloc: Global, list: &[(Report<'_>, Outcome, i64)]) -> Result<bool, Fail> {
     let mut site = Site::new(alloc)?;
     for (report, outcome, balance) in list {
@@ -186,8 +187,9 @@ fn dear<'r>(session: &'r [u8], user: &'r [u8], total: u64) -> Report<'r> {
     }
 }
 
-// A report that is sent again, with the delay since its first sending (RFC 2866, section 5.2), is charged once. The row's moments are the
-// least and the greatest `moment - delay`, which is 0 where the delay is larger.
+// A report that is sent again, with the delay since its first sending (RFC 2866, section 5.2), is
+// charged once. The row's moments are the least and the greatest `moment - delay`, which is 0 where
+// the delay is larger.
 #[test]
 fn moments_are_least_and_greatest(rt: HostRuntime) -> Result<(), Fail> {
     let mut site = Site::new(rt.alloc())?;
@@ -202,7 +204,8 @@ fn moments_are_least_and_greatest(rt: HostRuntime) -> Result<(), Fail> {
     Ok(())
 }
 
-// Whether a report that is sent at a moment, under an identifier and with a delay, leaves the session these moments.
+// Whether a report that is sent at a moment, under an identifier and with a delay, leaves the
+// session these moments.
 fn has_moments(
     site: &mut Site<MemBook>,
     sent: (u64, u8, u32),
@@ -243,8 +246,8 @@ fn is_stopped(site: &mut Site<MemBook>, status: u8, cause: u32) -> Result<bool, 
     )
 }
 
-// A client's restart closes its sessions with the cause NAS Reboot (RFC 2866, section 5.10). A late report is charged and opens nothing, and
-// a Stop stops.
+// A client's restart closes its sessions with the cause NAS Reboot (RFC 2866, section 5.10). A late
+// report is charged and opens nothing, and a Stop stops.
 #[test]
 fn sessions_end(rt: HostRuntime) -> Result<(), Fail> {
     let interim: &[u8] = b"\x28\x06\0\0\0\x03\x2c\x04s2\x01\x04al\x19\x06gold\x2a\x06\0\x10\0\x01";
@@ -292,7 +295,8 @@ fn has_session(
     )
 }
 
-// The limits of RFC 2865, section 3, for the size of a datagram and its Length field. A stranger is told apart first.
+// The limits of RFC 2865, section 3, for the size of a datagram and its Length field. A stranger is
+// told apart first.
 #[test]
 fn lengths_are_judged(rt: HostRuntime) -> Result<(), Fail> {
     let mut site = Site::new(rt.alloc())?;
@@ -332,7 +336,8 @@ fn judged(
     site.answer(source, 1000, datagram.get(..size).ok_or("too large")?)
 }
 
-// Attribute octets under a right digest, each over an empty book. The numbers are RFC 2866's: section 5.1 for a status, 5.5 for a session id.
+// Attribute octets under a right digest, each over an empty book. The numbers are RFC 2866's:
+// section 5.1 for a status, 5.5 for a session id.
 #[test]
 fn attributes_are_judged(rt: HostRuntime) -> Result<(), Fail> {
     for (octets, reason) in [
@@ -354,7 +359,8 @@ fn attributes_are_judged(rt: HostRuntime) -> Result<(), Fail> {
     Ok(())
 }
 
-// What becomes of a request of these attribute octets over an empty book, which it changes only by a reply.
+// What becomes of a request of these attribute octets over an empty book, which it changes only by
+// a reply.
 fn asked_of_none(alloc: Global, octets: &[u8]) -> Result<Outcome, Fail> {
     let mut site = Site::new(alloc)?;
     let outcome = site.ask(1000, 7, octets)?;
@@ -387,7 +393,8 @@ fn totals_are_limited(rt: HostRuntime) -> Result<(), Fail> {
     Ok(())
 }
 
-// The outcome and the balance of `al` after one report: its input, gigawords of it, output and gigawords of it.
+// The outcome and the balance of `al` after one report: its input, gigawords of it, output and
+// gigawords of it.
 fn totalled(alloc: Global, totals: [&[u8]; 4]) -> Result<(Outcome, i64), Fail> {
     let attributes = [
         (40, b"\0\0\0\x03".as_slice()),
@@ -404,7 +411,8 @@ fn totalled(alloc: Global, totals: [&[u8]; 4]) -> Result<(Outcome, i64), Fail> {
     Ok((kept(&mut site, outcome)?, site.book.balance(b"al")?))
 }
 
-// RFC 2865, section 5.33: Proxy-States come back in order and unmodified. The digest is that of Python's hashlib.
+// RFC 2865, section 5.33: Proxy-States come back in order and unmodified. The digest is that of
+// Python's hashlib.
 #[test]
 fn proxy_states_come_back(rt: HostRuntime) -> Result<(), Fail> {
     let front = [
@@ -432,8 +440,9 @@ fn has_proxy_states(alloc: Global, front: &[u8], long: &[u8]) -> Result<bool, Fa
     )
 }
 
-// What other programs sent, one after the other over one book: each gets its one right response. Prices by hand: `al` has 1,048,577 octets
-// of `gold` and 10 without a Class, `wichert` 3 * 2^32 + 11 of `gold`.
+// What other programs sent, one after the other over one book: each gets its one right response.
+// Prices by hand: `al` has 1,048,577 octets of `gold` and 10 without a Class, `wichert` 3 * 2^32 +
+// 11 of `gold`.
 #[test]
 fn foreign_packets_are_answered(rt: HostRuntime) -> Result<(), Fail> {
     let mut site = Site::new(rt.alloc())?;
@@ -495,7 +504,8 @@ fn answered(alloc: Global, datagram: &[u8]) -> Result<Outcome, Fail> {
     kept(&mut site, outcome)
 }
 
-// Attributes that are cut off, under a right digest: the prefixes that end between two attributes spell some.
+// Attributes that are cut off, under a right digest: the prefixes that end between two attributes
+// spell some.
 #[test]
 fn prefixes_of_attributes(rt: HostRuntime) -> Result<(), Fail> {
     for size in 0..=START_OCTETS.len() {
@@ -510,7 +520,8 @@ fn prefixes_of_attributes(rt: HostRuntime) -> Result<(), Fail> {
     Ok(())
 }
 
-// Each octet changed in turn: the digest covers all that Length counts, and no padding (RFC 2866, section 3).
+// Each octet changed in turn: the digest covers all that Length counts, and no padding (RFC 2866,
+// section 3).
 #[test]
 fn changed_octets(rt: HostRuntime) -> Result<(), Fail> {
     for i in 0..39 {
