@@ -3,14 +3,20 @@
 ghost use Rattle.std.specs.Prelude.{◌^◌, ◌<◌};
 
 use crate::{Entry, entry_of};
-use radius_codec::{front, read, request_matches, write_request, write_response};
+use radius_codec::attribute_types::{ACCT_SESSION_ID, ACCT_STATUS_TYPE, USER_NAME};
+use radius_codec::codes::{ACCOUNTING_REQUEST, ACCOUNTING_RESPONSE};
+use radius_codec::{front, read, request_matches, response_matches, write_request, write_response};
 use std::alloc::Global;
 use std::test::Fail;
 
 const SECRET: &[u8] = b"xyzzy5461";
 
-// Acct-Status-Type Start, Acct-Session-Id `s1` and User-Name `al`.
-const START: [(u8, &[u8]); 3] = [(40, &[0, 0, 0, 1]), (44, b"s1"), (1, b"al")];
+// A Start of session `s1` by user `al`.
+const START: [(u8, &[u8]); 3] = [
+    (ACCT_STATUS_TYPE, &[0, 0, 0, 1]),
+    (ACCT_SESSION_ID, b"s1"),
+    (USER_NAME, b"al"),
+];
 
 // The session id that a client's datagram reports, and the size of the response, which is written
 // into `reply`.
@@ -23,7 +29,7 @@ fn answer(
     requires { moment < 2 ^ 53 }
 {
     let octets = front(datagram)?;
-    if octets[0] != 4 || !request_matches(octets, SECRET) {
+    if octets[0] != ACCOUNTING_REQUEST || !request_matches(octets, SECRET) {
         return Err(Fail::from("no request of a client that shares the secret"));
     }
     let packet = read(octets)?;
@@ -34,17 +40,26 @@ fn answer(
     Ok((report.session.octets, size))
 }
 
+// Whether a datagram is the response to the client's request, so that it need not be sent again.
+fn is_answered(request: &[u8], datagram: &[u8]) -> Result<bool, Fail> {
+    let sent = read(request)?;
+    let octets = front(datagram)?;
+    Ok(
+        octets[0] == ACCOUNTING_RESPONSE
+            && octets[1] == sent.id
+            && response_matches(octets, &sent.authenticator, SECRET),
+    )
+}
+
 #[test]
 fn start_is_answered(rt: HostRuntime) -> Result<(), Fail> {
     let mut request = [0; 4096];
     let size = write_request(7, &START, SECRET, &mut request)?;
-    let datagram = request.get(..size).ok_or("the size is past the array")?;
-    assert_eq!(rt; &datagram[..4], [4, 7, 0, 34].as_slice());
+    assert_eq!(rt; &request[..4], [4, 7, 0, 34].as_slice());
 
     let mut reply = [0; 4096];
-    let (session, size) = answer(rt.alloc(), datagram, 1000, &mut reply)?;
-    assert_eq!(rt; session.as_slice(), b"s1".as_slice());
-    assert_eq!(rt; size, 20);
-    assert_eq!(rt; &reply[..4], [5, 7, 0, 20].as_slice());
+    let (session, length) = answer(rt.alloc(), &request[..size], 1000, &mut reply)?;
+    assert_eq!(rt; (session.as_slice(), length), (b"s1".as_slice(), 20));
+    assert!(rt; is_answered(&request[..size], &reply)?);
     Ok(())
 }
