@@ -1,0 +1,6 @@
+pub mod Texts
+pub mod Offers
+pub mod Counting
+pub mod Halfway
+pub mod Headers
+pub mod Walking

@@ -1,0 +1,188 @@
+-- What an import does: the records of a text, what became of each, and what the book then stands for.
+use Rattle.std.specs.Prelude.{◌≡◌, ◌≢◌, ◌⊎◌, ◌+◌, ◌≤◌, ⊤, ℕ, ℤ, Bool, true, false, List, [], ◌∷◌, ◌++◌, length, count_by, Option, Some, None, IfSome, option_map, Result, Ok, Err}
+use Rattle.std.specs.Option.{option_map_or}
+use Rattle.csv.specs.Machine.{next_record}
+use Rattle.csv.specs.Reading.{AreRecords, Reached, default_config}
+use Rattle.csv.specs.declared.parser.State.{State}
+use Rattle.csv.specs.declared.parser.State.TheVariants as st
+use Rattle.acct_model.specs.declared.plan.Plan.{Plan}
+use Rattle.acct_model.specs.declared.entry.Entry.{Entry}
+use Rattle.acct_model.specs.declared.entry.Entry.TheVariants.{TopUp}
+use Rattle.acct_model.specs.Vouchers.{TopUpFacts}
+use Rattle.acct_book.specs.declared.recording.Recorded.{Recorded}
+use Rattle.acct_book.specs.declared.recording.RecordError.{RecordError}
+use Rattle.acct_book.specs.declared.recording.Recorded.TheVariants.{New, Repeat}
+use Rattle.acct_book.specs.declared.recording.RecordError.TheVariants as error
+use Rattle.acct_book.specs.Content.{Content}
+use Rattle.acct_book.specs.Outcome.{Tells, MayAdd}
+use Rattle.acct_book.specs.Stands.{Stands}
+use Rattle.acct_files.specs.declared.import_report.Cause.{Cause}
+use Rattle.acct_files.specs.declared.import_report.Cause.TheVariants.{FieldCount, BadVoucher, BadAccount, BadSum, VoucherDiffers, BalanceLimit}
+use Rattle.acct_files.specs.declared.import_report.Stopped.{Stopped}
+use Rattle.acct_files.specs.declared.import_report.Stopped.TheVariants as stop
+use Rattle.acct_files.specs.declared.import_report.Refused.{Refused}
+use Rattle.acct_files.specs.declared.import_report.ImportReport.{ImportReport}
+use Rattle.acct_files.specs.declared.import_report.Outcome.{Outcome}
+use Rattle.acct_files.specs.declared.import_report.Outcome.TheVariants as outcome
+use Rattle.acct_files.specs.declared.voucher_record.Fault.{Fault}
+use Rattle.acct_files.specs.declared.voucher_record.Fault.TheVariants as fault
+use Rattle.acct_files.specs.Vouchers.{Fields, is_header, asked_by}
+
+-- ---- one record
+
+-- a top-up is refused for this cause, and the history stays
+abbrev pub IsRefused : List Plan → List Entry → TopUpFacts → Cause → List Entry → Type 0
+IsRefused plans old topup FieldCount new = ⊥
+IsRefused plans old topup BadVoucher new = ⊥
+IsRefused plans old topup BadAccount new = ⊥
+IsRefused plans old topup BadSum new = ⊥
+IsRefused plans old topup VoucherDiffers new = (kept : TopUpFacts) × Tells plans old (TopUp topup) (Err (error.VoucherDiffers kept)) new
+IsRefused plans old topup BalanceLimit new = (balance : ℤ) × Tells plans old (TopUp topup) (Err (error.BalanceLimit balance)) new
+
+-- what becomes of a top-up, or of a record that asks for none: from a history to the history after it
+abbrev pub Becomes : List Plan → List Entry → Result TopUpFacts Cause → Outcome → List Entry → Type 0
+Becomes plans old (Ok topup) outcome.Added new = Tells plans old (TopUp topup) (Ok New) new
+Becomes plans old (Ok topup) outcome.Repeated new = Tells plans old (TopUp topup) (Ok Repeat) new
+Becomes plans old (Ok topup) (outcome.Refused cause) new = IsRefused plans old topup cause new
+Becomes plans old (Err cause) outcome.Added new = ⊥
+Becomes plans old (Err cause) outcome.Repeated new = ⊥
+Becomes plans old (Err cause) (outcome.Refused told) new = (told ≡ cause) × (new ≡ old)
+
+-- ---- record after record
+
+-- each record in its turn, from the history that the one before it left
+abbrev pub Imported : List Plan → ℕ → List Entry → List Fields → List Outcome → List Entry → Type 0
+Imported plans moment old [] [] new = new ≡ old
+Imported plans moment old (fields ∷ rows) (outcome ∷ outcomes) new =
+    (mid : List Entry) × Becomes plans old (asked_by moment fields) outcome mid × Imported plans moment mid rows outcomes new
+Imported plans moment old [] (outcome ∷ outcomes) new = ⊥
+Imported plans moment old (fields ∷ rows) [] new = ⊥
+
+abbrev pub is_added : Outcome → Bool
+is_added outcome.Added = true
+is_added outcome.Repeated = false
+is_added (outcome.Refused cause) = false
+
+abbrev pub is_repeated : Outcome → Bool
+is_repeated outcome.Added = false
+is_repeated outcome.Repeated = true
+is_repeated (outcome.Refused cause) = false
+
+abbrev pub is_refused : Outcome → Bool
+is_refused outcome.Added = false
+is_refused outcome.Repeated = false
+is_refused (outcome.Refused cause) = true
+
+-- the refused records with their numbers, of which the first record's is n
+abbrev pub refused_from : ℕ → List Outcome → List Refused
+refused_from n [] = []
+refused_from n (outcome.Added ∷ outcomes) = refused_from (n + 1) outcomes
+refused_from n (outcome.Repeated ∷ outcomes) = refused_from (n + 1) outcomes
+refused_from n (outcome.Refused cause ∷ outcomes) = record { number = n; cause = cause } ∷ refused_from (n + 1) outcomes
+
+-- the report says what became of the records, the first of which is record 2
+pub record Counts (outcomes : List Outcome) (report : ImportReport) : Type 0 where
+  pub added : report.added ≡ count_by is_added outcomes
+  pub repeated : report.repeated ≡ count_by is_repeated outcomes
+  pub refused : report.refused ≡ refused_from 2 outcomes
+
+-- ---- how far a text was read
+
+-- the header and these records begin a text
+abbrev pub Begin : List ℕ → List Fields → Type 0
+Begin text rows = (header : Fields) × (is_header header ≡ true) × (s : State) × (rest : List ℕ) × Reached default_config st.StartRecord text (header ∷ rows) s rest
+
+-- the header and these records are all of a text
+abbrev pub AreAll : List ℕ → List Fields → Type 0
+AreAll text rows = (header : Fields) × (is_header header ≡ true) × AreRecords default_config st.StartRecord text (header ∷ rows)
+
+-- whether a text's first record is there and is the header
+abbrev pub has_header : List ℕ → Bool
+has_header text = option_map_or (λ read. is_header read.0) (next_record default_config st.StartRecord [] [] text) false
+
+-- the records behind the header that were taken, by why the import stopped, if it did
+abbrev pub AreTaken : ℕ → List ℕ → Option Stopped → Option TopUpFacts → List Fields → Type 0
+AreTaken moment text None tried rows = AreAll text rows × (length rows ≤ 1000000)
+AreTaken moment text (Some stop.BadHeader) tried rows = (rows ≡ []) × (has_header text ≡ false)
+AreTaken moment text (Some stop.Unreadable) tried rows = (rows ≡ []) ⊎ Begin text rows
+AreTaken moment text (Some stop.Unavailable) tried rows =
+    (topup : TopUpFacts) × (tried ≡ Some topup) × (fields : Fields) × (asked_by moment fields ≡ Ok topup) × Begin text (rows ++ fields ∷ [])
+AreTaken moment text (Some stop.Memory) tried rows = (rows ≡ []) ⊎ Begin text rows
+AreTaken moment text (Some stop.TooMany) tried rows = (length rows ≡ 1000000) × (fields : Fields) × Begin text (rows ++ fields ∷ [])
+
+-- a top-up whose call was answered Unavailable is there only where the import stopped for it
+abbrev pub MayHaveTried : Option Stopped → Option TopUpFacts → Type 0
+MayHaveTried stopped None = ⊤
+MayHaveTried stopped (Some topup) = stopped ≡ Some stop.Unavailable
+
+-- ---- one record, or a stop at it
+
+-- what a record did: its outcome, or why the import stopped at it
+abbrev pub Did : List Plan → ℕ → List Entry → Fields → Result Outcome Stopped → Option TopUpFacts → List Entry → Type 0
+Did plans moment history fields (Ok told) tried after = (tried ≡ None) × Becomes plans history (asked_by moment fields) told after
+Did plans moment history fields (Err stop.Unavailable) tried after =
+    (after ≡ history) × (topup : TopUpFacts) × (tried ≡ Some topup) × (asked_by moment fields ≡ Ok topup)
+Did plans moment history fields (Err stop.Memory) tried after = (after ≡ history) × (tried ≡ None)
+Did plans moment history fields (Err stop.BadHeader) tried after = ⊥
+Did plans moment history fields (Err stop.Unreadable) tried after = ⊥
+Did plans moment history fields (Err stop.TooMany) tried after = ⊥
+
+-- what a fault says, as the outcome of a record or as a stop at it
+abbrev pub refused_by : Fault → Result Outcome Stopped
+refused_by (fault.Refused cause) = Ok (outcome.Refused cause)
+refused_by fault.Memory = Err stop.Memory
+
+-- what `record` answers, as the outcome of a record or as a stop at it
+abbrev pub told_by : Result Recorded RecordError → Result Outcome Stopped
+told_by (Ok New) = Ok outcome.Added
+told_by (Ok Repeat) = Ok outcome.Repeated
+told_by (Err (error.VoucherDiffers kept)) = Ok (outcome.Refused VoucherDiffers)
+told_by (Err (error.BalanceLimit balance)) = Ok (outcome.Refused BalanceLimit)
+told_by (Err error.Unavailable) = Err stop.Unavailable
+
+-- ---- the book
+
+-- the content stands for the history, or for it with the top-up whose call failed
+abbrev pub MayLeave : List Plan → List Entry → Option TopUpFacts → Content → Type 0
+MayLeave plans history None content = Stands plans content history
+MayLeave plans history (Some topup) content = Stands plans content history ⊎ MayAdd plans history (TopUp topup) content
+
+module _ {B : Type 0} (content : B → Content) (is_open : B → Type 0) (left : B → Content → Type 0) where
+  -- From a history to the one after it: the book stands for that while it is open, and a crash leaves what stands for it, or for it with
+  -- the top-up whose call failed, if before it left nothing but what stood for the history.
+  pub record Moves (plans : List Plan) (history after : List Entry) (tried : Option TopUpFacts) (old new : B) : Type 0 where
+    pub stands : is_open new → Stands plans (content new) after
+    pub leaves : ((c : Content) → left old c → Stands plans c history) → (c : Content) → left new c → MayLeave plans after tried c
+
+  -- a run over a text, from a history to the one after it
+  pub record Imports (plans : List Plan) (moment : ℕ) (text : Option (List ℕ)) (history : List Entry) (stopped : Option Stopped) (report : ImportReport) (old new : B) : Type 0 where
+    pub after : List Entry
+    pub tried : Option TopUpFacts
+    pub rows : List Fields
+    pub outcomes : List Outcome
+    pub run : Imported plans moment history rows outcomes after
+    pub counts : Counts outcomes report
+    pub taken : IfSome text (λ t. AreTaken moment t stopped tried rows)
+    pub only : MayHaveTried stopped tried
+    pub moves : Moves plans history after tried old new
+
+module _ {B : Type 0} (content : B → Content) (is_sound is_open is_steady : B → Type 0) where
+  -- what calls keep of a book, whatever it stands for
+  pub record Keeps (stopped : Option Stopped) (added : ℕ) (old new : B) : Type 0 where
+    pub was_sound : is_sound new → is_sound old
+    pub was_open : is_open new → is_open old
+    pub keeps_steady : is_steady old → is_steady new
+    pub stays_open : is_sound new → stopped ≢ Some stop.Unavailable → is_open old → is_open new
+    pub unchanged : is_open new → added ≡ 0 → content new ≡ content old
+
+-- why a run stopped, if it did
+abbrev pub stop_of : {X : Type 0} → Result X Stopped → Option Stopped
+stop_of (Ok done) = None
+stop_of (Err stopped) = Some stopped
+
+-- how many vouchers one record added
+abbrev pub added_by : Result Outcome Stopped → ℕ
+added_by (Ok outcome.Added) = 1
+added_by (Ok outcome.Repeated) = 0
+added_by (Ok (outcome.Refused cause)) = 0
+added_by (Err stopped) = 0

@@ -1,0 +1,4 @@
+pub mod Vouchers
+pub mod Importing
+pub mod Reading
+pub mod Exporting

@@ -1,0 +1,20 @@
+//! What a shop uploads and what accounting downloads, as CSV.
+//!
+//! 1. `import` reads vouchers from a text, one record at a time, and records each in a book. A record is added, repeated or refused with
+//!    its cause; what was recorded before the import stopped stays.
+//! 2. Records are numbered from 1, the header being 1. Only the list of refused records grows with the text.
+#![tactic(auto)]
+
+mod account_lines;
+mod capped;
+mod csv_lines;
+mod import_report;
+mod importing;
+mod refused_list;
+mod voucher_record;
+
+pub use account_lines::{AccountExport, export_balances, export_overruns};
+pub use csv_lines::ExportError;
+pub use import_report::{Cause, ImportReport, Outcome, Refused, Stopped};
+pub use importing::import;
+pub use refused_list::RefusedList;
