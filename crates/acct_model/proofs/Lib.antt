@@ -2,7 +2,7 @@
 pub mod Blocks
 -- the first fault of a list from a place on, and what passes where there is none
 pub mod Faults
--- what plans without a fault keep, and the plan of each class where there is none
+-- what plans without a fault keep, and that each class then has a plan
 pub mod PlanFaults
 -- what the refusals of a packet's attributes say
 pub mod Refusals

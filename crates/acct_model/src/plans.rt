@@ -78,7 +78,7 @@ impl Plans {
         Ok(Plans { plans })
     }
 
-    /// The plan of a class, else the plan `default`. It goes through the plans once.
+    /// The plan of a class, else the plan `default`: the plans are gone through once for each.
     pub fn plan_of(&self, class: &[u8]) -> &Plan
         ensures found { plan_for self.now class.now ≡ Some result.now }
         ensures block { 0 < result.now.block }
