@@ -1,10 +1,12 @@
--- Why a line can't be read.
-use Rattle.radacctd.specs.declared.hexadecimal.HexFault.{HexFault}
-use Rattle.radacctd.specs.declared.hexadecimal.HexFault.TheVariants as hex
-use Rattle.radacctd.specs.declared.line.LineFault.{LineFault}
-use Rattle.radacctd.specs.declared.line.LineFault.TheVariants as line
+-- Why a line cannot be read.
+use Rattle.acct_model.specs.declared.top_up.TopUpError.{TopUpError}
+use Rattle.acct_model.specs.declared.top_up.TopUpError.TheVariants as topup
+use Rattle.radacctd.specs.declared.line_fault.LineFault.{LineFault}
+use Rattle.radacctd.specs.declared.line_fault.LineFault.TheVariants.{Bad, NoMemory}
 
--- what is wrong with a line whose octets have a fault
-abbrev pub line_fault : HexFault → LineFault
-line_fault hex.Bad = line.Bad
-line_fault hex.NoMemory = line.NoMemory
+-- what is wrong with a line whose top-up has a fault
+abbrev pub topup_line_fault : TopUpError → LineFault
+topup_line_fault topup.BadVoucher = Bad
+topup_line_fault topup.BadAccount = Bad
+topup_line_fault topup.BadSum = Bad
+topup_line_fault topup.Memory = NoMemory

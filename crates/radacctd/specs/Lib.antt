@@ -1,7 +1,9 @@
 pub mod CommandLine
 pub mod Faults
 pub mod Feed
-pub mod Hexadecimal
 pub mod Line
 pub mod Lines
+pub mod Numbers
+pub mod Octets
 pub mod SampleSite
+pub mod Words

@@ -8,14 +8,15 @@ ghost use Rattle.std.specs.Prelude.{◌^◌, ◌<◌, ◌≤◌, length};
 ghost use Rattle.radacctd.specs.Feed.{IsStatus};
 ghost use Rattle.radacctd.specs.Line.{HasMoment};
 
-use crate::hexadecimal::hex_of;
 use crate::input::{InputFault, read_input};
-use crate::line::{Line, LineFault, read_line};
+use crate::line::{Line, read_line};
+use crate::line_fault::LineFault;
 use crate::lines::Lines;
+use crate::octet_words::{hex_of, word_of};
 use crate::sample_site;
 use crate::sample_site::Site;
 use acct_book::{Book, Key, MemBook, RecordError, Recorded, Row, record};
-use acct_model::{Entry, NoMemory, Plans, TopUp, price, show};
+use acct_model::{Entry, NoMemory, Plans, TopUp, price};
 use acct_wire::{Datagram, Outcome, Reason, answer};
 use radius_codec::sign_request;
 use std::alloc::{AllocError, Global};
@@ -263,6 +264,7 @@ fn print_drop<W: Write>(reason: Reason, writer: &mut W) -> Result<(), Stop> {
 
 fn print_reply<W: Write>(alloc: Global, reply: &[u8], writer: &mut W) -> Result<(), Stop> {
     let digits = hex_of(alloc, reply)?;
+    let digits = digits.as_str();
     writeln!(writer, "reply {digits}")?;
     Ok(())
 }
@@ -272,10 +274,12 @@ fn print_parted_reply<W: Write>(alloc: Global, reply: &[u8], writer: &mut W) -> 
     requires { HEAD ≤ length reply.now }
 {
     let front = hex_of(alloc, &reply[..4])?;
+    let front = front.as_str();
     if reply.len() == HEAD {
         writeln!(writer, "reply {front}")?;
     } else {
         let attributes = hex_of(alloc, &reply[HEAD..])?;
+        let attributes = attributes.as_str();
         writeln!(writer, "reply {front} {attributes}")?;
     }
     Ok(())
@@ -289,7 +293,8 @@ fn print_balance<W: Write>(
 ) -> Result<(), Stop> {
     match book.balance(account) {
         Ok(balance) => {
-            let account = shown(alloc, account)?;
+            let account = word_of(alloc, account)?;
+            let account = account.as_str();
             writeln!(writer, "balance {account} {balance}")?;
         }
         Err(_) => writeln!(writer, "unavailable")?,
@@ -338,9 +343,12 @@ fn print_row<W: Write>(
     writer: &mut W,
 ) -> Result<(), Stop> {
     let client = row.client.as_str();
-    let session = shown(alloc, row.session.as_slice())?;
-    let account = shown(alloc, row.account.as_slice())?;
-    let class = shown(alloc, row.class.as_slice())?;
+    let session = word_of(alloc, row.session.as_slice())?;
+    let session = session.as_str();
+    let account = word_of(alloc, row.account.as_slice())?;
+    let account = account.as_str();
+    let class = word_of(alloc, row.class.as_slice())?;
+    let class = class.as_str();
     let charged = price(plans.plan_of(row.class.as_slice()), row.input + row.output);
     let Row {
         input,
@@ -352,12 +360,4 @@ fn print_row<W: Write>(
     write!(writer, "session {client} {session} {account} {class} ")?;
     writeln!(writer, "{input} {output} {charged} {state} {cause}")?;
     Ok(())
-}
-
-// Octets as `show` shows them, and `-` for none.
-fn shown(alloc: Global, octets: &[u8]) -> Result<String, Stop> {
-    if octets.is_empty() {
-        return Ok(String::from_str(alloc, "-")?);
-    }
-    Ok(show(alloc, octets)?)
 }

@@ -1,26 +1,28 @@
 //! The lines that `feed` reads.
 //!
-//! The words of a line are parted by one space. A number is 1 to 20 decimal digits, octets are hexadecimal digits or `-`, and an
-//! account or a session id is shown as `acct_model::show` shows it, `-` where it is empty.
-ghost use Rattle.std.specs.Prelude.{◌≡◌, ◌≤◌, ℕ, List, [], ◌++◌, codes, None, Some, IfOk, IfErr, IfSome, IfNone, IsTrue, ◌↔◌, MatchOption};
-ghost use Rattle.std.specs.Char.{is_ascii_digit};
-ghost use Rattle.std.specs.List.{list_all};
+//! One space each separates the words of a line. A number is 1 to 20 decimal digits, octets are
+//! hexadecimal digits or `-`, and an account or a session id is shown as `acct_model::show` shows it,
+//! `-` where it is empty.
+ghost use Rattle.std.specs.Prelude.{◌≡◌, ℕ, List, [], ◌∷◌, codes, IfOk, IfErr, IfSome, IsTrue, ◌↔◌, MatchOption};
 ghost use Rattle.std.specs.Net.Grammar.{IsDotted};
-ghost use Rattle.radacctd.specs.Line.{octets_shown as octets_in, number_of as number_in, number_up_to as number_in_bounds, HasMoment, Lacks, Spells};
-ghost use Rattle.radacctd.specs.declared.line.LineFault.TheVariants.{Bad as bad};
+ghost use Rattle.acct_model.specs.Vouchers.{TopUpFacts};
+ghost use Rattle.acct_book.specs.declared.key.Key.{Key};
+ghost use Rattle.radacctd.specs.Words.{words as words_in};
+ghost use Rattle.radacctd.specs.Line.{HasMoment, Spells, IsBad, AreWordsOf, AreSigned, ArePacket, AreBalance, AreTopUp, AreSession};
+ghost use Rattle.radacctd.specs.declared.line_fault.LineFault.TheVariants.{Bad as bad};
 
-use crate::hexadecimal::{HexFault, octets_of};
+use crate::line_fault::LineFault;
+use crate::number::{number_of, number_up_to};
+use crate::octet_words::{octets_of, octets_shown};
 use crate::sample_site;
+use crate::words::{cut_word, four_words, one_word, three_words, two_words};
 use acct_book::Key;
-use acct_model::{NoMemory, Octets, Text, TopUp, TopUpError, unshow};
-use std::alloc::{AllocError, Global};
+use acct_model::{Octets, Text, TopUp};
+use std::alloc::Global;
 use std::net::Ipv4Addr;
-use thiserror::Error;
 
 /// The last moment, in seconds since 1970.
 const LAST_MOMENT: u64 = (1 << 53) - 1;
-/// The most digits of a number.
-const MOST_DIGITS: usize = 20;
 
 /// What a line asks for.
 #[derive(Debug, Drop)]
@@ -60,69 +62,15 @@ pub enum Line {
     },
 }
 
-/// Why a line can't be read.
-#[derive(Clone, Copy, PartialEq, Eq, Debug, Error)]
-pub enum LineFault {
-    /// It isn't in the language of `feed`.
-    #[error("bad line")]
-    Bad,
-    /// Memory was refused.
-    #[error("out of memory")]
-    NoMemory,
-}
-
-impl From<HexFault> for LineFault {
-    ghost use Rattle.std.specs.Prelude.{◌≡◌};
-    ghost use Rattle.radacctd.specs.Faults.{line_fault};
-
-    ghost from_gives = { λ fault line. line ≡ line_fault fault };
-
-    fn from(fault: HexFault) -> LineFault {
-        match fault {
-            HexFault::Bad => LineFault::Bad,
-            HexFault::NoMemory => LineFault::NoMemory,
-        }
-    }
-}
-
-impl From<AllocError> for LineFault {
-    ghost use Rattle.std.specs.Prelude.{◌≡◌};
-    ghost use Rattle.radacctd.specs.declared.line.LineFault.TheVariants.{NoMemory};
-
-    ghost from_gives = { λ _ line. line ≡ NoMemory };
-
-    fn from(_fault: AllocError) -> LineFault {
-        LineFault::NoMemory
-    }
-}
-
-impl From<TopUpError> for LineFault {
-    fn from(fault: TopUpError) -> LineFault {
-        match fault {
-            TopUpError::Memory => LineFault::NoMemory,
-            TopUpError::BadVoucher | TopUpError::BadAccount | TopUpError::BadSum => LineFault::Bad,
-        }
-    }
-}
-
-impl From<NoMemory> for LineFault {
-    ghost use Rattle.std.specs.Prelude.{◌≡◌};
-    ghost use Rattle.radacctd.specs.declared.line.LineFault.TheVariants.{NoMemory};
-
-    ghost from_gives = { λ _ line. line ≡ NoMemory };
-
-    fn from(_fault: NoMemory) -> LineFault {
-        LineFault::NoMemory
-    }
-}
-
 /// What a line asks for, and none of an empty one.
 ///
 /// # Errors
 ///
-/// `Bad` where it isn't in the language of `feed`, `NoMemory` where its octets can't be kept.
+/// `Bad` exactly where no line has this text, unless memory is refused before that is known;
+/// `NoMemory` where its octets cannot be kept.
 pub fn read_line(alloc: Global, text: &str) -> Result<Option<Line>, LineFault>
     ensures spelled { IfOk result (λ line. MatchOption line (text.now ≡ []) (Spells text.now)) }
+    ensures refused { IfErr result (λ fault. fault ≡ bad → IsBad text.now) }
     ensures moment { IfOk result (λ line. IfSome line HasMoment) }
 {
     if text.is_empty() {
@@ -140,23 +88,14 @@ pub fn read_line(alloc: Global, text: &str) -> Result<Option<Line>, LineFault>
     Ok(Some(line))
 }
 
-// The first word of a text, and what stands behind the space after it.
-fn cut_word(text: &str) -> Option<(&str, &str)>
-    ensures cut { IfSome result (λ cut. text.now ≡ cut.0.now ++ codes " " ++ cut.1.now) }
-    ensures uncut { IfNone result (Lacks 32 text.now) }
-    ensures word { IfSome result (λ cut. Lacks 32 cut.0.now) }
-{
-    text.split_once(' ')
-}
-
 // `MOMENT CLIENT IDENTIFIER OCTETS`, of the sample client.
 fn read_signed(alloc: Global, words: &str) -> Result<Line, LineFault>
-    ensures spelled { IfOk result (Spells (codes "signed " ++ words.now)) }
+    ensures spelled { IfOk result (AreWordsOf (codes "signed" ∷ words_in words.now)) }
+    ensures refused { IfErr result (λ fault. fault ≡ bad → (moment identifier : ℕ) (octets : List ℕ)
+        → AreSigned (codes "signed" ∷ words_in words.now) moment identifier octets → ⊥) }
     ensures moment { IfOk result HasMoment }
 {
-    let (moment, words) = cut_word(words).ok_or(LineFault::Bad)?;
-    let (client, words) = cut_word(words).ok_or(LineFault::Bad)?;
-    let (identifier, octets) = cut_word(words).ok_or(LineFault::Bad)?;
+    let (moment, client, identifier, octets) = four_words(words).ok_or(LineFault::Bad)?;
     if !is_sample_client(client) {
         return Err(LineFault::Bad);
     }
@@ -166,7 +105,7 @@ fn read_signed(alloc: Global, words: &str) -> Result<Line, LineFault>
     Ok(Line::Signed {
         moment,
         identifier,
-        octets: Octets { octets },
+        octets,
     })
 }
 
@@ -178,38 +117,44 @@ fn is_sample_client(word: &str) -> bool
 
 // `MOMENT ADDRESS OCTETS`.
 fn read_packet(alloc: Global, words: &str) -> Result<Line, LineFault>
-    ensures spelled { IfOk result (Spells (codes "packet " ++ words.now)) }
+    ensures spelled { IfOk result (AreWordsOf (codes "packet" ∷ words_in words.now)) }
+    ensures refused { IfErr result (λ fault. fault ≡ bad → (moment : ℕ) (source octets : List ℕ)
+        → ArePacket (codes "packet" ∷ words_in words.now) moment source octets → ⊥) }
     ensures moment { IfOk result HasMoment }
 {
-    let (moment, words) = cut_word(words).ok_or(LineFault::Bad)?;
-    let (source, octets) = cut_word(words).ok_or(LineFault::Bad)?;
+    let (moment, source, octets) = three_words(words).ok_or(LineFault::Bad)?;
     let moment = number_up_to(moment, LAST_MOMENT).ok_or(LineFault::Bad)?;
-    let source = address_of(source).ok_or(LineFault::Bad)?;
+    let Some(source) = address_of(source) else {
+        return Err(LineFault::Bad);
+    };
     let octets = octets_of(alloc, octets)?;
     Ok(Line::Packet {
         moment,
         source,
-        octets: Octets { octets },
+        octets,
     })
 }
 
 // `ACCOUNT`.
-fn read_balance(alloc: Global, word: &str) -> Result<Line, LineFault>
-    ensures spelled { IfOk result (Spells (codes "balance " ++ word.now)) }
+fn read_balance(alloc: Global, words: &str) -> Result<Line, LineFault>
+    ensures spelled { IfOk result (AreWordsOf (codes "balance" ∷ words_in words.now)) }
+    ensures refused { IfErr result (λ fault. fault ≡ bad → (account : List ℕ)
+        → AreBalance (codes "balance" ∷ words_in words.now) account → ⊥) }
     ensures moment { IfOk result HasMoment }
 {
-    let account = octets_shown(alloc, word)?;
+    let account = one_word(words).ok_or(LineFault::Bad)?;
+    let account = octets_shown(alloc, account)?;
     Ok(Line::Balance { account })
 }
 
 // `MOMENT VOUCHER ACCOUNT SUM`.
 fn read_topup(alloc: Global, words: &str) -> Result<Line, LineFault>
-    ensures spelled { IfOk result (Spells (codes "topup " ++ words.now)) }
+    ensures spelled { IfOk result (AreWordsOf (codes "topup" ∷ words_in words.now)) }
+    ensures refused { IfErr result (λ fault. fault ≡ bad → (topup : TopUpFacts)
+        → AreTopUp (codes "topup" ∷ words_in words.now) topup → ⊥) }
     ensures moment { IfOk result HasMoment }
 {
-    let (moment, words) = cut_word(words).ok_or(LineFault::Bad)?;
-    let (voucher, words) = cut_word(words).ok_or(LineFault::Bad)?;
-    let (account, sum) = cut_word(words).ok_or(LineFault::Bad)?;
+    let (moment, voucher, account, sum) = four_words(words).ok_or(LineFault::Bad)?;
     let moment = number_up_to(moment, LAST_MOMENT).ok_or(LineFault::Bad)?;
     let sum = number_of(sum).ok_or(LineFault::Bad)?;
     let account = octets_shown(alloc, account)?;
@@ -219,10 +164,12 @@ fn read_topup(alloc: Global, words: &str) -> Result<Line, LineFault>
 
 // `CLIENT SESSION`, of the sample client.
 fn read_session(alloc: Global, words: &str) -> Result<Line, LineFault>
-    ensures spelled { IfOk result (Spells (codes "session " ++ words.now)) }
+    ensures spelled { IfOk result (AreWordsOf (codes "session" ∷ words_in words.now)) }
+    ensures refused { IfErr result (λ fault. fault ≡ bad → (key : Key)
+        → AreSession (codes "session" ∷ words_in words.now) key → ⊥) }
     ensures moment { IfOk result HasMoment }
 {
-    let (client, session) = cut_word(words).ok_or(LineFault::Bad)?;
+    let (client, session) = two_words(words).ok_or(LineFault::Bad)?;
     if !is_sample_client(client) {
         return Err(LineFault::Bad);
     }
@@ -233,24 +180,7 @@ fn read_session(alloc: Global, words: &str) -> Result<Line, LineFault>
     })
 }
 
-// The octets of the account or session id that a word shows.
-fn octets_shown(alloc: Global, word: &str) -> Result<Octets, LineFault>
-    ensures octets { IfOk result (λ octets. octets_in word.now ≡ Some octets) }
-    ensures refused { IfErr result (λ fault. fault ≡ bad → octets_in word.now ≡ None) }
-{
-    if word.is_empty() || word.as_bytes().contains(&b' ') {
-        return Err(LineFault::Bad);
-    }
-    if word == "-" {
-        return Ok(Octets {
-            octets: Vec::new(alloc),
-        });
-    }
-    let octets = unshow(alloc, word)?;
-    Ok(Octets { octets })
-}
-
-// The address that four numbers of 0 to 255 without leading zeros spell, parted by dots.
+// The address that four numbers of 0 to 255 without leading zeros spell, separated by dots.
 fn address_of(word: &str) -> Option<[u8; 4]>
     ensures { MatchOption result ((octets : List ℕ) → IsDotted word.now octets → ⊥) (IsDotted word.now) }
 {
@@ -258,29 +188,4 @@ fn address_of(word: &str) -> Option<[u8; 4]>
         Ok(address) => Some(address.octets()),
         Err(_) => None,
     }
-}
-
-// The number that a word spells, if it isn't above the given one.
-fn number_up_to(word: &str, most: u64) -> Option<u64>
-    ensures number { result ≡ number_in_bounds most word.now }
-    ensures bound { IfSome result (λ number. number ≤ most) }
-{
-    let number = number_of(word)?;
-    if number <= most { Some(number) } else { None }
-}
-
-/// The number that 1 to 20 decimal digits spell, if it is below 2^64.
-pub fn number_of(word: &str) -> Option<u64>
-    ensures { result ≡ number_in word.now }
-{
-    if word.len() > MOST_DIGITS || !are_digits(word.as_bytes()) {
-        return None;
-    }
-    word.parse::<u64>().ok()
-}
-
-fn are_digits(octets: &[u8]) -> bool
-    ensures { result ≡ list_all is_ascii_digit octets.now }
-{
-    octets.iter().all(|octet| octet.is_ascii_digit())
 }

@@ -4,14 +4,17 @@
 #![tactic(auto)]
 
 mod feed;
-mod hexadecimal;
 mod input;
 mod job;
 mod line;
+mod line_fault;
 mod lines;
+mod number;
+mod octet_words;
 mod sample_site;
 #[cfg(test)]
 mod tests;
+mod words;
 
 use crate::feed::run_feed;
 use crate::job::{Job, job_of};

@@ -2,8 +2,8 @@ use Rattle.std.proofs.Common.{◌≡◌, ◌≤◌, ◌<◌, length, true, false
 use Rattle.std.specs.Char.{is_ascii_digit}
 use Rattle.std.specs.List.{list_all}
 use Rattle.radacctd.proofs.Numbers.{parsed, too_long, no_digits}
-use Rattle.radacctd.proofs.line.number_of.Goals as goal
-use Rattle.radacctd.proofs.line.number_of.Goals.{then-word-gt-MOST_DIGITS-via-then-word-gt-MOST_DIGITS, then-word-gt-MOST_DIGITS-via-else-word-gt-MOST_DIGITS+then-not-are_digits}
+use Rattle.radacctd.proofs.number.number_of.Goals as goal
+use Rattle.radacctd.proofs.number.number_of.Goals.{then-word-gt-MOST_DIGITS-via-then-word-gt-MOST_DIGITS, then-word-gt-MOST_DIGITS-via-else-word-gt-MOST_DIGITS+then-not-are_digits}
 
 pub returns-then-word-gt-MOST_DIGITS : goal.returns-then-word-gt-MOST_DIGITS
 returns-then-word-gt-MOST_DIGITS c =
