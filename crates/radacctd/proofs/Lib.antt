@@ -10,3 +10,5 @@ pub mod Signing
 pub mod WordLemmas
 -- the words of a packet's line
 pub mod PacketWords
+-- the size of a reply
+pub mod Replies

@@ -8,12 +8,17 @@ use Rattle.radacctd.specs.declared.job.Job.TheVariants.{Feed}
 abbrev pub feed_app : App
 feed_app = new_app (codes "feed")
 
+-- a command that has a version
+abbrev pub has_version : App → App
+has_version a = record a { top = record a.top { has_version = true } }
+
+-- a command that wants a subcommand
 abbrev pub requires_subcommand : App → App
 requires_subcommand a = record a { top = record a.top { subcommand_required = true } }
 
 -- the program's command line
 abbrev pub app : App
-app = with_subcommand (requires_subcommand (new_app (codes "radacctd"))) feed_app.top
+app = with_subcommand (requires_subcommand (has_version (new_app (codes "radacctd")))) feed_app.top
 
 -- what the name of a subcommand asks for
 abbrev pub AsksFor : Text → Job → Type 0

@@ -1,6 +1,77 @@
--- How a run of `feed` ends.
-use Rattle.std.specs.Prelude.{◌≡◌, ℕ, ◌⊎◌}
+-- What a line is answered by, over a book.
+use Rattle.std.specs.Prelude.{◌≡◌, ◌<◌, ℕ, ℤ, ◌⊎◌, List, Option, Result, IfOk, length}
+use Rattle.radius_codec.specs.Packet.{request_octets}
+use Rattle.acct_model.specs.declared.plan.Plan.{Plan}
+use Rattle.acct_model.specs.declared.entry.Entry.TheVariants as entry
+use Rattle.acct_model.specs.Vouchers.{TopUpFacts}
+use Rattle.acct_book.specs.declared.key.Key.{Key}
+use Rattle.acct_book.specs.declared.book.Unavailable.{Unavailable as Refusal}
+use Rattle.acct_book.specs.declared.recording.Recorded.{Recorded}
+use Rattle.acct_book.specs.declared.recording.RecordError.{RecordError}
+use Rattle.acct_book.specs.Book.{Reads}
+use Rattle.acct_book.specs.Content.{Content, kept_balance}
+use Rattle.acct_book.specs.Outcome.{Records}
+use Rattle.acct_book.specs.Row.{RowFacts}
+use Rattle.acct_book.specs.Step.{IsStep}
+use Rattle.acct_wire.specs.declared.answering.Outcome.{Outcome}
+use Rattle.acct_wire.specs.declared.client.Client.{Client}
+use Rattle.acct_wire.specs.Datagrams.{AsksFor}
+use Rattle.acct_wire.specs.Outcomes.{Judges, Writes, IsTold, IsDrop, Steps}
+use Rattle.radacctd.specs.Answers.{packet_answer, signed_answer, balance_answer, credit_of, session_answer}
+use Rattle.radacctd.specs.SampleSite.{ap1}
+use Rattle.radacctd.specs.declared.answer.Answer.{Answer}
+use Rattle.radacctd.specs.declared.answer.Answer.TheVariants as form
+use Rattle.radacctd.specs.declared.line.Line.{Line}
+use Rattle.radacctd.specs.declared.line.Line.TheVariants as line
 
--- 0 after good lines alone, 1 after a bad line, an input that can't be had or an answer that can't be written, 3 for want of memory
-abbrev pub IsStatus : ℕ → Type 0
-IsStatus status = (status ≡ 0) ⊎ (status ≡ 1) ⊎ (status ≡ 3)
+module _ {B : Type 0} (content : B → Content) (is_sound is_open is_steady : B → Type 0)
+    (left : B → Content → Type 0) (clients : List Client) (plans : List Plan) (old new : B) where
+  -- A datagram was judged by the clients and told to the book once; its outcome is shown so.
+  pub record AnswersDatagram (source bytes : List ℕ) (moment : ℕ) (show : List ℕ → Outcome → Answer)
+      (answer : Answer) : Type 0 where
+    pub outcome : Outcome
+    pub before : List ℕ
+    pub after : List ℕ
+    pub judged : Judges clients source bytes outcome
+    pub written : Writes clients source bytes before after outcome
+    pub step : IsStep plans content is_sound is_open is_steady left old new
+        (IsTold outcome) (IsDrop outcome)
+        (λ history next. Steps clients plans source bytes moment outcome history next)
+        (λ asked. AsksFor clients source bytes moment asked)
+    pub shown : answer ≡ show after outcome
+
+  -- The balance of an account was asked for.
+  pub record AnswersBalance (account : List ℕ) (answer : Answer) : Type 0 where
+    pub told : Result ℤ Refusal
+    pub found : is_open new → IfOk told (λ balance. balance ≡ kept_balance (content old) account)
+    pub reads : Reads content is_sound is_open is_steady left old new told
+    pub shown : answer ≡ balance_answer account told
+
+  -- A voucher was recorded once.
+  pub record AnswersTopUp (topup : TopUpFacts) (answer : Answer) : Type 0 where
+    pub told : Result Recorded RecordError
+    pub records : Records plans (entry.TopUp topup) content is_sound is_open is_steady left old new told
+    pub shown : answer ≡ form.Voucher (credit_of told)
+
+  -- The row of a session was asked for.
+  pub record AnswersSession (key : Key) (answer : Answer) : Type 0 where
+    pub told : Result (Option RowFacts) Refusal
+    pub found : is_open new → IfOk told (λ row. row ≡ (content old).rows key)
+    pub reads : Reads content is_sound is_open is_steady left old new told
+    pub shown : answer ≡ session_answer plans told
+
+  -- Attributes that fit a request are sent from the sample client's address, signed by its secret.
+  abbrev pub AnswersSigned : ℕ → ℕ → List ℕ → Answer → Type 0
+  AnswersSigned moment identifier octets answer =
+      ((4076 < length octets) × (answer ≡ form.BadLine))
+      ⊎ AnswersDatagram ap1.address (request_octets identifier octets ap1.secret) moment
+      signed_answer answer
+
+  -- what a line is answered by
+  abbrev pub Answers : Line → Answer → Type 0
+  Answers (line.Signed moment identifier octets) answer = AnswersSigned moment identifier octets answer
+  Answers (line.Packet moment source octets) answer =
+      AnswersDatagram source octets moment packet_answer answer
+  Answers (line.Balance account) answer = AnswersBalance account answer
+  Answers (line.TopUp topup) answer = AnswersTopUp topup answer
+  Answers (line.Session key) answer = AnswersSession key answer

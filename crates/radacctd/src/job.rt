@@ -7,6 +7,11 @@ use clap::error::ErrorKind;
 use clap::{Command, Error};
 use std::alloc::{AllocError, Global};
 
+/// The program's name.
+const PROGRAM: &str = "radacctd";
+/// The program's version.
+const VERSION: &str = "0.1.0";
+
 /// A job of the program: its command.
 #[derive(Clone, Copy, PartialEq, Eq, Debug)]
 pub enum Job {
@@ -18,7 +23,8 @@ pub enum Job {
 ///
 /// # Errors
 ///
-/// What `clap` says: of wrong words, of help that was asked for, and of a want of memory.
+/// What `clap` says: of wrong words, of help or the version that was asked for, and where memory is
+/// refused.
 pub fn job_of(alloc: Global, words: Vec<String>) -> Result<Job, Error>
     ensures { IfOk result (NamesJob (subcommand_of app (map string_bytes words.items))) }
 {
@@ -33,7 +39,9 @@ pub fn job_of(alloc: Global, words: Vec<String>) -> Result<Job, Error>
 fn command<'a>(alloc: Global) -> Result<Command<'a>, AllocError>
     ensures { IfOk result (λ c. app_of c ≡ app) }
 {
-    Command::new(alloc, "radacctd")
+    Command::new(alloc, PROGRAM)
+        .about("A RADIUS accounting server with prepaid data allowances (RFC 2866)")
+        .version(VERSION)
         .subcommand_required(true)
         .subcommand(feed_command(alloc))
 }
@@ -41,12 +49,14 @@ fn command<'a>(alloc: Global) -> Result<Command<'a>, AllocError>
 fn feed_command<'a>(alloc: Global) -> Command<'a>
     ensures { app_of result ≡ feed_app }
 {
-    Command::new(alloc, "feed")
+    Command::new(alloc, "feed").about(
+        "Answers packets, vouchers and questions from standard input, over a book in memory",
+    )
 }
 
 // The error where the words name no command.
 fn no_command(alloc: Global) -> Error {
-    let mut command = Command::new(alloc, "radacctd");
+    let mut command = Command::new(alloc, PROGRAM);
     match command.error(ErrorKind::MissingSubcommand, "a command is missing") {
         Ok(error) => error,
         Err(error) => Error::from(error),

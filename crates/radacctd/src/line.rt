@@ -4,7 +4,6 @@
 //! hexadecimal digits or `-`, and an account or a session id is shown as `acct_model::show` shows it,
 //! `-` where it is empty.
 ghost use Rattle.std.specs.Prelude.{◌≡◌, ℕ, List, [], ◌∷◌, codes, IfOk, IfErr, IfSome, IsTrue, ◌↔◌, MatchOption};
-ghost use Rattle.std.specs.Net.Grammar.{IsDotted};
 ghost use Rattle.acct_model.specs.Vouchers.{TopUpFacts};
 ghost use Rattle.acct_book.specs.declared.key.Key.{Key};
 ghost use Rattle.radacctd.specs.Words.{words as words_in};
@@ -17,9 +16,8 @@ use crate::octet_words::{octets_of, octets_shown};
 use crate::sample_site;
 use crate::words::{cut_word, four_words, one_word, three_words, two_words};
 use acct_book::Key;
-use acct_model::{Octets, Text, TopUp};
+use acct_model::{Octets, Text, TopUp, address_of};
 use std::alloc::Global;
-use std::net::Ipv4Addr;
 
 /// The last moment, in seconds since 1970.
 const LAST_MOMENT: u64 = (1 << 53) - 1;
@@ -178,14 +176,4 @@ fn read_session(alloc: Global, words: &str) -> Result<Line, LineFault>
     Ok(Line::Session {
         key: Key { client, session },
     })
-}
-
-// The address that four numbers of 0 to 255 without leading zeros spell, separated by dots.
-fn address_of(word: &str) -> Option<[u8; 4]>
-    ensures { MatchOption result ((octets : List ℕ) → IsDotted word.now octets → ⊥) (IsDotted word.now) }
-{
-    match word.parse::<Ipv4Addr>() {
-        Ok(address) => Some(address.octets()),
-        Err(_) => None,
-    }
 }

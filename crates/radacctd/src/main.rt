@@ -3,6 +3,7 @@
 //! `radacctd feed` answers a script of packets and questions over a book in memory, at the sample site.
 #![tactic(auto)]
 
+mod answer;
 mod feed;
 mod input;
 mod job;
@@ -12,35 +13,33 @@ mod lines;
 mod number;
 mod octet_words;
 mod sample_site;
+mod server;
+mod shown_row;
+mod status;
+mod stop;
 #[cfg(test)]
 mod tests;
 mod words;
 
 use crate::feed::run_feed;
 use crate::job::{Job, job_of};
+use crate::status::Status;
+use clap::Error;
 use std::io::BufWriter;
 use std::process::ExitCode;
 use std::{env, io};
-
-/// The status of wrong words.
-const WRONG_WORDS: u8 = 2;
-/// The status of a want of memory.
-const NO_MEMORY: u8 = 3;
 
 fn main(rt: HostRuntime) -> ExitCode {
     let words = match words_of(&rt) {
         Ok(words) => words,
         Err(error) => {
             let _ = eprintln!(rt; "error: {error}");
-            return ExitCode::from(WRONG_WORDS);
+            return ExitCode::from(Status::WrongWords);
         }
     };
     match job_of(rt.alloc(), words) {
         Ok(Job::Feed) => ExitCode::from(feed_on_standard_streams(&rt)),
-        Err(error) => {
-            let _ = error.print(&rt);
-            ExitCode::from(if error.use_stderr() { WRONG_WORDS } else { 0 })
-        }
+        Err(error) => ExitCode::from(tell(&rt, &error)),
     }
 }
 
@@ -53,13 +52,24 @@ fn words_of(rt: &HostRuntime) -> io::Result<Vec<String>> {
     Ok(words)
 }
 
-// Runs `feed` over standard input and output, and gives its status.
-fn feed_on_standard_streams(rt: &HostRuntime) -> u8 {
+// Runs `feed` over standard input and output, and says how it ended.
+fn feed_on_standard_streams(rt: &HostRuntime) -> Status {
     match BufWriter::new(rt.alloc(), rt.stdout()) {
         Ok(writer) => run_feed(rt.alloc(), rt.stdin(), writer),
         Err(_) => {
             let _ = println!(rt; "unavailable");
-            NO_MEMORY
+            Status::Unavailable
         }
+    }
+}
+
+// Prints what `clap` says of the words: help and the version to standard output, a mistake to
+// standard error. It says how the program ends.
+fn tell<R: Print + Eprint>(rt: &R, error: &Error) -> Status {
+    let _ = error.print(rt);
+    if error.use_stderr() {
+        Status::WrongWords
+    } else {
+        Status::Done
     }
 }

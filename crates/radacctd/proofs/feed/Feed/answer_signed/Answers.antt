@@ -1,0 +1,15 @@
+use Rattle.std.proofs.Common.{inr, rules}
+use Rattle.radacctd.proofs.feed.Feed.answer_signed.Goals as goal
+
+pub returns : goal.returns
+returns g c = record {
+  answers = inr (record {
+    outcome = c.answer-outcome.result;
+    before = c.args.self.now.server.reply;
+    after = c.answer-outcome.new.self.reply;
+    judged = rw c.in-Some.ensures at c.answer-outcome.ensures.judged;
+    written = rw c.in-Some.ensures at c.answer-outcome.ensures.written;
+    step = rw c.in-Some.ensures at c.answer-outcome.ensures.step;
+    shown = search rules;
+  });
+}
