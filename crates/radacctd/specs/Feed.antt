@@ -1,4 +1,5 @@
 -- What a line is answered by, over a book.
+use Rattle.std.specs.Str.{IsUtf8}
 use Rattle.std.specs.Prelude.{◌≡◌, ◌<◌, ℕ, ℤ, ◌⊎◌, List, Option, Result, IfOk, length}
 use Rattle.radius_codec.specs.Packet.{request_octets}
 use Rattle.acct_model.specs.declared.plan.Plan.{Plan}
@@ -18,6 +19,7 @@ use Rattle.acct_wire.specs.declared.client.Client.{Client}
 use Rattle.acct_wire.specs.Datagrams.{AsksFor}
 use Rattle.acct_wire.specs.Outcomes.{Judges, Writes, IsTold, IsDrop, Steps}
 use Rattle.radacctd.specs.Answers.{packet_answer, signed_answer, balance_answer, credit_of, session_answer}
+use Rattle.radacctd.specs.Line.{IsBad, Spells}
 use Rattle.radacctd.specs.SampleSite.{ap1}
 use Rattle.radacctd.specs.declared.answer.Answer.{Answer}
 use Rattle.radacctd.specs.declared.answer.Answer.TheVariants as form
@@ -75,3 +77,10 @@ module _ {B : Type 0} (content : B → Content) (is_sound is_open is_steady : B 
   Answers (line.Balance account) answer = AnswersBalance account answer
   Answers (line.TopUp topup) answer = AnswersTopUp topup answer
   Answers (line.Session key) answer = AnswersSession key answer
+
+  -- What the octets of a line are answered by: a bad line where they are no text that a line has,
+  -- else as their line is.
+  abbrev pub AnswersOctets : List ℕ → Answer → Type 0
+  AnswersOctets octets answer =
+      ((answer ≡ form.BadLine) × (IsUtf8 octets → IsBad octets))
+      ⊎ ((line : Line) × Spells octets line × Answers line answer)

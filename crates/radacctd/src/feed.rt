@@ -5,9 +5,9 @@
 //! 3. A line that isn't UTF-8 or that no line spells is a bad line. It is answered so, and the run
 //!    goes on.
 //! 4. A run ends early where memory is refused or a writer fails.
-ghost use Rattle.std.specs.Prelude.{◌≡◌, ◌^◌, ◌<◌, IfOk, MatchOption, length};
+ghost use Rattle.std.specs.Prelude.{◌≡◌, ◌≢◌, ◌^◌, ◌<◌, [], IfOk, MatchOption, length};
 ghost use Rattle.radius_codec.specs.Packet.{request_octets};
-ghost use Rattle.radacctd.specs.Feed.{Answers, AnswersDatagram, AnswersSigned, AnswersBalance, AnswersTopUp, AnswersSession};
+ghost use Rattle.radacctd.specs.Feed.{Answers, AnswersOctets, AnswersDatagram, AnswersSigned, AnswersBalance, AnswersTopUp, AnswersSession};
 ghost use Rattle.radacctd.specs.Answers.{packet_answer};
 ghost use Rattle.radacctd.specs.Line.{HasMoment};
 ghost use Rattle.radacctd.specs.SampleSite.{ap1};
@@ -36,7 +36,9 @@ pub fn run_feed<R: Read + Drop, W: Write + Drop>(
     alloc: Global,
     mut reader: R,
     mut writer: W,
-) -> Status {
+) -> Status
+    ensures { result ≢ Status.WrongWords }
+{
     let status = match read_input(alloc, &mut reader) {
         Ok(input) => answer_input(alloc, MemBook::new(alloc), &input, &mut writer),
         Err(InputFault::TooLong) => end(&mut writer, "too long", Status::Refused),
@@ -55,7 +57,9 @@ pub fn answer_input<B: Book + Drop, W: Write>(
     book: B,
     input: &[u8],
     writer: &mut W,
-) -> Status {
+) -> Status
+    ensures { result ≢ Status.WrongWords }
+{
     let answered = match Site::sample(alloc) {
         Ok(site) => Feed::new(alloc, site, book).answer_lines(input, writer),
         Err(_) => Err(Stop::NoMemory),
@@ -68,7 +72,10 @@ pub fn answer_input<B: Book + Drop, W: Write>(
 }
 
 // The last answer of a run that ends early, and how it ends.
-fn end<W: Write>(writer: &mut W, text: &str, status: Status) -> Status {
+fn end<W: Write>(writer: &mut W, text: &str, status: Status) -> Status
+    requires { status ≢ Status.WrongWords }
+    ensures { result ≢ Status.WrongWords }
+{
     match writeln!(writer, "{text}") {
         Ok(()) => status,
         Err(_) => Status::Refused,
@@ -114,7 +121,12 @@ impl<B: Book> Feed<B> {
     }
 
     // What the octets of a line are answered by. An empty line has no answer.
-    fn answer_to(&mut self, octets: &[u8]) -> Result<Option<Answer>, Stop> {
+    fn answer_to(&mut self, octets: &[u8]) -> Result<Option<Answer>, Stop>
+        ensures answers { IfOk result (λ answer. MatchOption answer (octets.now ≡ [])
+            (AnswersOctets B.content B.is_sound B.is_open B.is_steady B.left
+            self.old.server.site.clients self.old.server.site.plans
+            self.old.server.book self.new.server.book octets.now)) }
+    {
         let Ok(text) = str::from_utf8(octets) else {
             return Ok(Some(Answer::BadLine));
         };

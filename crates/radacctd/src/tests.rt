@@ -555,6 +555,11 @@ fn tells_of_readers(rt: HostRuntime) {
             Refused
         )
     );
+}
+
+// An input of as many octets as there may be, and one of one more.
+#[test]
+fn tells_of_long_inputs(rt: HostRuntime) {
     assert!(rt; line_ends_give(rt.alloc(), MOST_OCTETS, "", Done));
     assert!(rt; line_ends_give(rt.alloc(), MOST_OCTETS + 1, "too long\n", Refused));
 }
@@ -575,14 +580,19 @@ fn line_ends_give(alloc: Global, left: usize, wanted: &str, status: Status) -> b
     ended == status && output.as_slice() == wanted.as_bytes()
 }
 
-// A read that fails is not tried again. An interrupted one is, and counts.
+// A read that fails is not tried again.
 #[test]
-fn counts_reads(rt: HostRuntime) {
+fn stops_at_a_failed_read(rt: HostRuntime) {
     let fails = Some(ErrorKind::UnexpectedEof);
     assert_eq!(rt;
         reads_of(rt.alloc(), 3, fails),
         (Some(InputFault::CannotRead), 4)
     );
+}
+
+// An interrupted read is tried again, and counts.
+#[test]
+fn counts_reads(rt: HostRuntime) {
     assert_eq!(rt;
         reads_of(rt.alloc(), MOST_READS, None),
         (Some(InputFault::CannotRead), MOST_READS)
