@@ -1,5 +1,7 @@
 -- How octets are cut behind the end of their first line.
-use Rattle.std.proofs.Common.{◌≡◌, ℕ, ◌<◌, ◌≤◌, ◌+◌, ◌-◌, List, [], ◌∷◌, ◌++◌, length, take, drop, get_or, true, ◌==◌, None, Some, inl, inr, refl, sym, arith, ◌∙◌, ap, add-one}
+use Rattle.std.proofs.Common.{◌≡◌, ℕ, ◌<◌, ◌≤◌, ◌+◌, ◌-◌, List, [], ◌∷◌, ◌++◌, length, take, drop}
+use Rattle.std.proofs.Common.{get_or, true, ◌==◌, None, Some, inl, inr, refl, sym, arith, ◌∙◌, ap}
+use Rattle.std.proofs.Common.{add-one}
 use Rattle.std.proofs.lemmas.List.{take-append-drop, get_or-take, length-take-le}
 use Rattle.std.proofs.lemmas.Slice.{between_to_end}
 use Rattle.std.proofs.Math.Seq.{drop-cons}
@@ -20,12 +22,15 @@ cut_behind octets end h =
     let most : end ≤ length octets = omega arith in
     let size : length (take end octets) ≡ end = length-take-le end octets most in
     let ten : get_or octets end 0 ≡ 10 = is_ten _ h.1 in
-    let behind : take (length octets - (end + 1)) (drop (end + 1) octets) ≡ drop (end + 1) octets = between_to_end octets (end + 1) (length octets) (omega arith) in
-    let cons : drop end octets ≡ 10 ∷ drop (end + 1) octets = rw add-one (rw ten at (drop-cons octets end 0 inside)) in
+    let behind : take (length octets - (end + 1)) (drop (end + 1) octets) ≡ drop
+    (end + 1) octets = between_to_end octets (end + 1) (length octets) (omega arith) in
+    let cons : drop end octets ≡ 10 ∷ drop (end + 1) octets = rw add-one (rw ten at
+    (drop-cons octets end 0 inside)) in
     record {
       unbroken = λ k lt eq. let low : k < end = omega arith in
           h.0.before k (omega arith) low (is_found _ (sym (get_or-take end octets k 0 low) ∙ eq));
-      whole = inl (sym (take-append-drop end octets) ∙ ap (λ xs. take end octets ++ xs) (cons ∙ ap (λ xs. 10 ∷ xs) (sym behind)));
+      whole = inl (sym (take-append-drop end octets) ∙ ap (λ xs. take end octets ++ xs) (cons
+          ∙ ap (λ xs. 10 ∷ xs) (sym behind)));
     }
 
 pub no_cut : (octets : List ℕ) → IsFirstByte (is_byte 10) octets None → IsCut octets octets []

@@ -13,20 +13,24 @@ abbrev first : Text × List Row → Text
 first p = p.0
 
 module _ {Z : Type 0} where
-  name_first : (s : Option (Box SubCommand Z)) → option_map (λ b. (out-SubCommand (box_value b)).name.now) s ≡ option_map first (subcommand_rows s)
+  name_first : (s : Option (Box SubCommand Z)) → option_map (λ b. (out-SubCommand
+      (box_value b)).name.now) s ≡ option_map first (subcommand_rows s)
   name_first None = refl
   name_first (Some x) = refl
 
 name_of_rows : (m : ArgMatches) → subcommand_name_of m ≡ option_map first (subcommand_rows_of m)
 name_of_rows m = name_first (out-ArgMatches m).subcommand
 
-named : (o : Option (Text × List Row)) (name : Text) (job : Job) → Some name ≡ option_map first o → AsksFor name job → NamesJob o job
+named : (o : Option (Text × List Row)) (name : Text) (job : Job) → Some name ≡ option_map first o
+    → AsksFor name job → NamesJob o job
 named None name job a h = absurd (cc a)
 named (Some p) name job a h =
     let one : name ≡ p.0 = cc a in
     rw one at h
 
 -- a job that the entered subcommand's name asks for
-pub names_job : (m : ArgMatches) (o : Option (Text × List Row)) (name : Text) (job : Job) → subcommand_rows_of m ≡ o
+pub names_job : (m : ArgMatches) (o : Option (Text × List Row)) (name : Text) (job : Job)
+    → subcommand_rows_of m ≡ o
     → Some name ≡ subcommand_name_of m → AsksFor name job → NamesJob o job
-names_job m o name job e a h = rw (← e) (named (subcommand_rows_of m) name job (a ∙ name_of_rows m) h)
+names_job m o name job e a h = rw (← e) (named (subcommand_rows_of m) name job (a
+    ∙ name_of_rows m) h)

@@ -1,5 +1,7 @@
 -- How the words of a text are cut.
-use Rattle.std.proofs.Common.{Option, None, Some, MatchOption, ◌≡◌, ◌≢◌, ℕ, suc, ◌<◌, ◌==◌, if◌then◌else◌, Bool, true, false, List, [], ◌∷◌, ◌++◌, length, get_or, append_assoc, append-nil, sym, ◌∙◌, ap, arith}
+use Rattle.std.proofs.Common.{Option, None, Some, MatchOption, ◌≡◌, ◌≢◌, ℕ, suc, ◌<◌, ◌==◌}
+use Rattle.std.proofs.Common.{if◌then◌else◌, Bool, true, false, List, [], ◌∷◌, ◌++◌, length, get_or}
+use Rattle.std.proofs.Common.{append_assoc, append-nil, sym, ◌∙◌, ap, arith}
 use Rattle.std.proofs.lemmas.Bool.Decides.{nat_tests}
 use Rattle.std.specs.Borrow.{Bor}
 use Rattle.radacctd.specs.Words.{words, words_after}
@@ -25,7 +27,8 @@ cut_after (x ∷ word) before rest h =
     rw (first 32 x word h) (after ∙ ap (λ w. w ∷ words rest) (append_assoc before (x ∷ []) word))
 
 -- a text without a space is one word
-whole_after : (word before : List ℕ) → Lacks 32 word → words_after before word ≡ (before ++ word) ∷ []
+whole_after : (word before : List ℕ) → Lacks 32 word
+    → words_after before word ≡ (before ++ word) ∷ []
 whole_after [] before h = ap (λ w. w ∷ []) (sym (append-nil before))
 whole_after (x ∷ word) before h =
     let after = whole_after word (before ++ x ∷ []) (later 32 x word h) in
@@ -34,7 +37,8 @@ whole_after (x ∷ word) before h =
 -- the words of a text by its parts
 pub words_of_parts : (text : List ℕ) (r : Option (Bor (List ℕ) × Bor (List ℕ)))
     → MatchOption r ((i : ℕ) → i < length text → get_or text i 0 ≢ 32)
-    (λ x. (text ≡ x.0.now ++ (32 ∷ x.1.now)) × ((i : ℕ) → i < length x.0.now → get_or x.0.now i 0 ≢ 32))
+    (λ x. (text ≡ x.0.now ++ (32 ∷ x.1.now)) × ((i : ℕ) → i < length x.0.now
+    → get_or x.0.now i 0 ≢ 32))
     → MatchOption r (words text ≡ text ∷ []) (λ x. words text ≡ x.0.now ∷ words x.1.now)
 words_of_parts text None h = whole_after text [] h
 words_of_parts text (Some x) h = ap words h.0 ∙ cut_after x.0.now [] x.1.now h.1
@@ -52,7 +56,8 @@ some_word before (x ∷ text) h =
     (some_word (before ++ x ∷ []) text) h
 
 -- a word and the words of a text are two words at least
-pub two_at_least : (all : List (List ℕ)) (word rest a : List ℕ) → all ≡ word ∷ words rest → all ≡ a ∷ [] → ⊥
+pub two_at_least : (all : List (List ℕ)) (word rest a : List ℕ) → all ≡ word ∷ words rest
+    → all ≡ a ∷ [] → ⊥
 two_at_least all word rest a e h =
     let none : words rest ≡ [] = cc (e, h) in
     some_word [] rest none

@@ -1,5 +1,6 @@
 -- What lines are answered by, and the text of each answer.
-use Rattle.std.specs.Prelude.{◌≤◌, ℕ, ℤ, List, [], ◌∷◌, ◌++◌, ◌-◌, Option, Some, None, Result, Ok, Err, codes, take, drop, length, ◌==◌, decimal, if◌then◌else◌}
+use Rattle.std.specs.Prelude.{◌≤◌, ℕ, ℤ, List, [], ◌∷◌, ◌++◌, ◌-◌, Option, Some, None, Result, Ok}
+use Rattle.std.specs.Prelude.{Err, codes, take, drop, length, ◌==◌, decimal, if◌then◌else◌}
 use Rattle.std.specs.Fmt.{signed_decimal}
 use Rattle.hex.specs.Hex.{encode_lower}
 use Rattle.acct_model.specs.declared.plan.Plan.{Plan}
@@ -56,13 +57,15 @@ credit_text credit.Unavailable = codes "unavailable"
 -- `session CLIENT SESSION ACCOUNT CLASS `
 abbrev pub names_text : ShownRow → List ℕ
 names_text row =
-    codes "session " ++ row.client ++ codes " " ++ row.session ++ codes " " ++ row.account ++ codes " "
+    codes "session " ++ row.client ++ codes " " ++ row.session ++ codes " " ++ row.account
+    ++ codes " "
     ++ row.class ++ codes " "
 
 -- `INPUT OUTPUT CHARGED `
 abbrev pub octets_text : ShownRow → List ℕ
 octets_text row =
-    decimal row.input ++ codes " " ++ decimal row.output ++ codes " " ++ decimal row.charged ++ codes " "
+    decimal row.input ++ codes " " ++ decimal row.output ++ codes " " ++ decimal row.charged
+    ++ codes " "
 
 -- `STATE CAUSE`
 abbrev pub end_text : ShownRow → List ℕ

@@ -1,6 +1,8 @@
 -- What a line is answered by, over a book.
 use Rattle.std.specs.Str.{IsUtf8}
-use Rattle.std.specs.Prelude.{◌≡◌, ◌<◌, ℕ, ℤ, ◌⊎◌, List, Option, Result, IfOk, length}
+use Rattle.std.specs.Io.KnownBytes.{Appends, Keeps}
+use Rattle.std.specs.Prelude.{◌≡◌, ◌<◌, ℕ, ℤ, ◌⊎◌, List, Option, Result, IfOk, length, [], ◌∷◌}
+use Rattle.std.specs.Prelude.{◌++◌}
 use Rattle.radius_codec.specs.Packet.{request_octets}
 use Rattle.acct_model.specs.declared.plan.Plan.{Plan}
 use Rattle.acct_model.specs.declared.entry.Entry.TheVariants as entry
@@ -18,7 +20,9 @@ use Rattle.acct_wire.specs.declared.answering.Outcome.{Outcome}
 use Rattle.acct_wire.specs.declared.client.Client.{Client}
 use Rattle.acct_wire.specs.Datagrams.{AsksFor}
 use Rattle.acct_wire.specs.Outcomes.{Judges, Writes, IsTold, IsDrop, Steps}
-use Rattle.radacctd.specs.Answers.{packet_answer, signed_answer, balance_answer, credit_of, session_answer}
+use Rattle.radacctd.specs.Answers.{answer_text, packet_answer, signed_answer, balance_answer}
+use Rattle.radacctd.specs.Answers.{credit_of}
+use Rattle.radacctd.specs.Answers.{session_answer}
 use Rattle.radacctd.specs.Line.{IsBad, Spells}
 use Rattle.radacctd.specs.SampleSite.{ap1}
 use Rattle.radacctd.specs.declared.answer.Answer.{Answer}
@@ -52,7 +56,8 @@ module _ {B : Type 0} (content : B → Content) (is_sound is_open is_steady : B 
   -- A voucher was recorded once.
   pub record AnswersTopUp (topup : TopUpFacts) (answer : Answer) : Type 0 where
     pub told : Result Recorded RecordError
-    pub records : Records plans (entry.TopUp topup) content is_sound is_open is_steady left old new told
+    pub records : Records plans (entry.TopUp topup) content is_sound is_open is_steady left old new
+        told
     pub shown : answer ≡ form.Voucher (credit_of told)
 
   -- The row of a session was asked for.
@@ -71,7 +76,8 @@ module _ {B : Type 0} (content : B → Content) (is_sound is_open is_steady : B 
 
   -- what a line is answered by
   abbrev pub Answers : Line → Answer → Type 0
-  Answers (line.Signed moment identifier octets) answer = AnswersSigned moment identifier octets answer
+  Answers (line.Signed moment identifier octets) answer = AnswersSigned moment identifier octets
+      answer
   Answers (line.Packet moment source octets) answer =
       AnswersDatagram source octets moment packet_answer answer
   Answers (line.Balance account) answer = AnswersBalance account answer
@@ -84,3 +90,10 @@ module _ {B : Type 0} (content : B → Content) (is_sound is_open is_steady : B 
   AnswersOctets octets answer =
       ((answer ≡ form.BadLine) × (IsUtf8 octets → IsBad octets))
       ⊎ ((line : Line) × Spells octets line × Answers line answer)
+
+  -- A line prints nothing where it is empty, else the text of its answer and a line end.
+  abbrev pub Prints : List ℕ → Option (List ℕ) → Option (List ℕ) → Type 0
+  Prints octets before after =
+      ((octets ≡ []) × Keeps before after)
+      ⊎ ((answer : Answer) × AnswersOctets octets answer
+      × Appends before after (answer_text answer ++ 10 ∷ []))

@@ -1,5 +1,6 @@
 -- The lines of an input.
-use Rattle.std.specs.Prelude.{◌≡◌, ◌≢◌, ℕ, ◌<◌, ◌⊎◌, Option, None, Some, List, [], ◌∷◌, ◌++◌, length, slice_index}
+use Rattle.std.specs.Prelude.{◌≡◌, ◌≢◌, ℕ, ◌<◌, ◌⊎◌, Option, None, Some, List, [], ◌∷◌, ◌++◌}
+use Rattle.std.specs.Prelude.{length, slice_index}
 use Rattle.std.specs.Borrow.{Bor}
 
 -- the first line of octets, which has no octet 10, and what stands behind the one that ends it

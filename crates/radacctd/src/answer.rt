@@ -1,7 +1,9 @@
 //! What a line is answered by. The text of each answer is the `output` of its `Display`.
 ghost use Rattle.std.specs.Prelude.{◌≡◌, ◌≤◌, ◌++◌, Some, IfOk, length, codes};
 ghost use Rattle.std.specs.Fmt.{DisplaysOnOk};
-ghost use Rattle.radacctd.specs.Answers.{ReplyFits, answer_text, after_space, credit_text, reason_number, packet_answer, signed_answer, balance_answer, credit_of, session_answer};
+ghost use Rattle.radacctd.specs.Answers.{ReplyFits, answer_text, after_space, credit_text};
+ghost use Rattle.radacctd.specs.Answers.{reason_number, packet_answer, signed_answer};
+ghost use Rattle.radacctd.specs.Answers.{balance_answer, credit_of, session_answer};
 
 use crate::octet_words::{hex_of, word_of};
 use crate::shown_row::ShownRow;
@@ -11,7 +13,8 @@ use acct_wire::{Outcome, Reason};
 use std::alloc::{AllocError, Global};
 use std::fmt;
 
-/// The octets of a packet before its authenticator: code, identifier and length (RFC 2866, section 3).
+/// The octets of a packet before its authenticator: code, identifier and length (RFC 2866, section
+/// 3).
 const FRONT: usize = 4;
 /// The octets of a packet before its attributes (RFC 2866, section 3).
 const HEADER: usize = 20;
@@ -19,7 +22,8 @@ const HEADER: usize = 20;
 /// What a line is answered by.
 #[derive(Debug, Drop)]
 pub enum Answer {
-    /// A reply to a request that was signed: its code, identifier and length, and its attributes, in
+    /// A reply to a request that was signed: its code, identifier and length, and its attributes,
+    /// in
     /// hexadecimal digits.
     Parted {
         /// Code, identifier and length.

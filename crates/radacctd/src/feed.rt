@@ -5,9 +5,11 @@
 //! 3. A line that isn't UTF-8 or that no line spells is a bad line. It is answered so, and the run
 //!    goes on.
 //! 4. A run ends early where memory is refused or a writer fails.
-ghost use Rattle.std.specs.Prelude.{◌≡◌, ◌≢◌, ◌^◌, ◌<◌, [], IfOk, MatchOption, length};
+ghost use Rattle.std.specs.Prelude.{◌≡◌, ◌≢◌, ◌^◌, ◌<◌, [], IfOk, OnOk, MatchOption, length};
 ghost use Rattle.radius_codec.specs.Packet.{request_octets};
-ghost use Rattle.radacctd.specs.Feed.{Answers, AnswersOctets, AnswersDatagram, AnswersSigned, AnswersBalance, AnswersTopUp, AnswersSession};
+ghost use Rattle.radacctd.specs.Feed.{Prints, Answers, AnswersOctets, AnswersDatagram};
+ghost use Rattle.radacctd.specs.Feed.{AnswersSigned};
+ghost use Rattle.radacctd.specs.Feed.{AnswersBalance, AnswersTopUp, AnswersSession};
 ghost use Rattle.radacctd.specs.Answers.{packet_answer};
 ghost use Rattle.radacctd.specs.Line.{HasMoment};
 ghost use Rattle.radacctd.specs.SampleSite.{ap1};
@@ -112,7 +114,12 @@ impl<B: Book> Feed<B> {
     }
 
     // Answers a line, and says whether it was good.
-    fn answer_line<W: Write>(&mut self, octets: &[u8], writer: &mut W) -> Result<bool, Stop> {
+    fn answer_line<W: Write>(&mut self, octets: &[u8], writer: &mut W) -> Result<bool, Stop>
+        ensures printed { OnOk result (Prints B.content B.is_sound B.is_open B.is_steady B.left
+            self.old.server.site.clients self.old.server.site.plans
+            self.old.server.book self.new.server.book octets.now
+            (W.contents writer.old) (W.contents writer.new)) }
+    {
         let Some(answer) = self.answer_to(octets)? else {
             return Ok(true);
         };
@@ -176,7 +183,8 @@ impl<B: Book> Feed<B> {
     // Signs the attributes' octets as the client does, and answers the request.
     fn answer_signed(&mut self, moment: u64, identifier: u8, octets: &[u8]) -> Result<Answer, Stop>
         requires { moment < 2 ^ 53 }
-        ensures answers { IfOk result (AnswersSigned B.content B.is_sound B.is_open B.is_steady B.left
+        ensures answers { IfOk result (AnswersSigned B.content B.is_sound B.is_open B.is_steady
+            B.left
             self.old.server.site.clients self.old.server.site.plans
             self.old.server.book self.new.server.book moment identifier octets.now) }
     {
@@ -195,7 +203,8 @@ impl<B: Book> Feed<B> {
 
     // Answers a datagram as it came.
     fn answer_packet(&mut self, datagram: &Datagram<'_>) -> Result<Answer, Stop>
-        ensures answers { IfOk result (AnswersDatagram B.content B.is_sound B.is_open B.is_steady B.left
+        ensures answers { IfOk result (AnswersDatagram B.content B.is_sound B.is_open B.is_steady
+            B.left
             self.old.server.site.clients self.old.server.site.plans
             self.old.server.book self.new.server.book datagram.now.source datagram.now.bytes.now
             datagram.now.moment packet_answer) }
@@ -206,7 +215,8 @@ impl<B: Book> Feed<B> {
     }
 
     fn answer_balance(&mut self, account: &[u8]) -> Result<Answer, Stop>
-        ensures answers { IfOk result (AnswersBalance B.content B.is_sound B.is_open B.is_steady B.left
+        ensures answers { IfOk result (AnswersBalance B.content B.is_sound B.is_open B.is_steady
+            B.left
             self.old.server.site.clients self.old.server.site.plans
             self.old.server.book self.new.server.book account.now) }
     {
@@ -228,7 +238,8 @@ impl<B: Book> Feed<B> {
     }
 
     fn answer_session(&mut self, key: &Key) -> Result<Answer, Stop>
-        ensures answers { IfOk result (AnswersSession B.content B.is_sound B.is_open B.is_steady B.left
+        ensures answers { IfOk result (AnswersSession B.content B.is_sound B.is_open B.is_steady
+            B.left
             self.old.server.site.clients self.old.server.site.plans
             self.old.server.book self.new.server.book key.now) }
     {

@@ -42,12 +42,15 @@ impl From<AllocError> for InputFault {
 ///
 /// # Errors
 ///
-/// `TooLong` as soon as more than `MOST_OCTETS` octets came, `CannotRead` where a read fails or the end isn't met in
+/// `TooLong` as soon as more than `MOST_OCTETS` octets came, `CannotRead` where a read fails or the
+/// end isn't met in
 /// `MOST_READS` reads, `NoMemory` where the octets can't be kept.
 pub fn read_input<R: Read>(alloc: Global, reader: &mut R) -> Result<Vec<u8>, InputFault>
-    ensures whole { IfOk result (λ octets. IfSome (R.remaining reader.old) (λ all. octets.items ≡ all)) }
+    ensures whole { IfOk result (λ octets.
+        IfSome (R.remaining reader.old) (λ all. octets.items ≡ all)) }
     ensures bounded { IfOk result (λ octets. vec_len octets ≤ MOST_OCTETS) }
-    ensures too_long { IfErr result (λ fault. fault ≡ too_long → IfSome (R.remaining reader.old) (λ all. MOST_OCTETS < length all)) }
+    ensures too_long { IfErr result (λ fault. fault ≡ too_long
+        → IfSome (R.remaining reader.old) (λ all. MOST_OCTETS < length all)) }
 {
     let mut octets = Vec::new(alloc);
     let mut block = [0; BLOCK];

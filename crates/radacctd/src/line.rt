@@ -1,13 +1,16 @@
 //! The lines that `feed` reads.
 //!
 //! One space each separates the words of a line. A number is 1 to 20 decimal digits, octets are
-//! hexadecimal digits or `-`, and an account or a session id is shown as `acct_model::show` shows it,
+//! hexadecimal digits or `-`, and an account or a session id is shown as `acct_model::show` shows
+//! it,
 //! `-` where it is empty.
-ghost use Rattle.std.specs.Prelude.{◌≡◌, ℕ, List, [], ◌∷◌, codes, IfOk, IfErr, IfSome, IsTrue, ◌↔◌, MatchOption};
+ghost use Rattle.std.specs.Prelude.{◌≡◌, ℕ, List, [], ◌∷◌, codes, IfOk, IfErr, IfSome, IsTrue, ◌↔◌};
+ghost use Rattle.std.specs.Prelude.{MatchOption};
 ghost use Rattle.acct_model.specs.Vouchers.{TopUpFacts};
 ghost use Rattle.acct_book.specs.declared.key.Key.{Key};
 ghost use Rattle.radacctd.specs.Words.{words as words_in};
-ghost use Rattle.radacctd.specs.Line.{HasMoment, Spells, IsBad, AreWordsOf, AreSigned, ArePacket, AreBalance, AreTopUp, AreSession};
+ghost use Rattle.radacctd.specs.Line.{HasMoment, Spells, IsBad, AreWordsOf, AreSigned, ArePacket};
+ghost use Rattle.radacctd.specs.Line.{AreBalance, AreTopUp, AreSession};
 ghost use Rattle.radacctd.specs.declared.line_fault.LineFault.TheVariants.{Bad as bad};
 
 use crate::line_fault::LineFault;

@@ -1,6 +1,7 @@
 //! radacctd: a RADIUS accounting server (RFC 2866) with prepaid data allowances.
 //!
-//! `radacctd feed` answers a script of packets and questions over a book in memory, at the sample site.
+//! `radacctd feed` answers a script of packets and questions over a book in memory, at the sample
+//! site.
 #![tactic(auto)]
 
 mod answer;

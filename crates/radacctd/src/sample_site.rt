@@ -55,7 +55,8 @@ fn clients(alloc: Global) -> Result<Clients, AllocError>
     }
 }
 
-// The plans `gold`, of 1,048,576 octets a block and 10 a unit, and `default`, of 1,000,000 octets a block and 5 a unit.
+// The plans `gold`, of 1,048,576 octets a block and 10 a unit, and `default`, of 1,000,000 octets a
+// block and 5 a unit.
 fn plans(alloc: Global) -> Result<Plans, AllocError>
     ensures { IfOk result (λ plans. plans ≡ sample_plans) }
 {
@@ -69,7 +70,8 @@ fn plans(alloc: Global) -> Result<Plans, AllocError>
 }
 
 fn plan(alloc: Global, class: &[u8], block: u64, unit: u64) -> Result<Plan, AllocError>
-    ensures { IfOk result (λ plan. plan ≡ record { class = class.now; block = block; unit = unit }) }
+    ensures { IfOk result (λ plan.
+        plan ≡ record { class = class.now; block = block; unit = unit }) }
 {
     let class = Octets::from_slice(alloc, class)?;
     Ok(Plan { class, block, unit })

@@ -42,7 +42,8 @@ impl<B: Book> Server<B> {
 
     /// Answers a datagram: the reply, if it gets one, stands at the front of `reply`.
     pub fn answer(&mut self, datagram: &Datagram<'_>) -> Outcome
-        ensures judged { Judges self.old.site.clients datagram.now.source datagram.now.bytes.now result }
+        ensures judged { Judges self.old.site.clients datagram.now.source datagram.now.bytes.now
+            result }
         ensures written { Writes self.old.site.clients datagram.now.source datagram.now.bytes.now
             self.old.reply self.new.reply result }
         ensures fits { ReplyFits result }

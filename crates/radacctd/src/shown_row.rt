@@ -1,7 +1,8 @@
 //! A session's row, as it is shown.
 ghost use Rattle.std.specs.Prelude.{◌≡◌, Some, IfOk};
 ghost use Rattle.std.specs.Fmt.{DisplaysOnOk};
-ghost use Rattle.radacctd.specs.Answers.{row_text, names_text, octets_text, end_text, state_text, shown_row};
+ghost use Rattle.radacctd.specs.Answers.{row_text, names_text, octets_text, end_text, state_text};
+ghost use Rattle.radacctd.specs.Answers.{shown_row};
 
 use crate::octet_words::word_of;
 use acct_book::{Row, SessionState, charge};

@@ -1,4 +1,5 @@
-//! Scripts whose answers come from outside: worked by hand, or by another program from the RFC's formulas.
+//! Scripts whose answers come from outside: worked by hand, or by another program from the RFC's
+//! formulas.
 use crate::feed::{answer_input, run_feed};
 use crate::input::{InputFault, MOST_OCTETS, MOST_READS, read_input};
 use crate::job::{Job, job_of};
@@ -74,7 +75,8 @@ const LINES: [Row; 51] = [
     ("balance\nbalance al\n", "bad line\nbalance al 0\n", Refused),
     ("hello\n", "bad line\n", Refused),
     ("Balance al\n", "bad line\n", Refused),
-    // Vouchers: a lower-case number, no account, a sum out of range, a word too few and one too many.
+    // Vouchers: a lower-case number, no account, a sum out of range, a word too few and one too
+    // many.
     ("topup 1000 v-1 al 500\n", "bad line\n", Refused),
     ("topup 1000 V-1 - 500\n", "bad line\n", Refused),
     ("topup 1000 V-2 al 1000000000001\n", "bad line\n", Refused),
@@ -124,7 +126,8 @@ const LINES: [Row; 51] = [
     ("packet 1000 10.0.0.2 \n", "bad line\n", Refused),
 ];
 
-// Packets of the sample client. The digests were computed by another program, from the RFC's formulas.
+// Packets of the sample client. The digests were computed by another program, from the RFC's
+// formulas.
 const PACKETS: [Row; 22] = [
     // A Start; four Interim-Updates of a session of the plan gold; one with a gigaword.
     (
@@ -137,7 +140,8 @@ const PACKETS: [Row; 22] = [
          signed 2000 ap1 8 2806000000032c0473320104616c1906676f6c642a0600000001\nbalance al\n\
          signed 2000 ap1 8 2806000000032c0473320104616c1906676f6c642a0600100000\nbalance al\n\
          signed 2000 ap1 8 2806000000032c0473320104616c1906676f6c642a0600100001\nbalance al\n",
-        "reply 05080014\nbalance al 0\nreply 05080014\nbalance al -10\nreply 05080014\nbalance al -10\n\
+        "reply 05080014\nbalance al 0\nreply 05080014\nbalance al -10\nreply 05080014\n\
+         balance al -10\n\
          reply 05080014\nbalance al -20\n",
         Done,
     ),
@@ -147,7 +151,8 @@ const PACKETS: [Row; 22] = [
         Done,
     ),
     (
-        "signed 2000 ap1 9 2806000000032c0473330104616c1906676f6c642a0600000000340600000001\nbalance al\n",
+        "signed 2000 ap1 9 2806000000032c0473330104616c1906676f6c642a0600000000340600000001\n\
+         balance al\n",
         "reply 05090014\nbalance al -40960\n",
         Done,
     ),
@@ -196,18 +201,21 @@ const PACKETS: [Row; 22] = [
         Done,
     ),
     (
-        "packet 1000 10.0.0.1 04070029eecf06c2d97a5f1e56226630d3b49ce12806000000012c0473310104616c2103782104797a\n",
+        "packet 1000 10.0.0.1 04070029eecf06c2d97a5f1e56226630d3b49ce12806000000012c0473310104616c\
+         2103782104797a\n",
         "reply 0507001b96b5f5d7e84d51b106a002b4a77656662103782104797a\n",
         Done,
     ),
     // A whole packet, and with five octets behind it.
     (
-        "packet 1000 10.0.0.1 04070022a0219da781bf217105bbdd1d2b3a0e942806000000012c0473310104616c\n",
+        "packet 1000 10.0.0.1 04070022a0219da781bf217105bbdd1d2b3a0e942806000000012c0473310104616c\
+         \n",
         "reply 050700147085eaed1f37213892e86815ce9da4fd\n",
         Done,
     ),
     (
-        "packet 1000 10.0.0.1 04070022A0219DA781BF217105BBDD1D2B3A0E942806000000012C0473310104616C0000000000\n",
+        "packet 1000 10.0.0.1 04070022A0219DA781BF217105BBDD1D2B3A0E942806000000012C0473310104616C\
+         0000000000\n",
         "reply 050700147085eaed1f37213892e86815ce9da4fd\n",
         Done,
     ),
@@ -223,35 +231,41 @@ const PACKETS: [Row; 22] = [
         Done,
     ),
     (
-        "packet 1000 10.0.0.1 04070023a0219da781bf217105bbdd1d2b3a0e942806000000012c0473310104616c\n",
+        "packet 1000 10.0.0.1 04070023a0219da781bf217105bbdd1d2b3a0e942806000000012c0473310104616c\
+         \n",
         "drop 3\n",
         Done,
     ),
     (
-        "packet 1000 10.0.0.1 01070022a0219da781bf217105bbdd1d2b3a0e942806000000012c0473310104616c\n",
+        "packet 1000 10.0.0.1 01070022a0219da781bf217105bbdd1d2b3a0e942806000000012c0473310104616c\
+         \n",
         "drop 4\n",
         Done,
     ),
     (
-        "packet 1000 10.0.0.1 04070022a0219da781bf217105bbdd1d2b3a0e942806000000012c0473310104616d\n",
+        "packet 1000 10.0.0.1 04070022a0219da781bf217105bbdd1d2b3a0e942806000000012c0473310104616d\
+         \n",
         "drop 5\n",
         Done,
     ),
     // An attribute past the end; no status; an unknown one; no session id; a field of three octets.
     (
-        "signed 1 ap1 1 2801\nsigned 1 ap1 1 -\nsigned 1 ap1 1 280600000009\nsigned 1 ap1 1 2805000001\n\
+        "signed 1 ap1 1 2801\nsigned 1 ap1 1 -\nsigned 1 ap1 1 280600000009\n\
+         signed 1 ap1 1 2805000001\n\
          signed 1 ap1 1 280600000001\nsigned 1 ap1 1 2806000000012c0473312a05000000\n",
         "drop 6\ndrop 7\ndrop 8\ndrop 8\ndrop 9\ndrop 10\n",
         Done,
     ),
     // The greatest total, and one octet more.
     (
-        "signed 1 ap1 1 2806000000032c0473310104616c1906676f6c642a06ffffffff34067fffffff\nbalance al\n",
+        "signed 1 ap1 1 2806000000032c0473310104616c1906676f6c642a06ffffffff34067fffffff\n\
+         balance al\n",
         "reply 05010014\nbalance al -87960930222080\n",
         Done,
     ),
     (
-        "signed 1 ap1 1 2806000000032c0473310104616c1906676f6c642a06ffffffff34067fffffff2b0600000001\nbalance al\n",
+        "signed 1 ap1 1 2806000000032c0473310104616c1906676f6c642a06ffffffff34067fffffff2b06000000\
+         01\nbalance al\n",
         "drop 11\nbalance al 0\n",
         Done,
     ),
@@ -274,7 +288,8 @@ const BOOK: [Row; 8] = [
     (
         "signed 2000 ap1 1 2806000000032c0473320104616c1906676f6c642a0600100001\n\
          signed 2001 ap1 2 280600000007\nsession ap1 s2\n\
-         signed 2002 ap1 3 2806000000032c0473320104616c1906676f6c642a0600200001\nsession ap1 s2\nbalance al\n",
+         signed 2002 ap1 3 2806000000032c0473320104616c1906676f6c642a0600200001\nsession ap1 s2\n\
+         balance al\n",
         "reply 05010014\nreply 05020014\nsession ap1 s2 al gold 1048577 0 20 closed 11\n\
          reply 05030014\nsession ap1 s2 al gold 2097153 0 30 closed 11\nbalance al -30\n",
         Done,
@@ -284,7 +299,8 @@ const BOOK: [Row; 8] = [
         "signed 2000 ap1 1 2806000000032c0473320104616c1906676f6c642a0600100001\n\
          signed 2001 ap1 2 280600000007\n\
          signed 2003 ap1 4 2806000000022c047332310600000001\nsession ap1 s2\n",
-        "reply 05010014\nreply 05020014\nreply 05040014\nsession ap1 s2 al gold 1048577 0 20 stopped 1\n",
+        "reply 05010014\nreply 05020014\nreply 05040014\n\
+         session ap1 s2 al gold 1048577 0 20 stopped 1\n",
         Done,
     ),
     // A Stop before its Start.
@@ -297,20 +313,27 @@ const BOOK: [Row; 8] = [
     ),
     // A report sent again with another delay, and late ones: charged once.
     (
-        "signed 1000 ap1 8 2806000000032c0473350104616c1906676f6c642a0600000001290600000000\nbalance al\n\
-         signed 1005 ap1 9 2806000000032c0473350104616c1906676f6c642a0600000001290600000005\nbalance al\n\
+        "signed 1000 ap1 8 2806000000032c0473350104616c1906676f6c642a0600000001290600000000\n\
+         balance al\n\
+         signed 1005 ap1 9 2806000000032c0473350104616c1906676f6c642a0600000001290600000005\n\
+         balance al\n\
          signed 1010 ap1 10 2806000000032c0473350104616c1906676f6c642a0600000001290600000002\n\
-         signed 1010 ap1 11 2806000000032c0473350104616c1906676f6c642a06000000012906000003f3\nbalance al\n",
-        "reply 05080014\nbalance al -10\nreply 05090014\nbalance al -10\nreply 050a0014\nreply 050b0014\nbalance al -10\n",
+         signed 1010 ap1 11 2806000000032c0473350104616c1906676f6c642a06000000012906000003f3\n\
+         balance al\n",
+        "reply 05080014\nbalance al -10\nreply 05090014\nbalance al -10\nreply 050a0014\n\
+         reply 050b0014\nbalance al -10\n",
         Done,
     ),
     // The session id of no octets, and octets that are shown by their escapes.
     (
-        "signed 1 ap1 1 2806000000012c020104612c\nsession ap1 -\nsigned 1 ap1 2 2806000000012c0425200103ff\nsession ap1 %25%20\n",
-        "reply 05010014\nsession ap1 - a, - 0 0 0 open 0\nreply 05020014\nsession ap1 %25  %FF - 0 0 0 open 0\n",
+        "signed 1 ap1 1 2806000000012c020104612c\nsession ap1 -\n\
+         signed 1 ap1 2 2806000000012c0425200103ff\nsession ap1 %25%20\n",
+        "reply 05010014\nsession ap1 - a, - 0 0 0 open 0\nreply 05020014\n\
+         session ap1 %25  %FF - 0 0 0 open 0\n",
         Done,
     ),
-    // No two fields alike and none 0: status, session, account, Class, octets and gigawords each way,
+    // No two fields alike and none 0: status, session, account, Class, octets and gigawords each
+    // way,
     // seconds, cause, delay, calling station, address, and Proxy-States of 1, 253 and 253 octets.
     (
         "signed 5000 ap1 200 2806000000022c0473310104616c1906676f6c642a06001000012b0600200003\

@@ -2,7 +2,8 @@
 ghost use Rattle.std.specs.Prelude.{◌≡◌, ℕ, List, [], ◌∷◌, MatchOption};
 ghost use Rattle.radacctd.specs.Words.{words as words_in};
 
-/// The first word of a text and what stands after the space that ends it, or none where the text is one word.
+/// The first word of a text and what stands after the space that ends it, or none where the text is
+/// one word.
 pub fn cut_word(text: &str) -> Option<(&str, &str)>
     ensures { MatchOption result (words_in text.now ≡ text.now ∷ [])
         (λ cut. words_in text.now ≡ cut.0.now ∷ words_in cut.1.now) }

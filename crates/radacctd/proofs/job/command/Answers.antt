@@ -16,5 +16,6 @@ returns c =
     let top_is : app_of c.subcommand_required.result
     ≡ requires_subcommand (has_version (new_app (codes "radacctd"))) =
     ap app_of_fields c.subcommand_required.ensures ∙ ap requires_subcommand versioned in
-    IfOk-weaker c.subcommand.result _ _ (λ m h. h.shape (plain_fields c.feed_command.result (ap (λ (a : App). a.top.is_plain) feed_is)).globals
+    IfOk-weaker c.subcommand.result _ _ (λ m h. h.shape (plain_fields c.feed_command.result (ap (λ
+    (a : App). a.top.is_plain) feed_is)).globals
     ∙ ap₂ with_subcommand top_is (ap (λ (a : App). a.top) feed_is)) c.subcommand.ensures

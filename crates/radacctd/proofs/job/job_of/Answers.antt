@@ -16,4 +16,5 @@ returns-in-Some-feed c =
     let rows = (c.in_ok-matches.ensures.matches (ap is_simple app_is ∙ simple)).1 in
     let named = rw c.in-Some-feed.is at c.subcommand_name.ensures in
     names_job c.in_ok-matches.matches _ c.in-Some-feed.field-0.now _
-    (rows ∙ ap₂ subcommand_of app_is (ap (map (λ s. string_bytes s)) c.as_slice.ensures.value)) named (search rules)
+    (rows ∙ ap₂ subcommand_of app_is (ap (map (λ s. string_bytes s)) c.as_slice.ensures.value))
+    named (search rules)

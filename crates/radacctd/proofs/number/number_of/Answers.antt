@@ -3,13 +3,17 @@ use Rattle.std.specs.Char.{is_ascii_digit}
 use Rattle.std.specs.List.{list_all}
 use Rattle.radacctd.proofs.Numbers.{parsed, too_long, no_digits}
 use Rattle.radacctd.proofs.number.number_of.Goals as goal
-use Rattle.radacctd.proofs.number.number_of.Goals.{then-word-gt-MOST_DIGITS-via-then-word-gt-MOST_DIGITS, then-word-gt-MOST_DIGITS-via-else-word-gt-MOST_DIGITS+then-not-are_digits}
+use Rattle.radacctd.proofs.number.number_of.Goals.{then-word-gt-MOST_DIGITS-via-then-word-gt-MOST_DIGITS}
+use Rattle.radacctd.proofs.number.number_of.Goals.{then-word-gt-MOST_DIGITS-via-else-word-gt-MOST_DIGITS+then-not-are_digits}
 
 pub returns-then-word-gt-MOST_DIGITS : goal.returns-then-word-gt-MOST_DIGITS
 returns-then-word-gt-MOST_DIGITS c =
     elim c.then-word-gt-MOST_DIGITS.branch [
-      | then-word-gt-MOST_DIGITS-via-then-word-gt-MOST_DIGITS w ↦ let long : 20 < length c.args.word.now = omega arith in too_long c.args.word.now long
-      | then-word-gt-MOST_DIGITS-via-else-word-gt-MOST_DIGITS+then-not-are_digits w ↦ let none : list_all is_ascii_digit c.args.word.now ≡ false = search rules in no_digits c.args.word.now none
+      | then-word-gt-MOST_DIGITS-via-then-word-gt-MOST_DIGITS w ↦ let long : 20 < length
+          c.args.word.now = omega arith in too_long c.args.word.now long
+      | then-word-gt-MOST_DIGITS-via-else-word-gt-MOST_DIGITS+then-not-are_digits w ↦ let none :
+          list_all is_ascii_digit c.args.word.now ≡ false = search rules in
+          no_digits c.args.word.now none
     ]
 
 pub returns : goal.returns
