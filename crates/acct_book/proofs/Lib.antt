@@ -18,9 +18,13 @@ pub mod Calls
 pub mod StepLemmas
 -- what `record` says at its exits
 pub mod Exits
+-- which rows there are, which report was the first to say something, and how a session ends
+pub mod Ends
 -- why a row says what it says of its session's reports
 pub mod RowLaws
 -- why a walk meets each member once
 pub mod WalkLaws
+-- why lists of members in order are fixed by their members
+pub mod Fixed
 -- why the entries of others leave an account's part as it is
 pub mod Parts

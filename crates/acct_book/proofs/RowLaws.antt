@@ -11,6 +11,7 @@ use Rattle.acct_book.specs.Row.{RowFacts}
 use Rattle.acct_book.specs.Rows.{name_of, smallest, counters, exceeds, greatest, is_restarted, row_from}
 use Rattle.acct_book.specs.Laws.{IsAtMost, IsRowOf, RowsAreOfReports}
 use Rattle.acct_book.proofs.Rows.{higher-none0, higher-none1}
+use Rattle.acct_book.proofs.Ends.{calling_first, address_first}
 
 here : {X : Type 0} (x : X) (xs : List X) → Contains (x ∷ xs) x
 here x xs = Contains-append_left (x ∷ []) xs x (0, omega arith, refl)
@@ -121,6 +122,8 @@ row_at key b r rs x is = record {
   longest = record { said = largest_said (λ y. y.seconds) r rs; bounded = none_larger (λ y. y.seconds) (r ∷ rs) };
   earliest = record { said = smallest_said (λ y. y.when) r rs; bounded = none_smaller (λ y. y.when) (r ∷ rs) };
   latest = record { said = largest_said (λ y. y.when) r rs; bounded = none_larger (λ y. y.when) (r ∷ rs) };
+  calling = calling_first (r ∷ rs);
+  address = address_first (r ∷ rs);
 }
 
 row_for : (key : Key) (b : Bool) (all : List ReportFacts) (row : RowFacts) (o : Option ReportFacts) → first_of all ≡ o → option_map (row_from key b all) o ≡ Some row → IsRowOf all row

@@ -70,7 +70,7 @@ module _ {K X : Type 0} (cmp : K → K → Ordering) (total : IsTotalOrder cmp) 
     each = λ k x. ((λ h. All-contains (Stored after) xs (k, x) (stored after xs w) h), (λ h. met after xs w k x h.0 h.1));
   }
 
-key_total : IsTotalOrder key_cmp
+pub key_total : IsTotalOrder key_cmp
 key_total = then_total (on_total (λ (k : Key). k.client) nat_list_cmp_total) (on_total (λ (k : Key). k.session) nat_list_cmp_total)
 
 parts : (o p : Ordering) → ordering_then o p ≡ Equal → (o ≡ Equal) × (p ≡ Equal)
@@ -78,7 +78,7 @@ parts Less p e = absurd (cc)
 parts Equal p e = (refl, e)
 parts Greater p e = absurd (cc)
 
-key_exact : (x y : Key) → key_cmp x y ≡ Equal → x ≡ y
+pub key_exact : (x y : Key) → key_cmp x y ≡ Equal → x ≡ y
 key_exact x y e =
     let both = parts (octets_cmp x.client y.client) (octets_cmp x.session y.session) e in
     λ i. record { client = exact_bytes x.client y.client both.0 i; session = exact_bytes x.session y.session both.1 i }

@@ -22,9 +22,9 @@ StoodFor plans content is_open book history =
 -- something, `refused` that nothing was added; `Tells` is what the call says of the history before
 -- and after it, `Asks` of which entries it may have asked.
 pub record IsStep {B : Type 0} (plans : List Plan) (content : B → Content)
-  (is_sound is_open is_steady : B → Type 0) (left : B → Content → Type 0) (old new : B)
-  (answered refused : Type 0) (Tells : List Entry → List Entry → Type 0)
-  (Asks : Entry → Type 0) : Type 0 where
+    (is_sound is_open is_steady : B → Type 0) (left : B → Content → Type 0) (old new : B)
+    (answered refused : Type 0) (Tells : List Entry → List Entry → Type 0)
+    (Asks : Entry → Type 0) : Type 0 where
   pub was_sound : is_sound new → is_sound old
   pub was_open : is_open new → is_open old
   pub keeps_steady : is_steady old → is_steady new

@@ -58,3 +58,10 @@ pub record WalksMeetAll (content : Content) : Type 0 where
   pub rows : (after : Option Key) (entries : List (Key × RowFacts)) → IsWalk key_cmp content.rows after entries → AreAllPast key_cmp content.rows after entries
   pub balances : (after : Option (List ℕ)) (entries : List (List ℕ × ℤ)) → IsWalk octets_cmp content.balances after entries → AreAllPast octets_cmp content.balances after entries
   pub topups : (after : Option (List ℕ)) (entries : List (List ℕ × TopUpFacts)) → IsWalk octets_cmp content.topups after entries → AreAllPast octets_cmp content.topups after entries
+
+-- what the calls give that list members is fixed by the content: two such lists are one
+pub record ListsAreFixed (content : Content) : Type 0 where
+  pub rows : (account : List ℕ) (these those : List RowFacts)
+      → AreRowsOf content account these → AreRowsOf content account those → these ≡ those
+  pub topups : (account : List ℕ) (these those : List TopUpFacts)
+      → AreTopUpsOf content account these → AreTopUpsOf content account those → these ≡ those

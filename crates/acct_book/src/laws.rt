@@ -4,10 +4,11 @@ ghost use Rattle.acct_model.specs.declared.plan.Plan.{Plan};
 ghost use Rattle.acct_model.specs.Agreement.{BalancesAgree};
 ghost use Rattle.acct_book.specs.Content.{Content, empty_content};
 ghost use Rattle.acct_model.specs.declared.entry.Entry.{Entry};
-ghost use Rattle.acct_book.specs.Laws.{RowsAreOfReports};
+ghost use Rattle.acct_book.specs.Laws.{RowsHaveTheirKeys, RowsAreOfSessions, RowsAreOfReports};
+ghost use Rattle.acct_book.specs.Laws.{RowsAreCharged, RowsSayTheirEnds, EndedStaysEnded};
 ghost use Rattle.acct_book.specs.Part.{OtherPartsStay};
 ghost use Rattle.acct_book.specs.Stands.{Stands};
-ghost use Rattle.acct_book.specs.Walk.{WalksMeetAll};
+ghost use Rattle.acct_book.specs.Walk.{WalksMeetAll, ListsAreFixed};
 
 use crate::book::Book;
 use crate::fakes::FailingBook;
@@ -34,16 +35,51 @@ pub fn empty_content_stands()
     ensures { (plans : List Plan) → Stands plans empty_content [] }
 {}
 
-/// Account and class of a row are those of its session's first report, its counters those of the greatest report, and its moments and
-/// session time the least and the greatest that a report said.
+/// The row of a session names the session: its client and its session id.
+pub fn rows_have_their_keys()
+    ensures { RowsHaveTheirKeys }
+{}
+
+/// There is a row exactly for each session of the history.
+pub fn rows_are_of_sessions()
+    ensures { RowsAreOfSessions }
+{}
+
+/// Account and class of a row are those of its session's first report, its counters those of the
+/// greatest report, its moments and session time the least and the greatest that a report said, its
+/// calling station and its address those of the first report that says one.
 pub fn rows_are_of_reports()
     ensures { RowsAreOfReports }
 {}
 
-/// A walk by `next_session`, `next_account` or `next_topup`, from any key on or from the least, meets each member past it once and in
-/// order.
+/// The row of a session says what the session costs: `charge` of it is the price of the session's
+/// greatest total, by the plan of its first report's class.
+pub fn rows_are_charged()
+    ensures { RowsAreCharged }
+{}
+
+/// A session is stopped exactly if a Stop of it was accepted, with the cause of the first; else
+/// closed exactly if a restart of its client was accepted after a report of it, with the cause 11;
+/// else live, with the cause 0.
+pub fn rows_say_their_ends()
+    ensures { RowsSayTheirEnds }
+{}
+
+/// An ended session never opens again, whatever is accepted later, and a stopped one keeps its
+/// cause.
+pub fn ended_stays_ended()
+    ensures { EndedStaysEnded }
+{}
+
+/// A walk by `next_session`, `next_account` or `next_topup`, from any key on or from the least,
+/// meets each member past it once and in order.
 pub fn walks_meet_all()
     ensures { (content : Content) → WalksMeetAll content }
+{}
+
+/// What `sessions_of` and `topups_of` list is fixed by the content, in its order too.
+pub fn lists_are_fixed()
+    ensures { (content : Content) → ListsAreFixed content }
 {}
 
 /// Order and repetition: the same claims, in whatever order, with whatever repeats, delays and
