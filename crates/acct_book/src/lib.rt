@@ -27,6 +27,8 @@ mod row;
 mod tests;
 #[cfg(test)]
 mod tests_afresh;
+#[cfg(test)]
+mod tests_fakes;
 
 pub use book::{Book, Unavailable};
 pub use charging::charge;

@@ -1,5 +1,5 @@
-use crate::fakes::{FailingBook, ShutBook};
-use crate::{Book, Key, MemBook, RecordError, Recorded, Row, SessionState, record};
+use crate::fakes::ShutBook;
+use crate::{Book, Key, MemBook, RecordError, Recorded, Row, SessionState, Unavailable, record};
 use acct_model::{Entry, Octets, Plan, Plans, Report, ReportKind, Restart, Text, TopUp};
 use std::alloc::Global;
 use std::test::Fail;
@@ -43,7 +43,7 @@ fn push_plan(
     Ok(())
 }
 
-fn plans(alloc: Global) -> Result<Plans, Fail> {
+pub(crate) fn plans(alloc: Global) -> Result<Plans, Fail> {
     let mut plans = Vec::new(alloc);
     push_plan(alloc, &mut plans, b"gold", 1_048_576, 10)?;
     push_plan(alloc, &mut plans, b"default", 1_000_000, 5)?;
@@ -52,7 +52,7 @@ fn plans(alloc: Global) -> Result<Plans, Fail> {
 }
 
 // A report of the session that has the user's name, at a moment below 2^32.
-fn report(
+pub(crate) fn report(
     alloc: Global,
     client: &str,
     user: &[u8],
@@ -81,7 +81,7 @@ fn report(
     }))
 }
 
-fn key(alloc: Global, client: &str, session: &[u8]) -> Result<Key, Fail> {
+pub(crate) fn key(alloc: Global, client: &str, session: &[u8]) -> Result<Key, Fail> {
     let client = Text::from_str(alloc, client)?;
     let session = Octets::from_slice(alloc, session)?;
     Ok(Key { client, session })
@@ -129,6 +129,15 @@ impl Site {
         answer(self.alloc, &mut self.book, &self.plans, entry)
     }
 
+    // Records an entry that is accepted.
+    fn accepts(&mut self, entry: &Entry) -> Result<(), Fail> {
+        if self.says(entry) == "new" {
+            Ok(())
+        } else {
+            Err(Fail::from("not accepted"))
+        }
+    }
+
     // Whether a report is answered and charged so.
     fn charges(&mut self, turn: &Turn<'_>) -> Result<bool, Fail> {
         Ok(self.says_of(turn)? == turn.answer && self.book.balance(turn.user)? == turn.balance)
@@ -151,15 +160,13 @@ impl Site {
             when,
             0,
         )?;
-        self.says(&entry);
-        Ok(())
+        self.accepts(&entry)
     }
 
     // Records what the session of `al` goes through.
     fn goes_through(&mut self, event: Event<'_>) -> Result<(), Fail> {
         let entry = entry_of(self.alloc, event)?;
-        self.says(&entry);
-        Ok(())
+        self.accepts(&entry)
     }
 
     // Records a report of a session.
@@ -175,8 +182,7 @@ impl Site {
             1000,
             0,
         )?;
-        self.says(&entry);
-        Ok(())
+        self.accepts(&entry)
     }
 }
 
@@ -331,26 +337,56 @@ fn is_credited_once(book: &mut MemBook) -> Result<bool, Fail> {
     Ok(book.balance(b"al")? == 500 && book.topups_of(b"al")?.len() == 1)
 }
 
-// Each call of a top-up refused in its turn: nothing is credited until the fourth try.
-#[test]
-fn refusals_change_nothing(rt: HostRuntime) -> Result<(), Fail> {
-    let alloc = rt.alloc();
-    let mut failing = FailingBook {
-        book: MemBook::new(alloc),
-        calls_left: 0,
-    };
-    for (calls_left, said) in [
-        (1, "unavailable"),
-        (2, "unavailable"),
-        (3, "unavailable"),
-        (0, "new"),
-    ] {
-        failing.calls_left = calls_left;
-        assert!(rt;
-            voucher(alloc, &mut failing, "V-1", 5)? == said,
-            "{calls_left}"
-        );
+// Records top-ups, and gives the sum and the moment of the one after a number.
+fn topup_after(alloc: Global, after: Option<&str>) -> Result<Option<(u64, u64)>, Fail> {
+    let mut site = Site::new(alloc)?;
+    for (number, sum, when) in [("V-2", 7, 2000), ("V-10", 5, 3000), ("V-1", 500, 1000)] {
+        let topup = TopUp::new(alloc, number, b"al", sum, when)?;
+        site.accepts(&Entry::TopUp(topup))?;
     }
+    let next = site.book.next_topup(after)?;
+    Ok(next.map(|topup| (topup.sum, topup.when)))
+}
+
+#[test]
+fn topups_are_in_order(rt: HostRuntime) -> Result<(), Fail> {
+    let alloc = rt.alloc();
+    assert!(rt; topup_after(alloc, None)? == Some((500, 1000)));
+    assert!(rt; topup_after(alloc, Some("V-1"))? == Some((5, 3000)));
+    assert!(rt; topup_after(alloc, Some("V-11"))? == Some((7, 2000)));
+    assert!(rt; topup_after(alloc, Some("V-2"))? == None);
+    Ok(())
+}
+
+const STATES: [(SessionState, &str); 3] = [
+    (SessionState::Live, "open"),
+    (SessionState::Closed, "closed"),
+    (SessionState::Stopped, "stopped"),
+];
+
+fn is_shown(alloc: Global, error: &RecordError, text: &str) -> Result<bool, Fail> {
+    Ok(format!(in alloc; "{error}")?.as_str() == text)
+}
+
+#[test]
+fn states_and_errors_have_their_texts(rt: HostRuntime) -> Result<(), Fail> {
+    let alloc = rt.alloc();
+    for (state, text) in STATES {
+        assert!(rt; format!(in alloc; "{state}")?.as_str() == text, "{text}");
+    }
+    let differs = RecordError::VoucherDiffers(TopUp::new(alloc, "V-1", b"al", 500, 1000)?);
+    let limit = RecordError::BalanceLimit(-10);
+    let refused = "the book is unavailable";
+    assert!(rt;
+        is_shown(
+            alloc,
+            &differs,
+            "the voucher is kept with another account or sum"
+        )?
+    );
+    assert!(rt; is_shown(alloc, &limit, "the balance would leave its range")?);
+    assert!(rt; is_shown(alloc, &RecordError::Unavailable, refused)?);
+    assert!(rt; format!(in alloc; "{Unavailable}")?.as_str() == refused);
     Ok(())
 }
 
@@ -413,7 +449,7 @@ fn sessions_are_in_order(rt: HostRuntime) -> Result<(), Fail> {
 fn are_in_order(alloc: Global, book: &mut MemBook) -> Result<bool, Fail> {
     let mut before = None;
     for name in NAMES {
-        if !is_behind(alloc, book, before, name)? {
+        if !comes_after(alloc, book, before, name)? {
             return Ok(false);
         }
         before = Some(name);
@@ -422,7 +458,7 @@ fn are_in_order(alloc: Global, book: &mut MemBook) -> Result<bool, Fail> {
 }
 
 // Whether the session after one of a name, or else the first, has this other name.
-fn is_behind(
+fn comes_after(
     alloc: Global,
     book: &mut MemBook,
     before: Option<(&str, &[u8])>,
@@ -446,14 +482,10 @@ fn walks_go_on_after_any_key(rt: HostRuntime) -> Result<(), Fail> {
     let alloc = rt.alloc();
     let mut book = book_of_names(alloc)?;
     let missing: (&str, &[u8]) = ("ap1", b"b");
-    assert!(rt; is_behind(alloc, &mut book, Some(missing), ("ap1", b"\xff"))?);
+    assert!(rt; comes_after(alloc, &mut book, Some(missing), ("ap1", b"\xff"))?);
     assert!(rt; is_next_account(&mut book, b"\x00", b"\x00\x00")?);
-    assert!(rt; has_two_sessions_and_no_topup(&mut book)?);
+    assert!(rt; book.sessions_of(b"\x00")?.len() == 2);
     Ok(())
-}
-
-fn has_two_sessions_and_no_topup(book: &mut MemBook) -> Result<bool, Fail> {
-    Ok(book.sessions_of(b"\x00")?.len() == 2 && book.next_topup(None)?.is_none())
 }
 
 fn is_next_account(book: &mut MemBook, after: &[u8], account: &[u8]) -> Result<bool, Fail> {

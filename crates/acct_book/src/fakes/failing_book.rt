@@ -1,5 +1,5 @@
 //! A book that refuses one call.
-ghost use Rattle.std.specs.Prelude.{◌≡◌};
+ghost use Rattle.std.specs.Prelude.{◌≡◌, ◌↔◌, ◌-◌, IsErr};
 
 use crate::book::{Book, Unavailable};
 use crate::key::Key;
@@ -16,13 +16,26 @@ pub struct FailingBook<B> {
 }
 
 impl<B: Book> FailingBook<B> {
-    // Counts a call, and tells whether it is the one.
-    fn refuses(&mut self) -> bool
-        ensures { self.new.book ≡ self.old.book }
+    /// A book that refuses the call of this number, where 1 is the next one. At 0 it refuses none.
+    pub fn new(book: B, calls_left: u64) -> FailingBook<B>
+        ensures book { result.book ≡ book }
+        ensures calls { result.calls_left ≡ calls_left }
     {
-        let now = self.calls_left == 1;
+        FailingBook { book, calls_left }
+    }
+
+    // Counts a call, and refuses it where it is the one.
+    fn count(&mut self) -> Result<(), Unavailable>
+        ensures book { self.new.book ≡ self.old.book }
+        ensures calls { self.new.calls_left ≡ self.old.calls_left - 1 }
+        ensures refused { IsErr result ↔ (self.old.calls_left ≡ 1) }
+    {
+        let is_refused = self.calls_left == 1;
         self.calls_left = self.calls_left.saturating_sub(1);
-        now
+        if is_refused {
+            return Err(Unavailable);
+        }
+        Ok(())
     }
 }
 
@@ -38,65 +51,47 @@ impl<B: Book> Book for FailingBook<B> {
     ghost left = { λ s. B.left s.book };
 
     fn session(&mut self, key: &Key) -> Result<Option<Row>, Unavailable> {
-        if self.refuses() {
-            return Err(Unavailable);
-        }
+        self.count()?;
         self.book.session(key)
     }
 
     fn balance(&mut self, account: &[u8]) -> Result<i64, Unavailable> {
-        if self.refuses() {
-            return Err(Unavailable);
-        }
+        self.count()?;
         self.book.balance(account)
     }
 
     fn voucher(&mut self, number: &str) -> Result<Option<TopUp>, Unavailable> {
-        if self.refuses() {
-            return Err(Unavailable);
-        }
+        self.count()?;
         self.book.voucher(number)
     }
 
     fn put_session(&mut self, row: &Row, balance: i64) -> Result<(), Unavailable> {
-        if self.refuses() {
-            return Err(Unavailable);
-        }
+        self.count()?;
         self.book.put_session(row, balance)
     }
 
     fn put_topup(&mut self, topup: &TopUp, balance: i64) -> Result<(), Unavailable> {
-        if self.refuses() {
-            return Err(Unavailable);
-        }
+        self.count()?;
         self.book.put_topup(topup, balance)
     }
 
     fn close_client(&mut self, client: &str) -> Result<(), Unavailable> {
-        if self.refuses() {
-            return Err(Unavailable);
-        }
+        self.count()?;
         self.book.close_client(client)
     }
 
     fn sessions_of(&mut self, account: &[u8]) -> Result<Vec<Row>, Unavailable> {
-        if self.refuses() {
-            return Err(Unavailable);
-        }
+        self.count()?;
         self.book.sessions_of(account)
     }
 
     fn topups_of(&mut self, account: &[u8]) -> Result<Vec<TopUp>, Unavailable> {
-        if self.refuses() {
-            return Err(Unavailable);
-        }
+        self.count()?;
         self.book.topups_of(account)
     }
 
     fn next_session(&mut self, after: Option<&Key>) -> Result<Option<Row>, Unavailable> {
-        if self.refuses() {
-            return Err(Unavailable);
-        }
+        self.count()?;
         self.book.next_session(after)
     }
 
@@ -104,16 +99,12 @@ impl<B: Book> Book for FailingBook<B> {
         &mut self,
         after: Option<&[u8]>,
     ) -> Result<Option<(Vec<u8>, i64)>, Unavailable> {
-        if self.refuses() {
-            return Err(Unavailable);
-        }
+        self.count()?;
         self.book.next_account(after)
     }
 
     fn next_topup(&mut self, after: Option<&str>) -> Result<Option<TopUp>, Unavailable> {
-        if self.refuses() {
-            return Err(Unavailable);
-        }
+        self.count()?;
         self.book.next_topup(after)
     }
 

@@ -1,5 +1,5 @@
 //! A book whose store shuts at a failed write.
-ghost use Rattle.std.specs.Prelude.{◌≡◌, false};
+ghost use Rattle.std.specs.Prelude.{◌≡◌, ◌↔◌, ◌-◌, false, IsOk, IsErr};
 ghost use Rattle.acct_book.specs.Memory.{content_of};
 
 use crate::book::{Book, Unavailable};
@@ -9,8 +9,9 @@ use crate::row::Row;
 use acct_model::TopUp;
 use std::alloc::Global;
 
-/// A book that is written twice, as a store writes its memory and then its disk. Where the second write fails it shuts: each later
-/// call is refused, and a crash may leave the content without the write or with it.
+/// A book that is written twice, as a store writes its memory and then its disk. It is shut from the
+/// first write to the end of the second: where the second fails, each later call is refused, and a
+/// crash may leave the content without the write or with it.
 #[derive(Drop)]
 pub struct ShutBook {
     present: MemBook,
@@ -25,7 +26,7 @@ impl ShutBook {
     ghost use Rattle.acct_book.specs.Book.{Only};
     ghost use Rattle.acct_book.specs.Content.{empty_content};
 
-    /// An empty book that shuts at the write after these.
+    /// An empty book that shuts at the write after so many.
     pub fn new(alloc: Global, writes_left: u64) -> ShutBook
         ensures content { ⟦<ShutBook as Book>⟧.content result ≡ empty_content }
         ensures open { ⟦<ShutBook as Book>⟧.is_open result }
@@ -37,6 +38,38 @@ impl ShutBook {
             writes_left,
             is_shut: false,
         }
+    }
+
+    /// A write has failed in its midst, and each call is refused.
+    pub fn is_shut(&self) -> bool
+        ensures { result ≡ false ↔ ⟦<ShutBook as Book>⟧.is_open self.now }
+    {
+        self.is_shut
+    }
+
+    // Refuses a call of a book that is shut.
+    fn check_open(&self) -> Result<(), Unavailable>
+        ensures { IsOk result ↔ (self.now.is_shut ≡ false) }
+    {
+        if self.is_shut {
+            return Err(Unavailable);
+        }
+        Ok(())
+    }
+
+    // Takes one of the writes that are left, and refuses where there is none.
+    fn take_write(&mut self) -> Result<(), Unavailable>
+        ensures present { self.new.present ≡ self.old.present }
+        ensures durable { self.new.durable ≡ self.old.durable }
+        ensures shut { self.new.is_shut ≡ self.old.is_shut }
+        ensures writes { self.new.writes_left ≡ self.old.writes_left - 1 }
+        ensures refused { IsErr result ↔ (self.old.writes_left ≡ 0) }
+    {
+        if self.writes_left == 0 {
+            return Err(Unavailable);
+        }
+        self.writes_left -= 1;
+        Ok(())
     }
 }
 
@@ -55,101 +88,62 @@ impl Book for ShutBook {
     ghost left = { λ s c. (c ≡ content_of s.durable) ⊎ (c ≡ content_of s.present) };
 
     fn session(&mut self, key: &Key) -> Result<Option<Row>, Unavailable> {
-        if self.is_shut {
-            return Err(Unavailable);
-        }
+        self.check_open()?;
         self.durable.session(key)
     }
 
     fn balance(&mut self, account: &[u8]) -> Result<i64, Unavailable> {
-        if self.is_shut {
-            return Err(Unavailable);
-        }
+        self.check_open()?;
         self.durable.balance(account)
     }
 
     fn voucher(&mut self, number: &str) -> Result<Option<TopUp>, Unavailable> {
-        if self.is_shut {
-            return Err(Unavailable);
-        }
+        self.check_open()?;
         self.durable.voucher(number)
     }
 
     fn put_session(&mut self, row: &Row, balance: i64) -> Result<(), Unavailable> {
-        if self.is_shut {
-            return Err(Unavailable);
-        }
+        self.check_open()?;
         self.present.put_session(row, balance)?;
-        if self.writes_left == 0 {
-            self.is_shut = true;
-            return Err(Unavailable);
-        }
-        self.writes_left -= 1;
-        match self.durable.put_session(row, balance) {
-            Ok(()) => Ok(()),
-            Err(_) => {
-                self.is_shut = true;
-                Err(Unavailable)
-            }
-        }
+        self.is_shut = true;
+        self.take_write()?;
+        self.durable.put_session(row, balance)?;
+        self.is_shut = false;
+        Ok(())
     }
 
     fn put_topup(&mut self, topup: &TopUp, balance: i64) -> Result<(), Unavailable> {
-        if self.is_shut {
-            return Err(Unavailable);
-        }
+        self.check_open()?;
         self.present.put_topup(topup, balance)?;
-        if self.writes_left == 0 {
-            self.is_shut = true;
-            return Err(Unavailable);
-        }
-        self.writes_left -= 1;
-        match self.durable.put_topup(topup, balance) {
-            Ok(()) => Ok(()),
-            Err(_) => {
-                self.is_shut = true;
-                Err(Unavailable)
-            }
-        }
+        self.is_shut = true;
+        self.take_write()?;
+        self.durable.put_topup(topup, balance)?;
+        self.is_shut = false;
+        Ok(())
     }
 
     fn close_client(&mut self, client: &str) -> Result<(), Unavailable> {
-        if self.is_shut {
-            return Err(Unavailable);
-        }
+        self.check_open()?;
         self.present.close_client(client)?;
-        if self.writes_left == 0 {
-            self.is_shut = true;
-            return Err(Unavailable);
-        }
-        self.writes_left -= 1;
-        match self.durable.close_client(client) {
-            Ok(()) => Ok(()),
-            Err(_) => {
-                self.is_shut = true;
-                Err(Unavailable)
-            }
-        }
+        self.is_shut = true;
+        self.take_write()?;
+        self.durable.close_client(client)?;
+        self.is_shut = false;
+        Ok(())
     }
 
     fn sessions_of(&mut self, account: &[u8]) -> Result<Vec<Row>, Unavailable> {
-        if self.is_shut {
-            return Err(Unavailable);
-        }
+        self.check_open()?;
         self.durable.sessions_of(account)
     }
 
     fn topups_of(&mut self, account: &[u8]) -> Result<Vec<TopUp>, Unavailable> {
-        if self.is_shut {
-            return Err(Unavailable);
-        }
+        self.check_open()?;
         self.durable.topups_of(account)
     }
 
     fn next_session(&mut self, after: Option<&Key>) -> Result<Option<Row>, Unavailable> {
-        if self.is_shut {
-            return Err(Unavailable);
-        }
+        self.check_open()?;
         self.durable.next_session(after)
     }
 
@@ -157,16 +151,12 @@ impl Book for ShutBook {
         &mut self,
         after: Option<&[u8]>,
     ) -> Result<Option<(Vec<u8>, i64)>, Unavailable> {
-        if self.is_shut {
-            return Err(Unavailable);
-        }
+        self.check_open()?;
         self.durable.next_account(after)
     }
 
     fn next_topup(&mut self, after: Option<&str>) -> Result<Option<TopUp>, Unavailable> {
-        if self.is_shut {
-            return Err(Unavailable);
-        }
+        self.check_open()?;
         self.durable.next_topup(after)
     }
 
