@@ -1,5 +1,7 @@
 -- Header fields by name, one more at a time.
-use Rattle.std.proofs.Common.{◌≡◌, ◌≢◌, ◌≤◌, ◌-◌, Option, Some, arith, length-append, ℕ, ◌+◌, ◌<◌, Bool, true, false, cond, List, [], ◌∷◌, ◌++◌, length, take, map, get_or, refl, ap, ◌∙◌}
+use Rattle.std.proofs.Common.{◌≡◌, ◌≢◌, ◌≤◌, ◌-◌, Option, Some, arith, length-append, ℕ, ◌+◌, ◌<◌}
+use Rattle.std.proofs.Common.{Bool, true, false, cond, List, [], ◌∷◌, ◌++◌, length, take, map}
+use Rattle.std.proofs.Common.{get_or, refl, ap, ◌∙◌}
 use Rattle.std.proofs.lemmas.List.{take_more, map-append, append-nil}
 use Rattle.std.proofs.lemmas.List.Elements.{filter-append}
 use Rattle.std.specs.List.{filter, slice_get}
@@ -13,15 +15,19 @@ one_value true value = refl
 one_value false value = refl
 
 pub values_of-push : (name : List ℕ) (fields : List (List ℕ × List ℕ)) (field : List ℕ × List ℕ)
-    → values_of name (fields ++ field ∷ []) ≡ values_of name fields ++ cond (is_named name field) (field.1 ∷ []) []
+    → values_of name (fields ++ field ∷ [])
+    ≡ values_of name fields ++ cond (is_named name field) (field.1 ∷ []) []
 values_of-push name fields field =
     ap (map (λ (f : List ℕ × List ℕ). f.1)) (filter-append (is_named name) fields (field ∷ []))
-    ∙ map-append (λ (f : List ℕ × List ℕ). f.1) (filter (is_named name) fields) (cond (is_named name field) (field ∷ []) [])
+    ∙ map-append (λ (f : List ℕ × List ℕ). f.1) (filter (is_named name) fields)
+    (cond (is_named name field) (field ∷ []) [])
     ∙ ap (λ vs. values_of name fields ++ vs) (one_value (is_named name field) field)
 
-pub values_of-more : {X : Type 0} (name : List ℕ) (view : X → List ℕ × List ℕ) (xs : List X) (i : ℕ) (d : X) → i < length xs
+pub values_of-more : {X : Type 0} (name : List ℕ) (view : X
+    → List ℕ × List ℕ) (xs : List X) (i : ℕ) (d : X) → i < length xs
     → values_of name (map view (take (i + 1) xs))
-    ≡ values_of name (map view (take i xs)) ++ cond (is_named name (view (get_or xs i d))) ((view (get_or xs i d)).1 ∷ []) []
+    ≡ values_of name (map view (take i xs)) ++ cond (is_named name (view (get_or xs i d)))
+    ((view (get_or xs i d)).1 ∷ []) []
 values_of-more name view xs i d h =
     ap (λ ys. values_of name (map view ys)) (take_more xs i d h)
     ∙ ap (values_of name) (map-append view (take i xs) (get_or xs i d ∷ []))
@@ -47,7 +53,8 @@ pub later_field : (named : Bool) (o : Option (List ℕ)) (n : ℕ) (vs ws : List
     → (o ≡ slice_get ws 0) × (n + 1 ≡ length ws)
 later_field false o n vs ws v is some more first count = absurd (cc)
 later_field true o n [] ws v is some more first count = absurd (some count)
-later_field true o n (x ∷ vs) ws v is some more first count = rw more (first, rw length-append (omega arith))
+later_field true o n (x ∷ vs) ws v is some more first count =
+    rw more (first, rw length-append (omega arith))
 
 pub digit_of : (c : ℕ) → 48 ≤ c → c ≤ 57 → digit_value c ≡ c - 48
 digit_of c low high = grind (arith, nat_tests)

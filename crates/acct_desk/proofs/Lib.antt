@@ -3,3 +3,7 @@ pub mod FramingLemmas
 pub mod RouteLemmas
 pub mod KeyLemmas
 pub mod AskLemmas
+pub mod PageLemmas
+pub mod HandleLemmas
+pub mod MemberLemmas
+pub mod PartLemmas

@@ -1,5 +1,7 @@
--- What a request asks: the first line of the desk's cases that settles it without the book, or what is asked of the book.
-use Rattle.std.specs.Prelude.{◌≡◌, ℕ, ◌==◌, List, length, slice_range, codes, bytes_eq, Option, Some, None, option_and_then, if◌then◌else◌}
+-- What a request asks: the first line of the desk's cases that settles it without the book, or what
+-- is asked of the book.
+use Rattle.std.specs.Prelude.{◌≡◌, ℕ, ◌==◌, List, length, slice_range, codes, bytes_eq, Option}
+use Rattle.std.specs.Prelude.{Some, None, option_and_then, if◌then◌else◌}
 use Rattle.std.specs.List.{before_first, slice_get}
 use Rattle.std.specs.Str.{is_utf8}
 use Rattle.httparse.specs.Grammar.{RequestHead, print_request}
@@ -9,7 +11,8 @@ use Rattle.acct_model.specs.Vouchers.{TopUpFacts}
 use Rattle.acct_desk.specs.declared.framing.Reach.{Reach}
 use Rattle.acct_desk.specs.declared.framing.Reach.TheVariants.{More, Whole, Bad, TooLarge}
 use Rattle.acct_desk.specs.declared.routes.Endpoint.{Endpoint}
-use Rattle.acct_desk.specs.declared.routes.Endpoint.TheVariants.{Balance, Sessions, MyTopUps, TopUps, Overruns}
+use Rattle.acct_desk.specs.declared.routes.Endpoint.TheVariants.{Balance, Sessions, MyTopUps}
+use Rattle.acct_desk.specs.declared.routes.Endpoint.TheVariants.{TopUps, Overruns}
 use Rattle.acct_desk.specs.declared.keys.Role.{Role}
 use Rattle.acct_desk.specs.declared.keys.Role.TheVariants.{Account, Cashier}
 use Rattle.acct_desk.specs.declared.keys.DeskKey.{DeskKey}
@@ -22,7 +25,8 @@ use Rattle.acct_desk.specs.Routes.{endpoint_of, method_of}
 use Rattle.acct_desk.specs.Keys.{role_at}
 use Rattle.acct_desk.specs.TopUpBodies.{topup_of_value}
 
--- what a request asks: nothing that the desk takes, a page of the key's account, the accounts that are over, or a top-up
+-- what a request asks: nothing that the desk takes, a page of the key's account, the accounts that
+-- are over, or a top-up
 pub data Ask : Type 0 where
   refused : Refusal → Ask
   me : Page → List ℕ → Ask
@@ -70,7 +74,8 @@ path_of target = before_first (λ octet. octet == 63) target
 
 -- the role of the key whose token is the first value of Desk-Key
 abbrev pub role_of_fields : List DeskKey → List (List ℕ × List ℕ) → Option Role
-role_of_fields keys fields = option_and_then (λ token. role_at token keys) (slice_get (values_of (codes "desk-key") fields) 0)
+role_of_fields keys fields = option_and_then (λ token. role_at token keys)
+    (slice_get (values_of (codes "desk-key") fields) 0)
 
 abbrev pub ask_of_reach : Reach → (ℕ → Ask) → Ask
 ask_of_reach More next = refused refusal.BadRequest
@@ -79,17 +84,22 @@ ask_of_reach TooLarge next = refused refusal.TooLarge
 ask_of_reach (Whole end) next = next end
 
 -- what a request asks that begins with a head of this length, target, method and fields
-abbrev pub ask_of_fields : List DeskKey → List ℕ → ℕ → ℕ → List ℕ → List ℕ → List (List ℕ × List ℕ) → Ask
+abbrev pub ask_of_fields : List DeskKey → List ℕ → ℕ → ℕ → List ℕ → List ℕ → List (List ℕ × List ℕ)
+    → Ask
 ask_of_fields keys request moment head target method fields =
     ask_of_reach (reach_of_fields head (length request) fields) (λ end.
-      ask_of_endpoint (endpoint_of (path_of target)) method (role_of_fields keys fields) (slice_range request head end) moment)
+    ask_of_endpoint (endpoint_of (path_of target)) method (role_of_fields keys fields)
+    (slice_range request head end) moment)
 
 -- what the octets ask that begin with this head, or with none
 abbrev pub ask_of : List DeskKey → List ℕ → ℕ → Option RequestHead → Ask
-ask_of keys request moment None = ask_of_reach (reach_of None (length request)) (λ _. refused refusal.BadRequest)
+ask_of keys request moment None =
+    ask_of_reach (reach_of None (length request)) (λ _. refused refusal.BadRequest)
 ask_of keys request moment (Some head) =
-    ask_of_fields keys request moment (length (print_request head)) head.target head.method (fields_of head)
+    ask_of_fields keys request moment (length (print_request head)) head.target head.method
+    (fields_of head)
 
 -- the octets of a request ask this of a desk with these keys, at this moment
 abbrev pub Asks : List DeskKey → List ℕ → ℕ → Ask → Type 0
-Asks keys request moment ask = (head : Option RequestHead) × IsHeadOf request head × (ask ≡ ask_of keys request moment head)
+Asks keys request moment ask = (head : Option RequestHead) × IsHeadOf request head
+    × (ask ≡ ask_of keys request moment head)

@@ -1,5 +1,6 @@
 -- What is wrong with keys, and how keys are kept.
-use Rattle.std.specs.Prelude.{◌≡◌, ℕ, not, Option, None, Some, List, [], ◌∷◌, ◌++◌, Vec, if◌then◌else◌}
+use Rattle.std.specs.Prelude.{◌≡◌, ℕ, not, Option, None, Some, List, [], ◌∷◌, ◌++◌, Vec}
+use Rattle.std.specs.Prelude.{if◌then◌else◌}
 use Rattle.std.specs.Global.{Global}
 use Rattle.std.specs.List.{list_any, position_from}
 use Rattle.std.specs.Option.{option_or}
@@ -25,7 +26,8 @@ key_fault earlier key =
 -- the first fault of keys behind earlier ones
 abbrev pub faults_behind : List DeskKey → List DeskKey → Option KeysError
 faults_behind earlier [] = None
-faults_behind earlier (key ∷ keys) = option_or (key_fault earlier key) (faults_behind (earlier ++ key ∷ []) keys)
+faults_behind earlier (key ∷ keys) =
+    option_or (key_fault earlier key) (faults_behind (earlier ++ key ∷ []) keys)
 
 -- the first fault of a list of keys
 abbrev pub fault_of : List DeskKey → Option KeysError
@@ -43,10 +45,13 @@ place_at places token = tree.get_by (λ key. octets_cmp token key.items) places
 
 -- each token's place is that of the first key that has it
 abbrev pub ArePlaces : BTreeMap (Vec ℕ Global) ℕ → List DeskKey → Type 0
-ArePlaces places keys = (token : List ℕ) → place_at places token ≡ position_from (has_token token) 0 keys
+ArePlaces places keys = (token : List ℕ)
+    → place_at places token ≡ position_from (has_token token) 0 keys
 
--- what the keys of a desk keep: no fault, the place of each token, and the router of the desk's paths
-pub record AreKeys (keys : List DeskKey) (places : BTreeMap (Vec ℕ Global) ℕ) (router : RowsOf (RouteOf Endpoint)) : Type 0 where
+-- what the keys of a desk keep: no fault, the place of each token, and the router of the desk's
+-- paths
+pub record AreKeys (keys : List DeskKey) (places : BTreeMap (Vec ℕ Global) ℕ)
+    (router : RowsOf (RouteOf Endpoint)) : Type 0 where
   pub faultless : fault_of keys ≡ None
   pub placed : ArePlaces places keys
   pub routed : router ≡ desk_rows

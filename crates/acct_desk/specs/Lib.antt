@@ -7,3 +7,9 @@ pub mod Reading
 pub mod TopUpBodies
 pub mod Asks
 pub mod AskView
+pub mod Responses
+pub mod Bodies
+pub mod Handling
+pub mod Pages
+pub mod TopUpAnswers
+pub mod Laws

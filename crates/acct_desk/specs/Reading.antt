@@ -16,4 +16,5 @@ Ends bytes left = IsSettled bytes ⊎ (length bytes ≡ 12288) ⊎ IsAtEnd left
 
 -- some octets of the reader come at the end of those that are there
 abbrev pub Adds : Option (List ℕ) → Option (List ℕ) → List ℕ → List ℕ → Type 0
-Adds left left' bytes bytes' = (given : List ℕ) × Consumes left left' given × (bytes' ≡ bytes ++ given)
+Adds left left' bytes bytes' = (given : List ℕ) × Consumes left left' given
+    × (bytes' ≡ bytes ++ given)

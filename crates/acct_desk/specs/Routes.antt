@@ -3,7 +3,8 @@ use Rattle.std.specs.Prelude.{ℕ, List, [], ◌∷◌, Option, Some, None, code
 use Rattle.matchit.specs.Rows.{RowsOf}
 use Rattle.matchit.specs.Router.{RouteOf}
 use Rattle.acct_desk.specs.declared.routes.Endpoint.{Endpoint}
-use Rattle.acct_desk.specs.declared.routes.Endpoint.TheVariants.{Balance, Sessions, MyTopUps, TopUps, Overruns}
+use Rattle.acct_desk.specs.declared.routes.Endpoint.TheVariants.{Balance, Sessions, MyTopUps}
+use Rattle.acct_desk.specs.declared.routes.Endpoint.TheVariants.{TopUps, Overruns}
 
 -- what stands at a path
 abbrev pub endpoint_of : List ℕ → Option Endpoint
@@ -25,7 +26,16 @@ method_of Overruns = codes "GET"
 
 -- a route without parameters
 abbrev pub literal_row : List ℕ → Endpoint → List ℕ × RouteOf Endpoint
-literal_row text endpoint = (text, record { pattern = text; text = text; names = []; value = endpoint })
+literal_row text endpoint = (
+  text,
+  record {
+    pattern = text;
+    text = text;
+    names = [];
+    value =
+        endpoint;
+  },
+)
 
 -- the rows of the desk's router
 abbrev pub desk_rows : RowsOf (RouteOf Endpoint)

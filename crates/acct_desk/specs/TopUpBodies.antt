@@ -1,5 +1,6 @@
 -- The JSON body that asks for a top-up.
-use Rattle.std.specs.Prelude.{◌≡◌, ℕ, List, codes, is_none, if◌then◌else◌, Option, Some, None, option_and_then, IsUtf8}
+use Rattle.std.specs.Prelude.{◌≡◌, ℕ, List, codes, is_none, if◌then◌else◌, Option, Some, None}
+use Rattle.std.specs.Prelude.{option_and_then, IsUtf8}
 use Rattle.percent_encoding.specs.Percent.{percent_decode}
 use Rattle.serde_json.specs.Data.{Data}
 use Rattle.serde_json.specs.Read as json
@@ -26,12 +27,14 @@ abbrev pub topup_of_members : Option (List ℕ) → Option ℕ → Option (List 
 topup_of_members None amount voucher moment = None
 topup_of_members (Some account) None voucher moment = None
 topup_of_members (Some account) (Some amount) None moment = None
-topup_of_members (Some account) (Some amount) (Some voucher) moment = topup_from voucher (percent_decode account) amount moment
+topup_of_members (Some account) (Some amount) (Some voucher) moment =
+    topup_from voucher (percent_decode account) amount moment
 
 -- the top-up that a JSON value asks for at a moment
 abbrev pub topup_of_value : Data → ℕ → Option TopUpFacts
 topup_of_value value moment =
-    topup_of_members (text_at (codes "account") value) (whole_at (codes "sum") value) (text_at (codes "voucher") value) moment
+    topup_of_members (text_at (codes "account") value) (whole_at (codes "sum") value)
+    (text_at (codes "voucher") value) moment
 
 -- the octets are JSON that stands for the value, or no JSON
 abbrev pub IsJson : List ℕ → Option Data → Type 0

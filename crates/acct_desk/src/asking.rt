@@ -4,7 +4,9 @@ ghost use Rattle.std.specs.Option.{option_copied};
 ghost use Rattle.httparse.specs.Spans.{IsHeaderWithin, IsWithin, span_bytes, header_bytes};
 ghost use Rattle.acct_desk.specs.Request.{reach_of};
 ghost use Rattle.acct_desk.specs.Routes.{endpoint_of};
-ghost use Rattle.acct_desk.specs.Asks.{Ask as Asked, json_of, ask_of_json, ask_of_role, ask_of_endpoint, path_of, role_of_fields, ask_of_fields, ask_of_reach, refused, Asks};
+ghost use Rattle.acct_desk.specs.Asks.{Ask as Asked, json_of, ask_of_json, ask_of_role};
+ghost use Rattle.acct_desk.specs.Asks.{ask_of_endpoint, path_of, role_of_fields, ask_of_fields};
+ghost use Rattle.acct_desk.specs.Asks.{ask_of_reach, refused, Asks};
 ghost use Rattle.acct_desk.specs.AskView.{ask_view};
 
 use crate::framing::{HEAD_LIMIT, Reach, front_of, reach_by_fields};
@@ -78,7 +80,8 @@ pub(crate) fn ask_of_octets<'k>(
 
 // Why so many octets without a head are refused.
 fn refusal_of_length(there: usize) -> Refusal
-    ensures { ask_of_reach (reach_of None there) (λ _. refused Refusal.BadRequest) ≡ refused result }
+    ensures { ask_of_reach (reach_of None there) (λ _. refused Refusal.BadRequest)
+        ≡ refused result }
 {
     if there < HEAD_LIMIT {
         Refusal::BadRequest
@@ -114,14 +117,7 @@ fn ask_of_spans<'k>(
             let endpoint = endpoint_of_target(keys, spans.path.of(front));
             let role = role_of_fields(keys, front, headers);
             let body = &request[spans.len..end];
-            ask_of_parts(
-                alloc,
-                endpoint,
-                spans.method.of(front),
-                role,
-                body,
-                moment,
-            )
+            ask_of_parts(alloc, endpoint, spans.method.of(front), role, body, moment)
         }
     }
 }
@@ -150,7 +146,8 @@ fn path_part(target: &str) -> &str
 // What the first Desk-Key lets its bearer do.
 fn role_of_fields<'k>(keys: &'k Keys, front: &[u8], headers: &[HeaderSpan]) -> Option<&'k Role>
     requires { All (IsHeaderWithin (length front.now)) headers.now }
-    ensures { option_copied result ≡ role_of_fields keys.now (map (header_bytes front.now) headers.now) }
+    ensures { option_copied result ≡ role_of_fields keys.now
+        (map (header_bytes front.now) headers.now) }
 {
     let token = values_named(front, headers, "desk-key").first?;
     keys.role_of(token)
@@ -193,9 +190,18 @@ fn ask_of_role<'k>(
     ensures { IfOk result (λ ask. ask_view ask ≡ ask_of_role endpoint role.now body.now moment) }
 {
     match (endpoint, role) {
-        (Endpoint::Balance, Role::Account(account)) => Ok(Ask::Me(Page::Balance, account.as_slice())),
-        (Endpoint::Sessions, Role::Account(account)) => Ok(Ask::Me(Page::Sessions, account.as_slice())),
-        (Endpoint::MyTopUps, Role::Account(account)) => Ok(Ask::Me(Page::TopUps, account.as_slice())),
+        (Endpoint::Balance, Role::Account(account)) => Ok(Ask::Me(
+            Page::Balance,
+            account.as_slice(),
+        )),
+        (Endpoint::Sessions, Role::Account(account)) => Ok(Ask::Me(
+            Page::Sessions,
+            account.as_slice(),
+        )),
+        (Endpoint::MyTopUps, Role::Account(account)) => Ok(Ask::Me(
+            Page::TopUps,
+            account.as_slice(),
+        )),
         (Endpoint::Overruns, Role::Cashier) => Ok(Ask::Overruns),
         (Endpoint::TopUps, Role::Cashier) => ask_of_post(alloc, body, moment),
         _ => Ok(Ask::Refused(Refusal::NotAllowed)),

@@ -1,5 +1,6 @@
 //! The head of a request.
-ghost use Rattle.std.specs.Prelude.{◌≡◌, ◌≤◌, ℕ, length, map, All, IfSome, IfNone, option_map, slice_get};
+ghost use Rattle.std.specs.Prelude.{◌≡◌, ◌≤◌, ℕ, length, map, All, IfSome, IfNone, option_map};
+ghost use Rattle.std.specs.Prelude.{slice_get};
 ghost use Rattle.httparse.specs.Spans.{IsHeaderWithin, header_bytes};
 ghost use Rattle.acct_desk.specs.Head.{IsHeadAt, HasNoHead};
 ghost use Rattle.acct_desk.specs.Request.{is_named, values_of, length_of};
@@ -41,7 +42,8 @@ pub(crate) fn values_named<'b>(front: &'b [u8], headers: &[HeaderSpan], name: &s
     requires { All (IsHeaderWithin (length front.now)) headers.now }
     ensures first { option_map (λ v. v.now) result.first
         ≡ slice_get (values_of name.now (map (header_bytes front.now) headers.now)) 0 }
-    ensures count { result.count ≡ length (values_of name.now (map (header_bytes front.now) headers.now)) }
+    ensures count { result.count ≡ length
+        (values_of name.now (map (header_bytes front.now) headers.now)) }
 {
     let mut first = None;
     let mut count = 0;

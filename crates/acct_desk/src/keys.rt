@@ -89,7 +89,8 @@ impl Keys {
     ///
     /// # Errors
     ///
-    /// The first fault: each key in its turn for `BadToken` and then for `TwiceKeyed`. `Memory` may stand in place of either.
+    /// The first fault: each key in its turn for `BadToken` and then for `TwiceKeyed`. `Memory` may
+    /// stand in place of either.
     pub fn new(alloc: Global, list: Vec<DeskKey>) -> Result<Keys, KeysError>
         ensures kept { IfOk result (λ keys. keys ≡ list.items) }
         ensures faultless { OnOk result (fault_of list.items ≡ None) }
@@ -113,7 +114,8 @@ impl Keys {
         &self.list
     }
 
-    // The role of the key that has a token. Its cost grows with the logarithm of the number of keys.
+    // The role of the key that has a token. Its cost grows with the logarithm of the number of
+    // keys.
     pub(crate) fn role_of(&self, token: &[u8]) -> Option<&Role>
         ensures { option_copied result ≡ role_at token.now self.now }
     {

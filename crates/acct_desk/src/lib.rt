@@ -2,13 +2,19 @@
 #![tactic(auto)]
 
 mod asking;
+mod bodies;
 mod framing;
+mod handling;
 mod head;
 mod keys;
+pub mod laws;
+mod pages;
 mod reading;
+mod response;
 mod routes;
 mod top_up_body;
 
 pub use framing::{Reach, extent};
+pub use handling::handle;
 pub use keys::{DeskKey, Keys, KeysError, Role};
 pub use reading::{ReadFault, read_request};

@@ -1,6 +1,7 @@
 //! Reading a request.
 //!
-//! The octets are parsed again only where that may end the reading, so that a request that comes octet by octet costs a few parses and
+//! The octets are parsed again only where that may end the reading, so that a request that comes
+//! octet by octet costs a few parses and
 //! not one for each octet.
 ghost use Rattle.std.specs.Prelude.{◌≡◌, ◌≤◌, ◌<◌, false, IfOk, OnOk, IfNone, vec_len, length, All};
 ghost use Rattle.httparse.specs.Spans.{IsHeaderWithin};
@@ -35,14 +36,18 @@ pub enum ReadFault {
     Memory = 3,
 }
 
-/// The octets of one request: at most 12,288 of the reader's, by at most 16,384 reads. Reading ends where `extent` isn't `More`, where
-/// nothing that follows can make a request of them, at 12,288 octets, or at the reader's end. A read that was interrupted is tried again.
+/// The octets of one request: at most 12,288 of the reader's, by at most 16,384 reads. Reading ends
+/// where `extent` isn't `More`, where
+/// nothing that follows can make a request of them, at 12,288 octets, or at the reader's end. A
+/// read that was interrupted is tried again.
 ///
 /// # Errors
 ///
-/// `Failed` where the reader fails, `TooManyTurns` past the reads, `Memory` where the octets can't be grown.
+/// `Failed` where the reader fails, `TooManyTurns` past the reads, `Memory` where the octets can't
+/// be grown.
 pub fn read_request<R: Read>(alloc: Global, reader: &mut R) -> Result<Vec<u8>, ReadFault>
-    ensures prefix { IfOk result (λ bytes. Consumes (R.remaining reader.old) (R.remaining reader.new) bytes.items) }
+    ensures prefix { IfOk result (λ bytes.
+        Consumes (R.remaining reader.old) (R.remaining reader.new) bytes.items) }
     ensures limit { IfOk result (λ bytes. vec_len bytes ≤ 12288) }
     ensures ends { IfOk result (λ bytes. Ends bytes.items (R.remaining reader.new)) }
 {
@@ -69,7 +74,8 @@ pub fn read_request<R: Read>(alloc: Global, reader: &mut R) -> Result<Vec<u8>, R
 // One read: adds octets, and says whether there may be more.
 fn read_some<R: Read>(reader: &mut R, bytes: &mut Vec<u8>) -> Result<bool, ReadFault>
     requires { vec_len bytes.old < 12288 }
-    ensures adds { OnOk result (Adds (R.remaining reader.old) (R.remaining reader.new) bytes.old.items bytes.new.items) }
+    ensures adds { OnOk result (Adds (R.remaining reader.old) (R.remaining reader.new)
+        bytes.old.items bytes.new.items) }
     ensures limit { OnOk result (vec_len bytes.new ≤ 12288) }
     ensures end { IfOk result (λ more. more ≡ false → IsAtEnd (R.remaining reader.new)) }
 {
@@ -101,7 +107,8 @@ impl Watch {
     }
 }
 
-// None where no further octets are wanted, else when to look again. Without a head that is at twice the octets, so that what can be no
+// None where no further octets are wanted, else when to look again. Without a head that is at twice
+// the octets, so that what can be no
 // request is given up soon, at little cost.
 fn look(bytes: &[u8]) -> Option<Watch>
     ensures { IfNone result (IsSettled bytes.now) }

@@ -3,7 +3,8 @@ ghost use Rattle.std.specs.Prelude.{◌≡◌, ◌≢◌, ◌<◌, ◌^◌, Some
 ghost use Rattle.percent_encoding.specs.Percent as percent;
 ghost use Rattle.serde_json.specs.Data.{Data};
 ghost use Rattle.serde_json.specs.View.{view};
-ghost use Rattle.acct_desk.specs.TopUpBodies.{topup_from, text_at, whole_at, topup_of_value, IsJson};
+ghost use Rattle.acct_desk.specs.TopUpBodies.{topup_from, text_at, whole_at, topup_of_value};
+ghost use Rattle.acct_desk.specs.TopUpBodies.{IsJson};
 
 use acct_model::{NoMemory, TopUp, TopUpError, unshow};
 use serde_json::Value;
@@ -34,8 +35,10 @@ impl From<NoMemory> for BodyError {
 // The top-up that a body asks for.
 pub(crate) fn topup_of_body(alloc: Global, body: &[u8], when: u64) -> Result<TopUp, BodyError>
     requires { when < 2 ^ 53 }
-    ensures ok { IfOk result (λ t. (d : Data) × IsJson body.now (Some d) × (topup_of_value d when ≡ Some t)) }
-    ensures bad { result ≡ Err BodyError.NoTopUp → (d : Data) × IsJson body.now (Some d) × (topup_of_value d when ≡ None) }
+    ensures ok { IfOk result (λ t. (d : Data) × IsJson body.now (Some d)
+        × (topup_of_value d when ≡ Some t)) }
+    ensures bad { result ≡ Err BodyError.NoTopUp
+        → (d : Data) × IsJson body.now (Some d) × (topup_of_value d when ≡ None) }
     ensures json { result ≡ Err BodyError.NotJson → IsJson body.now None }
 {
     let value = value_of(alloc, body)?;
@@ -85,7 +88,8 @@ fn topup_from(
 ) -> Result<TopUp, BodyError>
     requires { when < 2 ^ 53 }
     ensures ok { IfOk result (λ t. topup_from voucher.now account.now sum when ≡ Some t) }
-    ensures bad { result ≡ Err BodyError.NoTopUp → topup_from voucher.now account.now sum when ≡ None }
+    ensures bad { result ≡ Err BodyError.NoTopUp
+        → topup_from voucher.now account.now sum when ≡ None }
     ensures json { result ≢ Err BodyError.NotJson }
 {
     match TopUp::new(alloc, voucher, account, sum, when) {

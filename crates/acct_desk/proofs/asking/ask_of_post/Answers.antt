@@ -11,7 +11,8 @@ returns-in-Ok c =
 
 pub returns-in-Err-NotJson : goal.returns-in-Err-NotJson
 returns-in-Err-NotJson c =
-    let read = json_of-IsJson c.args.body.now None (c.in-Err-NotJson.ensures.json (ap Err c.in-Err-NotJson.field-0-is)) in
+    let read = json_of-IsJson c.args.body.now None
+    (c.in-Err-NotJson.ensures.json (ap Err c.in-Err-NotJson.field-0-is)) in
     rw (← read) refl
 
 pub returns-in-Err-NoTopUp : goal.returns-in-Err-NoTopUp

@@ -4,7 +4,8 @@ use Rattle.std.specs.Option.{option_or}
 use Rattle.acct_desk.specs.declared.keys.DeskKey.{DeskKey}
 use Rattle.acct_desk.specs.Keys.{is_token_text}
 use Rattle.acct_desk.specs.KeyFaults.{place_at}
-use Rattle.acct_desk.proofs.KeyLemmas.{faults_from, faults_from-more, places-more, no_fault, twice_keyed, is_among, on_ok}
+use Rattle.acct_desk.proofs.KeyLemmas.{faults_from, faults_from-more, places-more, no_fault}
+use Rattle.acct_desk.proofs.KeyLemmas.{twice_keyed, is_among, on_ok}
 use Rattle.acct_desk.proofs.keys.places_of.Goals as goal
 
 pub returns-then-contains_key-clause-refused : goal.returns-then-contains_key-clause-refused
@@ -15,8 +16,10 @@ returns-then-contains_key-clause-refused c =
     let spelled = c.as_str-token.ensures ∙ ap (λ (k : DeskKey). k.token) (sym c.index-list-i.is) in
     let token = ap is_token_text (sym spelled) ∙ sym c.is_token.ensures ∙ c.if-not-is_token.false in
     let text = c.as_bytes.ensures.value ∙ spelled in
-    let found = ap (λ bs. is_some (place_at c.loop-i.places bs)) (sym text) ∙ sym c.contains_key.ensures ∙ c.if-contains_key.true in
-    let among = is_among c.loop-i.places (take i keys) key.token true c.loop-i.invariant.placed found in
+    let found = ap (λ bs. is_some (place_at c.loop-i.places bs)) (sym text)
+    ∙ sym c.contains_key.ensures ∙ c.if-contains_key.true in
+    let among = is_among c.loop-i.places (take i keys) key.token true c.loop-i.invariant.placed
+    found in
     sym c.loop-i.invariant.faults
     ∙ faults_from-more keys i key c.loop-i-test.true c.index-list-i.is
     ∙ ap (λ o. option_or o (faults_from (i + 1) keys)) (twice_keyed (take i keys) key token among)
@@ -29,14 +32,20 @@ loop-i-preserved c =
     let spelled = c.as_str-token.ensures ∙ ap (λ (k : DeskKey). k.token) (sym c.index-list-i.is) in
     let token = ap is_token_text (sym spelled) ∙ sym c.is_token.ensures ∙ c.if-not-is_token.false in
     let text = c.as_bytes.ensures.value ∙ spelled in
-    let absent = ap (λ bs. is_some (place_at c.loop-i.places bs)) (sym text) ∙ sym c.contains_key.ensures ∙ c.if-contains_key.false in
-    let among = is_among c.loop-i.places (take i keys) key.token false c.loop-i.invariant.placed absent in
-    let updates = on_ok c.insert.result _ (sym c.is_err.ensures.value ∙ c.if-is_err.false) c.insert.ensures.updates in
+    let absent = ap (λ bs. is_some (place_at c.loop-i.places bs)) (sym text)
+    ∙ sym c.contains_key.ensures ∙ c.if-contains_key.false in
+    let among = is_among c.loop-i.places (take i keys) key.token false c.loop-i.invariant.placed
+    absent in
+    let updates = on_ok c.insert.result _ (sym c.is_err.ensures.value
+    ∙ c.if-is_err.false) c.insert.ensures.updates in
     record {
       faults =
-          sym (ap (λ o. option_or o (faults_from (i + 1) keys)) (no_fault (take i keys) key token among))
+          sym (ap (λ o. option_or o (faults_from (i + 1) keys))
+          (no_fault (take i keys) key token among))
           ∙ sym (faults_from-more keys i key c.loop-i-test.true c.index-list-i.is)
           ∙ c.loop-i.invariant.faults;
-      placed = places-more c.loop-i.places c.insert.new.self keys i key c.in_ok-token.token.items c.loop-i-test.true c.index-list-i.is
-          (c.in_ok-token.ensures ∙ c.as_bytes-in-loop-i.ensures.value ∙ spelled) c.loop-i.invariant.placed absent updates;
+      placed = places-more c.loop-i.places c.insert.new.self keys i key c.in_ok-token.token.items
+          c.loop-i-test.true c.index-list-i.is
+          (c.in_ok-token.ensures ∙ c.as_bytes-in-loop-i.ensures.value
+          ∙ spelled) c.loop-i.invariant.placed absent updates;
     }

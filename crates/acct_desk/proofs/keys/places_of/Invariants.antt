@@ -5,4 +5,8 @@ use Rattle.acct_desk.proofs.keys.places_of.Given as goal
 
 abbrev pub invariant-loop-i : goal.invariant-loop-i
 invariant-loop-i l =
-    record { faults : faults_from l.i l.list ≡ fault_of l.list; placed : ArePlaces l.places (take l.i l.list) }
+    record {
+      faults : faults_from l.i l.list
+          ≡ fault_of l.list;
+      placed : ArePlaces l.places (take l.i l.list);
+    }

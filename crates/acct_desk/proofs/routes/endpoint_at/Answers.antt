@@ -7,9 +7,11 @@ use Rattle.acct_desk.proofs.routes.endpoint_at.Goals as goal
 pub returns-in-Ok : goal.returns-in-Ok
 returns-in-Ok c =
     let found = rw c.requires at c.in-Ok.ensures.found in
-    sym (ap (option_map (λ (r : RouteOf Endpoint). r.value)) found) ∙ endpoint_of_first c.args.path.now
+    sym (ap (option_map (λ (r : RouteOf Endpoint). r.value)) found)
+    ∙ endpoint_of_first c.args.path.now
 
 pub returns-in-Err : goal.returns-in-Err
 returns-in-Err c =
     let missing = rw c.requires at c.in-Err.ensures.missing in
-    sym (ap (option_map (λ (r : RouteOf Endpoint). r.value)) missing) ∙ endpoint_of_first c.args.path.now
+    sym (ap (option_map (λ (r : RouteOf Endpoint). r.value)) missing)
+    ∙ endpoint_of_first c.args.path.now

@@ -1,0 +1,305 @@
+-- Pages, by what the book told.
+use Rattle.std.proofs.Common.{true≢false, ◌≡◌, ℕ, ℤ, Bool, true, false, cond, List, [], ◌∷◌, ◌++◌, map, refl}
+use Rattle.std.proofs.Common.{ap, sym, ◌∙◌, subst}
+use Rattle.std.specs.Prelude.{Option, Some, None, Result, Ok, Err, IfOk, OnOk, IsOk, IsErr, pos}
+use Rattle.std.specs.Prelude.{negsuc, bytes_eq, nat_lt}
+use Rattle.std.specs.List.{filter_map, cons_option}
+use Rattle.std.specs.declared.cmp.Ordering.{Ordering}
+use Rattle.serde_json.specs.Data.{Data, number}
+use Rattle.serde_json.specs.Find.{of_integer}
+use Rattle.serde_json.specs.View.{view, items_of}
+use Rattle.serde_json.specs.Written.{has_float, items_have_float}
+use Rattle.serde_json.specs.declared.value.Value.{Value}
+use Rattle.acct_model.specs.declared.plan.Plan.{Plan}
+use Rattle.acct_model.specs.declared.entry.Entry.{Entry}
+use Rattle.acct_model.specs.Vouchers.{TopUpFacts}
+use Rattle.acct_model.specs.History.{topup_of}
+use Rattle.acct_book.specs.declared.key.Key.{Key}
+use Rattle.acct_book.specs.Book.{Reads}
+use Rattle.acct_book.specs.Content.{Content, kept_balance, key_of}
+use Rattle.acct_book.specs.Maps.{octets_cmp}
+use Rattle.acct_book.specs.Part.{part_of, own_row, own_topup, AreRowsIn, AreTopUpsIn}
+use Rattle.acct_book.specs.Row.{RowFacts}
+use Rattle.acct_book.specs.Rows.{row_of}
+use Rattle.acct_book.specs.Stands.{Stands}
+use Rattle.acct_book.specs.Walk.{AreMembers, AreRowsOf, AreTopUpsOf, AreAllPast, IsWalk, IsNext}
+use Rattle.acct_book.specs.Walk.{IsNextBalance}
+use Rattle.acct_book.proofs.Steps.{kept-balance}
+use Rattle.acct_book.proofs.WalkLaws.{walks-meet-all}
+use Rattle.acct_desk.specs.declared.bodies.PageError.{PageError}
+use Rattle.acct_book.specs.declared.book.Unavailable as book
+use Rattle.acct_desk.specs.declared.asking.Page.TheVariants.{Balance}
+use Rattle.acct_desk.specs.Asks.{Ask, me}
+use Rattle.acct_desk.specs.Bodies.{balance_body, session_item, sessions_body, topup_item}
+use Rattle.acct_desk.specs.Bodies.{topups_body, overrun_of, overrun_item, overrun_in, overruns_body}
+use Rattle.acct_desk.specs.Handling.{OnlyReads, IsBody, AreBalances, known_balance}
+use Rattle.acct_desk.specs.Pages.{Shows}
+
+-- ---- bodies have no floats
+
+integer_plain : (z : ℤ) → has_float (number (of_integer z)) ≡ false
+integer_plain (pos n) = refl
+integer_plain (negsuc n) = refl
+
+pub balance_plain : (account : List ℕ) (z : ℤ) → has_float (balance_body account z) ≡ false
+balance_plain account z = rw (integer_plain z) refl
+
+items_plain : {X : Type 0} (f : X → Data) → ((x : X) → has_float (f x) ≡ false) → (xs : List X)
+    → items_have_float (items_of (map f xs)) ≡ false
+items_plain f plain [] = refl
+items_plain f plain (x ∷ xs) = rw (plain x, items_plain f plain xs) refl
+
+session_plain : (plans : List Plan) (row : RowFacts) → has_float (session_item plans row) ≡ false
+unfolding session_item
+session_plain plans row = refl
+
+topup_plain : (topup : TopUpFacts) → has_float (topup_item topup) ≡ false
+unfolding topup_item
+topup_plain topup = refl
+
+pub sessions_plain : (plans : List Plan) (account : List ℕ) (rows : List RowFacts)
+    → has_float (sessions_body plans account rows) ≡ false
+sessions_plain plans account rows =
+    rw (items_plain (session_item plans) (session_plain plans) rows) refl
+
+pub topups_plain : (account : List ℕ) (topups : List TopUpFacts)
+    → has_float (topups_body account topups) ≡ false
+topups_plain account topups = rw (items_plain topup_item topup_plain topups) refl
+
+overrun_plain : (account : List ℕ) (n : ℕ) → has_float (overrun_item account n) ≡ false
+unfolding overrun_item
+overrun_plain account n = refl
+
+cons_plain : (o : Option Data) (rest : List Data) → ((d : Data) → o ≡ Some d → has_float d ≡ false)
+    → items_have_float (items_of rest) ≡ false
+    → items_have_float (items_of (cons_option o rest)) ≡ false
+cons_plain None rest one plain = plain
+cons_plain (Some d) rest one plain = rw (one d refl, plain) refl
+
+over_at : (account : List ℕ) (n : ℕ) (b : Bool) (d : Data)
+    → cond b (Some (overrun_item account n)) None ≡ Some d → has_float d ≡ false
+over_at account n true d e = ap has_float (let is : d ≡ overrun_item account n = cc in is)
+    ∙ overrun_plain account n
+over_at account n false d e = absurd (cc)
+
+over_plain : (es : List (List ℕ × ℤ))
+    → items_have_float (items_of (filter_map overrun_in es)) ≡ false
+over_plain [] = refl
+over_plain (e ∷ es) =
+    cons_plain (overrun_in e) (filter_map overrun_in es)
+    (over_at e.0 (overrun_of e.1) (nat_lt 0 (overrun_of e.1))) (over_plain es)
+
+pub overruns_plain : (es : List (List ℕ × ℤ)) → has_float (overruns_body es) ≡ false
+overruns_plain es = rw (over_plain es) refl
+
+-- ---- a page that was read
+
+module _ {B : Type 0} (plans : List Plan) (ask : Ask) (content : B
+    → Content) (is_sound is_open is_steady : B → Type 0) (leaves : B → Content
+    → Type 0) (old new : B) where
+  pub only_reads : {T E : Type 0} (result : Result T E)
+      → Reads content is_sound is_open is_steady leaves old new result
+      → OnlyReads content is_sound is_open is_steady leaves old new
+  only_reads result r = record {
+    was_sound = r.was_sound;
+    was_open = r.was_open;
+    keeps_steady =
+        r.keeps_steady;
+    same = r.same;
+    adds_none = r.adds_none;
+  }
+
+  pub shows_none : (error : PageError) → OnlyReads content is_sound is_open is_steady leaves old new
+      → Shows plans ask content is_sound is_open is_steady leaves old new (Err error)
+  shows_none error reads = record {
+    reads = reads;
+    answers = λ _. tt;
+    plain = tt;
+    told =
+        λ _ _ _. tt;
+  }
+
+  pub shows_body : (result : Result Value PageError) (body : Data)
+      → OnlyReads content is_sound is_open is_steady leaves old new → (is_sound new → is_open new)
+      → IfOk result (λ v. view v ≡ body) → has_float body ≡ false
+      → (is_open new → (history : List Entry) → Stands plans (content old) history
+      → IsBody plans history ask body)
+      → Shows plans ask content is_sound is_open is_steady leaves old new result
+  shows_body (Ok v) body reads opened is plain told = record {
+    reads = reads;
+    answers = opened;
+    plain = ap has_float is ∙ plain;
+    told = λ o history st. subst (IsBody plans history ask) (sym is) (told o history st);
+  }
+  shows_body (Err error) body reads opened is plain told = shows_none error reads
+
+-- ---- what the book told, in a history that its content stands for
+
+pub balance_told : (plans : List Plan) (c : Content) (history : List Entry) (a : List ℕ) (z : ℤ)
+    → Stands plans c history → z ≡ kept_balance c a
+    → balance_body a z ≡ balance_body a (part_of plans history a).balance
+balance_told plans c history a z st is =
+    ap (balance_body a) (is ∙ kept-balance plans c history st a)
+
+own_row_is : (a : List ℕ) (o : Option RowFacts) (row : RowFacts) → o ≡ Some row
+    → bytes_eq a row.account ≡ true → own_row a o ≡ Some row
+own_row_is a o row is mine = ap (own_row a) is ∙ ap (λ b. cond b (Some row) None) mine
+
+own_row_by : (a : List ℕ) (kept row : RowFacts) (b : Bool) → bytes_eq a kept.account ≡ b
+    → cond b (Some kept) None ≡ Some row → (Some kept ≡ Some row) × (bytes_eq a row.account ≡ true)
+own_row_by a kept row true mine e =
+    (e, ap (λ (r : RowFacts). bytes_eq a r.account) (let is : row ≡ kept = cc in is) ∙ mine)
+own_row_by a kept row false mine e = absurd (cc)
+
+own_row_at : (a : List ℕ) (o : Option RowFacts) (row : RowFacts) → own_row a o ≡ Some row
+    → (o ≡ Some row) × (bytes_eq a row.account ≡ true)
+own_row_at a None row e = absurd (cc)
+own_row_at a (Some kept) row e = own_row_by a kept row (bytes_eq a kept.account) refl e
+
+-- the rows that a book gives of an account are those of its part
+pub rows_told : (plans : List Plan) (c : Content) (history : List Entry) (a : List ℕ)
+    (rows : List RowFacts) → Stands plans c history → AreRowsOf c a rows
+    → AreRowsIn (part_of plans history a) rows
+rows_told plans c history a rows st are = record {
+  in_order = are.in_order;
+  each = λ row. (
+    (λ h. let found = (are.each row).0 h in (
+      own_row_is a (row_of history (key_of row)) row (sym (st.rows (key_of row))
+          ∙ found.0) found.1,
+      refl,
+    )),
+    (λ h. let own = own_row_at a (row_of history (key_of row)) row h.0 in
+        (are.each row).1 (st.rows (key_of row) ∙ own.0, own.1)),
+  );
+}
+
+own_topup_is : (a : List ℕ) (o : Option TopUpFacts) (t : TopUpFacts) → o ≡ Some t
+    → bytes_eq a t.account ≡ true → own_topup a o ≡ Some t
+own_topup_is a o t is mine = ap (own_topup a) is ∙ ap (λ b. cond b (Some t) None) mine
+
+own_topup_by : (a : List ℕ) (kept t : TopUpFacts) (b : Bool) → bytes_eq a kept.account ≡ b
+    → cond b (Some kept) None ≡ Some t → (Some kept ≡ Some t) × (bytes_eq a t.account ≡ true)
+own_topup_by a kept t true mine e =
+    (e, ap (λ (r : TopUpFacts). bytes_eq a r.account) (let is : t ≡ kept = cc in is) ∙ mine)
+own_topup_by a kept t false mine e = absurd (cc)
+
+own_topup_at : (a : List ℕ) (o : Option TopUpFacts) (t : TopUpFacts) → own_topup a o ≡ Some t
+    → (o ≡ Some t) × (bytes_eq a t.account ≡ true)
+own_topup_at a None t e = absurd (cc)
+own_topup_at a (Some kept) t e = own_topup_by a kept t (bytes_eq a kept.account) refl e
+
+-- the top-ups that a book gives of an account are those of its part
+pub topups_told : (plans : List Plan) (c : Content) (history : List Entry) (a : List ℕ)
+    (ts : List TopUpFacts) → Stands plans c history → AreTopUpsOf c a ts
+    → AreTopUpsIn (part_of plans history a) ts
+topups_told plans c history a ts st are = record {
+  in_order = are.in_order;
+  each = λ t. (
+    (λ h. let found = (are.each t).0 h in (
+      own_topup_is a (topup_of history t.voucher) t (sym (st.topups t.voucher)
+          ∙ found.0) found.1,
+      refl,
+    )),
+    (λ h. let own = own_topup_at a (topup_of history t.voucher) t h.0 in
+        (are.each t).1 (st.topups t.voucher ∙ own.0, own.1)),
+  );
+}
+
+-- ---- a walk over the accounts
+
+-- the entries of a walk so far, and where it goes on
+abbrev pub WalksTo : (List ℕ → Option ℤ) → Option (List ℕ) → List (List ℕ × ℤ) → Option (List ℕ)
+    → Type 0
+WalksTo at after [] to = after ≡ to
+WalksTo at after ((key, member) ∷ rest) to = IsNext octets_cmp at after (Some (key, member))
+    × WalksTo at (Some key) rest to
+
+pub walks-more : (at : List ℕ → Option ℤ) (after to : Option (List ℕ)) (es : List (List ℕ × ℤ))
+    (k : List ℕ) (x : ℤ) → WalksTo at after es to → IsNext octets_cmp at to (Some (k, x))
+    → WalksTo at after (es ++ (k, x) ∷ []) (Some k)
+walks-more at after to [] k x w next =
+    (subst (λ o. IsNext octets_cmp at o (Some (k, x))) (sym w) next, refl)
+walks-more at after to ((j, y) ∷ es) k x w next = (w.0, walks-more at (Some j) to es k x w.1 next)
+
+pub walks-end : (at : List ℕ → Option ℤ) (after to : Option (List ℕ)) (es : List (List ℕ × ℤ))
+    → WalksTo at after es to → IsNext octets_cmp at to None → IsWalk octets_cmp at after es
+walks-end at after to [] w next = subst (λ o. IsNext octets_cmp at o None) (sym w) next
+walks-end at after to ((j, y) ∷ es) w next = (w.0, walks-end at (Some j) to es w.1 next)
+
+-- the accounts that a walk to the end met are the known ones
+pub accounts_told : (plans : List Plan) (c : Content) (history : List Entry)
+    (es : List (List ℕ × ℤ)) → Stands plans c history → IsWalk octets_cmp c.balances None es
+    → AreBalances plans history es
+accounts_told plans c history es st w =
+    let all = (walks-meet-all c).balances None es w in
+    record {
+      in_order = all.in_order;
+      each = λ k x. (
+        (λ h. let found = (all.each k x).0 h in (sym (st.balances k) ∙ found.0, found.1)),
+        (λ h. (all.each k x).1 (st.balances k ∙ h.0, h.1)),
+      );
+    }
+
+-- ---- the balance of one account
+
+pub balance_shows : {B : Type 0} (plans : List Plan) (account : List ℕ) (content : B
+    → Content) (is_sound is_open is_steady : B → Type 0) (leaves : B → Content
+    → Type 0) (old new : B)
+    (told : Result ℤ book.Unavailable) (result : Result Value PageError)
+    → Reads content is_sound is_open is_steady leaves old new told
+    → (is_open new → IfOk told (λ z. z ≡ kept_balance (content old) account))
+    → IfOk result (λ v. IfOk told (λ z. view v ≡ balance_body account z))
+    → OnOk result (IsOk told)
+    → Shows plans (me Balance account) content is_sound is_open is_steady leaves old new result
+balance_shows plans account content is_sound is_open is_steady leaves old new (Ok z) (Ok v) reads
+    found is answers =
+    shows_body plans (me Balance account) content is_sound is_open is_steady leaves old new (Ok v)
+    (balance_body account z)
+    (only_reads plans (me Balance account) content is_sound is_open is_steady leaves old new (Ok z)
+    reads) reads.answers is (balance_plain account z)
+    (λ o history st. balance_told plans (content old) history account z st (found o))
+balance_shows plans account content is_sound is_open is_steady leaves old new (Err e) (Ok v) reads
+    found is answers = absurd (true≢false (sym answers))
+balance_shows plans account content is_sound is_open is_steady leaves old new told (Err e) reads
+    found is answers =
+    shows_none plans (me Balance account) content is_sound is_open is_steady leaves old new e
+    (only_reads plans (me Balance account) content is_sound is_open is_steady leaves old new
+    told reads)
+
+pub not_both : {T E : Type 0} (r : Result T E) → IsOk r → IsErr r → ⊥
+not_both (Ok x) is none = true≢false (sym none)
+not_both (Err e) none is = true≢false (sym none)
+
+-- ---- calls that read, one after the other
+
+module _ {B : Type 0} (content : B → Content) (is_sound is_open is_steady : B → Type 0) (leaves : B
+    → Content → Type 0) where
+  pub reads_nothing : (book : B) → OnlyReads content is_sound is_open is_steady leaves book book
+  reads_nothing book = record {
+    was_sound = λ h. h;
+    was_open = λ h. h;
+    keeps_steady = λ h. h;
+    same =
+        λ _. refl;
+    adds_none = λ _ c h. h;
+  }
+
+  pub reads_then : {T E : Type 0} (old mid new : B) (result : Result T E)
+      → OnlyReads content is_sound is_open is_steady leaves old mid
+      → Reads content is_sound is_open is_steady leaves mid new result
+      → OnlyReads content is_sound is_open is_steady leaves old new
+  reads_then old mid new result a b = record {
+    was_sound = λ h. a.was_sound (b.was_sound h);
+    was_open = λ h. a.was_open (b.was_open h);
+    keeps_steady = λ h. b.keeps_steady (a.keeps_steady h);
+    same = λ h. b.same h ∙ a.same (b.was_open h);
+    adds_none = λ h c left. a.adds_none (b.was_sound h) c (b.adds_none h c left);
+  }
+
+-- the next account of an equal content
+pub next_from : (c d : Content) (after to : Option (List ℕ)) (x y : Option (List ℕ × ℤ))
+    → IsNextBalance d after x → d ≡ c → after ≡ to → x ≡ y → IsNext octets_cmp c.balances to y
+next_from c d after to x y next same is at =
+    subst (λ o. IsNext octets_cmp c.balances to o) at
+    (subst (λ o. IsNext octets_cmp c.balances o x) is
+    (subst (λ e. IsNextBalance e after x) same next))

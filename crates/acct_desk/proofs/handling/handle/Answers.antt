@@ -1,0 +1,44 @@
+use Rattle.acct_model.specs.declared.shown.NoMemory.{NoMemory}
+use Rattle.acct_desk.specs.Asks.{refused, me, overruns, credit}
+use Rattle.acct_desk.proofs.HandleLemmas.{mute_handles, refused_handles}
+use Rattle.acct_desk.proofs.handling.handle.Goals as goal
+
+pub returns-in-Err : goal.returns-in-Err
+returns-in-Err g c =
+    let b = g.B.Book in
+    let some = c.in-Err.ensures.some in (
+      some.0,
+      some.1,
+      mute_handles {E = NoMemory} c.args.plans.now b.content b.is_sound b.is_open
+          b.is_steady b.left some.0 c.args.book.now _,
+    )
+
+pub returns-in-Refused : goal.returns-in-Refused
+returns-in-Refused g c =
+    let b = g.B.Book in (
+      refused c.in-Refused.refusal,
+      rw c.in-Refused.is at c.in-Ok.ensures.asks,
+      refused_handles c.args.plans.now b.content b.is_sound b.is_open b.is_steady b.left
+          c.in-Refused.refusal c.args.book.now c.refuse.result c.refuse.ensures,
+    )
+
+pub returns-in-Me : goal.returns-in-Me
+returns-in-Me g c = (
+  me c.in-Me.page c.in-Me.account.now,
+  rw c.in-Me.is at c.in-Ok.ensures.asks,
+  c.tell_page.ensures,
+)
+
+pub returns-in-Overruns : goal.returns-in-Overruns
+returns-in-Overruns g c = (
+  overruns,
+  rw c.in-Overruns.is at c.in-Ok.ensures.asks,
+  c.tell_overruns.ensures c.args.plans.now,
+)
+
+pub returns-in-Credit : goal.returns-in-Credit
+returns-in-Credit g c = (
+  credit c.in-Credit.topup,
+  rw c.in-Credit.is at c.in-Ok.ensures.asks,
+  c.take_topup.ensures,
+)

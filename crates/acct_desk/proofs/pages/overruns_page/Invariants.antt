@@ -1,0 +1,18 @@
+use Rattle.std.proofs.Common.{◌≡◌, ℕ, ℤ, List, map}
+use Rattle.std.specs.Prelude.{None, option_map}
+use Rattle.std.specs.List.{filter_map}
+use Rattle.serde_json.specs.View.{view}
+use Rattle.acct_desk.specs.Bodies.{overrun_in}
+use Rattle.acct_desk.specs.Handling.{OnlyReads}
+use Rattle.acct_desk.proofs.PageLemmas.{WalksTo}
+use Rattle.acct_desk.proofs.pages.overruns_page.Given as goal
+
+abbrev pub invariant-loop : goal.invariant-loop
+invariant-loop g l = record {
+  reads : OnlyReads g.B.Book.content g.B.Book.is_sound g.B.Book.is_open g.B.Book.is_steady
+      g.B.Book.left l.fn.book l.book;
+  walked : (accounts : List (List ℕ × ℤ))
+      × (g.B.Book.is_open l.book → WalksTo (g.B.Book.content l.fn.book).balances None accounts
+      (option_map (λ account. account.items) l.last))
+      × (map view l.over.items ≡ filter_map overrun_in accounts);
+}

@@ -1,0 +1,146 @@
+//! The desk's answers.
+ghost use Rattle.std.specs.Prelude.{◌≡◌, ◌<◌, ◌^◌, List, IfOk};
+ghost use Rattle.acct_model.specs.declared.plan.Plan.{Plan};
+ghost use Rattle.acct_desk.specs.Asks.{Ask as Asked, Asks, me, overruns, credit};
+ghost use Rattle.acct_desk.specs.Handling.{Handles};
+ghost use Rattle.acct_desk.specs.Responses.{refusal_response, recorded_response};
+ghost use Rattle.acct_desk.specs.TopUpAnswers.{AreAnswers};
+
+use crate::asking::{Ask, Page, Refusal, ask_of_octets};
+use crate::keys::Keys;
+use crate::pages::{balance_page, overruns_page, page_octets, sessions_page, topups_page};
+use crate::response::{error_octets, refusal_octets, result_octets, unavailable_octets};
+use acct_book::{Book, RecordError, Recorded, record};
+use acct_model::{Entry, NoMemory, Plans, TopUp};
+use http::StatusCode;
+use std::alloc::{AllocError, Global};
+
+/// The whole response to the octets of a request, over a book whose content stands for a history
+/// under these plans. `moment` is in
+/// seconds since 1970. It is total over all octets: what is no request of the desk has its own
+/// response, and leaves the book untouched.
+///
+/// # Errors
+///
+/// `NoMemory` where the response can't be grown. Nothing was recorded then: every growth for a
+/// top-up comes before it is recorded.
+pub fn handle<B: Book>(
+    alloc: Global,
+    keys: &Keys,
+    plans: &Plans,
+    book: &mut B,
+    request: &[u8],
+    moment: u64,
+) -> Result<Vec<u8>, NoMemory>
+    requires { moment < 2 ^ 53 }
+    ensures { (ask : Asked) × Asks keys.now request.now moment ask
+        × Handles plans.now ask B.content B.is_sound B.is_open B.is_steady B.left book.old book.new
+        result }
+{
+    let ask = match ask_of_octets(alloc, keys, request, moment) {
+        Ok(ask) => ask,
+        Err(_) => return Err(NoMemory),
+    };
+    match ask {
+        Ask::Refused(refusal) => refuse(alloc, refusal),
+        Ask::Me(page, account) => tell_page(alloc, plans, book, page, account),
+        Ask::Overruns => tell_overruns(alloc, book),
+        Ask::Credit(topup) => take_topup(alloc, plans, book, topup),
+    }
+}
+
+// Refuses a request.
+fn refuse(alloc: Global, refusal: Refusal) -> Result<Vec<u8>, NoMemory>
+    ensures { IfOk result (λ octets. octets.items ≡ refusal_response refusal) }
+{
+    match refusal_octets(alloc, refusal) {
+        Ok(octets) => Ok(octets),
+        Err(_) => Err(NoMemory),
+    }
+}
+
+// Tells a page of an account.
+fn tell_page<B: Book>(
+    alloc: Global,
+    plans: &Plans,
+    book: &mut B,
+    page: Page,
+    account: &[u8],
+) -> Result<Vec<u8>, NoMemory>
+    ensures { Handles plans.now (me page account.now) B.content B.is_sound B.is_open B.is_steady
+        B.left book.old book.new result }
+{
+    match page {
+        Page::Balance => page_octets(alloc, balance_page(alloc, book, account)),
+        Page::Sessions => page_octets(alloc, sessions_page(alloc, plans, book, account)),
+        Page::TopUps => page_octets(alloc, topups_page(alloc, book, account)),
+    }
+}
+
+// Tells who is over.
+fn tell_overruns<B: Book>(alloc: Global, book: &mut B) -> Result<Vec<u8>, NoMemory>
+    ensures { (plans : List Plan) → Handles plans overruns B.content B.is_sound B.is_open
+        B.is_steady B.left book.old book.new result }
+{
+    page_octets(alloc, overruns_page(alloc, book))
+}
+
+// Takes a top-up. All its responses are made before it is recorded.
+fn take_topup<B: Book>(
+    alloc: Global,
+    plans: &Plans,
+    book: &mut B,
+    topup: TopUp,
+) -> Result<Vec<u8>, NoMemory>
+    ensures { Handles plans.now (credit topup) B.content B.is_sound B.is_open B.is_steady B.left
+        book.old book.new result }
+{
+    let Ok(answers) = topup_answers(alloc) else {
+        return Err(NoMemory);
+    };
+    let entry = Entry::TopUp(topup);
+    let recorded = record(alloc, book, plans, &entry);
+    Ok(answer_of(answers, recorded))
+}
+
+// The responses to a top-up.
+#[derive(Drop)]
+struct TopUpAnswers {
+    added: Vec<u8>,
+    repeated: Vec<u8>,
+    differs: Vec<u8>,
+    limit: Vec<u8>,
+    unavailable: Vec<u8>,
+}
+
+#[tactic(auto, unfolding(crate::specs::Responses::added_response))]
+fn topup_answers(alloc: Global) -> Result<TopUpAnswers, AllocError>
+    ensures { IfOk result AreAnswers }
+{
+    let added = result_octets(alloc, StatusCode::CREATED, "new")?;
+    let repeated = result_octets(alloc, StatusCode::OK, "repeat")?;
+    let differs = error_octets(alloc, StatusCode::CONFLICT, "", "voucher differs")?;
+    let limit = error_octets(alloc, StatusCode::UNPROCESSABLE_ENTITY, "", "balance limit")?;
+    let unavailable = unavailable_octets(alloc)?;
+    Ok(TopUpAnswers {
+        added,
+        repeated,
+        differs,
+        limit,
+        unavailable,
+    })
+}
+
+// The response for what recording told.
+fn answer_of(answers: TopUpAnswers, recorded: Result<Recorded, RecordError>) -> Vec<u8>
+    requires { AreAnswers answers }
+    ensures { result.items ≡ recorded_response recorded }
+{
+    match recorded {
+        Ok(Recorded::New) => answers.added,
+        Ok(Recorded::Repeat) => answers.repeated,
+        Err(RecordError::VoucherDiffers(_)) => answers.differs,
+        Err(RecordError::BalanceLimit(_)) => answers.limit,
+        Err(RecordError::Unavailable) => answers.unavailable,
+    }
+}

@@ -1,0 +1,160 @@
+//! The pages that the desk tells from the book.
+ghost use Rattle.std.specs.Prelude.{◌≡◌, ◌≢◌, false, List, [], ◌∷◌, ◌++◌, Err, IfOk, OnOk, IsOk};
+ghost use Rattle.std.specs.Prelude.{IsErr, map, option_map, codes};
+ghost use Rattle.std.specs.List.{filter_map};
+ghost use Rattle.std.specs.Option.{option_copied};
+ghost use Rattle.std.specs.Result.{ForOk};
+ghost use Rattle.serde_json.specs.Data.{array, object, member, no_members};
+ghost use Rattle.serde_json.specs.View.{view, items_view};
+ghost use Rattle.serde_json.specs.Written.{has_float};
+ghost use Rattle.acct_model.specs.declared.plan.Plan.{Plan};
+ghost use Rattle.acct_desk.specs.Asks.{me, overruns};
+ghost use Rattle.acct_desk.specs.Bodies.{balance_body, overrun_in};
+ghost use Rattle.acct_desk.specs.declared.asking.Page.TheVariants as page;
+ghost use Rattle.acct_desk.specs.Pages.{Shows, IsPageResponse};
+
+use crate::bodies::{
+    PageError, balance_value, overrun, overrun_value, sessions_value, topups_value,
+};
+use crate::response::{respond, unavailable_octets};
+use acct_book::{Book, Unavailable};
+use acct_model::{NoMemory, Plans};
+use http::StatusCode;
+use serde_json::{Value, json};
+use std::alloc::{AllocError, Global};
+
+/// The most accounts that a walk over the book meets.
+const WALK_LIMIT: u64 = (1 << 63) - 1;
+
+// The body of `/me/balance`.
+pub(crate) fn balance_page<B: Book>(
+    alloc: Global,
+    book: &mut B,
+    account: &[u8],
+) -> Result<Value, PageError>
+    ensures shows { (plans : List Plan)
+        → Shows plans (me page.Balance account.now) B.content B.is_sound B.is_open B.is_steady
+        B.left book.old book.new result }
+    ensures steady { B.is_steady book.old → result ≢ Err PageError.Unavailable }
+{
+    let told = book.balance(account);
+    told_balance(alloc, account, told)
+}
+
+// The body with what the book told.
+fn told_balance(
+    alloc: Global,
+    account: &[u8],
+    told: Result<i64, Unavailable>,
+) -> Result<Value, PageError>
+    ensures shown { IfOk result (λ v.
+        IfOk told (λ balance. view v ≡ balance_body account.now balance)) }
+    ensures answers { OnOk result (IsOk told) }
+    ensures refused { result ≡ Err PageError.Unavailable → IsErr told }
+{
+    match told {
+        Ok(balance) => balance_value(alloc, account, balance),
+        Err(_) => Err(PageError::Unavailable),
+    }
+}
+
+// The body of `/me/sessions`.
+pub(crate) fn sessions_page<B: Book>(
+    alloc: Global,
+    plans: &Plans,
+    book: &mut B,
+    account: &[u8],
+) -> Result<Value, PageError>
+    ensures { Shows plans.now (me page.Sessions account.now) B.content B.is_sound B.is_open
+        B.is_steady B.left book.old book.new result }
+{
+    let rows = book.sessions_of(account)?;
+    sessions_value(alloc, plans, account, &rows)
+}
+
+// The body of `/me/topups`.
+pub(crate) fn topups_page<B: Book>(
+    alloc: Global,
+    book: &mut B,
+    account: &[u8],
+) -> Result<Value, PageError>
+    ensures { (plans : List Plan) → Shows plans (me page.TopUps account.now) B.content B.is_sound
+        B.is_open B.is_steady B.left book.old book.new result }
+{
+    let topups = book.topups_of(account)?;
+    topups_value(alloc, account, &topups)
+}
+
+// The body of `/overruns`. It holds one account of the book at a time, beside those that are over.
+pub(crate) fn overruns_page<B: Book>(alloc: Global, book: &mut B) -> Result<Value, PageError>
+    ensures { (plans : List Plan) → Shows plans overruns B.content B.is_sound B.is_open B.is_steady
+        B.left book.old book.new result }
+{
+    let mut over = Vec::new(alloc);
+    let mut last = None;
+    for _ in 0..WALK_LIMIT {
+        match book.next_account(start_of(&last))? {
+            None => return Ok(overruns_value(alloc, over)?),
+            Some(entry) => {
+                add_overrun(alloc, &mut over, &entry)?;
+                let (account, _) = entry;
+                last = Some(account);
+            }
+        }
+    }
+    Err(PageError::Unavailable)
+}
+
+// Where a walk goes on.
+fn start_of(last: &Option<Vec<u8>>) -> Option<&[u8]>
+    ensures { option_copied result ≡ option_map (λ account. account.items) last.now }
+{
+    match last {
+        Some(account) => Some(account.as_slice()),
+        None => None,
+    }
+}
+
+// Adds an account to those that are over, if it is.
+fn add_overrun(
+    alloc: Global,
+    over: &mut Vec<Value>,
+    entry: &(Vec<u8>, i64),
+) -> Result<(), PageError>
+    ensures { OnOk result (map view over.new.items
+        ≡ map view over.old.items ++ filter_map overrun_in ((entry.now.0.items, entry.now.1) ∷ [])) }
+{
+    let (account, balance) = entry;
+    let overrun = overrun(*balance);
+    if overrun > 0 {
+        let value = overrun_value(alloc, account, overrun)?;
+        serde_json::push(over, value)?;
+    }
+    Ok(())
+}
+
+fn overruns_value(alloc: Global, over: Vec<Value>) -> Result<Value, AllocError>
+    ensures { IfOk result (λ v. view v
+        ≡ object (member (codes "overruns") (array (items_view over.items)) no_members)) }
+{
+    json!(in alloc; {"overruns": over})
+}
+
+// The response with a page, or the one where the book was unavailable.
+pub(crate) fn page_octets(
+    alloc: Global,
+    page: Result<Value, PageError>,
+) -> Result<Vec<u8>, NoMemory>
+    requires { ForOk page (λ v. has_float (view v) ≡ false) }
+    ensures { IfOk result (λ octets. IsPageResponse page octets.items) }
+{
+    let octets = match page {
+        Ok(body) => respond(alloc, StatusCode::OK, "", &body),
+        Err(PageError::Unavailable) => unavailable_octets(alloc),
+        Err(PageError::Memory) => return Err(NoMemory),
+    };
+    match octets {
+        Ok(octets) => Ok(octets),
+        Err(_) => Err(NoMemory),
+    }
+}
