@@ -4,3 +4,4 @@ pub mod Counting
 pub mod Halfway
 pub mod Headers
 pub mod Walking
+pub mod Repeats

@@ -11,7 +11,8 @@ use Rattle.acct_book.specs.declared.recording.RecordError.{RecordError}
 use Rattle.acct_book.specs.declared.recording.RecordError.TheVariants.{VoucherDiffers, BalanceLimit, Unavailable}
 use Rattle.acct_book.specs.Book.{Only}
 use Rattle.acct_book.specs.Content.{Content}
-use Rattle.acct_book.specs.Outcome.{Tells, MayAdd}
+use Rattle.acct_book.specs.Outcome.{Tells}
+use Rattle.acct_book.specs.Step.{MayAdd}
 use Rattle.acct_book.specs.Stands.{Stands}
 use Rattle.acct_files.specs.declared.import_report.Stopped.{Stopped}
 use Rattle.acct_files.specs.declared.import_report.Stopped.TheVariants as stop
@@ -46,7 +47,7 @@ module _ {B : Type 0} (content : B → Content) (is_open : B → Type 0) (left :
       → asked_by moment fields ≡ Ok topup
       → (result ≢ Err Unavailable → is_open new)
       → (after : List Entry) → Tells plans history (TopUp topup) result after → (is_open new → Stands plans (content new) after)
-      → ((c : Content) → left new c → left old c ⊎ (is_open old × MayAdd plans history (TopUp topup) c))
+      → ((c : Content) → left new c → left old c ⊎ (is_open old × ((asked : Entry) × (asked ≡ TopUp topup) × MayAdd plans history asked c)))
       → (result ≢ Err Unavailable → Only (content new) (left new))
       → (tried : Option TopUpFacts) × (end : List Entry) × Did plans moment history fields (told_by result) tried end × Moves content is_open left plans history end tried old new
   offered history moment fields topup (Ok New) old new asked answers after tells stands adds settled =
@@ -63,7 +64,7 @@ module _ {B : Type 0} (content : B → Content) (is_open : B → Type 0) (left :
     (refl, topup, refl, asked),
     record {
       stands = λ opens. subst (λ h. Stands plans (content new) h) tells (stands opens);
-      leaves = λ stood c l. elim (adds c l) [ inl before ↦ inl (stood c before) | inr (opens, may) ↦ inr may ];
+      leaves = λ stood c l. elim (adds c l) [ inl before ↦ inl (stood c before) | inr (opens, (e, same, may)) ↦ inr (subst (λ x. MayAdd plans history x c) same may) ];
     },
   )
 

@@ -14,7 +14,8 @@ use Rattle.acct_book.specs.declared.recording.RecordError.{RecordError}
 use Rattle.acct_book.specs.declared.recording.Recorded.TheVariants.{New, Repeat}
 use Rattle.acct_book.specs.declared.recording.RecordError.TheVariants as error
 use Rattle.acct_book.specs.Content.{Content}
-use Rattle.acct_book.specs.Outcome.{Tells, MayAdd}
+use Rattle.acct_book.specs.Outcome.{Tells}
+use Rattle.acct_book.specs.Step.{MayAdd}
 use Rattle.acct_book.specs.Stands.{Stands}
 use Rattle.acct_files.specs.declared.import_report.Cause.{Cause}
 use Rattle.acct_files.specs.declared.import_report.Cause.TheVariants.{FieldCount, BadVoucher, BadAccount, BadSum, VoucherDiffers, BalanceLimit}

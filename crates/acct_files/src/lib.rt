@@ -10,7 +10,10 @@ mod capped;
 mod csv_lines;
 mod import_report;
 mod importing;
+pub mod laws;
 mod refused_list;
+mod session_lines;
+mod topup_lines;
 mod voucher_record;
 
 pub use account_lines::{AccountExport, export_balances, export_overruns};
@@ -18,3 +21,5 @@ pub use csv_lines::ExportError;
 pub use import_report::{Cause, ImportReport, Outcome, Refused, Stopped};
 pub use importing::import;
 pub use refused_list::RefusedList;
+pub use session_lines::export_sessions;
+pub use topup_lines::export_topups;

@@ -9,7 +9,7 @@ pub returns-clause-did : goal.returns-clause-did
 returns-clause-did g c sound history stood =
     let (after, tells, stands) = c.record.ensures.step sound history stood in
     rw c.told.ensures (offered g.B.Book.content g.B.Book.is_open g.B.Book.left c.args.plans.now history c.args.moment (fields_of c.args.row.now) c.in-Ok.topup c.record.result c.args.book.now c.record.new.book
-    c.in-Ok.ensures.asked (c.record.ensures.answers sound) after tells stands (c.record.ensures.left sound history stood) (c.record.ensures.settled sound))
+    c.in-Ok.ensures.asked (c.record.ensures.answers sound) after tells stands (c.record.ensures.leaves sound history stood) (c.record.ensures.settled sound))
 
 pub returns-in-Err-clause-did : goal.returns-in-Err-clause-did
 returns-in-Err-clause-did g c sound history stood =

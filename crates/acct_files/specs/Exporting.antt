@@ -1,0 +1,87 @@
+-- What the exports write.
+use Rattle.std.specs.Prelude.{◌≡◌, ℕ, ℤ, zero, suc, pos, negsuc, ◌+◌, ◌==◌, Bool, if◌then◌else◌, List, [], ◌∷◌, ◌++◌, codes, decimal, flat_map, false}
+use Rattle.std.specs.Fmt.{signed_decimal}
+use Rattle.csv.specs.Writing.{default_writer, row_text, writer_setup, fields_written, has_written}
+use Rattle.csv.specs.declared.writer.Writer.{Writer}
+use Rattle.acct_model.specs.declared.plan.Plan.{Plan}
+use Rattle.acct_model.specs.Shown.{shown, shown_address}
+use Rattle.acct_model.specs.Vouchers.{TopUpFacts}
+use Rattle.acct_book.specs.declared.row.SessionState.{SessionState}
+use Rattle.acct_book.specs.declared.row.SessionState.TheVariants.{Live, Closed, Stopped}
+use Rattle.acct_book.specs.Row.{RowFacts}
+use Rattle.acct_book.specs.Charge.{charge_of_row}
+use Rattle.acct_files.specs.declared.account_lines.AccountExport.{AccountExport}
+use Rattle.acct_files.specs.declared.account_lines.AccountExport.TheVariants.{Balances, Overruns}
+use Rattle.acct_files.specs.Vouchers.{Fields}
+
+-- a line of fields, separated by commas and in quotes where a field needs them
+abbrev pub line : Fields → List ℕ
+line fields = row_text default_writer fields
+
+-- ---- sessions
+
+abbrev pub session_header : Fields
+session_header =
+    codes "client" ∷ codes "session" ∷ codes "account" ∷ codes "class" ∷ codes "input" ∷ codes "output" ∷ codes "total" ∷ codes "charged"
+    ∷ codes "seconds" ∷ codes "first" ∷ codes "last" ∷ codes "state" ∷ codes "cause" ∷ codes "calling" ∷ codes "framed" ∷ []
+
+abbrev pub state_text : SessionState → List ℕ
+state_text Live = codes "open"
+state_text Closed = codes "closed"
+state_text Stopped = codes "stopped"
+
+-- client, session, account and class
+abbrev pub session_name : RowFacts → Fields
+session_name row = row.client ∷ shown row.session ∷ shown row.account ∷ shown row.class ∷ []
+
+-- octets, what they cost, seconds and moments
+abbrev pub session_counts : List Plan → RowFacts → Fields
+session_counts plans row =
+    decimal row.input ∷ decimal row.output ∷ decimal (row.input + row.output)
+    ∷ decimal (charge_of_row plans row) ∷ decimal row.seconds ∷ decimal row.first
+    ∷ decimal row.last ∷ []
+
+-- state, cause, calling station and address
+abbrev pub session_end : RowFacts → Fields
+session_end row =
+    state_text row.state ∷ decimal row.cause ∷ shown row.calling ∷ shown_address row.framed ∷ []
+
+abbrev pub session_fields : List Plan → RowFacts → Fields
+session_fields plans row = session_name row ++ session_counts plans row ++ session_end row
+
+-- ---- top-ups
+
+abbrev pub topup_header : Fields
+topup_header = codes "voucher" ∷ codes "account" ∷ codes "sum" ∷ codes "when" ∷ []
+
+abbrev pub topup_fields : TopUpFacts → Fields
+topup_fields topup = topup.voucher ∷ shown topup.account ∷ decimal topup.sum ∷ decimal topup.when ∷ []
+
+-- ---- accounts
+
+-- by how much a balance is below 0
+abbrev pub overrun : ℤ → ℕ
+overrun (pos n) = 0
+overrun (negsuc n) = suc n
+
+abbrev pub account_header : AccountExport → Fields
+account_header Balances = codes "account" ∷ codes "balance" ∷ codes "overrun" ∷ []
+account_header Overruns = codes "account" ∷ codes "overrun" ∷ []
+
+-- the line of an account; of overruns, only an account whose overrun is above 0 has one
+abbrev pub account_line : AccountExport → List ℕ → ℤ → List ℕ
+account_line Balances account balance = line (shown account ∷ signed_decimal balance ∷ decimal (overrun balance) ∷ [])
+account_line Overruns account balance = if overrun balance == 0 then [] else line (shown account ∷ decimal (overrun balance) ∷ [])
+
+-- ---- a whole export
+
+-- the header and then a line for each entry, in the order of the entries
+abbrev pub export_text : {E : Type 0} → Fields → (E → List ℕ) → List E → List ℕ
+export_text header text entries = line header ++ flat_map text entries
+
+-- the writer stands between two lines
+module _ {W : Type 0} where
+  pub record IsBetweenLines (w : Writer W) : Type 0 where
+    pub setup : writer_setup w ≡ default_writer
+    pub fields : fields_written w ≡ 0
+    pub wrote : has_written w ≡ false
