@@ -35,7 +35,9 @@ alike false true f g = g refl
 alike false false f g = refl
 
 pub octets_sym : (a b : List ℕ) → bytes_eq a b ≡ bytes_eq b a
-octets_sym a b = alike _ _ (λ e. (Decides-bytes_eq b a).1 (sym (octets_are a b e))) (λ e. (Decides-bytes_eq a b).1 (sym (octets_are b a e)))
+octets_sym a b = alike _ _ (λ e. (Decides-bytes_eq b a).1 (sym (octets_are a b e)))
+    (λ e. (Decides-bytes_eq a b).1 (sym (octets_are b a e)))
 
 pub key_sym : (a b : Key) → same_key a b ≡ same_key b a
-key_sym a b = alike _ _ (λ e. (Decides-same_key b a).1 (sym (key_is a b e))) (λ e. (Decides-same_key a b).1 (sym (key_is b a e)))
+key_sym a b = alike _ _ (λ e. (Decides-same_key b a).1 (sym (key_is a b e)))
+    (λ e. (Decides-same_key a b).1 (sym (key_is b a e)))

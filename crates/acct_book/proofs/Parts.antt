@@ -1,5 +1,6 @@
 -- The part of an account, after an entry of another, and its members in order.
-use Rattle.std.proofs.Common.{◌≡◌, ◌≢◌, ℕ, Bool, true, false, cond, List, [], ◌∷◌, refl, sym, ap, ◌∙◌}
+use Rattle.std.proofs.Common.{◌≡◌, ◌≢◌, ℕ, Bool, true, false, cond, List, [], ◌∷◌, refl, sym, ap}
+use Rattle.std.proofs.Common.{◌∙◌}
 use Rattle.std.specs.Prelude.{Option, Some, None, bytes_eq, option_map}
 use Rattle.std.specs.List.{filter}
 use Rattle.std.specs.Option.{option_or}
@@ -26,11 +27,13 @@ abbrev user_in : Option ReportFacts → Option (List ℕ)
 user_in o = option_map (λ first. first.user) o
 
 -- the account of the row before is that of the row after
-own_before : (a : List ℕ) (o : Option RowFacts) (r : ReportFacts) → bytes_eq a (next_row o r).account ≡ false → own_row a o ≡ None
+own_before : (a : List ℕ) (o : Option RowFacts) (r : ReportFacts)
+    → bytes_eq a (next_row o r).account ≡ false → own_row a o ≡ None
 own_before a None r e = refl
 own_before a (Some row) r e = ap (λ b. cond b (Some row) None) e
 
-rows_stay : (a : List ℕ) (history : List Entry) (r : ReportFacts) (k : Key) (b : Bool) → same_key (report_key r) k ≡ b → bytes_eq a (row_after r history).account ≡ false
+rows_stay : (a : List ℕ) (history : List Entry) (r : ReportFacts) (k : Key) (b : Bool)
+    → same_key (report_key r) k ≡ b → bytes_eq a (row_after r history).account ≡ false
     → own_row a (row_of (entry.Report r ∷ history) k) ≡ own_row a (row_of history k)
 rows_stay a history r k true e other =
     let at : k ≡ report_key r = sym (key_is (report_key r) k e) in
@@ -41,35 +44,45 @@ rows_stay a history r k true e other =
     ∙ ap (λ x. own_row a (row_of history x)) (sym at)
 rows_stay a history r k false e other = ap (own_row a) (row_of-other r history k e)
 
-first_stays : (a : List ℕ) (o : Option TopUpFacts) (t : TopUpFacts) → bytes_eq a t.account ≡ false → own_topup a (option_or o (Some t)) ≡ own_topup a o
+first_stays : (a : List ℕ) (o : Option TopUpFacts) (t : TopUpFacts) → bytes_eq a t.account ≡ false
+    → own_topup a (option_or o (Some t)) ≡ own_topup a o
 first_stays a None t e = ap (λ b. cond b (Some t) None) e
 first_stays a (Some u) t e = refl
 
-topups_stay : (a : List ℕ) (ts : List TopUpFacts) (t : TopUpFacts) (b : Bool) → bytes_eq a t.account ≡ false → own_topup a (first_of (cond b (t ∷ ts) ts)) ≡ own_topup a (first_of ts)
+topups_stay : (a : List ℕ) (ts : List TopUpFacts) (t : TopUpFacts) (b : Bool)
+    → bytes_eq a t.account ≡ false → own_topup a (first_of (cond b (t ∷ ts) ts)) ≡ own_topup a
+    (first_of ts)
 topups_stay a ts t true e = first_stays a (first_of ts) t e
 topups_stay a ts t false e = refl
 
 some_is : {A : Type 0} (x y : A) → Some x ≡ Some y → x ≡ y
 some_is x y e = cc
 
-pub other_parts_stay : (plans : List Plan) (history : List Entry) (account : List ℕ) → OtherPartsStay plans history account
+pub other_parts_stay : (plans : List Plan) (history : List Entry) (account : List ℕ)
+    → OtherPartsStay plans history account
 other_parts_stay plans history a = record {
   reports = λ r not_mine.
-      let account : account_of history (entry.Report r) ≡ Some (row_after r history).account = ap (λ rs. user_in (first_of rs)) (reports-own history r) ∙ after-account r history in
+      let account : account_of history (entry.Report r) ≡ Some (row_after r history).account = ap
+      (λ rs. user_in (first_of rs)) (reports-own history r) ∙ after-account r history in
       let other : bytes_eq a (row_after r history).account ≡ false =
-      Decides-false (bytes_eq a (row_after r history).account) (Decides-bytes_eq a (row_after r history).account) (λ e. not_mine (account ∙ ap Some (sym e))) in
-      let before = balance-other plans r history a (octets_sym (row_after r history).account a ∙ other) in
+      Decides-false (bytes_eq a (row_after r history).account)
+      (Decides-bytes_eq a (row_after r history).account)
+      (λ e. not_mine (account ∙ ap Some (sym e))) in
+      let before = balance-other plans r history a (octets_sym (row_after r history).account a
+      ∙ other) in
       λ i. record {
         balance = before i;
         rows = λ k. rows_stay a history r k (same_key (report_key r) k) refl other i;
         topups = λ n. own_topup a (topup_of history n);
       };
   topups = λ t not_mine.
-      let other : bytes_eq a t.account ≡ false = Decides-false (bytes_eq a t.account) (Decides-bytes_eq a t.account) (λ e. not_mine (sym e)) in
+      let other : bytes_eq a t.account ≡ false = Decides-false (bytes_eq a t.account)
+      (Decides-bytes_eq a t.account) (λ e. not_mine (sym e)) in
       let before = balance-topup-other plans history t a (λ e. not_mine (sym e)) in
       λ i. record {
         balance = before i;
         rows = λ k. own_row a (row_of history k);
-        topups = λ n. topups_stay a (filter (λ u. bytes_eq n u.voucher) (all_topups history)) t (bytes_eq n t.voucher) other i;
+        topups = λ n. topups_stay a (filter (λ u. bytes_eq n u.voucher) (all_topups history)) t
+            (bytes_eq n t.voucher) other i;
       };
 }

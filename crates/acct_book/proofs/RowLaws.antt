@@ -1,14 +1,17 @@
 -- Why a row says what it says of its session's reports.
-use Rattle.std.proofs.Common.{◌≡◌, ℕ, ◌+◌, ◌≤◌, Bool, true, false, cond, List, [], ◌∷◌, map, max, min, refl, sym, ◌∙◌, subst, arith}
+use Rattle.std.proofs.Common.{◌≡◌, ℕ, ◌+◌, ◌≤◌, Bool, true, false, cond, List, [], ◌∷◌, map, max}
+use Rattle.std.proofs.Common.{min, refl, sym, ◌∙◌, subst, arith}
 use Rattle.std.specs.Prelude.{Option, Some, None, Contains, nat_le, option_map}
 use Rattle.std.specs.List.{All}
 use Rattle.std.proofs.lemmas.Bool.Decides.{nat_tests}
-use Rattle.std.proofs.lemmas.List.Elements.{All-cons, All-weaker, Contains-append_left, Contains-append_right}
+use Rattle.std.proofs.lemmas.List.Elements.{All-cons, All-weaker, Contains-append_left}
+use Rattle.std.proofs.lemmas.List.Elements.{Contains-append_right}
 use Rattle.acct_model.specs.Report.{ReportFacts}
 use Rattle.acct_model.specs.History.{reports, first_of, largest}
 use Rattle.acct_book.specs.declared.key.Key.{Key}
 use Rattle.acct_book.specs.Row.{RowFacts}
-use Rattle.acct_book.specs.Rows.{name_of, smallest, counters, exceeds, greatest, is_restarted, row_from}
+use Rattle.acct_book.specs.Rows.{name_of, smallest, counters, exceeds, greatest, is_restarted}
+use Rattle.acct_book.specs.Rows.{row_from}
 use Rattle.acct_book.specs.Laws.{IsAtMost, IsRowOf, RowsAreOfReports}
 use Rattle.acct_book.proofs.Rows.{higher-none0, higher-none1}
 use Rattle.acct_book.proofs.Ends.{calling_first, address_first}
@@ -25,7 +28,12 @@ at_most_itself : (a : ℕ × ℕ) → IsAtMost a a
 at_most_itself a = (omega arith, λ e. omega arith)
 
 at_most_trans : (a b c : ℕ × ℕ) → IsAtMost a b → IsAtMost b c → IsAtMost a c
-at_most_trans a b c h k = (omega (arith, h.0, k.0), λ e. let ab : a.0 + a.1 ≡ b.0 + b.1 = omega (arith, h.0, k.0, e) in let bc : b.0 + b.1 ≡ c.0 + c.1 = omega (arith, h.0, k.0, e) in omega (arith, h.1 ab, k.1 bc))
+at_most_trans a b c h k = (
+  omega (arith, h.0, k.0),
+  λ e. let ab : a.0 + a.1 ≡ b.0 + b.1 = omega
+      (arith, h.0, k.0, e) in let bc : b.0 + b.1 ≡ c.0 + c.1 = omega (arith, h.0, k.0, e) in omega
+      (arith, h.1 ab, k.1 bc),
+)
 
 over : (i o j p : ℕ) → exceeds (i, o) (j, p) ≡ true → IsAtMost (j, p) (i, o)
 over i o j p e = (grind (arith, nat_tests), λ s. grind (arith, nat_tests))
@@ -47,18 +55,30 @@ none_above (r ∷ rs) =
     let top = greatest (r ∷ rs) in
     let test = exceeds (counters r) (greatest rs) in
     All-cons (λ x. IsAtMost (counters x) top) r rs (left_at (counters r) (greatest rs) test refl)
-    (All-weaker (λ x. IsAtMost (counters x) (greatest rs)) (λ x. IsAtMost (counters x) top) (λ x h. at_most_trans (counters x) (greatest rs) top h (right_at (counters r) (greatest rs) test refl)) rs (none_above rs))
+    (All-weaker (λ x. IsAtMost (counters x) (greatest rs)) (λ x. IsAtMost (counters x) top)
+    (λ x h. at_most_trans (counters x) (greatest rs) top h
+    (right_at (counters r) (greatest rs) test refl)) rs (none_above rs))
 
 abbrev Counted : List ReportFacts → ℕ × ℕ → Type 0
 Counted rs c = (r : ReportFacts) × Contains rs r × (counters r ≡ c)
 
-counted_at : (r : ReportFacts) (rs : List ReportFacts) (g : ℕ × ℕ) (x : Bool) → Counted rs g → Counted (r ∷ rs) (cond x (counters r) g)
+counted_at : (r : ReportFacts) (rs : List ReportFacts) (g : ℕ × ℕ) (x : Bool) → Counted rs g
+    → Counted (r ∷ rs) (cond x (counters r) g)
 counted_at r rs g true h = (r, here r rs, refl)
 counted_at r rs g false h = (h.0, there r h.0 rs h.1, h.2)
 
 counted : (r : ReportFacts) (rs : List ReportFacts) → Counted (r ∷ rs) (greatest (r ∷ rs))
-counted r [] = (r, here r [], λ i. (sym (higher-none0 r.input r.output) i, sym (higher-none1 r.input r.output) i))
-counted r (o ∷ os) = counted_at r (o ∷ os) (greatest (o ∷ os)) (exceeds (counters r) (greatest (o ∷ os))) (counted o os)
+counted r [] = (
+  r,
+  here r [],
+  λ i. (
+    sym (higher-none0 r.input r.output) i,
+    sym
+        (higher-none1 r.input r.output) i,
+  ),
+)
+counted r (o ∷ os) = counted_at r (o ∷ os) (greatest (o ∷ os))
+    (exceeds (counters r) (greatest (o ∷ os))) (counted o os)
 
 -- ---- least and greatest numbers
 
@@ -80,38 +100,50 @@ min_left n m e = grind (arith, nat_tests)
 min_right : (n m : ℕ) → at_top n m ≡ true → m ≡ min n m
 min_right n m e = grind (arith, nat_tests)
 
-max_at : (f : ReportFacts → ℕ) (r : ReportFacts) (rs : List ReportFacts) (m : ℕ) (x : Bool) → at_top (f r) m ≡ x → Said f rs m → Said f (r ∷ rs) (max (f r) m)
+max_at : (f : ReportFacts → ℕ) (r : ReportFacts) (rs : List ReportFacts) (m : ℕ) (x : Bool)
+    → at_top (f r) m ≡ x → Said f rs m → Said f (r ∷ rs) (max (f r) m)
 max_at f r rs m true e h = (r, here r rs, max_left (f r) m e)
 max_at f r rs m false e h = (h.0, there r h.0 rs h.1, h.2 ∙ max_right (f r) m e)
 
-min_at : (f : ReportFacts → ℕ) (r : ReportFacts) (rs : List ReportFacts) (m : ℕ) (x : Bool) → at_top (f r) m ≡ x → Said f rs m → Said f (r ∷ rs) (min (f r) m)
+min_at : (f : ReportFacts → ℕ) (r : ReportFacts) (rs : List ReportFacts) (m : ℕ) (x : Bool)
+    → at_top (f r) m ≡ x → Said f rs m → Said f (r ∷ rs) (min (f r) m)
 min_at f r rs m true e h = (h.0, there r h.0 rs h.1, h.2 ∙ min_right (f r) m e)
 min_at f r rs m false e h = (r, here r rs, min_left (f r) m e)
 
-largest_said : (f : ReportFacts → ℕ) (r : ReportFacts) (rs : List ReportFacts) → Said f (r ∷ rs) (largest (map f (r ∷ rs)))
+largest_said : (f : ReportFacts → ℕ) (r : ReportFacts) (rs : List ReportFacts)
+    → Said f (r ∷ rs) (largest (map f (r ∷ rs)))
 largest_said f r [] = (r, here r [], omega arith)
-largest_said f r (o ∷ os) = max_at f r (o ∷ os) (largest (map f (o ∷ os))) (at_top (f r) (largest (map f (o ∷ os)))) refl (largest_said f o os)
+largest_said f r (o ∷ os) = max_at f r (o ∷ os) (largest (map f (o ∷ os)))
+    (at_top (f r) (largest (map f (o ∷ os)))) refl (largest_said f o os)
 
-smallest_said : (f : ReportFacts → ℕ) (r : ReportFacts) (rs : List ReportFacts) → Said f (r ∷ rs) (smallest (map f (r ∷ rs)))
+smallest_said : (f : ReportFacts → ℕ) (r : ReportFacts) (rs : List ReportFacts)
+    → Said f (r ∷ rs) (smallest (map f (r ∷ rs)))
 smallest_said f r [] = (r, here r [], refl)
-smallest_said f r (o ∷ os) = min_at f r (o ∷ os) (smallest (map f (o ∷ os))) (at_top (f r) (smallest (map f (o ∷ os)))) refl (smallest_said f o os)
+smallest_said f r (o ∷ os) = min_at f r (o ∷ os) (smallest (map f (o ∷ os)))
+    (at_top (f r) (smallest (map f (o ∷ os)))) refl (smallest_said f o os)
 
 none_larger : (f : ReportFacts → ℕ) (rs : List ReportFacts) → All (λ r. f r ≤ largest (map f rs)) rs
 none_larger f [] = λ k d h. absurd (omega (arith, h))
 none_larger f (r ∷ rs) =
     let top = largest (map f (r ∷ rs)) in
-    All-cons (λ x. f x ≤ top) r rs (omega arith) (All-weaker (λ x. f x ≤ largest (map f rs)) (λ x. f x ≤ top) (λ x h. omega (arith, h)) rs (none_larger f rs))
+    All-cons (λ x. f x ≤ top) r rs (omega arith) (All-weaker (λ x. f x ≤ largest (map f rs))
+    (λ x. f x ≤ top) (λ x h. omega (arith, h)) rs (none_larger f rs))
 
-none_smaller : (f : ReportFacts → ℕ) (rs : List ReportFacts) → All (λ r. smallest (map f rs) ≤ f r) rs
+none_smaller : (f : ReportFacts → ℕ) (rs : List ReportFacts)
+    → All (λ r. smallest (map f rs) ≤ f r) rs
 none_smaller f [] = λ k d h. absurd (omega (arith, h))
-none_smaller f (r ∷ []) = All-cons (λ x. f r ≤ f x) r [] (omega arith) (λ k d h. absurd (omega (arith, h)))
+none_smaller f (r ∷ []) = All-cons (λ x. f r ≤ f x) r [] (omega arith)
+    (λ k d h. absurd (omega (arith, h)))
 none_smaller f (r ∷ o ∷ os) =
     let low = smallest (map f (r ∷ o ∷ os)) in
-    All-cons (λ x. low ≤ f x) r (o ∷ os) (omega arith) (All-weaker (λ x. smallest (map f (o ∷ os)) ≤ f x) (λ x. low ≤ f x) (λ x h. omega (arith, h)) (o ∷ os) (none_smaller f (o ∷ os)))
+    All-cons (λ x. low ≤ f x) r (o ∷ os) (omega arith) (All-weaker
+    (λ x. smallest (map f (o ∷ os)) ≤ f x) (λ x. low ≤ f x) (λ x h. omega (arith, h)) (o ∷ os)
+    (none_smaller f (o ∷ os)))
 
 -- ---- the row
 
-row_at : (key : Key) (b : Bool) (r : ReportFacts) (rs : List ReportFacts) (x : ReportFacts) → first_of (r ∷ rs) ≡ Some x → IsRowOf (r ∷ rs) (row_from key b (r ∷ rs) x)
+row_at : (key : Key) (b : Bool) (r : ReportFacts) (rs : List ReportFacts) (x : ReportFacts)
+    → first_of (r ∷ rs) ≡ Some x → IsRowOf (r ∷ rs) (row_from key b (r ∷ rs) x)
 row_at key b r rs x is = record {
   first = x;
   is_first = is;
@@ -119,20 +151,35 @@ row_at key b r rs x is = record {
   class = refl;
   counted = counted r rs;
   none_above = none_above (r ∷ rs);
-  longest = record { said = largest_said (λ y. y.seconds) r rs; bounded = none_larger (λ y. y.seconds) (r ∷ rs) };
-  earliest = record { said = smallest_said (λ y. y.when) r rs; bounded = none_smaller (λ y. y.when) (r ∷ rs) };
-  latest = record { said = largest_said (λ y. y.when) r rs; bounded = none_larger (λ y. y.when) (r ∷ rs) };
+  longest = record {
+    said = largest_said (λ y. y.seconds) r rs;
+    bounded = none_larger
+        (λ y. y.seconds) (r ∷ rs);
+  };
+  earliest = record {
+    said = smallest_said (λ y. y.when) r rs;
+    bounded = none_smaller (λ y. y.when)
+        (r ∷ rs);
+  };
+  latest = record {
+    said = largest_said (λ y. y.when) r rs;
+    bounded = none_larger (λ y. y.when)
+        (r ∷ rs);
+  };
   calling = calling_first (r ∷ rs);
   address = address_first (r ∷ rs);
 }
 
-row_for : (key : Key) (b : Bool) (all : List ReportFacts) (row : RowFacts) (o : Option ReportFacts) → first_of all ≡ o → option_map (row_from key b all) o ≡ Some row → IsRowOf all row
+row_for : (key : Key) (b : Bool) (all : List ReportFacts) (row : RowFacts) (o : Option ReportFacts)
+    → first_of all ≡ o → option_map (row_from key b all) o ≡ Some row → IsRowOf all row
 row_for key b all row None is e = absurd (cc)
 row_for key b [] row (Some x) is e = absurd (cc)
-row_for key b (r ∷ rs) row (Some x) is e = subst (IsRowOf (r ∷ rs)) (some_is (row_from key b (r ∷ rs) x) row e) (row_at key b r rs x is)
+row_for key b (r ∷ rs) row (Some x) is e = subst (IsRowOf (r ∷ rs))
+    (some_is (row_from key b (r ∷ rs) x) row e) (row_at key b r rs x is)
   where
     some_is : (p q : RowFacts) → Some p ≡ Some q → p ≡ q
     some_is p q h = cc
 
 pub rows_are : RowsAreOfReports
-rows_are history key row is = let all = reports history (name_of key) in row_for key (is_restarted history key) all row (first_of all) refl is
+rows_are history key row is = let all = reports history (name_of key) in row_for key
+    (is_restarted history key) all row (first_of all) refl is

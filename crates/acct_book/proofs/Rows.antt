@@ -1,5 +1,6 @@
 -- The row of a session after one more entry.
-use Rattle.std.proofs.Common.{◌≡◌, ℕ, ◌+◌, Bool, true, false, ◌&&◌, ◌||◌, cond, List, [], ◌∷◌, map, max, refl, sym, ap, ◌∙◌, true≢false, arith}
+use Rattle.std.proofs.Common.{◌≡◌, ℕ, ◌+◌, Bool, true, false, ◌&&◌, ◌||◌, cond, List, [], ◌∷◌, map}
+use Rattle.std.proofs.Common.{max, refl, sym, ap, ◌∙◌, true≢false, arith}
 use Rattle.std.specs.Prelude.{Option, Some, None, bytes_eq, is_some, option_map}
 use Rattle.std.specs.List.{filter}
 use Rattle.std.specs.Option.{option_or, option_and_then, option_map_or}
@@ -10,26 +11,32 @@ use Rattle.acct_model.specs.declared.entry.Restart.{Restart}
 use Rattle.acct_model.specs.declared.entry.Entry.{Entry}
 use Rattle.acct_model.specs.declared.entry.Entry.TheVariants as entry
 use Rattle.acct_model.specs.Report.{ReportFacts}
-use Rattle.acct_model.specs.History.{session_of, same_session, reports, first_of, largest, greatest_total}
+use Rattle.acct_model.specs.History.{session_of, same_session, reports, first_of, largest}
+use Rattle.acct_model.specs.History.{greatest_total}
 use Rattle.acct_model.proofs.Balances.{reports-own, reports-other, first_of-more}
 use Rattle.acct_book.specs.declared.key.Key.{Key}
 use Rattle.acct_book.specs.declared.row.SessionState.{SessionState}
 use Rattle.acct_book.specs.declared.row.SessionState.TheVariants.{Stopped}
 use Rattle.acct_book.specs.Row.{RowFacts}
 use Rattle.acct_book.specs.Content.{same_key, closed_by, closed_row}
-use Rattle.acct_book.specs.Rows.{name_of, smallest, higher, greatest, first_that, is_stop, has_octets, first_stop, calling_of, framed_of, is_restarted, state_of, cause_of, row_from, row_of_reports, row_of}
-use Rattle.acct_book.specs.Next.{report_key, state_after, cause_after, or_octets, first_row, raised_row, next_row}
+use Rattle.acct_book.specs.Rows.{name_of, smallest, higher, greatest, first_that, is_stop}
+use Rattle.acct_book.specs.Rows.{has_octets, first_stop, calling_of, framed_of, is_restarted}
+use Rattle.acct_book.specs.Rows.{state_of, cause_of, row_from, row_of_reports, row_of}
+use Rattle.acct_book.specs.Next.{report_key, state_after, cause_after, or_octets, first_row}
+use Rattle.acct_book.specs.Next.{raised_row, next_row}
 use Rattle.acct_book.proofs.Keys.{Decides-same_key}
 
 -- ---- counters
 
-higher-total : (i o j p n : ℕ) → j + p ≡ n → (higher (i, o) (j, p)).0 + (higher (i, o) (j, p)).1 ≡ max (i + o) n
+higher-total : (i o j p n : ℕ) → j + p ≡ n → (higher (i, o) (j, p)).0 +
+    (higher (i, o) (j, p)).1 ≡ max (i + o) n
 higher-total i o j p n h = grind (arith, nat_tests)
 
 -- the greatest counters have the greatest total
 pub greatest-total : (rs : List ReportFacts) → (greatest rs).0 + (greatest rs).1 ≡ greatest_total rs
 greatest-total [] = refl
-greatest-total (r ∷ rs) = higher-total r.input r.output (greatest rs).0 (greatest rs).1 (greatest_total rs) (greatest-total rs)
+greatest-total (r ∷ rs) = higher-total r.input r.output (greatest rs).0 (greatest rs).1
+    (greatest_total rs) (greatest-total rs)
 
 pub higher-none0 : (i o : ℕ) → (higher (i, o) (0, 0)).0 ≡ i
 higher-none0 i o = grind (arith, nat_tests)
@@ -47,39 +54,51 @@ or_some None x = (x, refl)
 or_some (Some y) x = (y, refl)
 
 -- a list that isn't empty has a first
-pub first_is : (r : ReportFacts) (rs : List ReportFacts) → (x : ReportFacts) × (first_of (r ∷ rs) ≡ Some x)
+pub first_is : (r : ReportFacts) (rs : List ReportFacts)
+    → (x : ReportFacts) × (first_of (r ∷ rs) ≡ Some x)
 first_is r rs = or_some (first_of rs) r
 
-passes_or : (test : ReportFacts → Bool) (r x : ReportFacts) (o : Option ReportFacts) → test r ≡ true → option_or o (Some r) ≡ Some x → (o ≡ Some x → test x ≡ true) → test x ≡ true
+passes_or : (test : ReportFacts → Bool) (r x : ReportFacts) (o : Option ReportFacts) → test r ≡ true
+    → option_or o (Some r) ≡ Some x → (o ≡ Some x → test x ≡ true) → test x ≡ true
 passes_or test r x None e is rest = ap test (sym (some_is r x is)) ∙ e
 passes_or test r x (Some y) e is rest = rest is
 
-passes_at : (test : ReportFacts → Bool) (r x : ReportFacts) (ks : List ReportFacts) (b : Bool) → test r ≡ b → first_of (cond b (r ∷ ks) ks) ≡ Some x → (first_of ks ≡ Some x → test x ≡ true) → test x ≡ true
+passes_at : (test : ReportFacts → Bool) (r x : ReportFacts) (ks : List ReportFacts) (b : Bool)
+    → test r ≡ b → first_of (cond b (r ∷ ks) ks) ≡ Some x → (first_of ks ≡ Some x → test x ≡ true)
+    → test x ≡ true
 passes_at test r x ks true e is rest = passes_or test r x (first_of ks) e is rest
 passes_at test r x ks false e is rest = rest is
 
 -- it passes it
-first_passes : (test : ReportFacts → Bool) (rs : List ReportFacts) (x : ReportFacts) → first_that test rs ≡ Some x → test x ≡ true
+first_passes : (test : ReportFacts → Bool) (rs : List ReportFacts) (x : ReportFacts)
+    → first_that test rs ≡ Some x → test x ≡ true
 first_passes test [] x is = absurd (cc)
-first_passes test (r ∷ rs) x is = passes_at test r x (filter test rs) (test r) refl is (first_passes test rs x)
+first_passes test (r ∷ rs) x is = passes_at test r x (filter test rs) (test r) refl is
+    (first_passes test rs x)
 
 -- ---- one more report, field by field
 
-state_stop : (r : ReportFacts) (o : Option ReportFacts) (b : Bool) → state_of (option_or o (Some r)) b ≡ Stopped
+state_stop : (r : ReportFacts) (o : Option ReportFacts) (b : Bool)
+    → state_of (option_or o (Some r)) b ≡ Stopped
 state_stop r None b = refl
 state_stop r (Some x) b = refl
 
-state_at : (r : ReportFacts) (k : ReportKind) (ks : List ReportFacts) (b : Bool) → state_of (first_of (cond (is_stop k) (r ∷ ks) ks)) b ≡ state_after k (state_of (first_of ks) b)
+state_at : (r : ReportFacts) (k : ReportKind) (ks : List ReportFacts) (b : Bool)
+    → state_of (first_of (cond (is_stop k) (r ∷ ks) ks)) b ≡ state_after k
+    (state_of (first_of ks) b)
 state_at r Start ks b = refl
 state_at r Stop ks b = state_stop r (first_of ks) b
 state_at r Interim ks b = refl
 
-cause_stop : (r : ReportFacts) (o : Option ReportFacts) (b : Bool) → cause_of (option_or o (Some r)) b ≡ cause_after Stop (state_of o b) (cause_of o b) r.cause
+cause_stop : (r : ReportFacts) (o : Option ReportFacts) (b : Bool)
+    → cause_of (option_or o (Some r)) b ≡ cause_after Stop (state_of o b) (cause_of o b) r.cause
 cause_stop r None true = refl
 cause_stop r None false = refl
 cause_stop r (Some x) b = refl
 
-cause_at : (r : ReportFacts) (k : ReportKind) (ks : List ReportFacts) (b : Bool) → cause_of (first_of (cond (is_stop k) (r ∷ ks) ks)) b ≡ cause_after k (state_of (first_of ks) b) (cause_of (first_of ks) b) r.cause
+cause_at : (r : ReportFacts) (k : ReportKind) (ks : List ReportFacts) (b : Bool)
+    → cause_of (first_of (cond (is_stop k) (r ∷ ks) ks)) b ≡ cause_after k
+    (state_of (first_of ks) b) (cause_of (first_of ks) b) r.cause
 cause_at r Start ks b = refl
 cause_at r Stop ks b = cause_stop r (first_of ks) b
 cause_at r Interim ks b = refl
@@ -95,20 +114,28 @@ no_octets (x ∷ xs) e = absurd (true≢false e)
 abbrev station : Option ReportFacts → List ℕ
 station o = option_map_or (λ r. r.calling) o []
 
-calling_or : (r : ReportFacts) (o : Option ReportFacts) → ((x : ReportFacts) → o ≡ Some x → has_octets x.calling ≡ true) → station (option_or o (Some r)) ≡ or_octets (station o) r.calling
+calling_or : (r : ReportFacts) (o : Option ReportFacts) → ((x : ReportFacts) → o ≡ Some x
+    → has_octets x.calling ≡ true) → station (option_or o (Some r)) ≡ or_octets
+    (station o) r.calling
 calling_or r None h = refl
 calling_or r (Some x) h = sym (octets_kept x.calling r.calling (h x refl))
 
-calling_none : (r : ReportFacts) (o : Option ReportFacts) → has_octets r.calling ≡ false → ((x : ReportFacts) → o ≡ Some x → has_octets x.calling ≡ true) → station o ≡ or_octets (station o) r.calling
+calling_none : (r : ReportFacts) (o : Option ReportFacts) → has_octets r.calling ≡ false
+    → ((x : ReportFacts) → o ≡ Some x → has_octets x.calling ≡ true)
+    → station o ≡ or_octets (station o) r.calling
 calling_none r None e h = sym (no_octets r.calling e)
 calling_none r (Some x) e h = sym (octets_kept x.calling r.calling (h x refl))
 
-calling_at : (r : ReportFacts) (ks : List ReportFacts) (b : Bool) → has_octets r.calling ≡ b → ((x : ReportFacts) → first_of ks ≡ Some x → has_octets x.calling ≡ true) → station (first_of (cond b (r ∷ ks) ks)) ≡ or_octets (station (first_of ks)) r.calling
+calling_at : (r : ReportFacts) (ks : List ReportFacts) (b : Bool) → has_octets r.calling ≡ b
+    → ((x : ReportFacts) → first_of ks ≡ Some x → has_octets x.calling ≡ true)
+    → station (first_of (cond b (r ∷ ks) ks)) ≡ or_octets (station (first_of ks)) r.calling
 calling_at r ks true e h = calling_or r (first_of ks) h
 calling_at r ks false e h = calling_none r (first_of ks) e h
 
-calling_more : (r : ReportFacts) (rs : List ReportFacts) → calling_of (r ∷ rs) ≡ or_octets (calling_of rs) r.calling
-calling_more r rs = calling_at r (filter (λ x. has_octets x.calling) rs) (has_octets r.calling) refl (first_passes (λ x. has_octets x.calling) rs)
+calling_more : (r : ReportFacts) (rs : List ReportFacts)
+    → calling_of (r ∷ rs) ≡ or_octets (calling_of rs) r.calling
+calling_more r rs = calling_at r (filter (λ x. has_octets x.calling) rs) (has_octets r.calling) refl
+    (first_passes (λ x. has_octets x.calling) rs)
 
 abbrev address : Option ReportFacts → Option (List ℕ)
 address o = option_and_then (λ r. r.framed) o
@@ -121,20 +148,27 @@ no_address : (f : Option (List ℕ)) → is_some f ≡ false → f ≡ None
 no_address None e = refl
 no_address (Some x) e = absurd (true≢false e)
 
-framed_or : (r : ReportFacts) (o : Option ReportFacts) → ((x : ReportFacts) → o ≡ Some x → is_some x.framed ≡ true) → address (option_or o (Some r)) ≡ option_or (address o) r.framed
+framed_or : (r : ReportFacts) (o : Option ReportFacts) → ((x : ReportFacts) → o ≡ Some x
+    → is_some x.framed ≡ true) → address (option_or o (Some r)) ≡ option_or (address o) r.framed
 framed_or r None h = refl
 framed_or r (Some x) h = sym (address_kept x.framed r.framed (h x refl))
 
-framed_none : (r : ReportFacts) (o : Option ReportFacts) → is_some r.framed ≡ false → ((x : ReportFacts) → o ≡ Some x → is_some x.framed ≡ true) → address o ≡ option_or (address o) r.framed
+framed_none : (r : ReportFacts) (o : Option ReportFacts) → is_some r.framed ≡ false
+    → ((x : ReportFacts) → o ≡ Some x → is_some x.framed ≡ true)
+    → address o ≡ option_or (address o) r.framed
 framed_none r None e h = sym (no_address r.framed e)
 framed_none r (Some x) e h = sym (address_kept x.framed r.framed (h x refl))
 
-framed_at : (r : ReportFacts) (ks : List ReportFacts) (b : Bool) → is_some r.framed ≡ b → ((x : ReportFacts) → first_of ks ≡ Some x → is_some x.framed ≡ true) → address (first_of (cond b (r ∷ ks) ks)) ≡ option_or (address (first_of ks)) r.framed
+framed_at : (r : ReportFacts) (ks : List ReportFacts) (b : Bool) → is_some r.framed ≡ b
+    → ((x : ReportFacts) → first_of ks ≡ Some x → is_some x.framed ≡ true)
+    → address (first_of (cond b (r ∷ ks) ks)) ≡ option_or (address (first_of ks)) r.framed
 framed_at r ks true e h = framed_or r (first_of ks) h
 framed_at r ks false e h = framed_none r (first_of ks) e h
 
-framed_more : (r : ReportFacts) (rs : List ReportFacts) → framed_of (r ∷ rs) ≡ option_or (framed_of rs) r.framed
-framed_more r rs = framed_at r (filter (λ x. is_some x.framed) rs) (is_some r.framed) refl (first_passes (λ x. is_some x.framed) rs)
+framed_more : (r : ReportFacts) (rs : List ReportFacts) → framed_of (r ∷ rs) ≡ option_or
+    (framed_of rs) r.framed
+framed_more r rs = framed_at r (filter (λ x. is_some x.framed) rs) (is_some r.framed) refl
+    (first_passes (λ x. is_some x.framed) rs)
 
 -- ---- the row
 
@@ -142,7 +176,8 @@ max_none : (n : ℕ) → max n 0 ≡ n
 max_none n = omega arith
 
 -- a session's first report
-first_from : (r : ReportFacts) (b : Bool) → b ≡ false → row_from (report_key r) b (r ∷ []) r ≡ first_row r
+first_from : (r : ReportFacts) (b : Bool) → b ≡ false → row_from (report_key r) b
+    (r ∷ []) r ≡ first_row r
 first_from r b off = λ i. record {
   client = r.client;
   session = r.session;
@@ -160,7 +195,8 @@ first_from r b off = λ i. record {
 }
 
 -- a later report
-raised_from : (key : Key) (r : ReportFacts) (b : Bool) (o : ReportFacts) (os : List ReportFacts) (x : ReportFacts) → row_from key b (r ∷ o ∷ os) x ≡ raised_row (row_from key b (o ∷ os) x) r
+raised_from : (key : Key) (r : ReportFacts) (b : Bool) (o : ReportFacts) (os : List ReportFacts)
+    (x : ReportFacts) → row_from key b (r ∷ o ∷ os) x ≡ raised_row (row_from key b (o ∷ os) x) r
 raised_from key r b o os x = λ i. record {
   client = key.client;
   session = key.session;
@@ -178,7 +214,9 @@ raised_from key r b o os x = λ i. record {
 }
 
 -- one more report of a session
-pub row_from-report : (r : ReportFacts) (b : Bool) (rs : List ReportFacts) → (first_of rs ≡ None → b ≡ false) → row_of_reports (report_key r) b (r ∷ rs) ≡ Some (next_row (row_of_reports (report_key r) b rs) r)
+pub row_from-report : (r : ReportFacts) (b : Bool) (rs : List ReportFacts)
+    → (first_of rs ≡ None → b ≡ false) → row_of_reports (report_key r) b (r ∷ rs) ≡ Some
+    (next_row (row_of_reports (report_key r) b rs) r)
 row_from-report r b [] h = ap Some (first_from r b (h refl))
 row_from-report r b (o ∷ os) h =
     let key = report_key r in
@@ -192,7 +230,8 @@ or_none : {A : Type 0} (o : Option A) (x : A) → option_or o (Some x) ≡ None 
 or_none None x e = cc
 or_none (Some y) x e = cc
 
-older_none : (r : ReportFacts) (rs : List ReportFacts) (b : Bool) → first_of (cond b (r ∷ rs) rs) ≡ None → first_of rs ≡ None
+older_none : (r : ReportFacts) (rs : List ReportFacts) (b : Bool)
+    → first_of (cond b (r ∷ rs) rs) ≡ None → first_of rs ≡ None
 older_none r rs true e = absurd (or_none (first_of rs) r e)
 older_none r rs false e = e
 
@@ -201,26 +240,34 @@ off_at true b e = e
 off_at false b e = e
 
 -- a session without a report isn't restarted
-pub none-restarted : (history : List Entry) (key : Key) → first_of (reports history (name_of key)) ≡ None → is_restarted history key ≡ false
+pub none-restarted : (history : List Entry) (key : Key) → first_of
+    (reports history (name_of key)) ≡ None → is_restarted history key ≡ false
 none-restarted [] key e = refl
-none-restarted (entry.Report r ∷ older) key e = none-restarted older key (older_none r (reports older (name_of key)) (same_session (name_of key) (session_of r)) e)
+none-restarted (entry.Report r ∷ older) key e = none-restarted older key
+    (older_none r (reports older (name_of key)) (same_session (name_of key) (session_of r)) e)
 none-restarted (entry.Restart x ∷ older) key e =
     ap (λ o. (bytes_eq x.client key.client && is_some o) || is_restarted older key) e
     ∙ off_at (bytes_eq x.client key.client) (is_restarted older key) (none-restarted older key e)
 none-restarted (entry.TopUp t ∷ older) key e = none-restarted older key e
 
 -- the row of the report's session
-pub row_of-report : (r : ReportFacts) (history : List Entry) → row_of (entry.Report r ∷ history) (report_key r) ≡ Some (next_row (row_of history (report_key r)) r)
+pub row_of-report : (r : ReportFacts) (history : List Entry)
+    → row_of (entry.Report r ∷ history) (report_key r) ≡ Some
+    (next_row (row_of history (report_key r)) r)
 row_of-report r history =
     let key = report_key r in
     ap (row_of_reports key (is_restarted history key)) (reports-own history r)
-    ∙ row_from-report r (is_restarted history key) (reports history (session_of r)) (none-restarted history key)
+    ∙ row_from-report r (is_restarted history key) (reports history (session_of r))
+    (none-restarted history key)
 
 -- the other rows stay
-pub row_of-other : (r : ReportFacts) (history : List Entry) (key : Key) → same_key (report_key r) key ≡ false → row_of (entry.Report r ∷ history) key ≡ row_of history key
+pub row_of-other : (r : ReportFacts) (history : List Entry) (key : Key)
+    → same_key (report_key r) key ≡ false → row_of (entry.Report r ∷ history) key
+    ≡ row_of history key
 row_of-other r history key e =
     ap (row_of_reports key (is_restarted history key)) (reports-other history r (name_of key)
-    (λ is. true≢false (sym ((Decides-same_key (report_key r) key).1 (λ i. record { client = (sym is i).client; session = (sym is i).session })) ∙ e)))
+    (λ is. true≢false (sym ((Decides-same_key (report_key r) key).1
+    (λ i. record { client = (sym is i).client; session = (sym is i).session })) ∙ e)))
 
 -- ---- a restart
 
@@ -241,18 +288,32 @@ row_with key all first state cause = record {
   framed = framed_of all;
 }
 
-closed_with : (key : Key) (client : List ℕ) (all : List ReportFacts) (x : ReportFacts) (m : Bool) (o : Option ReportFacts) (b : Bool) → bytes_eq client key.client ≡ m
-    → row_with key all x (state_of o ((m && true) || b)) (cause_of o ((m && true) || b)) ≡ closed_by client (row_with key all x (state_of o b) (cause_of o b))
-closed_with key client all x false o b e = sym (ap (λ c. let row = row_with key all x (state_of o b) (cause_of o b) in cond c (closed_row row row.state) row) e)
-closed_with key client all x true (Some s) b e = sym (ap (λ c. let row = row_with key all x (state_of (Some s) b) (cause_of (Some s) b) in cond c (closed_row row row.state) row) e)
-closed_with key client all x true None true e = sym (ap (λ c. let row = row_with key all x (state_of None true) (cause_of None true) in cond c (closed_row row row.state) row) e)
-closed_with key client all x true None false e = sym (ap (λ c. let row = row_with key all x (state_of None false) (cause_of None false) in cond c (closed_row row row.state) row) e)
+closed_with : (key : Key) (client : List ℕ) (all : List ReportFacts) (x : ReportFacts) (m : Bool)
+    (o : Option ReportFacts) (b : Bool) → bytes_eq client key.client ≡ m
+    → row_with key all x (state_of o ((m && true) || b))
+    (cause_of o ((m && true) || b)) ≡ closed_by client (row_with key all x (state_of o b)
+    (cause_of o b))
+closed_with key client all x false o b e = sym (ap (λ c. let row = row_with key all x (state_of o b)
+    (cause_of o b) in cond c (closed_row row row.state) row) e)
+closed_with key client all x true (Some s) b e = sym (ap
+    (λ c. let row = row_with key all x (state_of (Some s) b) (cause_of (Some s) b) in cond c
+    (closed_row row row.state) row) e)
+closed_with key client all x true None true e = sym (ap (λ c. let row = row_with key all x
+    (state_of None true) (cause_of None true) in cond c (closed_row row row.state) row) e)
+closed_with key client all x true None false e = sym (ap
+    (λ c. let row = row_with key all x (state_of None false) (cause_of None false) in cond c
+    (closed_row row row.state) row) e)
 
-closed_at : (key : Key) (client : List ℕ) (b : Bool) (all : List ReportFacts) (o : Option ReportFacts)
-    → option_map (row_from key ((bytes_eq client key.client && is_some o) || b) all) o ≡ option_map (closed_by client) (option_map (row_from key b all) o)
+closed_at : (key : Key) (client : List ℕ) (b : Bool) (all : List ReportFacts)
+    (o : Option ReportFacts)
+    → option_map (row_from key ((bytes_eq client key.client && is_some o) || b) all) o ≡ option_map
+    (closed_by client) (option_map (row_from key b all) o)
 closed_at key client b all None = refl
-closed_at key client b all (Some x) = ap Some (closed_with key client all x (bytes_eq client key.client) (first_stop all) b refl)
+closed_at key client b all (Some x) = ap Some (closed_with key client all x
+    (bytes_eq client key.client) (first_stop all) b refl)
 
 -- a restart closes the live session of its client
-pub row_of-restart : (x : Restart) (history : List Entry) (key : Key) → row_of (entry.Restart x ∷ history) key ≡ option_map (closed_by x.client) (row_of history key)
-row_of-restart x history key = closed_at key x.client (is_restarted history key) (reports history (name_of key)) (first_of (reports history (name_of key)))
+pub row_of-restart : (x : Restart) (history : List Entry) (key : Key)
+    → row_of (entry.Restart x ∷ history) key ≡ option_map (closed_by x.client) (row_of history key)
+row_of-restart x history key = closed_at key x.client (is_restarted history key)
+    (reports history (name_of key)) (first_of (reports history (name_of key)))

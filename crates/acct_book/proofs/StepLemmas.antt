@@ -15,16 +15,17 @@ pub step_none : {B : Type 0} (plans : List Plan) (content : B → Content)
     (answered refused : Type 0) (Tells : List Entry → List Entry → Type 0) (Asks : Entry → Type 0)
     → (answered → ⊥) → ((history : List Entry) → Tells history history)
     → IsStep plans content is_sound is_open is_steady left book book answered refused Tells Asks
-step_none plans content is_sound is_open is_steady left book answered refused Tells Asks none tells = record {
-  was_sound = λ sound. sound;
-  was_open = λ still. still;
-  keeps_steady = λ steady. steady;
-  answers = λ sound told. absurd (none told);
-  unchanged = λ still refuses. refl;
-  step = λ sound history stood. (history, tells history, stood);
-  leaves = λ sound history stood c may. inl may;
-  settled = λ sound told. absurd (none told);
-}
+step_none plans content is_sound is_open is_steady left book answered refused Tells Asks none tells
+    = record {
+      was_sound = λ sound. sound;
+      was_open = λ still. still;
+      keeps_steady = λ steady. steady;
+      answers = λ sound told. absurd (none told);
+      unchanged = λ still refuses. refl;
+      step = λ sound history stood. (history, tells history, stood);
+      leaves = λ sound history stood c may. inl may;
+      settled = λ sound told. absurd (none told);
+    }
 
 -- nothing was written
 pub step_reads : {B T E : Type 0} (plans : List Plan) (content : B → Content)
@@ -33,23 +34,26 @@ pub step_reads : {B T E : Type 0} (plans : List Plan) (content : B → Content)
     (r : Result T E)
     → Reads content is_sound is_open is_steady left old new r
     → (is_sound new → answered → is_open new)
-    → (is_sound new → (history : List Entry) → StoodFor plans content is_open old history → Tells history history)
+    → (is_sound new → (history : List Entry) → StoodFor plans content is_open old history
+    → Tells history history)
     → ((book : B) → is_open book → Only (content book) (left book))
     → IsStep plans content is_sound is_open is_steady left old new answered refused Tells Asks
-step_reads plans content is_sound is_open is_steady left old new answered refused Tells Asks r reads answers tells settled = record {
-  was_sound = reads.was_sound;
-  was_open = reads.was_open;
-  keeps_steady = reads.keeps_steady;
-  answers = answers;
-  unchanged = λ still _. reads.same still;
-  step = λ sound history stood. (
-    history,
-    tells sound history stood,
-    λ still. subst (λ c. Stands plans c history) (sym (reads.same still)) (stood (reads.was_open still)),
-  );
-  leaves = λ sound history stood c may. inl (reads.adds_none sound c may);
-  settled = λ sound told. settled new (answers sound told);
-}
+step_reads plans content is_sound is_open is_steady left old new answered refused Tells Asks r reads
+    answers tells settled = record {
+      was_sound = reads.was_sound;
+      was_open = reads.was_open;
+      keeps_steady = reads.keeps_steady;
+      answers = answers;
+      unchanged = λ still _. reads.same still;
+      step = λ sound history stood. (
+        history,
+        tells sound history stood,
+        λ still. subst (λ c. Stands plans c history) (sym (reads.same still))
+            (stood (reads.was_open still)),
+      );
+      leaves = λ sound history stood c may. inl (reads.adds_none sound c may);
+      settled = λ sound told. settled new (answers sound told);
+    }
 
 -- the same step, said in other words
 pub IsStep-map : {B : Type 0} (plans : List Plan) (content : B → Content)
@@ -61,16 +65,18 @@ pub IsStep-map : {B : Type 0} (plans : List Plan) (content : B → Content)
     → ((history after : List Entry) → Tells history after → Tells' history after)
     → ((asked : Entry) → Asks asked → Asks' asked)
     → IsStep plans content is_sound is_open is_steady left old new answered' refused' Tells' Asks'
-IsStep-map plans content is_sound is_open is_steady left old new answered refused answered' refused' Tells Tells' Asks Asks' s told refuses tells asks = record {
-  was_sound = s.was_sound;
-  was_open = s.was_open;
-  keeps_steady = s.keeps_steady;
-  answers = λ sound a. s.answers sound (told a);
-  unchanged = λ still r. s.unchanged still (refuses r);
-  step = λ sound history stood.
-      let done = s.step sound history stood in
-      (done.0, tells history done.0 done.1, done.2);
-  leaves = λ sound history stood c may.
-      ⊎_elim inl (λ (was, (asked, for, adds)). inr (was, (asked, asks asked for, adds))) (s.leaves sound history stood c may);
-  settled = λ sound a. s.settled sound (told a);
-}
+IsStep-map plans content is_sound is_open is_steady left old new answered refused answered' refused'
+    Tells Tells' Asks Asks' s told refuses tells asks = record {
+      was_sound = s.was_sound;
+      was_open = s.was_open;
+      keeps_steady = s.keeps_steady;
+      answers = λ sound a. s.answers sound (told a);
+      unchanged = λ still r. s.unchanged still (refuses r);
+      step = λ sound history stood.
+          let done = s.step sound history stood in
+          (done.0, tells history done.0 done.1, done.2);
+      leaves = λ sound history stood c may.
+          ⊎_elim inl (λ (was, (asked, for, adds)). inr (was, (asked, asks asked for, adds)))
+          (s.leaves sound history stood c may);
+      settled = λ sound a. s.settled sound (told a);
+    }

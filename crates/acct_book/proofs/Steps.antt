@@ -1,6 +1,8 @@
 -- What one accepted entry does to a content that stands for a history.
-use Rattle.std.proofs.Common.{◌≡◌, ℕ, Bool, true, false, ◌||◌, cond, List, [], ◌∷◌, refl, sym, ap, ◌∙◌, subst, true≢false}
-use Rattle.std.specs.Prelude.{ℤ, pos, ◌+ℤ◌, ◌-ℤ◌, Option, Some, None, unwrap_or, bytes_eq, option_map}
+use Rattle.std.proofs.Common.{◌≡◌, ℕ, Bool, true, false, ◌||◌, cond, List, [], ◌∷◌, refl, sym, ap}
+use Rattle.std.proofs.Common.{◌∙◌, subst, true≢false}
+use Rattle.std.specs.Prelude.{ℤ, pos, ◌+ℤ◌, ◌-ℤ◌, Option, Some, None, unwrap_or, bytes_eq}
+use Rattle.std.specs.Prelude.{option_map}
 use Rattle.std.specs.List.{filter}
 use Rattle.std.specs.Option.{option_or}
 use Rattle.acct_model.specs.declared.plan.Plan.{Plan}
@@ -10,14 +12,18 @@ use Rattle.acct_model.specs.declared.entry.Entry.TheVariants as entry
 use Rattle.acct_model.specs.Report.{ReportFacts}
 use Rattle.acct_model.specs.Vouchers.{TopUpFacts}
 use Rattle.acct_model.specs.Plans.{plan_for, price_under}
-use Rattle.acct_model.specs.History.{session_of, reports, first_of, greatest_total, is_owner, plan_of, charge_of, share, all_topups, topup_of, balance_of, is_known, InRange, Agrees, Admissible}
+use Rattle.acct_model.specs.History.{session_of, reports, first_of, greatest_total, is_owner}
+use Rattle.acct_model.specs.History.{plan_of, charge_of, share, all_topups, topup_of, balance_of}
+use Rattle.acct_model.specs.History.{is_known, InRange, Agrees, Admissible}
 use Rattle.acct_model.proofs.Same.{Decides-bytes_eq}
 use Rattle.acct_model.proofs.TopUps.{Agrees-fresh}
-use Rattle.acct_model.proofs.Balances.{reports-own, first_of-none, balance-report, balance-report-other, balance-topup, balance-topup-other}
+use Rattle.acct_model.proofs.Balances.{reports-own, first_of-none, balance-report}
+use Rattle.acct_model.proofs.Balances.{balance-report-other, balance-topup, balance-topup-other}
 use Rattle.acct_model.proofs.Known.{is_known-report, is_known-topup, balance-unknown}
 use Rattle.acct_book.specs.declared.key.Key.{Key}
 use Rattle.acct_book.specs.Row.{RowFacts}
-use Rattle.acct_book.specs.Content.{Content, same_key, key_of, kept_balance, with_session, with_topup, with_closed}
+use Rattle.acct_book.specs.Content.{Content, same_key, key_of, kept_balance, with_session}
+use Rattle.acct_book.specs.Content.{with_topup, with_closed}
 use Rattle.acct_book.specs.Rows.{row_from, row_of_reports, is_restarted, row_of}
 use Rattle.acct_book.specs.Charge.{charge_of_row}
 use Rattle.acct_book.specs.Next.{report_key, next_row, charge_before}
@@ -26,8 +32,10 @@ use Rattle.acct_book.specs.Outcome.{IsFresh, IsOverLimit, Adds}
 use Rattle.acct_book.proofs.Keys.{octets_refl, octets_are, octets_sym, key_is}
 use Rattle.acct_book.proofs.Rows.{greatest-total, row_of-report, row_of-other, row_of-restart}
 
--- the entry may be accepted and no voucher of it was kept, and the content stands for the history with it
-pub record IsNew (plans : List Plan) (history : List Entry) (next : Entry) (content : Content) : Type 0 where
+-- the entry may be accepted and no voucher of it was kept, and the content stands for the history
+-- with it
+pub record IsNew (plans : List Plan) (history : List Entry) (next : Entry)
+    (content : Content) : Type 0 where
   pub admissible : Admissible plans history next
   pub fresh : IsFresh history next
   pub stands : Stands plans content (next ∷ history)
@@ -40,52 +48,74 @@ account_in o = option_map (λ row. row.account) o
 abbrev user_in : Option ReportFacts → Option (List ℕ)
 user_in o = option_map (λ first. first.user) o
 
-account_at : (key : Key) (b : Bool) (all : List ReportFacts) (o : Option ReportFacts) → account_in (option_map (row_from key b all) o) ≡ user_in o
+account_at : (key : Key) (b : Bool) (all : List ReportFacts) (o : Option ReportFacts)
+    → account_in (option_map (row_from key b all) o) ≡ user_in o
 account_at key b all None = refl
 account_at key b all (Some x) = refl
 
-charge_at : (plans : List Plan) (key : Key) (b : Bool) (all : List ReportFacts) (o : Option ReportFacts) → (o ≡ None → greatest_total all ≡ 0)
-    → charge_before plans (option_map (row_from key b all) o) ≡ price_under (plan_of plans o) (greatest_total all)
+charge_at : (plans : List Plan) (key : Key) (b : Bool) (all : List ReportFacts)
+    (o : Option ReportFacts) → (o ≡ None → greatest_total all ≡ 0)
+    → charge_before plans (option_map (row_from key b all) o) ≡ price_under (plan_of plans o)
+    (greatest_total all)
 charge_at plans key b all None h = refl
-charge_at plans key b all (Some x) h = ap (price_under (plan_for plans x.class)) (greatest-total all)
+charge_at plans key b all (Some x) h = ap (price_under (plan_for plans x.class))
+    (greatest-total all)
 
 -- a row tells what its session costs
-pub charge-row : (plans : List Plan) (key : Key) (b : Bool) (all : List ReportFacts) → charge_before plans (row_of_reports key b all) ≡ charge_of plans all
-charge-row plans key b all = charge_at plans key b all (first_of all) (λ e. ap greatest_total (first_of-none all e))
+pub charge-row : (plans : List Plan) (key : Key) (b : Bool) (all : List ReportFacts)
+    → charge_before plans (row_of_reports key b all) ≡ charge_of plans all
+charge-row plans key b all = charge_at plans key b all (first_of all)
+    (λ e. ap greatest_total (first_of-none all e))
 
 -- ---- a report
 
 abbrev pub row_after : ReportFacts → List Entry → RowFacts
 row_after r history = next_row (row_of history (report_key r)) r
 
-own_row : (r : ReportFacts) (history : List Entry) → row_of_reports (report_key r) (is_restarted history (report_key r)) (r ∷ reports history (session_of r)) ≡ Some (row_after r history)
-own_row r history = ap (row_of_reports (report_key r) (is_restarted history (report_key r))) (sym (reports-own history r)) ∙ row_of-report r history
+own_row : (r : ReportFacts) (history : List Entry) → row_of_reports (report_key r)
+    (is_restarted history (report_key r)) (r ∷ reports history (session_of r)) ≡ Some
+    (row_after r history)
+own_row r history = ap (row_of_reports (report_key r) (is_restarted history (report_key r)))
+    (sym (reports-own history r)) ∙ row_of-report r history
 
 -- the row after the report has the account of the session's first report
-pub after-account : (r : ReportFacts) (history : List Entry) → user_in (first_of (r ∷ reports history (session_of r))) ≡ Some (row_after r history).account
+pub after-account : (r : ReportFacts) (history : List Entry)
+    → user_in (first_of (r ∷ reports history (session_of r))) ≡ Some (row_after r history).account
 after-account r history =
-    sym (account_at (report_key r) (is_restarted history (report_key r)) (r ∷ reports history (session_of r)) (first_of (r ∷ reports history (session_of r))))
+    sym (account_at (report_key r) (is_restarted history (report_key r))
+    (r ∷ reports history (session_of r)) (first_of (r ∷ reports history (session_of r))))
     ∙ ap account_in (own_row r history)
 
-pub after-charge : (plans : List Plan) (r : ReportFacts) (history : List Entry) → charge_of plans (r ∷ reports history (session_of r)) ≡ charge_of_row plans (row_after r history)
+pub after-charge : (plans : List Plan) (r : ReportFacts) (history : List Entry)
+    → charge_of plans (r ∷ reports history (session_of r)) ≡ charge_of_row plans
+    (row_after r history)
 after-charge plans r history =
-    sym (charge-row plans (report_key r) (is_restarted history (report_key r)) (r ∷ reports history (session_of r))) ∙ ap (charge_before plans) (own_row r history)
+    sym (charge-row plans (report_key r) (is_restarted history (report_key r))
+    (r ∷ reports history (session_of r))) ∙ ap (charge_before plans) (own_row r history)
 
-pub before-charge : (plans : List Plan) (r : ReportFacts) (history : List Entry) → charge_of plans (reports history (session_of r)) ≡ charge_before plans (row_of history (report_key r))
-before-charge plans r history = sym (charge-row plans (report_key r) (is_restarted history (report_key r)) (reports history (session_of r)))
+pub before-charge : (plans : List Plan) (r : ReportFacts) (history : List Entry)
+    → charge_of plans (reports history (session_of r)) ≡ charge_before plans
+    (row_of history (report_key r))
+before-charge plans r history = sym (charge-row plans (report_key r)
+    (is_restarted history (report_key r)) (reports history (session_of r)))
 
-key_in_at : (key : Key) (b : Bool) (all : List ReportFacts) (o : Option ReportFacts) (row : RowFacts) → option_map (row_from key b all) o ≡ Some row → key_of row ≡ key
+key_in_at : (key : Key) (b : Bool) (all : List ReportFacts) (o : Option ReportFacts)
+    (row : RowFacts) → option_map (row_from key b all) o ≡ Some row → key_of row ≡ key
 key_in_at key b all None row e = absurd (cc)
 key_in_at key b all (Some x) row e = ap key_of (sym (is (row_from key b all x) row e))
   where
     is : (a c : RowFacts) → Some a ≡ Some c → a ≡ c
     is a c e = cc
 
-pub after-key : (r : ReportFacts) (history : List Entry) → key_of (row_after r history) ≡ report_key r
+pub after-key : (r : ReportFacts) (history : List Entry)
+    → key_of (row_after r history) ≡ report_key r
 after-key r history =
-    key_in_at (report_key r) (is_restarted history (report_key r)) (r ∷ reports history (session_of r)) (first_of (r ∷ reports history (session_of r))) (row_after r history) (own_row r history)
+    key_in_at (report_key r) (is_restarted history (report_key r))
+    (r ∷ reports history (session_of r)) (first_of (r ∷ reports history (session_of r)))
+    (row_after r history) (own_row r history)
 
-owner_at : (a u : List ℕ) (o : Option ReportFacts) → user_in o ≡ Some u → is_owner a o ≡ bytes_eq a u
+owner_at : (a u : List ℕ) (o : Option ReportFacts) → user_in o ≡ Some u
+    → is_owner a o ≡ bytes_eq a u
 owner_at a u None e = absurd (cc)
 owner_at a u (Some x) e = ap (bytes_eq a) (is x.user u e)
   where
@@ -93,10 +123,15 @@ owner_at a u (Some x) e = ap (bytes_eq a) (is x.user u e)
     is p q e = cc
 
 -- who is charged
-pub mine : (r : ReportFacts) (history : List Entry) (a : List ℕ) → is_owner a (first_of (r ∷ reports history (session_of r))) ≡ bytes_eq (row_after r history).account a
-mine r history a = owner_at a (row_after r history).account (first_of (r ∷ reports history (session_of r))) (after-account r history) ∙ octets_sym a (row_after r history).account
+pub mine : (r : ReportFacts) (history : List Entry) (a : List ℕ)
+    → is_owner a (first_of (r ∷ reports history (session_of r))) ≡ bytes_eq
+    (row_after r history).account a
+mine r history a = owner_at a (row_after r history).account
+    (first_of (r ∷ reports history (session_of r))) (after-account r history)
+    ∙ octets_sym a (row_after r history).account
 
-owner_or : (a : List ℕ) (r : ReportFacts) (o : Option ReportFacts) (n : ℕ) → is_owner a (option_or o (Some r)) ≡ true → (o ≡ None → n ≡ 0) → cond (is_owner a o) n 0 ≡ n
+owner_or : (a : List ℕ) (r : ReportFacts) (o : Option ReportFacts) (n : ℕ)
+    → is_owner a (option_or o (Some r)) ≡ true → (o ≡ None → n ≡ 0) → cond (is_owner a o) n 0 ≡ n
 owner_or a r None n e h = sym (h refl)
 owner_or a r (Some x) n e h = ap (λ b. cond b n 0) e
 
@@ -104,42 +139,63 @@ free : (plans : List Plan) (rs : List ReportFacts) → first_of rs ≡ None → 
 free plans rs e = ap (charge_of plans) (first_of-none rs e)
 
 -- the balance of the account that it is charged to
-pub balance-own : (plans : List Plan) (r : ReportFacts) (history : List Entry) (a : List ℕ) → bytes_eq (row_after r history).account a ≡ true
-    → balance_of plans (entry.Report r ∷ history) a ≡ (balance_of plans history a +ℤ pos (charge_before plans (row_of history (report_key r)))) -ℤ pos (charge_of_row plans (row_after r history))
+pub balance-own : (plans : List Plan) (r : ReportFacts) (history : List Entry) (a : List ℕ)
+    → bytes_eq (row_after r history).account a ≡ true
+    → balance_of plans (entry.Report r ∷ history) a ≡ (balance_of plans history a +ℤ pos
+    (charge_before plans (row_of history (report_key r)))) -ℤ pos
+    (charge_of_row plans (row_after r history))
 balance-own plans r history a e =
     let rs = reports history (session_of r) in
     let own : is_owner a (first_of (r ∷ rs)) ≡ true = mine r history a ∙ e in
-    let before : share (charge_of plans) a rs ≡ charge_before plans (row_of history (report_key r)) = owner_or a r (first_of rs) (charge_of plans rs) own (free plans rs) ∙ before-charge plans r history in
-    let after : share (charge_of plans) a (r ∷ rs) ≡ charge_of_row plans (row_after r history) = ap (λ b. cond b (charge_of plans (r ∷ rs)) 0) own ∙ after-charge plans r history in
-    balance-report plans history r a ∙ (λ i. (balance_of plans history a +ℤ pos (before i)) -ℤ pos (after i))
+    let before : share (charge_of plans) a rs ≡ charge_before plans
+    (row_of history (report_key r)) = owner_or a r (first_of rs) (charge_of plans rs) own
+    (free plans rs) ∙ before-charge plans r history in
+    let after : share (charge_of plans) a (r ∷ rs) ≡ charge_of_row plans (row_after r history) = ap
+    (λ b. cond b (charge_of plans (r ∷ rs)) 0) own ∙ after-charge plans r history in
+    balance-report plans history r a ∙ (λ i. (balance_of plans history a +ℤ pos (before i)) -ℤ pos
+    (after i))
 
-pub balance-other : (plans : List Plan) (r : ReportFacts) (history : List Entry) (a : List ℕ) → bytes_eq (row_after r history).account a ≡ false
+pub balance-other : (plans : List Plan) (r : ReportFacts) (history : List Entry) (a : List ℕ)
+    → bytes_eq (row_after r history).account a ≡ false
     → balance_of plans (entry.Report r ∷ history) a ≡ balance_of plans history a
 balance-other plans r history a e = balance-report-other plans history r a (mine r history a ∙ e)
 
-pub known-after : (r : ReportFacts) (history : List Entry) (a : List ℕ) → is_known (entry.Report r ∷ history) a ≡ (bytes_eq (row_after r history).account a || is_known history a)
-known-after r history a = is_known-report history r a ∙ ap (λ b. b || is_known history a) (mine r history a)
+pub known-after : (r : ReportFacts) (history : List Entry) (a : List ℕ)
+    → is_known (entry.Report r ∷ history) a ≡ (bytes_eq (row_after r history).account a
+    || is_known history a)
+known-after r history a = is_known-report history r a ∙ ap (λ b. b || is_known history a)
+    (mine r history a)
 
 -- ---- what a book keeps
 
-kept_at : (b : Bool) (z : ℤ) → (b ≡ false → z ≡ pos 0) → unwrap_or (cond b (Some z) None) (pos 0) ≡ z
+kept_at : (b : Bool) (z : ℤ) → (b ≡ false → z ≡ pos 0) → unwrap_or (cond b (Some z) None)
+    (pos 0) ≡ z
 kept_at true z h = refl
 kept_at false z h = sym (h refl)
 
 -- the balance that a book keeps is the balance
-pub kept-balance : (plans : List Plan) (c : Content) (history : List Entry) → Stands plans c history → (a : List ℕ) → kept_balance c a ≡ balance_of plans history a
-kept-balance plans c history st a = ap (λ o. unwrap_or o (pos 0)) (st.balances a) ∙ kept_at (is_known history a) (balance_of plans history a) (balance-unknown plans history a)
+pub kept-balance : (plans : List Plan) (c : Content) (history : List Entry) → Stands plans c history
+    → (a : List ℕ) → kept_balance c a ≡ balance_of plans history a
+kept-balance plans c history st a = ap (λ o. unwrap_or o (pos 0)) (st.balances a)
+    ∙ kept_at (is_known history a) (balance_of plans history a) (balance-unknown plans history a)
 
 abbrev known_balance : List Plan → List Entry → List ℕ → Option ℤ
 known_balance plans history a = cond (is_known history a) (Some (balance_of plans history a)) None
 
 -- balances of which one account's moves to m
-balances_at : (plans : List Plan) (old new : List Entry) (a : List ℕ) (m : ℤ) (b : Bool) → is_known new a ≡ (b || is_known old a) → (b ≡ true → balance_of plans new a ≡ m) → (b ≡ false → balance_of plans new a ≡ balance_of plans old a)
+balances_at : (plans : List Plan) (old new : List Entry) (a : List ℕ) (m : ℤ) (b : Bool)
+    → is_known new a ≡ (b || is_known old a) → (b ≡ true → balance_of plans new a ≡ m)
+    → (b ≡ false → balance_of plans new a ≡ balance_of plans old a)
     → cond b (Some m) (known_balance plans old a) ≡ known_balance plans new a
-balances_at plans old new a m true known own other = sym (ap (λ k. cond k (Some (balance_of plans new a)) None) known ∙ ap Some (own refl))
-balances_at plans old new a m false known own other = sym (λ i. cond (known i) (Some (other refl i)) None)
+balances_at plans old new a m true known own other = sym
+    (ap (λ k. cond k (Some (balance_of plans new a)) None) known ∙ ap Some (own refl))
+balances_at plans old new a m false known own other = sym
+    (λ i. cond (known i) (Some (other refl i)) None)
 
-range_at : (plans : List Plan) (old new : List Entry) (a : List ℕ) (m : ℤ) (b : Bool) → (b ≡ true → balance_of plans new a ≡ m) → (b ≡ false → balance_of plans new a ≡ balance_of plans old a) → InRange m → InRange (balance_of plans old a) → InRange (balance_of plans new a)
+range_at : (plans : List Plan) (old new : List Entry) (a : List ℕ) (m : ℤ) (b : Bool)
+    → (b ≡ true → balance_of plans new a ≡ m) → (b ≡ false
+    → balance_of plans new a ≡ balance_of plans old a) → InRange m
+    → InRange (balance_of plans old a) → InRange (balance_of plans new a)
 range_at plans old new a m true own other fits was = subst InRange (sym (own refl)) fits
 range_at plans old new a m false own other fits was = subst InRange (sym (other refl)) was
 
@@ -149,27 +205,39 @@ range_at plans old new a m false own other fits was = subst InRange (sym (other 
 abbrev pub after_report : List Plan → Content → ReportFacts → ℤ
 after_report plans c r =
     let row = next_row (c.rows (report_key r)) r in
-    (kept_balance c row.account +ℤ pos (charge_before plans (c.rows (report_key r)))) -ℤ pos (charge_of_row plans row)
+    (kept_balance c row.account +ℤ pos (charge_before plans (c.rows (report_key r)))) -ℤ pos
+    (charge_of_row plans row)
 
-rows_at : (r : ReportFacts) (history : List Entry) (k : Key) (b : Bool) → same_key (report_key r) k ≡ b → cond b (Some (row_after r history)) (row_of history k) ≡ row_of (entry.Report r ∷ history) k
-rows_at r history k true e = sym (ap (row_of (entry.Report r ∷ history)) (sym (key_is (report_key r) k e)) ∙ row_of-report r history)
+rows_at : (r : ReportFacts) (history : List Entry) (k : Key) (b : Bool)
+    → same_key (report_key r) k ≡ b → cond b (Some (row_after r history))
+    (row_of history k) ≡ row_of (entry.Report r ∷ history) k
+rows_at r history k true e = sym (ap (row_of (entry.Report r ∷ history))
+    (sym (key_is (report_key r) k e)) ∙ row_of-report r history)
 rows_at r history k false e = sym (row_of-other r history k e)
 
 -- it is the balance
-pub after_report_is : (plans : List Plan) (c : Content) (history : List Entry) (r : ReportFacts) → Stands plans c history → (a : List ℕ) → bytes_eq (row_after r history).account a ≡ true
+pub after_report_is : (plans : List Plan) (c : Content) (history : List Entry) (r : ReportFacts)
+    → Stands plans c history → (a : List ℕ) → bytes_eq (row_after r history).account a ≡ true
     → balance_of plans (entry.Report r ∷ history) a ≡ after_report plans c r
 after_report_is plans c history r st a e =
     let is : (row_after r history).account ≡ a = octets_are (row_after r history).account a e in
     let row : c.rows (report_key r) ≡ row_of history (report_key r) = st.rows (report_key r) in
     balance-own plans r history a e
-    ∙ ap (λ x. (balance_of plans history x +ℤ pos (charge_before plans (row_of history (report_key r)))) -ℤ pos (charge_of_row plans (row_after r history))) (sym is)
-    ∙ ap (λ z. (z +ℤ pos (charge_before plans (row_of history (report_key r)))) -ℤ pos (charge_of_row plans (row_after r history))) (sym (kept-balance plans c history st (row_after r history).account))
-    ∙ ap (λ o. (kept_balance c (next_row o r).account +ℤ pos (charge_before plans o)) -ℤ pos (charge_of_row plans (next_row o r))) (sym row)
+    ∙ ap (λ x. (balance_of plans history x +ℤ pos (charge_before plans
+    (row_of history (report_key r)))) -ℤ pos (charge_of_row plans (row_after r history))) (sym is)
+    ∙ ap (λ z. (z +ℤ pos (charge_before plans (row_of history (report_key r)))) -ℤ pos
+    (charge_of_row plans (row_after r history))) (sym (kept-balance plans c history st
+    (row_after r history).account))
+    ∙ ap (λ o. (kept_balance c (next_row o r).account +ℤ pos (charge_before plans o)) -ℤ pos
+    (charge_of_row plans (next_row o r))) (sym row)
 
-pub report_stands : (plans : List Plan) (c : Content) (history : List Entry) (r : ReportFacts) → Stands plans c history → InRange (after_report plans c r)
-    → Stands plans (with_session c (next_row (c.rows (report_key r)) r) (after_report plans c r)) (entry.Report r ∷ history)
+pub report_stands : (plans : List Plan) (c : Content) (history : List Entry) (r : ReportFacts)
+    → Stands plans c history → InRange (after_report plans c r)
+    → Stands plans (with_session c (next_row (c.rows (report_key r)) r) (after_report plans c r))
+    (entry.Report r ∷ history)
 report_stands plans c history r st fits =
-    let row : next_row (c.rows (report_key r)) r ≡ row_after r history = ap (λ o. next_row o r) (st.rows (report_key r)) in
+    let row : next_row (c.rows (report_key r)) r ≡ row_after r history = ap (λ o. next_row o r)
+    (st.rows (report_key r)) in
     let m : ℤ = after_report plans c r in
     let next = entry.Report r ∷ history in
     let test = bytes_eq (row_after r history).account in
@@ -177,30 +245,45 @@ report_stands plans c history r st fits =
     let other = balance-other plans r history in
     subst (λ x. Stands plans (with_session c x m) next) (sym row) (record {
       rows = λ k.
-          ap (λ s. cond (same_key s k) (Some (row_after r history)) (c.rows k)) (after-key r history)
+          ap (λ s. cond (same_key s k) (Some (row_after r history)) (c.rows k))
+          (after-key r history)
           ∙ ap (λ o. cond (same_key (report_key r) k) (Some (row_after r history)) o) (st.rows k)
           ∙ rows_at r history k (same_key (report_key r) k) refl;
-      balances = λ a. ap (λ o. cond (test a) (Some m) o) (st.balances a) ∙ balances_at plans history next a m (test a) (known-after r history a) (own a) (other a);
+      balances = λ a. ap (λ o. cond (test a) (Some m) o) (st.balances a)
+          ∙ balances_at plans history next a m (test a) (known-after r history a) (own a) (other a);
       topups = st.topups;
-      in_range = λ a. range_at plans history next a m (test a) (own a) (other a) fits (st.in_range a);
+      in_range = λ a. range_at plans history next a m (test a) (own a) (other a) fits
+          (st.in_range a);
     })
 
-pub report_new : (plans : List Plan) (c : Content) (history : List Entry) (r : ReportFacts) → Stands plans c history → InRange (after_report plans c r)
-    → IsNew plans history (entry.Report r) (with_session c (next_row (c.rows (report_key r)) r) (after_report plans c r))
+pub report_new : (plans : List Plan) (c : Content) (history : List Entry) (r : ReportFacts)
+    → Stands plans c history → InRange (after_report plans c r)
+    → IsNew plans history (entry.Report r) (with_session c (next_row (c.rows (report_key r)) r)
+    (after_report plans c r))
 report_new plans c history r st fits =
     let stands = report_stands plans c history r st fits in
-    record { admissible = record { agrees = tt; in_range = stands.in_range }; fresh = tt; stands = stands }
+    record {
+      admissible = record { agrees = tt; in_range = stands.in_range };
+      fresh = tt;
+      stands
+          = stands;
+    }
 
-pub report_over : (plans : List Plan) (c : Content) (history : List Entry) (r : ReportFacts) → Stands plans c history → (InRange (after_report plans c r) → ⊥)
-    → IsOverLimit plans history (entry.Report r) (kept_balance c (next_row (c.rows (report_key r)) r).account)
+pub report_over : (plans : List Plan) (c : Content) (history : List Entry) (r : ReportFacts)
+    → Stands plans c history → (InRange (after_report plans c r) → ⊥)
+    → IsOverLimit plans history (entry.Report r) (kept_balance c
+    (next_row (c.rows (report_key r)) r).account)
 report_over plans c history r st over =
-    let row : next_row (c.rows (report_key r)) r ≡ row_after r history = ap (λ o. next_row o r) (st.rows (report_key r)) in
+    let row : next_row (c.rows (report_key r)) r ≡ row_after r history = ap (λ o. next_row o r)
+    (st.rows (report_key r)) in
     record {
       fresh = tt;
       account = (row_after r history).account;
       changes = ap (λ rs. user_in (first_of rs)) (reports-own history r) ∙ after-account r history;
-      carried = ap (λ x. kept_balance c x.account) row ∙ kept-balance plans c history st (row_after r history).account;
-      out_of_range = λ fits. over (subst InRange (after_report_is plans c history r st (row_after r history).account (octets_refl (row_after r history).account)) fits);
+      carried = ap (λ x. kept_balance c x.account) row ∙ kept-balance plans c history st
+          (row_after r history).account;
+      out_of_range = λ fits. over (subst InRange (after_report_is plans c history r st
+          (row_after r history).account (octets_refl (row_after r history).account)) fits);
     }
 
 -- ---- a top-up
@@ -209,46 +292,69 @@ abbrev by_number : List ℕ → List TopUpFacts → List TopUpFacts
 by_number number ts = filter (λ t. bytes_eq number t.voucher) ts
 
 -- the first top-up by each number, after one by a number that isn't kept
-topups_at : (history : List Entry) (t : TopUpFacts) (n : List ℕ) (b : Bool) → topup_of history t.voucher ≡ None → bytes_eq t.voucher n ≡ b → bytes_eq n t.voucher ≡ b
-    → cond b (Some t) (topup_of history n) ≡ first_of (cond b (t ∷ by_number n (all_topups history)) (by_number n (all_topups history)))
-topups_at history t n true h e f = ap (λ o. option_or o (Some t)) (sym (ap (topup_of history) (sym (octets_are t.voucher n e)) ∙ h))
+topups_at : (history : List Entry) (t : TopUpFacts) (n : List ℕ) (b : Bool)
+    → topup_of history t.voucher ≡ None → bytes_eq t.voucher n ≡ b → bytes_eq n t.voucher ≡ b
+    → cond b (Some t) (topup_of history n) ≡ first_of (cond b (t ∷ by_number n (all_topups history))
+    (by_number n (all_topups history)))
+topups_at history t n true h e f = ap (λ o. option_or o (Some t))
+    (sym (ap (topup_of history) (sym (octets_are t.voucher n e)) ∙ h))
 topups_at history t n false h e f = refl
 
-topups_after : (history : List Entry) (t : TopUpFacts) (n : List ℕ) → topup_of history t.voucher ≡ None → cond (bytes_eq t.voucher n) (Some t) (topup_of history n) ≡ topup_of (entry.TopUp t ∷ history) n
+topups_after : (history : List Entry) (t : TopUpFacts) (n : List ℕ)
+    → topup_of history t.voucher ≡ None → cond (bytes_eq t.voucher n) (Some t)
+    (topup_of history n) ≡ topup_of (entry.TopUp t ∷ history) n
 topups_after history t n h =
     topups_at history t n (bytes_eq t.voucher n) h refl (octets_sym n t.voucher)
-    ∙ ap (λ b. first_of (cond b (t ∷ by_number n (all_topups history)) (by_number n (all_topups history)))) (octets_sym t.voucher n)
+    ∙ ap (λ b. first_of (cond b (t ∷ by_number n (all_topups history))
+    (by_number n (all_topups history)))) (octets_sym t.voucher n)
 
 -- the balance after a top-up by a number that isn't kept
-pub after_topup_is : (plans : List Plan) (c : Content) (history : List Entry) (t : TopUpFacts) → Stands plans c history → topup_of history t.voucher ≡ None → (a : List ℕ) → bytes_eq t.account a ≡ true
+pub after_topup_is : (plans : List Plan) (c : Content) (history : List Entry) (t : TopUpFacts)
+    → Stands plans c history → topup_of history t.voucher ≡ None → (a : List ℕ)
+    → bytes_eq t.account a ≡ true
     → balance_of plans (entry.TopUp t ∷ history) a ≡ kept_balance c t.account +ℤ pos t.sum
 after_topup_is plans c history t st h a e =
     ap (balance_of plans (entry.TopUp t ∷ history)) (sym (octets_are t.account a e))
     ∙ balance-topup plans history t h
     ∙ ap (λ z. z +ℤ pos t.sum) (sym (kept-balance plans c history st t.account))
 
-topup_other : (plans : List Plan) (history : List Entry) (t : TopUpFacts) (a : List ℕ) → bytes_eq t.account a ≡ false → balance_of plans (entry.TopUp t ∷ history) a ≡ balance_of plans history a
-topup_other plans history t a e = balance-topup-other plans history t a (λ is. true≢false (sym ((Decides-bytes_eq t.account a).1 (sym is)) ∙ e))
+topup_other : (plans : List Plan) (history : List Entry) (t : TopUpFacts) (a : List ℕ)
+    → bytes_eq t.account a ≡ false → balance_of plans (entry.TopUp t ∷ history) a
+    ≡ balance_of plans history a
+topup_other plans history t a e = balance-topup-other plans history t a
+    (λ is. true≢false (sym ((Decides-bytes_eq t.account a).1 (sym is)) ∙ e))
 
-pub topup_new : (plans : List Plan) (c : Content) (history : List Entry) (t : TopUpFacts) → Stands plans c history → c.topups t.voucher ≡ None → InRange (kept_balance c t.account +ℤ pos t.sum)
+pub topup_new : (plans : List Plan) (c : Content) (history : List Entry) (t : TopUpFacts)
+    → Stands plans c history → c.topups t.voucher ≡ None
+    → InRange (kept_balance c t.account +ℤ pos t.sum)
     → IsNew plans history (entry.TopUp t) (with_topup c t (kept_balance c t.account +ℤ pos t.sum))
 topup_new plans c history t st none fits =
     let h : topup_of history t.voucher ≡ None = sym (st.topups t.voucher) ∙ none in
     let m : ℤ = kept_balance c t.account +ℤ pos t.sum in
     let next = entry.TopUp t ∷ history in
     let test = bytes_eq t.account in
-    let known : (a : List ℕ) → is_known next a ≡ (test a || is_known history a) = λ a. is_known-topup history t a ∙ ap (λ b. b || is_known history a) (octets_sym a t.account) in
+    let known : (a : List ℕ) → is_known next a ≡ (test a || is_known history a) = λ a.
+    is_known-topup history t a ∙ ap (λ b. b || is_known history a) (octets_sym a t.account) in
     let own = after_topup_is plans c history t st h in
     let other = topup_other plans history t in
     let stands : Stands plans (with_topup c t m) next = record {
       rows = st.rows;
-      balances = λ a. ap (λ o. cond (test a) (Some m) o) (st.balances a) ∙ balances_at plans history next a m (test a) (known a) (own a) (other a);
-      topups = λ n. ap (λ o. cond (bytes_eq t.voucher n) (Some t) o) (st.topups n) ∙ topups_after history t n h;
-      in_range = λ a. range_at plans history next a m (test a) (own a) (other a) fits (st.in_range a);
+      balances = λ a. ap (λ o. cond (test a) (Some m) o) (st.balances a)
+          ∙ balances_at plans history next a m (test a) (known a) (own a) (other a);
+      topups = λ n. ap (λ o. cond (bytes_eq t.voucher n) (Some t) o) (st.topups n)
+          ∙ topups_after history t n h;
+      in_range = λ a. range_at plans history next a m (test a) (own a) (other a) fits
+          (st.in_range a);
     } in
-    record { admissible = record { agrees = Agrees-fresh history t h; in_range = stands.in_range }; fresh = h; stands = stands }
+    record {
+      admissible = record { agrees = Agrees-fresh history t h; in_range = stands.in_range };
+      fresh = h;
+      stands = stands;
+    }
 
-pub topup_over : (plans : List Plan) (c : Content) (history : List Entry) (t : TopUpFacts) → Stands plans c history → c.topups t.voucher ≡ None → (InRange (kept_balance c t.account +ℤ pos t.sum) → ⊥)
+pub topup_over : (plans : List Plan) (c : Content) (history : List Entry) (t : TopUpFacts)
+    → Stands plans c history → c.topups t.voucher ≡ None
+    → (InRange (kept_balance c t.account +ℤ pos t.sum) → ⊥)
     → IsOverLimit plans history (entry.TopUp t) (kept_balance c t.account)
 topup_over plans c history t st none over =
     let h : topup_of history t.voucher ≡ None = sym (st.topups t.voucher) ∙ none in
@@ -257,12 +363,14 @@ topup_over plans c history t st none over =
       account = t.account;
       changes = refl;
       carried = kept-balance plans c history st t.account;
-      out_of_range = λ fits. over (subst InRange (after_topup_is plans c history t st h t.account (octets_refl t.account)) fits);
+      out_of_range = λ fits. over (subst InRange (after_topup_is plans c history t st h t.account
+          (octets_refl t.account)) fits);
     }
 
 -- ---- a restart
 
-pub restart_new : (plans : List Plan) (c : Content) (history : List Entry) (x : Restart) → Stands plans c history → IsNew plans history (entry.Restart x) (with_closed c x.client)
+pub restart_new : (plans : List Plan) (c : Content) (history : List Entry) (x : Restart)
+    → Stands plans c history → IsNew plans history (entry.Restart x) (with_closed c x.client)
 restart_new plans c history x st =
     let stands : Stands plans (with_closed c x.client) (entry.Restart x ∷ history) = record {
       rows = λ k. ap (option_map _) (st.rows k) ∙ sym (row_of-restart x history k);
@@ -270,9 +378,19 @@ restart_new plans c history x st =
       topups = st.topups;
       in_range = st.in_range;
     } in
-    record { admissible = record { agrees = tt; in_range = st.in_range }; fresh = tt; stands = stands }
+    record {
+      admissible = record { agrees = tt; in_range = st.in_range };
+      fresh = tt;
+      stands
+          = stands;
+    }
 
-pub restart_adds : (plans : List Plan) (c : Content) (x : Restart) (client : List ℕ) → client ≡ x.client → Adds plans (entry.Restart x) c (with_closed c client)
+pub restart_adds : (plans : List Plan) (c : Content) (x : Restart) (client : List ℕ)
+    → client ≡ x.client → Adds plans (entry.Restart x) c (with_closed c client)
 restart_adds plans c x client is history st =
-    let new = restart_new plans c history x st in
-    (new.admissible, new.fresh, subst (λ k. Stands plans (with_closed c k) (entry.Restart x ∷ history)) (sym is) new.stands)
+    let new = restart_new plans c history x st in (
+      new.admissible,
+      new.fresh,
+      subst (λ k. Stands plans (with_closed c k)
+          (entry.Restart x ∷ history)) (sym is) new.stands,
+    )

@@ -1,5 +1,6 @@
 -- What a book contains: three maps, each seen as a function.
-use Rattle.std.specs.Prelude.{◌≡◌, ℕ, ℤ, pos, Bool, ◌&&◌, if◌then◌else◌, bytes_eq, List, Option, Some, None, unwrap_or, option_map}
+use Rattle.std.specs.Prelude.{◌≡◌, ℕ, ℤ, pos, Bool, ◌&&◌, if◌then◌else◌, bytes_eq, List, Option}
+use Rattle.std.specs.Prelude.{Some, None, unwrap_or, option_map}
 use Rattle.std.specs.Map.{update}
 use Rattle.acct_model.specs.Vouchers.{TopUpFacts}
 use Rattle.acct_book.specs.declared.key.Key.{Key}
@@ -21,6 +22,7 @@ pub record Content : Type 0 where
   pub balances : List ℕ → Option ℤ
   pub topups : List ℕ → Option TopUpFacts
 
+-- no row, no balance, no top-up
 abbrev pub empty_content : Content
 empty_content = record { rows = λ key. None; balances = λ account. None; topups = λ number. None }
 
@@ -69,4 +71,5 @@ with_closed content client = record {
 -- each row stands under its own key, and each top-up under its own number
 pub record HasOwnKeys (content : Content) : Type 0 where
   pub rows : (key : Key) (row : RowFacts) → content.rows key ≡ Some row → key_of row ≡ key
-  pub topups : (number : List ℕ) (topup : TopUpFacts) → content.topups number ≡ Some topup → topup.voucher ≡ number
+  pub topups : (number : List ℕ) (topup : TopUpFacts) → content.topups number ≡ Some topup
+      → topup.voucher ≡ number

@@ -24,7 +24,8 @@ abbrev pub balance_at : BTreeMap (Vec ℕ Global) ℤ → List ℕ → Option �
 balance_at balances account = tree.get_by (λ key. octets_cmp account key.items) balances
 
 -- the content of three ordered maps
-abbrev pub content_from : BTreeMap Key RowFacts → BTreeMap (Vec ℕ Global) ℤ → BTreeMap (String Global) TopUpFacts → Content
+abbrev pub content_from : BTreeMap Key RowFacts → BTreeMap (Vec ℕ Global) ℤ
+    → BTreeMap (String Global) TopUpFacts → Content
 content_from rows balances topups = record {
   rows = tree.get key_cmp rows;
   balances = balance_at balances;

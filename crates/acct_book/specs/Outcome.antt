@@ -1,14 +1,17 @@
 -- What `record` tells, of a content that stood for a history before.
-use Rattle.std.specs.Prelude.{◌≡◌, ◌≢◌, ℕ, ℤ, List, ◌∷◌, Option, Some, None, option_map, Result, Ok, Err}
+use Rattle.std.specs.Prelude.{◌≡◌, ◌≢◌, ℕ, ℤ, List, ◌∷◌, Option, Some, None, option_map, Result, Ok}
+use Rattle.std.specs.Prelude.{Err}
 use Rattle.acct_model.specs.declared.plan.Plan.{Plan}
 use Rattle.acct_model.specs.declared.entry.Entry.{Entry}
 use Rattle.acct_model.specs.declared.entry.Entry.TheVariants as entry
 use Rattle.acct_model.specs.Vouchers.{TopUpFacts}
-use Rattle.acct_model.specs.History.{session_of, reports, first_of, topup_of, balance_of, InRange, Admissible}
+use Rattle.acct_model.specs.History.{session_of, reports, first_of, topup_of, balance_of, InRange}
+use Rattle.acct_model.specs.History.{Admissible}
 use Rattle.acct_book.specs.declared.recording.Recorded.{Recorded}
 use Rattle.acct_book.specs.declared.recording.Recorded.TheVariants.{New, Repeat}
 use Rattle.acct_book.specs.declared.recording.RecordError.{RecordError}
-use Rattle.acct_book.specs.declared.recording.RecordError.TheVariants.{VoucherDiffers, BalanceLimit, Unavailable}
+use Rattle.acct_book.specs.declared.recording.RecordError.TheVariants.{VoucherDiffers, BalanceLimit}
+use Rattle.acct_book.specs.declared.recording.RecordError.TheVariants.{Unavailable}
 use Rattle.acct_book.specs.Content.{Content}
 use Rattle.acct_book.specs.Stands.{Stands}
 use Rattle.acct_book.specs.Step.{IsStep}
@@ -24,23 +27,30 @@ abbrev pub IsRepeated : List Entry → Entry → Type 0
 IsRepeated history (entry.Report report) = ⊥
 IsRepeated history (entry.Restart restart) = ⊥
 IsRepeated history (entry.TopUp topup) =
-    (kept : TopUpFacts) × (topup_of history topup.voucher ≡ Some kept) × (kept.account ≡ topup.account) × (kept.sum ≡ topup.sum)
+    (kept : TopUpFacts) × (topup_of history topup.voucher ≡ Some kept)
+    × (kept.account ≡ topup.account) × (kept.sum ≡ topup.sum)
 
 -- the entry is a top-up whose number is kept, by this top-up of another account or sum
 abbrev pub Differs : List Entry → Entry → TopUpFacts → Type 0
 Differs history (entry.Report report) kept = ⊥
 Differs history (entry.Restart restart) kept = ⊥
 Differs history (entry.TopUp topup) kept =
-    (topup_of history topup.voucher ≡ Some kept) × (kept.account ≡ topup.account → kept.sum ≢ topup.sum)
+    (topup_of history topup.voucher ≡ Some kept)
+    × (kept.account ≡ topup.account → kept.sum ≢ topup.sum)
 
--- whose balance the entry may change: of a report, the user of its session's first report; of a restart, nobody's
+-- whose balance the entry may change: of a report, the user of its session's first report; of a
+-- restart, nobody's
 abbrev pub account_of : List Entry → Entry → Option (List ℕ)
-account_of history (entry.Report report) = option_map (λ first. first.user) (first_of (reports (entry.Report report ∷ history) (session_of report)))
+account_of history (entry.Report report) =
+    option_map (λ first. first.user)
+    (first_of (reports (entry.Report report ∷ history) (session_of report)))
 account_of history (entry.Restart restart) = None
 account_of history (entry.TopUp topup) = Some topup.account
 
--- no voucher of the entry was kept, and with it the balance of its account, now this one, would be out of range
-pub record IsOverLimit (plans : List Plan) (history : List Entry) (next : Entry) (balance : ℤ) : Type 0 where
+-- no voucher of the entry was kept, and with it the balance of its account, now this one, would be
+-- out of range
+pub record IsOverLimit (plans : List Plan) (history : List Entry) (next : Entry)
+    (balance : ℤ) : Type 0 where
   pub fresh : IsFresh history next
   pub account : List ℕ
   pub changes : account_of history next ≡ Some account
@@ -76,8 +86,8 @@ abbrev pub Refuses : List Plan → Entry → Content → RecordError → Type 0
 Refuses plans next content error = (history : List Entry) → Stands plans content history
     → Tells plans history next (Err error) history
 
--- A call that records this entry, or refuses it: who answers is open, and whoever doesn't answer New
--- has changed nothing.
+-- A call that records this entry, or refuses it: who answers is open, and whoever does not answer
+-- New has changed nothing.
 abbrev pub Records : {B : Type 0} → List Plan → Entry → (B → Content)
     → (B → Type 0) → (B → Type 0) → (B → Type 0) → (B → Content → Type 0) → B → B
     → Result Recorded RecordError → Type 0

@@ -1,5 +1,6 @@
 -- What an account sees of a history.
-use Rattle.std.specs.Prelude.{◌≡◌, ◌≢◌, ℕ, ℤ, bytes_eq, true, List, ◌∷◌, Option, Some, None, if◌then◌else◌}
+use Rattle.std.specs.Prelude.{◌≡◌, ◌≢◌, ℕ, ℤ, bytes_eq, true, List, ◌∷◌, Option, Some, None}
+use Rattle.std.specs.Prelude.{if◌then◌else◌}
 use Rattle.acct_model.specs.declared.plan.Plan.{Plan}
 use Rattle.acct_model.specs.declared.entry.Entry.{Entry}
 use Rattle.acct_model.specs.declared.entry.Entry.TheVariants as entry
@@ -30,7 +31,8 @@ abbrev pub own_topup : List ℕ → Option TopUpFacts → Option TopUpFacts
 own_topup account None = None
 own_topup account (Some topup) = if bytes_eq account topup.account then Some topup else None
 
--- the part of an account: its balance, the rows of the sessions that it owns, the first top-up of each of its numbers
+-- the part of an account: its balance, the rows of the sessions that it owns, the first top-up of
+-- each of its numbers
 abbrev pub part_of : List Plan → List Entry → List ℕ → Part
 part_of plans history account = record {
   balance = balance_of plans history account;
@@ -44,10 +46,13 @@ AreRowsIn part rows = AreMembers key_cmp key_of part.rows (λ row. true) rows
 
 -- the top-ups of a part, each once, in the order of their numbers
 abbrev pub AreTopUpsIn : Part → List TopUpFacts → Type 0
-AreTopUpsIn part topups = AreMembers octets_cmp (λ topup. topup.voucher) part.topups (λ topup. true) topups
+AreTopUpsIn part topups = AreMembers octets_cmp (λ topup. topup.voucher) part.topups
+    (λ topup. true) topups
 
--- A report of a session that another account owns with it, and a top-up to another account, leave the part of an account as it is.
-pub record OtherPartsStay (plans : List Plan) (history : List Entry) (account : List ℕ) : Type 0 where
+-- A report of a session that another account owns with it, and a top-up to another account, leave
+-- the part of an account as it is.
+pub record OtherPartsStay (plans : List Plan) (history : List Entry)
+    (account : List ℕ) : Type 0 where
   pub reports : (report : ReportFacts) → account_of history (entry.Report report) ≢ Some account
       → part_of plans (entry.Report report ∷ history) account ≡ part_of plans history account
   pub topups : (topup : TopUpFacts) → topup.account ≢ account

@@ -2,6 +2,7 @@
 use Rattle.std.specs.Prelude.{ℕ, ◌+◌, ◌<◌, ◌^◌, List, Option}
 use Rattle.acct_book.specs.declared.row.SessionState.{SessionState}
 
+-- a row: whose session it is, who pays and by which plan, and what its reports said
 pub record RowFacts : Type 0 where
   pub client : List ℕ
   pub session : List ℕ

@@ -1,7 +1,9 @@
 -- The row of a session, as its history gives it: each field is a greatest, a least or a first.
 --
 -- A history is newest first, so the first report of a session stands deepest in it.
-use Rattle.std.specs.Prelude.{ℕ, ◌+◌, ◌==◌, nat_lt, min, Bool, true, false, ◌&&◌, ◌||◌, if◌then◌else◌, bytes_eq, List, [], ◌∷◌, Option, Some, None, map, is_some, option_map}
+use Rattle.std.specs.Prelude.{ℕ, ◌+◌, ◌==◌, nat_lt, min, Bool, true, false, ◌&&◌, ◌||◌}
+use Rattle.std.specs.Prelude.{if◌then◌else◌, bytes_eq, List, [], ◌∷◌, Option, Some, None, map}
+use Rattle.std.specs.Prelude.{is_some, option_map}
 use Rattle.std.specs.List.{filter}
 use Rattle.std.specs.Option.{option_and_then, option_map_or}
 use Rattle.acct_model.specs.declared.report.ReportKind.{ReportKind}
@@ -21,7 +23,7 @@ name_of key = record { client = key.client; session = key.session }
 
 -- ---- what is least and what is greatest
 
--- the least number of a list that isn't empty
+-- the least number of a list that is not empty
 abbrev pub smallest : List ℕ → ℕ
 smallest [] = 0
 smallest (n ∷ []) = n
@@ -35,6 +37,7 @@ counters report = (report.input, report.output)
 abbrev pub exceeds : ℕ × ℕ → ℕ × ℕ → Bool
 exceeds a b = nat_lt (b.0 + b.1) (a.0 + a.1) || ((a.0 + a.1) == (b.0 + b.1) && nat_lt b.0 a.0)
 
+-- the counters that are above the others
 abbrev pub higher : ℕ × ℕ → ℕ × ℕ → ℕ × ℕ
 higher a b = if exceeds a b then a else b
 
@@ -45,14 +48,17 @@ greatest (report ∷ older) = higher (counters report) (greatest older)
 
 -- ---- the first report that says something
 
+-- the first report that passes a test
 abbrev pub first_that : (ReportFacts → Bool) → List ReportFacts → Option ReportFacts
 first_that test reports = first_of (filter test reports)
 
+-- a Stop ends its session
 abbrev pub is_stop : ReportKind → Bool
 is_stop Start = false
 is_stop Stop = true
 is_stop Interim = false
 
+-- some octets, and not none
 abbrev pub has_octets : List ℕ → Bool
 has_octets [] = false
 has_octets (octet ∷ octets) = true
@@ -61,13 +67,15 @@ has_octets (octet ∷ octets) = true
 abbrev pub first_stop : List ReportFacts → Option ReportFacts
 first_stop reports = first_that (λ report. is_stop report.kind) reports
 
--- the calling station of the first report that has one, else none
+-- the calling station of the first report that has one, else no octets
 abbrev pub calling_of : List ReportFacts → List ℕ
-calling_of reports = option_map_or (λ report. report.calling) (first_that (λ report. has_octets report.calling) reports) []
+calling_of reports = option_map_or (λ report. report.calling)
+    (first_that (λ report. has_octets report.calling) reports) []
 
 -- the address of the first report that has one
 abbrev pub framed_of : List ReportFacts → Option (List ℕ)
-framed_of reports = option_and_then (λ report. report.framed) (first_that (λ report. is_some report.framed) reports)
+framed_of reports = option_and_then (λ report. report.framed)
+    (first_that (λ report. is_some report.framed) reports)
 
 -- ---- whether a session has ended
 
@@ -76,7 +84,8 @@ abbrev pub is_restarted : List Entry → Key → Bool
 is_restarted [] key = false
 is_restarted (entry.Report report ∷ older) key = is_restarted older key
 is_restarted (entry.Restart restart ∷ older) key =
-    (bytes_eq restart.client key.client && is_some (first_of (reports older (name_of key)))) || is_restarted older key
+    (bytes_eq restart.client key.client && is_some (first_of (reports older (name_of key))))
+    || is_restarted older key
 is_restarted (entry.TopUp topup ∷ older) key = is_restarted older key
 
 -- what the first Stop and a restart make of a session

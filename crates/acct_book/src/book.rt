@@ -1,9 +1,11 @@
 //! What a book is, in memory or in tables.
 ghost use Rattle.std.specs.Prelude.{◌≡◌, IfOk, IsOk, option_map};
 ghost use Rattle.std.specs.Option.{option_copied};
-ghost use Rattle.acct_book.specs.Content.{Content, HasOwnKeys, kept_balance, with_session, with_topup, with_closed};
+ghost use Rattle.acct_book.specs.Content.{Content, HasOwnKeys, kept_balance, with_session};
+ghost use Rattle.acct_book.specs.Content.{with_topup, with_closed};
 ghost use Rattle.acct_book.specs.Book.{Only, Reads, Writes};
-ghost use Rattle.acct_book.specs.Walk.{IsNextRow, IsNextBalance, IsNextTopUp, AreRowsOf, AreTopUpsOf};
+ghost use Rattle.acct_book.specs.Walk.{IsNextRow, IsNextBalance, IsNextTopUp, AreRowsOf};
+ghost use Rattle.acct_book.specs.Walk.{AreTopUpsOf};
 
 use crate::key::Key;
 use crate::row::Row;
@@ -26,16 +28,17 @@ impl From<AllocError> for Unavailable {
 ///
 /// # Errors
 ///
-/// Each call may answer `Unavailable`, and then has changed nothing: a store may refuse without a visible cause. Only `balance` of
-/// a steady book never does.
+/// Each call may answer `Unavailable`, and then has changed nothing: a store may refuse without a
+/// visible cause. Only `balance` of a steady book never does.
 pub trait Book {
-    /// What it contains, however it is kept. It says nothing of a book that isn't open.
+    /// What it contains, however it is kept. It says nothing of a book that is not open.
     ghost content: { Self → Content };
 
     /// The store is as it promises.
     ghost is_sound: { Self → Type 0 };
 
-    /// It is sound, and still tells its content. A store that a failed write has shut is sound, and open no more.
+    /// It is sound, and still tells its content. A store that a failed write has shut is sound, and
+    /// open no more.
     ghost is_open: { Self → Type 0 };
 
     /// It never refuses to tell a balance.
@@ -46,55 +49,68 @@ pub trait Book {
 
     /// The row of a session.
     fn session(&mut self, key: &Key) -> Result<Option<Row>, Unavailable>
-        ensures found { is_open self.new → IfOk result (λ row. row ≡ (content self.old).rows key.now) }
+        ensures found { is_open self.new
+            → IfOk result (λ row. row ≡ (content self.old).rows key.now) }
         ensures reads { Reads content is_sound is_open is_steady left self.old self.new result };
 
     /// The balance of an account, 0 where none is kept.
     fn balance(&mut self, account: &[u8]) -> Result<i64, Unavailable>
-        ensures found { is_open self.new → IfOk result (λ balance. balance ≡ kept_balance (content self.old) account.now) }
+        ensures found { is_open self.new
+            → IfOk result (λ balance. balance ≡ kept_balance (content self.old) account.now) }
         ensures steady { is_steady self.old → IsOk result }
         ensures reads { Reads content is_sound is_open is_steady left self.old self.new result };
 
     /// The top-up that is kept by a number.
     fn voucher(&mut self, number: &str) -> Result<Option<TopUp>, Unavailable>
-        ensures found { is_open self.new → IfOk result (λ topup. topup ≡ (content self.old).topups number.now) }
+        ensures found { is_open self.new
+            → IfOk result (λ topup. topup ≡ (content self.old).topups number.now) }
         ensures reads { Reads content is_sound is_open is_steady left self.old self.new result };
 
     /// Sets a row under its key and the balance of its account, both or neither.
     fn put_session(&mut self, row: &Row, balance: i64) -> Result<(), Unavailable>
-        ensures { Writes content is_sound is_open is_steady left self.old self.new (with_session (content self.old) row.now balance) result };
+        ensures { Writes content is_sound is_open is_steady left self.old self.new
+            (with_session (content self.old) row.now balance) result };
 
     /// Sets a top-up under its number and the balance of its account, both or neither.
     fn put_topup(&mut self, topup: &TopUp, balance: i64) -> Result<(), Unavailable>
-        ensures { Writes content is_sound is_open is_steady left self.old self.new (with_topup (content self.old) topup.now balance) result };
+        ensures { Writes content is_sound is_open is_steady left self.old self.new
+            (with_topup (content self.old) topup.now balance) result };
 
     /// Closes each live session of a client, with the cause 11.
     fn close_client(&mut self, client: &str) -> Result<(), Unavailable>
-        ensures { Writes content is_sound is_open is_steady left self.old self.new (with_closed (content self.old) client.now) result };
+        ensures { Writes content is_sound is_open is_steady left self.old self.new
+            (with_closed (content self.old) client.now) result };
 
     /// All rows of an account, in the order of their keys.
     fn sessions_of(&mut self, account: &[u8]) -> Result<Vec<Row>, Unavailable>
-        ensures found { is_open self.new → IfOk result (λ rows. AreRowsOf (content self.old) account.now rows.items) }
+        ensures found { is_open self.new
+            → IfOk result (λ rows. AreRowsOf (content self.old) account.now rows.items) }
         ensures reads { Reads content is_sound is_open is_steady left self.old self.new result };
 
     /// All top-ups of an account, in the order of their numbers.
     fn topups_of(&mut self, account: &[u8]) -> Result<Vec<TopUp>, Unavailable>
-        ensures found { is_open self.new → IfOk result (λ topups. AreTopUpsOf (content self.old) account.now topups.items) }
+        ensures found { is_open self.new
+            → IfOk result (λ topups. AreTopUpsOf (content self.old) account.now topups.items) }
         ensures reads { Reads content is_sound is_open is_steady left self.old self.new result };
 
     /// The row at the least key after the given one, or at the least of all.
     fn next_session(&mut self, after: Option<&Key>) -> Result<Option<Row>, Unavailable>
-        ensures found { is_open self.new → IfOk result (λ row. IsNextRow (content self.old) (option_copied after.entry) row) }
+        ensures found { is_open self.new
+            → IfOk result (λ row. IsNextRow (content self.old) (option_copied after.entry) row) }
         ensures reads { Reads content is_sound is_open is_steady left self.old self.new result };
 
     /// The least account after the given one, or the least of all, with its balance.
     fn next_account(&mut self, after: Option<&[u8]>) -> Result<Option<(Vec<u8>, i64)>, Unavailable>
-        ensures found { is_open self.new → IfOk result (λ kept. IsNextBalance (content self.old) (option_copied after.entry) (option_map (λ k. (k.0.items, k.1)) kept)) }
+        ensures found { is_open self.new
+            → IfOk result (λ kept. IsNextBalance (content self.old) (option_copied after.entry)
+            (option_map (λ k. (k.0.items, k.1)) kept)) }
         ensures reads { Reads content is_sound is_open is_steady left self.old self.new result };
 
     /// The top-up at the least number after the given one, or at the least of all.
     fn next_topup(&mut self, after: Option<&str>) -> Result<Option<TopUp>, Unavailable>
-        ensures found { is_open self.new → IfOk result (λ topup. IsNextTopUp (content self.old) (option_copied after.entry) topup) }
+        ensures found { is_open self.new
+            → IfOk result (λ topup.
+            IsNextTopUp (content self.old) (option_copied after.entry) topup) }
         ensures reads { Reads content is_sound is_open is_steady left self.old self.new result };
 
     /// An open book is sound.

@@ -99,8 +99,9 @@ pub fn balances_agree()
     ensures { BalancesAgree }
 {}
 
-/// An accepted report of a session that another account owns, and an accepted top-up to another account, leave the part of an account as
-/// it is: its balance, its rows and its top-ups.
+/// An accepted report of a session that another account owns, and an accepted top-up to another
+/// account, leave the part of an account as it is: its balance, its rows and its top-ups.
 pub fn part_stays()
-    ensures { (plans : List Plan) (history : List Entry) (account : List ℕ) → OtherPartsStay plans history account }
+    ensures { (plans : List Plan) (history : List Entry) (account : List ℕ)
+        → OtherPartsStay plans history account }
 {}

@@ -1,9 +1,11 @@
 //! A book in memory: ordered maps, with the balances stored.
 //!
 //! 1. Each row stands under its own key, and each top-up under its own number.
-//! 2. A growth that is refused leaves all three maps as they were: a first insertion is taken back where the second is refused.
+//! 2. A growth that is refused leaves all three maps as they were: a first insertion is taken back
+//!    where the second is refused.
 //! 3. A balance that is kept already is set without memory.
-ghost use Rattle.std.specs.Prelude.{◌≡◌, ℕ, List, Some, None, IsSome, OnOk, OnErr, IfOk, IsTrue, bytes_eq, option_map, string_bytes};
+ghost use Rattle.std.specs.Prelude.{◌≡◌, ℕ, List, Some, None, IsSome, OnOk, OnErr, IfOk, IsTrue};
+ghost use Rattle.std.specs.Prelude.{bytes_eq, option_map, string_bytes};
 ghost use Rattle.std.specs.List.{All, filter};
 ghost use Rattle.std.specs.String.{string_cmp};
 ghost use Rattle.std.specs.Option.{option_copied};
@@ -24,8 +26,9 @@ use std::ops::Bound;
 
 /// A book in memory. It is always sound, open and steady, and a crash leaves nothing of it.
 ///
-/// A session, a balance, a voucher, the next member and a write cost a search, whose time grows with the logarithm of the book. Closing a client's
-/// sessions and listing an account's rows or top-ups go through all rows or all top-ups once.
+/// A session, a balance, a voucher, the next member and a write cost a search, whose time grows
+/// with the logarithm of the book. Closing a client's sessions and listing an account's rows or
+/// top-ups go through all rows or all top-ups once.
 #[derive(Drop)]
 pub struct MemBook {
     alloc: Global,
@@ -173,9 +176,11 @@ fn put_both<K: Ord + Drop, V: Drop>(
 ) -> Result<(), Unavailable>
     requires name { account.items ≡ name.now }
     ensures map { OnOk result (Updates K.cmp map.old map.new key (Some value)) }
-    ensures balances { OnOk result ((a : List ℕ) → balance_at balances.new a ≡ update bytes_eq (balance_at balances.old) name.now (Some balance) a) }
+    ensures balances { OnOk result ((a : List ℕ) → balance_at balances.new a
+        ≡ update bytes_eq (balance_at balances.old) name.now (Some balance) a) }
     ensures map_err { OnErr result (IsUnchanged map.old map.new) }
-    ensures balances_err { OnErr result ((a : List ℕ) → balance_at balances.new a ≡ balance_at balances.old a) }
+    ensures balances_err { OnErr result ((a : List ℕ) → balance_at balances.new a
+        ≡ balance_at balances.old a) }
 {
     match balances.get(name) {
         Some(_) => put_known(map, key, value, balances, account, balance),
@@ -183,7 +188,8 @@ fn put_both<K: Ord + Drop, V: Drop>(
     }
 }
 
-// Sets a balance that is kept already, and another value. A growth that is refused leaves all as before.
+// Sets a balance that is kept already, and another value. A growth that is refused leaves all as
+// before.
 fn put_known<K: Ord + Drop, V: Drop>(
     map: &mut BTreeMap<K, V>,
     key: K,
@@ -194,7 +200,8 @@ fn put_known<K: Ord + Drop, V: Drop>(
 ) -> Result<(), Unavailable>
     requires { IsSome (balance_at balances.old account.items) }
     ensures map { OnOk result (Updates K.cmp map.old map.new key (Some value)) }
-    ensures balances { OnOk result ((a : List ℕ) → balance_at balances.new a ≡ update bytes_eq (balance_at balances.old) account.items (Some balance) a) }
+    ensures balances { OnOk result ((a : List ℕ) → balance_at balances.new a
+        ≡ update bytes_eq (balance_at balances.old) account.items (Some balance) a) }
     ensures map_err { OnErr result (IsUnchanged map.old map.new) }
     ensures balances_err { OnErr result (IsUnchanged balances.old balances.new) }
 {
@@ -208,7 +215,8 @@ fn put_known<K: Ord + Drop, V: Drop>(
     }
 }
 
-// Sets a balance that isn't kept yet, and another value. A first insertion is taken back where the second is refused.
+// Sets a balance that is not kept yet, and another value. A first insertion is taken back where the
+// second is refused.
 fn put_first<K: Ord + Drop, V: Drop>(
     map: &mut BTreeMap<K, V>,
     key: K,
@@ -221,9 +229,11 @@ fn put_first<K: Ord + Drop, V: Drop>(
     requires absent { balance_at balances.old name.now ≡ None }
     requires name { account.items ≡ name.now }
     ensures map { OnOk result (Updates K.cmp map.old map.new key (Some value)) }
-    ensures balances { OnOk result ((a : List ℕ) → balance_at balances.new a ≡ update bytes_eq (balance_at balances.old) name.now (Some balance) a) }
+    ensures balances { OnOk result ((a : List ℕ) → balance_at balances.new a
+        ≡ update bytes_eq (balance_at balances.old) name.now (Some balance) a) }
     ensures map_err { OnErr result (IsUnchanged map.old map.new) }
-    ensures balances_err { OnErr result ((a : List ℕ) → balance_at balances.new a ≡ balance_at balances.old a) }
+    ensures balances_err { OnErr result ((a : List ℕ) → balance_at balances.new a
+        ≡ balance_at balances.old a) }
 {
     match balances.insert(account, balance) {
         Ok(_) => (),
@@ -240,7 +250,8 @@ fn put_first<K: Ord + Drop, V: Drop>(
 
 // The rows of an account, in the order of the map.
 fn rows_of(alloc: Global, map: &BTreeMap<Key, Row>, account: &[u8]) -> Result<Vec<Row>, AllocError>
-    ensures kept { IfOk result (λ rows. rows.items ≡ filter (λ row. bytes_eq account.now row.account) (tree.values map.now)) }
+    ensures kept { IfOk result (λ rows. rows.items
+        ≡ filter (λ row. bytes_eq account.now row.account) (tree.values map.now)) }
     ensures found { All (λ e. tree.get key_cmp map.now e.0 ≡ Some e.1) map.now.entries }
     ensures ordered { tree.IsOrdered key_cmp map.now }
 {
@@ -259,7 +270,8 @@ fn topups_to(
     map: &BTreeMap<String, TopUp>,
     account: &[u8],
 ) -> Result<Vec<TopUp>, AllocError>
-    ensures kept { IfOk result (λ topups. topups.items ≡ filter (λ topup. bytes_eq account.now topup.account) (tree.values map.now)) }
+    ensures kept { IfOk result (λ topups. topups.items
+        ≡ filter (λ topup. bytes_eq account.now topup.account) (tree.values map.now)) }
     ensures found { All (λ e. tree.get string_cmp map.now e.0 ≡ Some e.1) map.now.entries }
     ensures ordered { tree.IsOrdered string_cmp map.now }
 {
@@ -272,13 +284,15 @@ fn topups_to(
     Ok(topups)
 }
 
-// The entry at the least account after the given one, or at the least of all. The map is searched by a key of its own type.
+// The entry at the least account after the given one, or at the least of all. The map is searched
+// by a key of its own type.
 fn balance_after<'m>(
     alloc: Global,
     map: &'m BTreeMap<Vec<u8>, i64>,
     after: Option<&[u8]>,
 ) -> Result<Option<(&'m Vec<u8>, &'m i64)>, AllocError>
-    ensures { IfOk result (λ next. IsNext octets_cmp (balance_at map.now) (option_copied after.entry) (option_map (λ e. (e.0.now.items, e.1.now)) next)) }
+    ensures { IfOk result (λ next. IsNext octets_cmp (balance_at map.now)
+        (option_copied after.entry) (option_map (λ e. (e.0.now.items, e.1.now)) next)) }
 {
     let start = owned_start(alloc, after)?;
     Ok(entry_after(map, start.as_ref()))
@@ -290,7 +304,8 @@ fn topup_after<'m>(
     map: &'m BTreeMap<String, TopUp>,
     after: Option<&str>,
 ) -> Result<Option<(&'m String, &'m TopUp)>, AllocError>
-    ensures { IfOk result (λ next. IsNext octets_cmp (tree.get_by_text map.now) (option_copied after.entry) (option_map (λ e. (string_bytes e.0.now, e.1.now)) next)) }
+    ensures { IfOk result (λ next. IsNext octets_cmp (tree.get_by_text map.now)
+        (option_copied after.entry) (option_map (λ e. (string_bytes e.0.now, e.1.now)) next)) }
 {
     let start = text_start(alloc, after)?;
     Ok(entry_after(map, start.as_ref()))
@@ -301,7 +316,8 @@ fn entry_after<'m, 'k, K: Ord + Drop, V>(
     map: &'m BTreeMap<K, V>,
     after: Option<&'k K>,
 ) -> Option<(&'m K, &'m V)>
-    ensures { IsNext K.cmp (tree.get K.cmp map.now) (option_copied after.entry) (option_map (λ e. (e.0.now, e.1.now)) result) }
+    ensures { IsNext K.cmp (tree.get K.cmp map.now) (option_copied after.entry)
+        (option_map (λ e. (e.0.now, e.1.now)) result) }
 {
     let start = match after {
         None => Bound::Unbounded,
@@ -322,7 +338,8 @@ fn owned_start(alloc: Global, after: Option<&[u8]>) -> Result<Option<Vec<u8>>, A
 
 // A copy of a text, if there is one.
 fn text_start(alloc: Global, after: Option<&str>) -> Result<Option<String>, AllocError>
-    ensures { IfOk result (λ start. option_map (λ k. string_bytes k) start ≡ option_copied after.entry) }
+    ensures { IfOk result (λ start. option_map (λ k. string_bytes k) start
+        ≡ option_copied after.entry) }
 {
     match after {
         None => Ok(None),

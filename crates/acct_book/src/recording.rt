@@ -1,16 +1,19 @@
 //! Records one entry. `record` keeps these rules, for whatever keeps the book:
 //!
-//! 1. A report is charged to the account of its session's first report, by the plan of that report's class.
-//! 2. A report debits the price of the session's new greatest total less the price of the one before: a total that is no greater
-//!    debits nothing, and no report gives money back.
+//! 1. A report is charged to the account of its session's first report, by the plan of that
+//!    report's class.
+//! 2. A report debits the price of the session's new greatest total less the price of the one
+//!    before: a total that is no greater debits nothing, and no report gives money back.
 //! 3. A report changes one row and one balance, both by one call of the book or neither.
-//! 4. A voucher is credited once. A number that is kept with the same account and sum is a repeat and changes nothing, with another
-//!    account or sum it is refused.
-//! 5. A restart closes the live sessions of its client alone and moves no money. An ended session never opens again.
+//! 4. A voucher is credited once. A number that is kept with the same account and sum is a repeat
+//!    and changes nothing, with another account or sum it is refused.
+//! 5. A restart closes the live sessions of its client alone and moves no money. An ended session
+//!    never opens again.
 //! 6. A balance that would leave its range is refused, whoever else has what balance.
-//! 7. Every growth and every test comes before the one call that writes, so a refusal changes nothing. Only that call's whole effect
-//!    can a crash leave besides.
-ghost use Rattle.std.specs.Prelude.{◌≡◌, ◌≢◌, ◌+◌, ◌^◌, ◌<◌, Err, IfOk, IfErr, IfNone, IfSome, MatchOption, pos, ◌+ℤ◌, ◌-ℤ◌};
+//! 7. Every growth and every test comes before the one call that writes, so a refusal changes
+//!    nothing. Only that call's whole effect can a crash leave besides.
+ghost use Rattle.std.specs.Prelude.{◌≡◌, ◌≢◌, ◌+◌, ◌^◌, ◌<◌, Err, IfOk, IfErr, IfNone, IfSome};
+ghost use Rattle.std.specs.Prelude.{MatchOption, pos, ◌+ℤ◌, ◌-ℤ◌};
 ghost use Rattle.acct_model.specs.declared.entry.Entry.{Entry};
 ghost use Rattle.acct_model.specs.History.{InRange};
 ghost use Rattle.acct_book.specs.Book.{Reads};
@@ -75,12 +78,14 @@ impl From<Unavailable> for RecordError {
     }
 }
 
-/// Records one entry in a book whose content stands for a history under these plans. `New` says that the content then stands for
-/// the history with the entry; after each other answer the content of a book that is still open is as before.
+/// Records one entry in a book whose content stands for a history under these plans. `New` says
+/// that the content then stands for the history with the entry; after each other answer the content
+/// of a book that is still open is as before.
 ///
 /// # Errors
 ///
-/// `VoucherDiffers` and `BalanceLimit` as their names say; `Unavailable` may come in place of any other answer.
+/// `VoucherDiffers` and `BalanceLimit` as their names say; `Unavailable` may come in place of any
+/// other answer.
 pub fn record<B: Book>(
     alloc: Global,
     book: &mut B,

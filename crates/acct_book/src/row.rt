@@ -7,7 +7,8 @@ use std::alloc::{AllocError, Global};
 use std::fmt;
 use std::marker::Model;
 
-/// Whether a session goes on. An ended one never opens again. It is shown as `open`, `closed` or `stopped`.
+/// Whether a session goes on. An ended one never opens again. It is shown as `open`, `closed` or
+/// `stopped`.
 #[derive(Clone, Copy, PartialEq, Eq, Debug)]
 pub enum SessionState {
     /// Neither a Stop of it nor a restart of its client was accepted.
@@ -31,7 +32,8 @@ impl fmt::Display for SessionState {
 /// The cause of a session that a restart of its client closed: NAS Reboot (RFC 2866, section 5.10).
 const NAS_REBOOT: u32 = 11;
 
-/// What is kept of a session. Its input and output are at most 2^63 - 1 octets together, and its moments are below 2^53.
+/// What is kept of a session. Its input and output are at most 2^63 - 1 octets together, and its
+/// moments are below 2^53.
 #[derive(Debug, Drop)]
 pub struct Row {
     /// The client's name.
@@ -56,7 +58,7 @@ pub struct Row {
     pub state: SessionState,
     /// The Acct-Terminate-Cause of the first Stop, 11 of a closed session, else 0.
     pub cause: u32,
-    /// The first Calling-Station-Id that isn't empty, else empty.
+    /// The first Calling-Station-Id that is not empty, else empty.
     pub calling: Octets,
     /// The first Framed-IP-Address, if there was one.
     pub framed: Option<[u8; 4]>,
@@ -67,7 +69,21 @@ impl Model for Row {
 
     ghost Value = { RowFacts };
 
-    ghost view = { λ r. record { client = r.client; session = r.session; account = r.account; class = r.class; input = r.input; output = r.output; seconds = r.seconds; first = r.first; last = r.last; state = r.state; cause = r.cause; calling = r.calling; framed = r.framed } };
+    ghost view = { λ r. record {
+      client = r.client;
+      session = r.session;
+      account = r.account;
+      class = r.class;
+      input = r.input;
+      output = r.output;
+      seconds = r.seconds;
+      first = r.first;
+      last = r.last;
+      state = r.state;
+      cause = r.cause;
+      calling = r.calling;
+      framed = r.framed;
+    } };
 
     ghost invariant = { λ r. IsRow r.input r.output r.first r.last };
 }

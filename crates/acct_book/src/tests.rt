@@ -476,7 +476,7 @@ fn is_last(alloc: Global, book: &mut MemBook, name: (&str, &[u8])) -> Result<boo
     Ok(book.next_session(Some(&last))?.is_none())
 }
 
-// After a key that isn't in the book comes the next greater one.
+// After a key that is not in the book comes the next greater one.
 #[test]
 fn walks_go_on_after_any_key(rt: HostRuntime) -> Result<(), Fail> {
     let alloc = rt.alloc();

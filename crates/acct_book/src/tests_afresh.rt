@@ -64,7 +64,8 @@ impl Numbers {
         }))
     }
 
-    // A report of one of twelve sessions, a restart of one of their clients, or a top-up to one of their accounts.
+    // A report of one of twelve sessions, a restart of one of their clients, or a top-up to one of
+    // their accounts.
     fn entry(&mut self, alloc: Global) -> Result<Entry, Fail> {
         match self.next() {
             0 => Ok(Entry::Restart(Restart {

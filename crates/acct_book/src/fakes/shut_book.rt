@@ -9,9 +9,9 @@ use crate::row::Row;
 use acct_model::TopUp;
 use std::alloc::Global;
 
-/// A book that is written twice, as a store writes its memory and then its disk. It is shut from the
-/// first write to the end of the second: where the second fails, each later call is refused, and a
-/// crash may leave the content without the write or with it.
+/// A book that is written twice, as a store writes its memory and then its disk. It is shut from
+/// the first write to the end of the second: where the second fails, each later call is refused,
+/// and a crash may leave the content without the write or with it.
 #[derive(Drop)]
 pub struct ShutBook {
     present: MemBook,

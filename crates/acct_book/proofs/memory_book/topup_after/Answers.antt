@@ -6,5 +6,7 @@ use Rattle.acct_book.proofs.memory_book.topup_after.Goals as goal
 
 pub returns : goal.returns
 returns c =
-    next-lent (λ k. string_bytes k) c.args.map.now (option_copied c.as_ref.result) (option_copied c.args.after) c.entry_after.result
-    (ap (option_map (λ k. string_bytes k)) c.as_ref.ensures.value ∙ c.in_ok-start.ensures) c.entry_after.ensures
+    next-lent (λ k. string_bytes k) c.args.map.now (option_copied c.as_ref.result)
+    (option_copied c.args.after) c.entry_after.result
+    (ap (option_map (λ k. string_bytes k)) c.as_ref.ensures.value ∙ c.in_ok-start.ensures)
+    c.entry_after.ensures

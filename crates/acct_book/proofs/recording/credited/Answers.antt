@@ -18,14 +18,18 @@ returns-in-Some-moved-clause-added g c = λ now history st.
     let number = c.as_str.ensures ∙ ap (λ r. r.voucher) c.topup.view_is in
     let account = c.as_slice.ensures ∙ ap (λ r. r.account) c.topup.view_is in
     let sum = c.from.ensures ∙ ap (λ r. r.sum) c.topup.view_is in
-    let none : c0.topups t.voucher ≡ None = ap c0.topups (sym number) ∙ sym (c.in_ok-kept.ensures.found o1) ∙ c.in_default.is in
-    let balance : c.in_ok-balance.balance ≡ kept_balance c0 t.account = c.in_ok-balance.ensures.found now ∙ (λ i. kept_balance (same1 i) (account i)) in
+    let none : c0.topups t.voucher ≡ None = ap c0.topups (sym number)
+    ∙ sym (c.in_ok-kept.ensures.found o1) ∙ c.in_default.is in
+    let balance : c.in_ok-balance.balance ≡ kept_balance c0 t.account
+    = c.in_ok-balance.ensures.found now ∙ (λ i. kept_balance (same1 i) (account i)) in
     let old_fits : SFits w64 c.in_ok-balance.balance = search rules in
     let new_fits : SFits w64 c.in-Some-moved.next = search rules in
     let old : _ ≡ c.in_ok-balance.balance = to_z-of_z w64 c.in_ok-balance.balance old_fits in
     let new : _ ≡ c.in-Some-moved.next = to_z-of_z w64 c.in-Some-moved.next new_fits in
-    let added = topup_read_new c.args.plans.now c0 history t c.in_ok-balance.balance c.in-Some-moved.next (with_topup c0 t _) st none balance
-    (c.in-Some-moved.ensures.some ∙ (λ i. (old i +ℤ pos (sum i)) -ℤ pos 0)) c.in-Some-moved.ensures.fits (ap (with_topup c0 t) new) in
+    let added = topup_read_new c.args.plans.now c0 history t c.in_ok-balance.balance
+    c.in-Some-moved.next (with_topup c0 t _) st none balance
+    (c.in-Some-moved.ensures.some ∙ (λ i. (old i +ℤ pos (sum i)) -ℤ pos 0))
+    c.in-Some-moved.ensures.fits (ap (with_topup c0 t) new) in
     (added.admissible, added.fresh, added.stands)
 
 pub returns-in-None-clause-refused : goal.returns-in-None-clause-refused
@@ -37,11 +41,15 @@ returns-in-None-clause-refused g c = λ now history st.
     let number = c.as_str.ensures ∙ ap (λ r. r.voucher) c.topup.view_is in
     let account = c.as_slice.ensures ∙ ap (λ r. r.account) c.topup.view_is in
     let sum = c.from.ensures ∙ ap (λ r. r.sum) c.topup.view_is in
-    let none : c0.topups t.voucher ≡ None = ap c0.topups (sym number) ∙ sym (c.in_ok-kept.ensures.found o1) ∙ c.in_default.is in
-    let balance : c.in_ok-balance.balance ≡ kept_balance c0 t.account = c.in_ok-balance.ensures.found now ∙ (λ i. kept_balance (same1 i) (account i)) in
+    let none : c0.topups t.voucher ≡ None = ap c0.topups (sym number)
+    ∙ sym (c.in_ok-kept.ensures.found o1) ∙ c.in_default.is in
+    let balance : c.in_ok-balance.balance ≡ kept_balance c0 t.account
+    = c.in_ok-balance.ensures.found now ∙ (λ i. kept_balance (same1 i) (account i)) in
     let fits : SFits w64 c.in_ok-balance.balance = search rules in
     let old : _ ≡ c.in_ok-balance.balance = to_z-of_z w64 c.in_ok-balance.balance fits in (
       subst (IsOverLimit c.args.plans.now history (TopUp t)) (sym old)
-          (topup_read_over c.args.plans.now c0 history t c.in_ok-balance.balance st none balance (λ f. c.in-None.ensures.none (subst InRange (sym (λ i. (old i +ℤ pos (sum i)) -ℤ pos 0)) f))),
+          (topup_read_over c.args.plans.now c0 history t c.in_ok-balance.balance st none balance
+          (λ f. c.in-None.ensures.none (subst InRange (sym (λ i. (old i +ℤ pos (sum i)) -ℤ pos 0))
+          f))),
       refl,
     )

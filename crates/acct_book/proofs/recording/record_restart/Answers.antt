@@ -13,16 +13,24 @@ returns-in_err-close_client g c =
     let plans = c.args.plans.now in
     let old = c.args.book.now in
     let entry = Restart c.args.restart.now in
-    subst (Records plans entry b.content b.is_sound b.is_open b.is_steady b.left old c.close_client.new.self) (sym (same_error c.from_residual.result Unavailable c.from_residual.ensures.1))
-    (failed {T = Unit {0}} plans entry b.content b.is_sound b.is_open b.is_steady b.left old old c.close_client.new.self (Err Unavailable) c.close_client.result _
-    (reads_none b.content b.is_sound b.is_open b.is_steady b.left old Unavailable) c.close_client.ensures c.in_err-close_client.ensures.err
-    (λ _. restart_adds plans (b.content old) c.args.restart.now _ c.as_str.ensures) g.met.B.Book.settled)
+    subst (Records plans entry b.content b.is_sound b.is_open b.is_steady b.left old
+    c.close_client.new.self)
+    (sym (same_error c.from_residual.result Unavailable c.from_residual.ensures.1))
+    (failed {T = Unit {0}} plans entry b.content b.is_sound b.is_open b.is_steady b.left old old
+    c.close_client.new.self (Err Unavailable) c.close_client.result _
+    (reads_none b.content b.is_sound b.is_open b.is_steady b.left old Unavailable)
+    c.close_client.ensures c.in_err-close_client.ensures.err
+    (λ _. restart_adds plans (b.content old) c.args.restart.now _ c.as_str.ensures)
+    g.met.B.Book.settled)
 
 pub returns : goal.returns
 returns g c =
     let b = g.B.Book in
     let plans = c.args.plans.now in
     let old = c.args.book.now in
-    added {T = Unit {0}} plans (Restart c.args.restart.now) b.content b.is_sound b.is_open b.is_steady b.left old old c.close_client.new.self (Err Unavailable) c.close_client.result _
-    (reads_none b.content b.is_sound b.is_open b.is_steady b.left old Unavailable) c.close_client.ensures c.in_ok-close_client.ensures.answers c.in_ok-close_client.ensures.ok
-    (λ _. restart_adds plans (b.content old) c.args.restart.now _ c.as_str.ensures) g.met.B.Book.settled
+    added {T = Unit {0}} plans (Restart c.args.restart.now) b.content b.is_sound b.is_open
+    b.is_steady b.left old old c.close_client.new.self (Err Unavailable) c.close_client.result _
+    (reads_none b.content b.is_sound b.is_open b.is_steady b.left old Unavailable)
+    c.close_client.ensures c.in_ok-close_client.ensures.answers c.in_ok-close_client.ensures.ok
+    (λ _. restart_adds plans (b.content old) c.args.restart.now _ c.as_str.ensures)
+    g.met.B.Book.settled

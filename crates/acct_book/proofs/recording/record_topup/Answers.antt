@@ -11,8 +11,11 @@ use Rattle.acct_book.proofs.recording.record_topup.Goals as goal
 pub returns-in_err-balance : goal.returns-in_err-balance
 returns-in_err-balance g c =
     let b = g.B.Book in
-    passed_on c.args.plans.now (TopUp c.args.topup.now) b.content b.is_sound b.is_open b.is_steady b.left c.args.book.now c.credited.new.book c.credited.result c.in_err-balance.field-0.0 c.from_residual.result
-    c.in_err-balance.was c.from_residual.ensures.1 c.credited.ensures.reads c.credited.ensures.answers c.in_err-balance.ensures.refused g.met.B.Book.settled
+    passed_on c.args.plans.now (TopUp c.args.topup.now) b.content b.is_sound b.is_open b.is_steady
+    b.left c.args.book.now c.credited.new.book c.credited.result c.in_err-balance.field-0.0
+    c.from_residual.result
+    c.in_err-balance.was c.from_residual.ensures.1 c.credited.ensures.reads
+    c.credited.ensures.answers c.in_err-balance.ensures.refused g.met.B.Book.settled
 
 pub returns-in_err-put_topup : goal.returns-in_err-put_topup
 returns-in_err-put_topup g c =
@@ -22,10 +25,16 @@ returns-in_err-put_topup g c =
     let entry = TopUp c.args.topup.now in
     let fits : SFits w64 c.in-Some.balance = search rules in
     let exact : _ ≡ c.in-Some.balance = to_z-of_z w64 c.in-Some.balance fits in
-    subst (Records plans entry b.content b.is_sound b.is_open b.is_steady b.left old c.put_topup.new.self) (sym (same_error c.from_residual-in_err-put_topup.result Unavailable c.from_residual-in_err-put_topup.ensures.1))
-    (failed plans entry b.content b.is_sound b.is_open b.is_steady b.left old c.credited.new.book c.put_topup.new.self c.credited.result c.put_topup.result _
+    subst (Records plans entry b.content b.is_sound b.is_open b.is_steady b.left old
+    c.put_topup.new.self)
+    (sym (same_error c.from_residual-in_err-put_topup.result Unavailable
+    c.from_residual-in_err-put_topup.ensures.1))
+    (failed plans entry b.content b.is_sound b.is_open b.is_steady b.left old c.credited.new.book
+    c.put_topup.new.self c.credited.result c.put_topup.result _
     c.credited.ensures.reads c.put_topup.ensures c.in_err-put_topup.ensures.err
-    (λ now. subst (Adds plans entry (b.content old)) (sym (λ i. with_topup (c.credited.ensures.reads.same now i) c.args.topup.now (exact i))) (rw c.in-Some.is at (c.in_ok-balance.ensures.added now))) g.met.B.Book.settled)
+    (λ now. subst (Adds plans entry (b.content old)) (sym
+    (λ i. with_topup (c.credited.ensures.reads.same now i) c.args.topup.now (exact i)))
+    (rw c.in-Some.is at (c.in_ok-balance.ensures.added now))) g.met.B.Book.settled)
 
 pub returns : goal.returns
 returns g c =
@@ -35,6 +44,10 @@ returns g c =
     let entry = TopUp c.args.topup.now in
     let fits : SFits w64 c.in-Some.balance = search rules in
     let exact : _ ≡ c.in-Some.balance = to_z-of_z w64 c.in-Some.balance fits in
-    added plans entry b.content b.is_sound b.is_open b.is_steady b.left old c.credited.new.book c.put_topup.new.self c.credited.result c.put_topup.result _
-    c.credited.ensures.reads c.put_topup.ensures c.in_ok-put_topup.ensures.answers c.in_ok-put_topup.ensures.ok
-    (λ now. subst (Adds plans entry (b.content old)) (sym (λ i. with_topup (c.credited.ensures.reads.same now i) c.args.topup.now (exact i))) (rw c.in-Some.is at (c.in_ok-balance.ensures.added now))) g.met.B.Book.settled
+    added plans entry b.content b.is_sound b.is_open b.is_steady b.left old c.credited.new.book
+    c.put_topup.new.self c.credited.result c.put_topup.result _
+    c.credited.ensures.reads c.put_topup.ensures c.in_ok-put_topup.ensures.answers
+    c.in_ok-put_topup.ensures.ok
+    (λ now. subst (Adds plans entry (b.content old)) (sym
+    (λ i. with_topup (c.credited.ensures.reads.same now i) c.args.topup.now (exact i)))
+    (rw c.in-Some.is at (c.in_ok-balance.ensures.added now))) g.met.B.Book.settled

@@ -10,13 +10,18 @@ invariant_of-self c =
     let s = c.args.self.now in
     let client = c.args.client.now in
     let closed = rows-closed s.rows c.retain.new.self s.balances s.topups client
-    (map_same_pairs _ (closed_by client) _ (λ k v b w f' t. search rules) s.rows.entries c.retain.new.self.entries c.retain.ensures.filtered) in
-    record { own_keys = subst HasOwnKeys (sym closed) (own-closed (content_from s.rows s.balances s.topups) client s.own_keys) }
+    (map_same_pairs _ (closed_by client) _ (λ k v b w f' t. search rules) s.rows.entries
+    c.retain.new.self.entries c.retain.ensures.filtered) in
+    record {
+      own_keys = subst HasOwnKeys (sym closed) (own-closed
+          (content_from s.rows s.balances s.topups) client s.own_keys);
+    }
 
 pub returns : goal.returns
 returns c =
     let s = c.args.self.now in
     let client = c.args.client.now in
     let closed = rows-closed s.rows c.retain.new.self s.balances s.topups client
-    (map_same_pairs _ (closed_by client) _ (λ k v b w f' t. search rules) s.rows.entries c.retain.new.self.entries c.retain.ensures.filtered) in
+    (map_same_pairs _ (closed_by client) _ (λ k v b w f' t. search rules) s.rows.entries
+    c.retain.new.self.entries c.retain.ensures.filtered) in
     mem-writes s _ _ _ (record { ok = closed; err = tt })

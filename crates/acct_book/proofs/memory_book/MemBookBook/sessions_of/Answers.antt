@@ -14,4 +14,5 @@ returns-clause-found c = λ _.
     let e = c.in_ok-rows_of.ensures in
     let account = c.args.account.now in
     subst (AreRowsOf (content_of s) account) (sym e.kept)
-    (members key_cmp (λ k. k) key_of (λ k. is_at (key_cmp k)) (λ row. bytes_eq account row.account) s.rows.entries e.found s.own_keys.rows e.ordered)
+    (members key_cmp (λ k. k) key_of (λ k. is_at (key_cmp k))
+    (λ row. bytes_eq account row.account) s.rows.entries e.found s.own_keys.rows e.ordered)

@@ -13,4 +13,6 @@ returns-clause-found c = λ _.
     let e = c.in_ok-topups_to.ensures in
     let account = c.args.account.now in
     subst (AreTopUpsOf (content_of s) account) (sym e.kept)
-    (members octets_cmp (λ k. string_bytes k) (λ topup. topup.voucher) (λ n. is_at (λ k. octets_cmp n (string_bytes k))) (λ topup. bytes_eq account topup.account) s.topups.entries e.found s.own_keys.topups e.ordered)
+    (members octets_cmp (λ k. string_bytes k) (λ topup. topup.voucher)
+    (λ n. is_at (λ k. octets_cmp n (string_bytes k))) (λ topup. bytes_eq account topup.account)
+    s.topups.entries e.found s.own_keys.topups e.ordered)
