@@ -120,7 +120,7 @@ told_again plans old new t s (Refused BalanceLimit) v a m (k, is, account, amoun
 chosen : (a b c : Bool) (n x : List ℕ) (m when later : ℕ) (t : TopUpFacts)
     → (if not a then Err BadVoucher else if not b then Err BadAccount else if not c then Err BadSum else Ok (record { voucher = n; account = x; sum = m; when = when })) ≡ Ok t
     → (s : TopUpFacts) × ((if not a then Err BadVoucher else if not b then Err BadAccount else if not c then Err BadSum else Ok (record { voucher = n; account = x; sum = m; when = later })) ≡ Ok s)
-      × (s.voucher ≡ t.voucher) × (s.account ≡ t.account) × (s.sum ≡ t.sum)
+    × (s.voucher ≡ t.voucher) × (s.account ≡ t.account) × (s.sum ≡ t.sum)
 chosen true true true n x m when later t e =
     let first : TopUpFacts = record { voucher = n; account = x; sum = m; when = when } in
     let same : first ≡ t = cc e in

@@ -86,10 +86,7 @@ fn export_accounts<B: Book, W: Write + Drop>(
     }
 }
 
-fn begin_accounts<W: Write + Drop>(
-    writer: W,
-    what: AccountExport,
-) -> Result<Writer<W>, ExportError>
+fn begin_accounts<W: Write + Drop>(writer: W, what: AccountExport) -> Result<Writer<W>, ExportError>
     ensures between { IfOk result IsBetweenLines }
     ensures text { IfOk result (λ lines. Appends (W.contents writer) (text_written W.contents lines) (line (account_header what))) }
 {
@@ -179,5 +176,9 @@ fn write_overrun<W: Write + Drop>(
 fn overrun(balance: i64) -> u64
     ensures { result ≡ overrun_of balance }
 {
-    if balance < 0 { balance.unsigned_abs() } else { 0 }
+    if balance < 0 {
+        balance.unsigned_abs()
+    } else {
+        0
+    }
 }

@@ -41,10 +41,7 @@ impl From<NoMemory> for ExportError {
 }
 
 /// A writer of lines that has written the header.
-pub(crate) fn begin<W: Write + Drop>(
-    writer: W,
-    header: &[&[u8]],
-) -> Result<Writer<W>, ExportError>
+pub(crate) fn begin<W: Write + Drop>(writer: W, header: &[&[u8]]) -> Result<Writer<W>, ExportError>
     ensures between { IfOk result IsBetweenLines }
     ensures text { IfOk result (λ lines. Appends (W.contents writer) (text_written W.contents lines) (line (map (λ field. field.now) header.now))) }
 {

@@ -13,6 +13,8 @@ mod importing;
 pub mod laws;
 mod refused_list;
 mod session_lines;
+#[cfg(test)]
+mod tests;
 mod topup_lines;
 mod voucher_record;
 

@@ -37,7 +37,7 @@ pub fn export_sessions<B: Book, W: Write + Drop>(
     ensures reads { Reads B.content B.is_sound B.is_open B.is_steady B.left book.old book.new result }
     ensures text { IfOk result (λ w. (entries : List (Key × RowFacts))
         × Appends (W.contents writer) (W.contents w)
-            (export_text session_header (λ e. line (session_fields plans.now e.1)) entries)
+        (export_text session_header (λ e. line (session_fields plans.now e.1)) entries)
         × (B.is_open book.new → AreAllPast key_cmp (B.content book.old).rows None entries)) }
 {
     let mut lines = begin_sessions(writer)?;

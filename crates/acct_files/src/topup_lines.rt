@@ -32,9 +32,9 @@ pub fn export_topups<B: Book, W: Write + Drop>(
     ensures reads { Reads B.content B.is_sound B.is_open B.is_steady B.left book.old book.new result }
     ensures text { IfOk result (λ w. (entries : List (List ℕ × TopUpFacts))
         × Appends (W.contents writer) (W.contents w)
-            (export_text topup_header (λ e. line (topup_fields e.1)) entries)
+        (export_text topup_header (λ e. line (topup_fields e.1)) entries)
         × (B.is_open book.new
-            → AreAllPast octets_cmp (B.content book.old).topups None entries)) }
+        → AreAllPast octets_cmp (B.content book.old).topups None entries)) }
 {
     let mut lines = begin_topups(writer)?;
     let mut fields = ByteRecord::new(alloc);

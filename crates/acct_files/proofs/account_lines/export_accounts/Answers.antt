@@ -24,9 +24,11 @@ loop-turn-preserved g c =
     record {
       between = c.in_ok-write_account.ensures.between;
       quiet = quiet_more g.B.Book.content g.B.Book.is_sound g.B.Book.is_open g.B.Book.is_steady g.B.Book.left c.args.book.now c.loop-turn.book c.next_account.new.book c.next_account.result inv.quiet reads;
-      walk = (entries ++ (c.in-Some.kept.0.items, c.in-Some.kept.1) ∷ [],
+      walk = (
+        entries ++ (c.in-Some.kept.0.items, c.in-Some.kept.1) ∷ [],
         grown (account_header c.args.what) (λ (e : List ℕ × ℤ). account_line c.args.what e.0 e.1) entries (c.in-Some.kept.0.items, c.in-Some.kept.1) _ _ _ written c.in_ok-write_account.ensures.text,
-        λ opens. (walked_more octets_cmp (g.B.Book.content c.args.book.now).balances None entries _ c.in-Some.kept.0.items c.in-Some.kept.1 (walked (reads.was_open opens)) (here opens)));
+        λ opens. (walked_more octets_cmp (g.B.Book.content c.args.book.now).balances None entries _ c.in-Some.kept.0.items c.in-Some.kept.1 (walked (reads.was_open opens)) (here opens)),
+      );
     }
 
 pub returns-in_default-clause-text : goal.returns-in_default-clause-text
@@ -35,8 +37,12 @@ returns-in_default-clause-text g c =
     let (entries, written, walked) = inv.walk in
     let found = λ (opens : g.B.Book.is_open c.next_account.new.book). rw c.in_default.is at (c.in_ok-kept.ensures.found opens) in
     let here = next_here g.B.Book.content g.B.Book.is_open octets_cmp (λ x. x.balances) c.args.book.now c.loop-turn.book c.next_account.new.book (option_map (λ a. a.items) c.loop-turn.after) None inv.quiet.same c.next_account.ensures.reads.was_open found in
-    if_ok c.finish.result _ _ (λ w keeps. (entries, appends_kept _ _ _ (export_text (account_header c.args.what) (λ (e : List ℕ × ℤ). account_line c.args.what e.0 e.1) entries) written keeps, λ opens.
-        (walks-meet-all (g.B.Book.content c.args.book.now)).balances None entries (walked_all octets_cmp (g.B.Book.content c.args.book.now).balances None entries _ (walked (c.next_account.ensures.reads.was_open opens)) (here opens)))) c.finish.ensures
+    if_ok c.finish.result _ _ (λ w keeps. (
+      entries,
+      appends_kept _ _ _ (export_text (account_header c.args.what) (λ (e : List ℕ × ℤ). account_line c.args.what e.0 e.1) entries) written keeps,
+      λ opens.
+          (walks-meet-all (g.B.Book.content c.args.book.now)).balances None entries (walked_all octets_cmp (g.B.Book.content c.args.book.now).balances None entries _ (walked (c.next_account.ensures.reads.was_open opens)) (here opens)),
+    )) c.finish.ensures
 
 pub returns-in-None-clause-text : goal.returns-in-None-clause-text
 returns-in-None-clause-text g c =
@@ -44,5 +50,9 @@ returns-in-None-clause-text g c =
     let (entries, written, walked) = inv.walk in
     let found = λ (opens : g.B.Book.is_open c.next_account-2.new.book). rw c.in-None.is at (c.in_ok-next_account.ensures.found opens) in
     let here = next_here g.B.Book.content g.B.Book.is_open octets_cmp (λ x. x.balances) c.args.book.now c.loop-turn.book c.next_account-2.new.book (option_map (λ a. a.items) c.loop-turn.after) None inv.quiet.same c.next_account-2.ensures.reads.was_open found in
-    if_ok c.finish-in-None.result _ _ (λ w keeps. (entries, appends_kept _ _ _ (export_text (account_header c.args.what) (λ (e : List ℕ × ℤ). account_line c.args.what e.0 e.1) entries) written keeps, λ opens.
-        (walks-meet-all (g.B.Book.content c.args.book.now)).balances None entries (walked_all octets_cmp (g.B.Book.content c.args.book.now).balances None entries _ (walked (c.next_account-2.ensures.reads.was_open opens)) (here opens)))) c.finish-in-None.ensures
+    if_ok c.finish-in-None.result _ _ (λ w keeps. (
+      entries,
+      appends_kept _ _ _ (export_text (account_header c.args.what) (λ (e : List ℕ × ℤ). account_line c.args.what e.0 e.1) entries) written keeps,
+      λ opens.
+          (walks-meet-all (g.B.Book.content c.args.book.now)).balances None entries (walked_all octets_cmp (g.B.Book.content c.args.book.now).balances None entries _ (walked (c.next_account-2.ensures.reads.was_open opens)) (here opens)),
+    )) c.finish-in-None.ensures

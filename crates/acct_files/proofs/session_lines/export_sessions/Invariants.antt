@@ -16,7 +16,7 @@ invariant-loop-turn g l = record {
   quiet : Quiet g.B.Book.content g.B.Book.is_sound g.B.Book.is_open g.B.Book.is_steady g.B.Book.left l.fn.book l.book;
   walk : (entries : List (Key × RowFacts))
       × Appends (g.W.Write.contents l.fn.writer) (text_written g.W.Write.contents l.lines)
-          (export_text session_header (λ (e : Key × RowFacts). line (session_fields l.plans e.1)) entries)
+      (export_text session_header (λ (e : Key × RowFacts). line (session_fields l.plans e.1)) entries)
       × (g.B.Book.is_open l.book
-          → Walked key_cmp (g.B.Book.content l.fn.book).rows None entries l.after);
+      → Walked key_cmp (g.B.Book.content l.fn.book).rows None entries l.after);
 }

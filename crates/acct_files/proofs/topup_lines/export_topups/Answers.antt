@@ -25,9 +25,11 @@ loop-turn-preserved g c =
     record {
       between = c.in_ok-write_topup.ensures.between;
       quiet = quiet_more g.B.Book.content g.B.Book.is_sound g.B.Book.is_open g.B.Book.is_steady g.B.Book.left c.args.book.now c.loop-turn.book c.next_topup.new.book c.next_topup.result inv.quiet reads;
-      walk = (entries ++ (c.in-Some.topup.voucher, c.in-Some.topup) ∷ [],
+      walk = (
+        entries ++ (c.in-Some.topup.voucher, c.in-Some.topup) ∷ [],
         grown topup_header (λ (e : List ℕ × TopUpFacts). line (topup_fields e.1)) entries (c.in-Some.topup.voucher, c.in-Some.topup) _ _ _ written c.in_ok-write_topup.ensures.text,
-        λ opens. rw c.voucher_of.ensures (walked_more octets_cmp (g.B.Book.content c.args.book.now).topups None entries _ c.in-Some.topup.voucher c.in-Some.topup (walked (reads.was_open opens)) (here opens)));
+        λ opens. rw c.voucher_of.ensures (walked_more octets_cmp (g.B.Book.content c.args.book.now).topups None entries _ c.in-Some.topup.voucher c.in-Some.topup (walked (reads.was_open opens)) (here opens)),
+      );
     }
 
 pub returns-in_default-clause-text : goal.returns-in_default-clause-text
@@ -36,8 +38,12 @@ returns-in_default-clause-text g c =
     let (entries, written, walked) = inv.walk in
     let found = λ (opens : g.B.Book.is_open c.next_topup.new.book). rw c.in_default.is at (c.in_ok-topup.ensures.found opens) in
     let here = next_here g.B.Book.content g.B.Book.is_open octets_cmp (λ x. x.topups) c.args.book.now c.loop-turn.book c.next_topup.new.book c.loop-turn.after None inv.quiet.same c.next_topup.ensures.reads.was_open found in
-    if_ok c.finish.result _ _ (λ w keeps. (entries, appends_kept _ _ _ (export_text topup_header (λ (e : List ℕ × TopUpFacts). line (topup_fields e.1)) entries) written keeps, λ opens.
-        (walks-meet-all (g.B.Book.content c.args.book.now)).topups None entries (walked_all octets_cmp (g.B.Book.content c.args.book.now).topups None entries _ (walked (c.next_topup.ensures.reads.was_open opens)) (here opens)))) c.finish.ensures
+    if_ok c.finish.result _ _ (λ w keeps. (
+      entries,
+      appends_kept _ _ _ (export_text topup_header (λ (e : List ℕ × TopUpFacts). line (topup_fields e.1)) entries) written keeps,
+      λ opens.
+          (walks-meet-all (g.B.Book.content c.args.book.now)).topups None entries (walked_all octets_cmp (g.B.Book.content c.args.book.now).topups None entries _ (walked (c.next_topup.ensures.reads.was_open opens)) (here opens)),
+    )) c.finish.ensures
 
 pub returns-in-None-clause-text : goal.returns-in-None-clause-text
 returns-in-None-clause-text g c =
@@ -45,5 +51,9 @@ returns-in-None-clause-text g c =
     let (entries, written, walked) = inv.walk in
     let found = λ (opens : g.B.Book.is_open c.next_topup-2.new.book). rw c.in-None.is at (c.in_ok-next_topup.ensures.found opens) in
     let here = next_here g.B.Book.content g.B.Book.is_open octets_cmp (λ x. x.topups) c.args.book.now c.loop-turn.book c.next_topup-2.new.book c.loop-turn.after None inv.quiet.same c.next_topup-2.ensures.reads.was_open found in
-    if_ok c.finish-in-None.result _ _ (λ w keeps. (entries, appends_kept _ _ _ (export_text topup_header (λ (e : List ℕ × TopUpFacts). line (topup_fields e.1)) entries) written keeps, λ opens.
-        (walks-meet-all (g.B.Book.content c.args.book.now)).topups None entries (walked_all octets_cmp (g.B.Book.content c.args.book.now).topups None entries _ (walked (c.next_topup-2.ensures.reads.was_open opens)) (here opens)))) c.finish-in-None.ensures
+    if_ok c.finish-in-None.result _ _ (λ w keeps. (
+      entries,
+      appends_kept _ _ _ (export_text topup_header (λ (e : List ℕ × TopUpFacts). line (topup_fields e.1)) entries) written keeps,
+      λ opens.
+          (walks-meet-all (g.B.Book.content c.args.book.now)).topups None entries (walked_all octets_cmp (g.B.Book.content c.args.book.now).topups None entries _ (walked (c.next_topup-2.ensures.reads.was_open opens)) (here opens)),
+    )) c.finish-in-None.ensures

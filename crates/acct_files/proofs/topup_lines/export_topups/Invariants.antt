@@ -14,7 +14,7 @@ invariant-loop-turn g l = record {
   quiet : Quiet g.B.Book.content g.B.Book.is_sound g.B.Book.is_open g.B.Book.is_steady g.B.Book.left l.fn.book l.book;
   walk : (entries : List (List ℕ × TopUpFacts))
       × Appends (g.W.Write.contents l.fn.writer) (text_written g.W.Write.contents l.lines)
-          (export_text topup_header (λ (e : List ℕ × TopUpFacts). line (topup_fields e.1)) entries)
+      (export_text topup_header (λ (e : List ℕ × TopUpFacts). line (topup_fields e.1)) entries)
       × (g.B.Book.is_open l.book
-          → Walked octets_cmp (g.B.Book.content l.fn.book).topups None entries l.after);
+      → Walked octets_cmp (g.B.Book.content l.fn.book).topups None entries l.after);
 }

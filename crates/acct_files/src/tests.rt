@@ -1,0 +1,255 @@
+use crate::{
+    Cause, ExportError, Stopped, export_balances, export_overruns, export_sessions, export_topups,
+    import,
+};
+use acct_book::fakes::FailingBook;
+use acct_book::{Book, MemBook, Row, SessionState};
+use acct_model::{Octets, Plan, Plans, Text, TopUp};
+use std::alloc::Global;
+use std::test::Fail;
+
+// A text and what its import says: added, repeated, the refused records and why it stopped.
+#[derive(Clone, Copy)]
+struct Upload {
+    text: &'static [u8],
+    counts: (u64, u64),
+    refused: &'static [(u64, Cause)],
+    stopped: Option<Stopped>,
+}
+
+fn whole(text: &'static [u8], counts: (u64, u64), refused: &'static [(u64, Cause)]) -> Upload {
+    Upload {
+        text,
+        counts,
+        refused,
+        stopped: None,
+    }
+}
+
+const VOUCHERS: &[u8] = b"voucher,account,sum\nV-1,al,500\nV-2,bo,300\nV-1,al,501\n";
+
+fn plans(alloc: Global) -> Result<Plans, Fail> {
+    let mut plans = Vec::new(alloc);
+    plans.push(Plan {
+        class: Octets::from_slice(alloc, b"gold")?,
+        block: 1_048_576,
+        unit: 10,
+    })?;
+    plans.push(Plan {
+        class: Octets::from_slice(alloc, b"default")?,
+        block: 1_000_000,
+        unit: 5,
+    })?;
+    Ok(Plans::new(plans)?)
+}
+
+// Whether the import of a text into a book says what it is to say.
+fn says<B: Book>(alloc: Global, book: &mut B, upload: &Upload) -> Result<bool, Fail> {
+    let report = import(alloc, upload.text, &plans(alloc)?, book, 3000);
+    let mut refused = Vec::new(alloc);
+    for record in report.refused.as_slice() {
+        refused.push((record.number, record.cause))?;
+    }
+    Ok(
+        (report.added, report.repeated) == upload.counts
+            && refused.as_slice() == upload.refused
+            && report.stopped == upload.stopped,
+    )
+}
+
+static UPLOADS: [Upload; 9] = [
+    Upload {
+        text: VOUCHERS,
+        counts: (2, 0),
+        refused: &[(4, Cause::VoucherDiffers)],
+        stopped: None,
+    },
+    Upload {
+        text: b"voucher,account,sum\nV-1,al\nv-1,al,1\nV-1,al,0\n",
+        counts: (0, 0),
+        refused: &[
+            (2, Cause::FieldCount),
+            (3, Cause::BadVoucher),
+            (4, Cause::BadSum),
+        ],
+        stopped: None,
+    },
+    // A mark of the order of bytes, a quoted header, line ends of all kinds, blank lines, a quoted
+    // field with a comma, a quote and a line end, and a last record without a line end.
+    Upload {
+        text: b"\xEF\xBB\xBF\"voucher\",account,sum\r\n\r\n\"V-3\",\"a,\"\"b\nc\",7\rV-4,a%2Cb,0000000000008",
+        counts: (2, 0),
+        refused: &[],
+        stopped: None,
+    },
+    // Fields that are no text: a number and a sum are refused, an account is taken as it stands.
+    Upload {
+        text: b"voucher,account,sum\n\xFF,al,5\nV-5,\xFF,6\nV-6,al,\xFF\nV-7,,1\nV-5,%ff,6\n",
+        counts: (1, 1),
+        refused: &[
+            (2, Cause::BadVoucher),
+            (4, Cause::BadSum),
+            (5, Cause::BadAccount),
+        ],
+        stopped: None,
+    },
+    // Fourteen digits, the greatest sum, one above it, a sign and a space.
+    Upload {
+        text: b"voucher,account,sum\nA,al,00000000000001\nB,al,1000000000000\nC,al,1000000000001\nD,al,+1\nE,al, 1\n",
+        counts: (1, 0),
+        refused: &[
+            (2, Cause::BadSum),
+            (4, Cause::BadSum),
+            (5, Cause::BadSum),
+            (6, Cause::BadSum),
+        ],
+        stopped: None,
+    },
+    // The same number twice in one text.
+    Upload {
+        text: b"voucher,account,sum\nV-8,cy,40\nV-8,cy,40\n",
+        counts: (1, 1),
+        refused: &[],
+        stopped: None,
+    },
+    // Four fields.
+    Upload {
+        text: b"voucher,account,sum\nV-9,al,5,\n",
+        counts: (0, 0),
+        refused: &[(2, Cause::FieldCount)],
+        stopped: None,
+    },
+    Upload {
+        text: b"",
+        counts: (0, 0),
+        refused: &[],
+        stopped: Some(Stopped::BadHeader),
+    },
+    Upload {
+        text: b"voucher,account\nV-1,al,500\n",
+        counts: (0, 0),
+        refused: &[],
+        stopped: Some(Stopped::BadHeader),
+    },
+];
+
+#[test]
+fn texts_are_imported(rt: HostRuntime) -> Result<(), Fail> {
+    for upload in &UPLOADS {
+        let mut book = MemBook::new(rt.alloc());
+        assert!(rt; says(rt.alloc(), &mut book, upload)?);
+    }
+    Ok(())
+}
+
+// Whether the vouchers, imported twice, are credited once, and what accounting then downloads.
+fn twice_is_once(alloc: Global) -> Result<bool, Fail> {
+    let mut book = MemBook::new(alloc);
+    let first = whole(VOUCHERS, (2, 0), &[(4, Cause::VoucherDiffers)]);
+    let again = whole(VOUCHERS, (0, 2), &[(4, Cause::VoucherDiffers)]);
+    let both = says(alloc, &mut book, &first)? && says(alloc, &mut book, &again)?;
+    let balances = export_balances(alloc, &mut book, Vec::new(alloc))?;
+    let topups = export_topups(alloc, &mut book, Vec::new(alloc))?;
+    Ok(
+        both && balances.as_slice() == b"account,balance,overrun\nal,500,0\nbo,300,0\n".as_slice()
+            && topups.as_slice()
+                == b"voucher,account,sum,when\nV-1,al,500,3000\nV-2,bo,300,3000\n".as_slice(),
+    )
+}
+
+#[test]
+fn a_second_upload_credits_nothing(rt: HostRuntime) -> Result<(), Fail> {
+    assert!(rt; twice_is_once(rt.alloc())?);
+    Ok(())
+}
+
+fn first_row(alloc: Global) -> Result<Row, Fail> {
+    Ok(Row {
+        client: Text::from_str(alloc, "ap1")?,
+        session: Octets::from_slice(alloc, b"s2")?,
+        account: Octets::from_slice(alloc, b"al")?,
+        class: Octets::from_slice(alloc, b"gold")?,
+        input: 1_048_577,
+        output: 0,
+        seconds: 0,
+        first: 2000,
+        last: 2000,
+        state: SessionState::Live,
+        cause: 0,
+        calling: Octets::from_slice(alloc, b"")?,
+        framed: None,
+    })
+}
+
+// Every field differs from each other, and what can be escaped or quoted is.
+fn full_row(alloc: Global) -> Result<Row, Fail> {
+    Ok(Row {
+        client: Text::from_str(alloc, "ap1")?,
+        session: Octets::from_slice(alloc, b"s\n1")?,
+        account: Octets::from_slice(alloc, b"a,b")?,
+        class: Octets::from_slice(alloc, b"\xFF")?,
+        input: 5,
+        output: 7,
+        seconds: 9,
+        first: 2001,
+        last: 2003,
+        state: SessionState::Stopped,
+        cause: 2,
+        calling: Octets::from_slice(alloc, b"00\"11")?,
+        framed: Some([10, 0, 0, 8]),
+    })
+}
+
+const SESSIONS: &[u8] =
+    b"client,session,account,class,input,output,total,charged,seconds,first,last,state,cause,calling,framed
+ap1,s%0A1,\"a,b\",%FF,5,7,12,5,9,2001,2003,stopped,2,\"00\"\"11\",10.0.0.8
+ap1,s2,al,gold,1048577,0,1048577,20,0,2000,2000,open,0,,
+";
+
+fn downloads(alloc: Global) -> Result<bool, Fail> {
+    let mut book = MemBook::new(alloc);
+    book.put_session(&first_row(alloc)?, -20)?;
+    book.put_session(&full_row(alloc)?, 5)?;
+    let sessions = export_sessions(alloc, &mut book, &plans(alloc)?, Vec::new(alloc))?;
+    let balances = export_balances(alloc, &mut book, Vec::new(alloc))?;
+    let overruns = export_overruns(alloc, &mut book, Vec::new(alloc))?;
+    Ok(
+        sessions.as_slice() == SESSIONS
+            && balances.as_slice()
+                == b"account,balance,overrun\n\"a,b\",5,0\nal,-20,20\n".as_slice()
+            && overruns.as_slice() == b"account,overrun\nal,20\n".as_slice(),
+    )
+}
+
+#[test]
+fn sessions_and_overruns_are_downloaded(rt: HostRuntime) -> Result<(), Fail> {
+    assert!(rt; downloads(rt.alloc())?);
+    Ok(())
+}
+
+// Whether a book that refuses its call of this number stops the import behind so many vouchers, and
+// an export of its accounts at its first call.
+fn stops(alloc: Global, calls_left: u64, added: u64) -> Result<bool, Fail> {
+    let mut book = FailingBook {
+        book: MemBook::new(alloc),
+        calls_left,
+    };
+    let upload = Upload {
+        text: VOUCHERS,
+        counts: (added, 0),
+        refused: &[],
+        stopped: Some(Stopped::Unavailable),
+    };
+    let stopped = says(alloc, &mut book, &upload)?;
+    book.calls_left = 1;
+    let refused = export_balances(alloc, &mut book, Vec::new(alloc));
+    Ok(stopped && refused.err() == Some(ExportError::Unavailable))
+}
+
+#[test]
+fn refused_calls_stop(rt: HostRuntime) -> Result<(), Fail> {
+    for (call, added) in [(1, 0), (2, 0), (3, 0), (4, 1), (5, 1), (6, 1), (7, 2)] {
+        assert!(rt; stops(rt.alloc(), call, added)?);
+    }
+    Ok(())
+}
