@@ -18,3 +18,8 @@ pub use framing::{Reach, extent};
 pub use handling::handle;
 pub use keys::{DeskKey, Keys, KeysError, Role};
 pub use reading::{ReadFault, read_request};
+
+#[cfg(test)]
+mod sample_desk;
+#[cfg(test)]
+mod tests;
