@@ -56,7 +56,7 @@ mute_settled : {B E : Type 0} (ask : Ask) (book : B) (e : E) → IsSettled ask b
 mute_settled (refused refusal) book e = (refl, tt)
 mute_settled (me page account) book e = tt
 mute_settled overruns book e = tt
-mute_settled (credit topup) book e = tt
+mute_settled (credit topup) book e = refl
 
 module _ {B E : Type 0} (plans : List Plan) (content : B → Content) (is_sound is_open is_steady : B
     → Type 0) (leaves : B → Content → Type 0) where

@@ -1,6 +1,6 @@
 -- What the desk answers: the desk's part of a step of the machine.
 use Rattle.std.specs.Prelude.{◌≡◌, ◌≢◌, ◌⊎◌, ℕ, ℤ, List, [], ◌∷◌, Option, None, Some, Vec, Result}
-use Rattle.std.specs.Prelude.{Ok, Err, IfOk, OnOk, if◌then◌else◌}
+use Rattle.std.specs.Prelude.{Ok, Err, IfOk, OnOk, OnErr, if◌then◌else◌}
 use Rattle.std.specs.Global.{Global}
 use Rattle.serde_json.specs.Data.{Data}
 use Rattle.acct_model.specs.declared.plan.Plan.{Plan}
@@ -62,9 +62,8 @@ IsTold plans history ask octets = (body : Data) × IsBody plans history ask body
 -- ---- the step
 
 -- What a response says of the history, and the history then: what is settled without the book has
--- its own octets; what is told is the
--- definition's, or the book was unavailable; a top-up is answered as recording tells, and is added
--- only with a 201.
+-- its own octets; what is told is the definition's, or the book was unavailable; a top-up is answered
+-- as recording tells, and is added only with a 201.
 abbrev pub Steps : List Plan → List Entry → Ask → List ℕ → List Entry → Type 0
 Steps plans history (refused refusal) octets after = (octets ≡ refusal_response refusal)
     × (after ≡ history)
@@ -84,13 +83,14 @@ abbrev pub StepsOrMute : {E : Type 0} → List Plan → List Entry → Ask → R
 StepsOrMute plans history ask (Ok octets) after = Steps plans history ask octets.items after
 StepsOrMute plans history ask (Err error) after = after ≡ history
 
--- what is settled without the book: exactly its octets, and the book is untouched
+-- What is settled without the book: exactly its octets, and the book is untouched. Where there is no
+-- memory for the responses to a top-up, the book wasn't asked.
 abbrev pub IsSettled : {B E : Type 0} → Ask → B → B → Result (Vec ℕ Global) E → Type 0
 IsSettled (refused refusal) old new result =
     (new ≡ old) × IfOk result (λ octets. octets.items ≡ refusal_response refusal)
 IsSettled (me page account) old new result = Unit {0}
 IsSettled overruns old new result = Unit {0}
-IsSettled (credit topup) old new result = Unit {0}
+IsSettled (credit topup) old new result = OnErr result (new ≡ old)
 
 -- it is asked of the book
 abbrev pub IsOfBook : Ask → Type 0
