@@ -368,25 +368,41 @@ fn is_shown(alloc: Global, error: &RecordError, text: &str) -> Result<bool, Fail
     Ok(format!(in alloc; "{error}")?.as_str() == text)
 }
 
+// Whether each state is shown by its text.
+fn states_have_their_texts(alloc: Global) -> Result<bool, Fail> {
+    for (state, text) in STATES {
+        if format!(in alloc; "{state}")?.as_str() != text {
+            return Ok(false);
+        }
+    }
+    Ok(true)
+}
+
+// Whether a voucher that differs is shown so.
+fn is_difference_shown(alloc: Global, text: &str) -> Result<bool, Fail> {
+    let kept = TopUp::new(alloc, "V-1", b"al", 500, 1000)?;
+    is_shown(alloc, &RecordError::VoucherDiffers(kept), text)
+}
+
+// Whether a balance limit is shown so.
+fn is_limit_shown(alloc: Global, text: &str) -> Result<bool, Fail> {
+    is_shown(alloc, &RecordError::BalanceLimit(-10), text)
+}
+
+// Whether a refusal of the book and of `record` are shown so.
+fn are_refusals_shown(alloc: Global, text: &str) -> Result<bool, Fail> {
+    let is_told = is_shown(alloc, &RecordError::Unavailable, text)?;
+    Ok(is_told && format!(in alloc; "{Unavailable}")?.as_str() == text)
+}
+
+const DIFFERS: &str = "the voucher is kept with another account or sum";
+
 #[test]
 fn states_and_errors_have_their_texts(rt: HostRuntime) -> Result<(), Fail> {
-    let alloc = rt.alloc();
-    for (state, text) in STATES {
-        assert!(rt; format!(in alloc; "{state}")?.as_str() == text, "{text}");
-    }
-    let differs = RecordError::VoucherDiffers(TopUp::new(alloc, "V-1", b"al", 500, 1000)?);
-    let limit = RecordError::BalanceLimit(-10);
-    let refused = "the book is unavailable";
-    assert!(rt;
-        is_shown(
-            alloc,
-            &differs,
-            "the voucher is kept with another account or sum"
-        )?
-    );
-    assert!(rt; is_shown(alloc, &limit, "the balance would leave its range")?);
-    assert!(rt; is_shown(alloc, &RecordError::Unavailable, refused)?);
-    assert!(rt; format!(in alloc; "{Unavailable}")?.as_str() == refused);
+    assert!(rt; states_have_their_texts(rt.alloc())?);
+    assert!(rt; is_difference_shown(rt.alloc(), DIFFERS)?);
+    assert!(rt; is_limit_shown(rt.alloc(), "the balance would leave its range")?);
+    assert!(rt; are_refusals_shown(rt.alloc(), "the book is unavailable")?);
     Ok(())
 }
 
@@ -414,15 +430,21 @@ const NAMES: [(&str, &[u8]); 6] = [
     ("ap10", b"\x00"),
 ];
 
+const SHUFFLED: [(&str, &[u8]); 6] = [
+    ("ap1", b"a"),
+    ("ap10", b"\x00"),
+    ("ap1", b""),
+    ("ap1", b"\xff"),
+    ("ap1", b"\x00\x00"),
+    ("ap1", b"\x00"),
+];
+
 // A book of these sessions, put in another order than theirs.
 fn book_of_names(alloc: Global) -> Result<MemBook, Fail> {
     let mut site = Site::new(alloc)?;
-    site.begins(NAMES[3])?;
-    site.begins(NAMES[5])?;
-    site.begins(NAMES[0])?;
-    site.begins(NAMES[4])?;
-    site.begins(NAMES[2])?;
-    site.begins(NAMES[1])?;
+    for name in SHUFFLED {
+        site.begins(name)?;
+    }
     Ok(site.book)
 }
 

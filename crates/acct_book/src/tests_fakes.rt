@@ -203,9 +203,8 @@ fn calls(alloc: Global, entry: &Entry) -> Result<u64, Fail> {
     Err(Fail::from("never recorded"))
 }
 
-#[test]
-fn refusals_change_nothing(rt: HostRuntime) -> Result<(), Fail> {
-    let alloc = rt.alloc();
+// How many calls a Stop takes that raises the total.
+fn calls_of_a_stop(alloc: Global) -> Result<u64, Fail> {
     let stop = report(
         alloc,
         "ap1",
@@ -216,10 +215,25 @@ fn refusals_change_nothing(rt: HostRuntime) -> Result<(), Fail> {
         3000,
         1,
     )?;
-    assert!(rt; calls(alloc, &stop)? == 3);
+    calls(alloc, &stop)
+}
+
+// How many calls a voucher takes.
+fn calls_of_a_topup(alloc: Global) -> Result<u64, Fail> {
     let topup = TopUp::new(alloc, "V-2", b"al", 7, 2000)?;
-    assert!(rt; calls(alloc, &Entry::TopUp(topup))? == 3);
+    calls(alloc, &Entry::TopUp(topup))
+}
+
+// How many calls a restart takes.
+fn calls_of_a_restart(alloc: Global) -> Result<u64, Fail> {
     let client = Text::from_str(alloc, "ap1")?;
-    assert!(rt; calls(alloc, &Entry::Restart(Restart { client }))? == 1);
+    calls(alloc, &Entry::Restart(Restart { client }))
+}
+
+#[test]
+fn refusals_change_nothing(rt: HostRuntime) -> Result<(), Fail> {
+    assert!(rt; calls_of_a_stop(rt.alloc())? == 3);
+    assert!(rt; calls_of_a_topup(rt.alloc())? == 3);
+    assert!(rt; calls_of_a_restart(rt.alloc())? == 1);
     Ok(())
 }
