@@ -62,7 +62,8 @@ IsTold plans history ask octets = (body : Data) × IsBody plans history ask body
 -- ---- the step
 
 -- What a response says of the history, and the history then: what is settled without the book has
--- its own octets; what is told is the definition's, or the book was unavailable; a top-up is answered
+-- its own octets; what is told is the definition's, or the book was unavailable; a top-up is
+-- answered
 -- as recording tells, and is added only with a 201.
 abbrev pub Steps : List Plan → List Entry → Ask → List ℕ → List Entry → Type 0
 Steps plans history (refused refusal) octets after = (octets ≡ refusal_response refusal)
@@ -83,7 +84,8 @@ abbrev pub StepsOrMute : {E : Type 0} → List Plan → List Entry → Ask → R
 StepsOrMute plans history ask (Ok octets) after = Steps plans history ask octets.items after
 StepsOrMute plans history ask (Err error) after = after ≡ history
 
--- What is settled without the book: exactly its octets, and the book is untouched. Where there is no
+-- What is settled without the book: exactly its octets, and the book is untouched. Where there is
+-- no
 -- memory for the responses to a top-up, the book wasn't asked.
 abbrev pub IsSettled : {B E : Type 0} → Ask → B → B → Result (Vec ℕ Global) E → Type 0
 IsSettled (refused refusal) old new result =

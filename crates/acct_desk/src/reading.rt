@@ -154,7 +154,7 @@ fn has_head_end(bytes: &[u8], before: usize) -> bool {
     false
 }
 
-// Whether octets end with an empty line behind one that isn't empty.
+// Whether octets end with an empty line after one that isn't empty.
 fn ends_head(bytes: &[u8]) -> bool {
     let lines = match bytes {
         [lines @ .., b'\n', b'\n'] => lines,

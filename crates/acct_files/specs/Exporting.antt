@@ -1,5 +1,6 @@
 -- What the exports write.
-use Rattle.std.specs.Prelude.{◌≡◌, ℕ, ℤ, zero, suc, pos, negsuc, ◌+◌, ◌==◌, Bool, if◌then◌else◌, List, [], ◌∷◌, ◌++◌, codes, decimal, flat_map, false}
+use Rattle.std.specs.Prelude.{◌≡◌, ℕ, ℤ, zero, suc, pos, negsuc, ◌+◌, ◌==◌, Bool, if◌then◌else◌}
+use Rattle.std.specs.Prelude.{List, [], ◌∷◌, ◌++◌, codes, decimal, flat_map, false}
 use Rattle.std.specs.Fmt.{signed_decimal}
 use Rattle.csv.specs.Writing.{default_writer, row_text, writer_setup, fields_written, has_written}
 use Rattle.csv.specs.declared.writer.Writer.{Writer}
@@ -22,8 +23,10 @@ line fields = row_text default_writer fields
 
 abbrev pub session_header : Fields
 session_header =
-    codes "client" ∷ codes "session" ∷ codes "account" ∷ codes "class" ∷ codes "input" ∷ codes "output" ∷ codes "total" ∷ codes "charged"
-    ∷ codes "seconds" ∷ codes "first" ∷ codes "last" ∷ codes "state" ∷ codes "cause" ∷ codes "calling" ∷ codes "framed" ∷ []
+    codes "client" ∷ codes "session" ∷ codes "account" ∷ codes "class" ∷ codes "input" ∷ codes
+    "output" ∷ codes "total" ∷ codes "charged"
+    ∷ codes "seconds" ∷ codes "first" ∷ codes "last" ∷ codes "state" ∷ codes "cause" ∷ codes
+    "calling" ∷ codes "framed" ∷ []
 
 abbrev pub state_text : SessionState → List ℕ
 state_text Live = codes "open"
@@ -55,7 +58,8 @@ abbrev pub topup_header : Fields
 topup_header = codes "voucher" ∷ codes "account" ∷ codes "sum" ∷ codes "when" ∷ []
 
 abbrev pub topup_fields : TopUpFacts → Fields
-topup_fields topup = topup.voucher ∷ shown topup.account ∷ decimal topup.sum ∷ decimal topup.when ∷ []
+topup_fields topup = topup.voucher ∷ shown topup.account ∷ decimal topup.sum ∷ decimal topup.when ∷
+    []
 
 -- ---- accounts
 
@@ -70,8 +74,10 @@ account_header Overruns = codes "account" ∷ codes "overrun" ∷ []
 
 -- the line of an account; of overruns, only an account whose overrun is above 0 has one
 abbrev pub account_line : AccountExport → List ℕ → ℤ → List ℕ
-account_line Balances account balance = line (shown account ∷ signed_decimal balance ∷ decimal (overrun balance) ∷ [])
-account_line Overruns account balance = if overrun balance == 0 then [] else line (shown account ∷ decimal (overrun balance) ∷ [])
+account_line Balances account balance =
+    line (shown account ∷ signed_decimal balance ∷ decimal (overrun balance) ∷ [])
+account_line Overruns account balance =
+    if overrun balance == 0 then [] else line (shown account ∷ decimal (overrun balance) ∷ [])
 
 -- ---- a whole export
 

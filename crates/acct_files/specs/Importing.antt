@@ -1,5 +1,8 @@
--- What an import does: the records of a text, what became of each, and what the book then stands for.
-use Rattle.std.specs.Prelude.{◌≡◌, ◌≢◌, ◌⊎◌, ◌+◌, ◌≤◌, ⊤, ℕ, ℤ, Bool, true, false, List, [], ◌∷◌, ◌++◌, length, count_by, Option, Some, None, IfSome, option_map, Result, Ok, Err}
+-- What an import does: the records of a text, what became of each, and what the book then stands
+-- for.
+use Rattle.std.specs.Prelude.{◌≡◌, ◌≢◌, ◌⊎◌, ◌+◌, ◌≤◌, ⊤, ℕ, ℤ, Bool, true, false, List, [], ◌∷◌}
+use Rattle.std.specs.Prelude.{◌++◌, length, count_by, Option, Some, None, IfSome, option_map}
+use Rattle.std.specs.Prelude.{Result, Ok, Err}
 use Rattle.std.specs.Option.{option_map_or}
 use Rattle.csv.specs.Machine.{next_record}
 use Rattle.csv.specs.Reading.{AreRecords, Reached, default_config}
@@ -18,7 +21,9 @@ use Rattle.acct_book.specs.Outcome.{Tells}
 use Rattle.acct_book.specs.Step.{MayAdd}
 use Rattle.acct_book.specs.Stands.{Stands}
 use Rattle.acct_files.specs.declared.import_report.Cause.{Cause}
-use Rattle.acct_files.specs.declared.import_report.Cause.TheVariants.{FieldCount, BadVoucher, BadAccount, BadSum, VoucherDiffers, BalanceLimit}
+use Rattle.acct_files.specs.declared.import_report.Cause.TheVariants.{FieldCount, BadVoucher}
+use Rattle.acct_files.specs.declared.import_report.Cause.TheVariants.{BadAccount, BadSum}
+use Rattle.acct_files.specs.declared.import_report.Cause.TheVariants.{VoucherDiffers, BalanceLimit}
 use Rattle.acct_files.specs.declared.import_report.Stopped.{Stopped}
 use Rattle.acct_files.specs.declared.import_report.Stopped.TheVariants as stop
 use Rattle.acct_files.specs.declared.import_report.Refused.{Refused}
@@ -37,11 +42,15 @@ IsRefused plans old topup FieldCount new = ⊥
 IsRefused plans old topup BadVoucher new = ⊥
 IsRefused plans old topup BadAccount new = ⊥
 IsRefused plans old topup BadSum new = ⊥
-IsRefused plans old topup VoucherDiffers new = (kept : TopUpFacts) × Tells plans old (TopUp topup) (Err (error.VoucherDiffers kept)) new
-IsRefused plans old topup BalanceLimit new = (balance : ℤ) × Tells plans old (TopUp topup) (Err (error.BalanceLimit balance)) new
+IsRefused plans old topup VoucherDiffers new =
+    (kept : TopUpFacts) × Tells plans old (TopUp topup) (Err (error.VoucherDiffers kept)) new
+IsRefused plans old topup BalanceLimit new =
+    (balance : ℤ) × Tells plans old (TopUp topup) (Err (error.BalanceLimit balance)) new
 
--- what becomes of a top-up, or of a record that asks for none: from a history to the history after it
-abbrev pub Becomes : List Plan → List Entry → Result TopUpFacts Cause → Outcome → List Entry → Type 0
+-- what becomes of a top-up, or of a record that asks for none: from a history to the history after
+-- it
+abbrev pub Becomes : List Plan → List Entry → Result TopUpFacts Cause → Outcome → List Entry
+    → Type 0
 Becomes plans old (Ok topup) outcome.Added new = Tells plans old (TopUp topup) (Ok New) new
 Becomes plans old (Ok topup) outcome.Repeated new = Tells plans old (TopUp topup) (Ok Repeat) new
 Becomes plans old (Ok topup) (outcome.Refused cause) new = IsRefused plans old topup cause new
@@ -55,7 +64,8 @@ Becomes plans old (Err cause) (outcome.Refused told) new = (told ≡ cause) × (
 abbrev pub Imported : List Plan → ℕ → List Entry → List Fields → List Outcome → List Entry → Type 0
 Imported plans moment old [] [] new = new ≡ old
 Imported plans moment old (fields ∷ rows) (outcome ∷ outcomes) new =
-    (mid : List Entry) × Becomes plans old (asked_by moment fields) outcome mid × Imported plans moment mid rows outcomes new
+    (mid : List Entry) × Becomes plans old (asked_by moment fields) outcome mid
+    × Imported plans moment mid rows outcomes new
 Imported plans moment old [] (outcome ∷ outcomes) new = ⊥
 Imported plans moment old (fields ∷ rows) [] new = ⊥
 
@@ -79,7 +89,8 @@ abbrev pub refused_from : ℕ → List Outcome → List Refused
 refused_from n [] = []
 refused_from n (outcome.Added ∷ outcomes) = refused_from (n + 1) outcomes
 refused_from n (outcome.Repeated ∷ outcomes) = refused_from (n + 1) outcomes
-refused_from n (outcome.Refused cause ∷ outcomes) = record { number = n; cause = cause } ∷ refused_from (n + 1) outcomes
+refused_from n (outcome.Refused cause ∷ outcomes) =
+    record { number = n; cause = cause } ∷ refused_from (n + 1) outcomes
 
 -- the report says what became of the records, the first of which is record 2
 pub record Counts (outcomes : List Outcome) (report : ImportReport) : Type 0 where
@@ -91,25 +102,30 @@ pub record Counts (outcomes : List Outcome) (report : ImportReport) : Type 0 whe
 
 -- the header and these records begin a text
 abbrev pub Begin : List ℕ → List Fields → Type 0
-Begin text rows = (header : Fields) × (is_header header ≡ true) × (s : State) × (rest : List ℕ) × Reached default_config st.StartRecord text (header ∷ rows) s rest
+Begin text rows = (header : Fields) × (is_header header ≡ true) × (s : State) × (rest : List ℕ)
+    × Reached default_config st.StartRecord text (header ∷ rows) s rest
 
 -- the header and these records are all of a text
 abbrev pub AreAll : List ℕ → List Fields → Type 0
-AreAll text rows = (header : Fields) × (is_header header ≡ true) × AreRecords default_config st.StartRecord text (header ∷ rows)
+AreAll text rows = (header : Fields) × (is_header header ≡ true)
+    × AreRecords default_config st.StartRecord text (header ∷ rows)
 
 -- whether a text's first record is there and is the header
 abbrev pub has_header : List ℕ → Bool
-has_header text = option_map_or (λ read. is_header read.0) (next_record default_config st.StartRecord [] [] text) false
+has_header text = option_map_or (λ read. is_header read.0)
+    (next_record default_config st.StartRecord [] [] text) false
 
--- the records behind the header that were taken, by why the import stopped, if it did
+-- the records after the header that were taken, by why the import stopped, if it did
 abbrev pub AreTaken : ℕ → List ℕ → Option Stopped → Option TopUpFacts → List Fields → Type 0
 AreTaken moment text None tried rows = AreAll text rows × (length rows ≤ 1000000)
 AreTaken moment text (Some stop.BadHeader) tried rows = (rows ≡ []) × (has_header text ≡ false)
 AreTaken moment text (Some stop.Unreadable) tried rows = (rows ≡ []) ⊎ Begin text rows
 AreTaken moment text (Some stop.Unavailable) tried rows =
-    (topup : TopUpFacts) × (tried ≡ Some topup) × (fields : Fields) × (asked_by moment fields ≡ Ok topup) × Begin text (rows ++ fields ∷ [])
+    (topup : TopUpFacts) × (tried ≡ Some topup) × (fields : Fields)
+    × (asked_by moment fields ≡ Ok topup) × Begin text (rows ++ fields ∷ [])
 AreTaken moment text (Some stop.Memory) tried rows = (rows ≡ []) ⊎ Begin text rows
-AreTaken moment text (Some stop.TooMany) tried rows = (length rows ≡ 1000000) × (fields : Fields) × Begin text (rows ++ fields ∷ [])
+AreTaken moment text (Some stop.TooMany) tried rows = (length rows ≡ 1000000) × (fields : Fields)
+    × Begin text (rows ++ fields ∷ [])
 
 -- a top-up whose call was answered Unavailable is there only where the import stopped for it
 abbrev pub MayHaveTried : Option Stopped → Option TopUpFacts → Type 0
@@ -119,10 +135,13 @@ MayHaveTried stopped (Some topup) = stopped ≡ Some stop.Unavailable
 -- ---- one record, or a stop at it
 
 -- what a record did: its outcome, or why the import stopped at it
-abbrev pub Did : List Plan → ℕ → List Entry → Fields → Result Outcome Stopped → Option TopUpFacts → List Entry → Type 0
-Did plans moment history fields (Ok told) tried after = (tried ≡ None) × Becomes plans history (asked_by moment fields) told after
+abbrev pub Did : List Plan → ℕ → List Entry → Fields → Result Outcome Stopped → Option TopUpFacts
+    → List Entry → Type 0
+Did plans moment history fields (Ok told) tried after =
+    (tried ≡ None) × Becomes plans history (asked_by moment fields) told after
 Did plans moment history fields (Err stop.Unavailable) tried after =
-    (after ≡ history) × (topup : TopUpFacts) × (tried ≡ Some topup) × (asked_by moment fields ≡ Ok topup)
+    (after ≡ history) × (topup : TopUpFacts) × (tried ≡ Some topup)
+    × (asked_by moment fields ≡ Ok topup)
 Did plans moment history fields (Err stop.Memory) tried after = (after ≡ history) × (tried ≡ None)
 Did plans moment history fields (Err stop.BadHeader) tried after = ⊥
 Did plans moment history fields (Err stop.Unreadable) tried after = ⊥
@@ -146,17 +165,24 @@ told_by (Err error.Unavailable) = Err stop.Unavailable
 -- the content stands for the history, or for it with the top-up whose call failed
 abbrev pub MayLeave : List Plan → List Entry → Option TopUpFacts → Content → Type 0
 MayLeave plans history None content = Stands plans content history
-MayLeave plans history (Some topup) content = Stands plans content history ⊎ MayAdd plans history (TopUp topup) content
+MayLeave plans history (Some topup) content =
+    Stands plans content history ⊎ MayAdd plans history (TopUp topup) content
 
-module _ {B : Type 0} (content : B → Content) (is_open : B → Type 0) (left : B → Content → Type 0) where
-  -- From a history to the one after it: the book stands for that while it is open, and a crash leaves what stands for it, or for it with
+module _ {B : Type 0} (content : B → Content) (is_open : B → Type 0) (left : B → Content
+    → Type 0) where
+  -- From a history to the one after it: the book stands for that while it is open, and a crash
+  -- leaves what stands for it, or for it with
   -- the top-up whose call failed, if before it left nothing but what stood for the history.
-  pub record Moves (plans : List Plan) (history after : List Entry) (tried : Option TopUpFacts) (old new : B) : Type 0 where
+  pub record Moves (plans : List Plan) (history after : List Entry) (tried : Option TopUpFacts)
+      (old new : B) : Type 0 where
     pub stands : is_open new → Stands plans (content new) after
-    pub leaves : ((c : Content) → left old c → Stands plans c history) → (c : Content) → left new c → MayLeave plans after tried c
+    pub leaves : ((c : Content) → left old c → Stands plans c history) → (c : Content) → left new c
+        → MayLeave plans after tried c
 
   -- a run over a text, from a history to the one after it
-  pub record Imports (plans : List Plan) (moment : ℕ) (text : Option (List ℕ)) (history : List Entry) (stopped : Option Stopped) (report : ImportReport) (old new : B) : Type 0 where
+  pub record Imports (plans : List Plan) (moment : ℕ) (text : Option (List ℕ))
+      (history : List Entry) (stopped : Option Stopped) (report : ImportReport) (old new : B) : Type
+      0 where
     pub after : List Entry
     pub tried : Option TopUpFacts
     pub rows : List Fields

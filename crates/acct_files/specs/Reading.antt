@@ -1,6 +1,8 @@
 -- How the records of a text are read.
-use Rattle.std.specs.Prelude.{◌≡◌, ◌⊎◌, ⊤, ℕ, true, false, List, [], ◌∷◌, Option, Some, None, IfSome}
-use Rattle.csv.specs.Reading.{Ready, Reached, default_config, source_of, reader_config, reader_state, reader_trim, is_flexible}
+use Rattle.std.specs.Prelude.{◌≡◌, ◌⊎◌, ⊤, ℕ, true, false, List, [], ◌∷◌, Option, Some, None}
+use Rattle.std.specs.Prelude.{IfSome}
+use Rattle.csv.specs.Reading.{Ready, Reached, default_config, source_of, reader_config}
+use Rattle.csv.specs.Reading.{reader_state, reader_trim, is_flexible}
 use Rattle.csv.specs.declared.parser.State.TheVariants as st
 use Rattle.csv.specs.declared.reader.Reader.{Reader}
 use Rattle.csv.specs.declared.reader.Trim.TheVariants as trim
@@ -19,16 +21,19 @@ module _ {R : Type 0} where
   -- these records were read from the start of a text, if it is told
   abbrev pub HasRead : (R → Option (List ℕ)) → Option (List ℕ) → List Fields → Reader R → Type 0
   HasRead remaining text rows reader = IfSome text (λ t. (rest : List ℕ)
-      × (source_of remaining reader ≡ Some rest) × Reached default_config st.StartRecord t rows (reader_state reader) rest)
+      × (source_of remaining reader ≡ Some rest)
+      × Reached default_config st.StartRecord t rows (reader_state reader) rest)
 
   -- the header was read from the start of a text, if it is told
   abbrev pub HasReadHeader : (R → Option (List ℕ)) → Option (List ℕ) → Reader R → Type 0
-  HasReadHeader remaining text reader = (header : Fields) × (is_header header ≡ true) × HasRead remaining text (header ∷ []) reader
+  HasReadHeader remaining text reader = (header : Fields) × (is_header header ≡ true)
+      × HasRead remaining text (header ∷ []) reader
 
 -- why a read fails: for the reader, its limits or memory
 abbrev pub IsReadStop : Stopped → Type 0
 IsReadStop stopped = (stopped ≡ stop.Unreadable) ⊎ (stopped ≡ stop.Memory)
 
--- why a text is given up before the record behind the header
+-- why a text is given up before the record after the header
 abbrev pub IsHeaderStop : Option (List ℕ) → Stopped → Type 0
-IsHeaderStop text stopped = IsReadStop stopped ⊎ ((stopped ≡ stop.BadHeader) × IfSome text (λ t. has_header t ≡ false))
+IsHeaderStop text stopped = IsReadStop stopped
+    ⊎ ((stopped ≡ stop.BadHeader) × IfSome text (λ t. has_header t ≡ false))

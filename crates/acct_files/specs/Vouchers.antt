@@ -1,13 +1,16 @@
 -- What a record of an import asks for.
-use Rattle.std.specs.Prelude.{◌≡◌, ℕ, ⊤, Bool, ◌&&◌, not, nat_le, if◌then◌else◌, List, [], ◌∷◌, false, length, Option, Some, None, Result, Ok, Err, codes, bytes_eq}
+use Rattle.std.specs.Prelude.{◌≡◌, ℕ, ⊤, Bool, ◌&&◌, not, nat_le, if◌then◌else◌, List, [], ◌∷◌}
+use Rattle.std.specs.Prelude.{false, length, Option, Some, None, Result, Ok, Err, codes, bytes_eq}
 use Rattle.std.specs.Char.{is_ascii_digit}
 use Rattle.std.specs.List.{list_all}
 use Rattle.std.specs.Option.{option_map_or}
 use Rattle.std.specs.Str.Parse.{digits_value}
 use Rattle.percent_encoding.specs.Percent.{percent_decode}
-use Rattle.acct_model.specs.Vouchers.{TopUpFacts, is_voucher_number, is_voucher_account, is_voucher_sum}
+use Rattle.acct_model.specs.Vouchers.{TopUpFacts, is_voucher_number, is_voucher_account}
+use Rattle.acct_model.specs.Vouchers.{is_voucher_sum}
 use Rattle.acct_files.specs.declared.import_report.Cause.{Cause}
-use Rattle.acct_files.specs.declared.import_report.Cause.TheVariants.{FieldCount, BadVoucher, BadAccount, BadSum}
+use Rattle.acct_files.specs.declared.import_report.Cause.TheVariants.{FieldCount, BadVoucher}
+use Rattle.acct_files.specs.declared.import_report.Cause.TheVariants.{BadAccount, BadSum}
 use Rattle.acct_files.specs.declared.voucher_record.Fault.{Fault}
 use Rattle.acct_files.specs.declared.voucher_record.Fault.TheVariants as fault
 
@@ -25,7 +28,9 @@ three_of (a ∷ b ∷ c ∷ d ∷ more) = None
 
 -- the record `voucher,account,sum`
 abbrev pub is_header : Fields → Bool
-is_header fields = option_map_or (λ f. bytes_eq f.0 (codes "voucher") && bytes_eq f.1 (codes "account") && bytes_eq f.2 (codes "sum")) (three_of fields) false
+is_header fields = option_map_or
+    (λ f. bytes_eq f.0 (codes "voucher") && bytes_eq f.1 (codes "account") && bytes_eq f.2
+    (codes "sum")) (three_of fields) false
 
 -- 1 to 13 digits
 abbrev pub is_sum_text : List ℕ → Bool
@@ -45,7 +50,8 @@ asked moment number account amount =
 
 -- the top-up that a record asks for at a moment, or the first rule that it breaks
 abbrev pub asked_by : ℕ → Fields → Result TopUpFacts Cause
-asked_by moment fields = option_map_or (λ f. asked moment f.0 (percent_decode f.1) (sum_of f.2)) (three_of fields) (Err FieldCount)
+asked_by moment fields = option_map_or (λ f. asked moment f.0 (percent_decode f.1) (sum_of f.2))
+    (three_of fields) (Err FieldCount)
 
 -- the fault is the rule that the record breaks, or memory was refused
 abbrev pub IsFault : Fault → Result TopUpFacts Cause → Type 0

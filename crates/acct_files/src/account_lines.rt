@@ -5,7 +5,8 @@ ghost use Rattle.csv.specs.Writing.{text_written};
 ghost use Rattle.acct_book.specs.Book.{Reads};
 ghost use Rattle.acct_book.specs.Maps.{octets_cmp};
 ghost use Rattle.acct_book.specs.Walk.{AreAllPast, IsNextBalance};
-ghost use Rattle.acct_files.specs.Exporting.{IsBetweenLines, line, account_header, account_line, export_text, overrun as overrun_of};
+ghost use Rattle.acct_files.specs.Exporting.{IsBetweenLines, line, account_header, account_line};
+ghost use Rattle.acct_files.specs.Exporting.{export_text, overrun as overrun_of};
 
 use crate::csv_lines::{ExportError, begin, finish, push_number, push_shown, write_line};
 use acct_book::{Book, Unavailable};
@@ -25,36 +26,46 @@ pub enum AccountExport {
 /// The most accounts of an export.
 const MOST_ACCOUNTS: u64 = 9_223_372_036_854_775_807;
 
-/// Writes `account,balance,overrun` and a line for each account, in the order of the accounts. It holds one account at a time.
+/// Writes `account,balance,overrun` and a line for each account, in the order of the accounts. It
+/// holds one account at a time.
 ///
 /// # Errors
 ///
-/// `Unavailable` also past 2^63 - 1 accounts. The book's content stays as it is, whatever the answer.
+/// `Unavailable` also past 2^63 - 1 accounts. The book's content stays as it is, whatever the
+/// answer.
 pub fn export_balances<B: Book, W: Write + Drop>(
     alloc: Global,
     book: &mut B,
     writer: W,
 ) -> Result<W, ExportError>
     ensures reads { Reads B.content B.is_sound B.is_open B.is_steady B.left book.old book.new result }
-    ensures text { IfOk result (λ w. (entries : List (List ℕ × ℤ)) × Appends (W.contents writer) (W.contents w) (export_text (account_header AccountExport.Balances) (λ e. account_line AccountExport.Balances e.0 e.1) entries)
+    ensures text { IfOk result (λ w. (entries : List (List ℕ × ℤ))
+        × Appends (W.contents writer) (W.contents w)
+        (export_text (account_header AccountExport.Balances)
+        (λ e. account_line AccountExport.Balances e.0 e.1) entries)
         × (B.is_open book.new → AreAllPast octets_cmp (B.content book.old).balances None entries)) }
 {
     export_accounts(alloc, book, writer, AccountExport::Balances)
 }
 
-/// Writes `account,overrun` and a line for each account whose balance is below 0, in the order of the accounts. It holds one account
+/// Writes `account,overrun` and a line for each account whose balance is below 0, in the order of
+/// the accounts. It holds one account
 /// at a time.
 ///
 /// # Errors
 ///
-/// `Unavailable` also past 2^63 - 1 accounts. The book's content stays as it is, whatever the answer.
+/// `Unavailable` also past 2^63 - 1 accounts. The book's content stays as it is, whatever the
+/// answer.
 pub fn export_overruns<B: Book, W: Write + Drop>(
     alloc: Global,
     book: &mut B,
     writer: W,
 ) -> Result<W, ExportError>
     ensures reads { Reads B.content B.is_sound B.is_open B.is_steady B.left book.old book.new result }
-    ensures text { IfOk result (λ w. (entries : List (List ℕ × ℤ)) × Appends (W.contents writer) (W.contents w) (export_text (account_header AccountExport.Overruns) (λ e. account_line AccountExport.Overruns e.0 e.1) entries)
+    ensures text { IfOk result (λ w. (entries : List (List ℕ × ℤ))
+        × Appends (W.contents writer) (W.contents w)
+        (export_text (account_header AccountExport.Overruns)
+        (λ e. account_line AccountExport.Overruns e.0 e.1) entries)
         × (B.is_open book.new → AreAllPast octets_cmp (B.content book.old).balances None entries)) }
 {
     export_accounts(alloc, book, writer, AccountExport::Overruns)
@@ -67,7 +78,9 @@ fn export_accounts<B: Book, W: Write + Drop>(
     what: AccountExport,
 ) -> Result<W, ExportError>
     ensures reads { Reads B.content B.is_sound B.is_open B.is_steady B.left book.old book.new result }
-    ensures text { IfOk result (λ w. (entries : List (List ℕ × ℤ)) × Appends (W.contents writer) (W.contents w) (export_text (account_header what) (λ e. account_line what e.0 e.1) entries)
+    ensures text { IfOk result (λ w. (entries : List (List ℕ × ℤ))
+        × Appends (W.contents writer) (W.contents w)
+        (export_text (account_header what) (λ e. account_line what e.0 e.1) entries)
         × (B.is_open book.new → AreAllPast octets_cmp (B.content book.old).balances None entries)) }
 {
     let mut lines = begin_accounts(writer, what)?;
@@ -88,7 +101,8 @@ fn export_accounts<B: Book, W: Write + Drop>(
 
 fn begin_accounts<W: Write + Drop>(writer: W, what: AccountExport) -> Result<Writer<W>, ExportError>
     ensures between { IfOk result IsBetweenLines }
-    ensures text { IfOk result (λ lines. Appends (W.contents writer) (text_written W.contents lines) (line (account_header what))) }
+    ensures text { IfOk result (λ lines. Appends (W.contents writer) (text_written W.contents lines)
+        (line (account_header what))) }
 {
     match what {
         AccountExport::Balances => begin(writer, &[b"account", b"balance", b"overrun"]),
@@ -101,7 +115,9 @@ fn next_account<B: Book>(
     book: &mut B,
     after: &Option<Vec<u8>>,
 ) -> Result<Option<(Vec<u8>, i64)>, ExportError>
-    ensures found { B.is_open book.new → IfOk result (λ kept. IsNextBalance (B.content book.old) (option_map (λ a. a.items) after.now) (option_map (λ k. (k.0.items, k.1)) kept)) }
+    ensures found { B.is_open book.new
+        → IfOk result (λ kept. IsNextBalance (B.content book.old)
+        (option_map (λ a. a.items) after.now) (option_map (λ k. (k.0.items, k.1)) kept)) }
     ensures reads { Reads B.content B.is_sound B.is_open B.is_steady B.left book.old book.new result }
 {
     let next = match after {
@@ -142,7 +158,9 @@ fn write_balance<W: Write + Drop>(
 ) -> Result<(), ExportError>
     requires { IsBetweenLines lines.old }
     ensures between { OnOk result (IsBetweenLines lines.new) }
-    ensures text { OnOk result (Appends (text_written W.contents lines.old) (text_written W.contents lines.new) (account_line AccountExport.Balances account.now balance)) }
+    ensures text { OnOk result (Appends (text_written W.contents lines.old)
+        (text_written W.contents lines.new)
+        (account_line AccountExport.Balances account.now balance)) }
 {
     fields.clear();
     push_shown(alloc, fields, account)?;
@@ -160,7 +178,9 @@ fn write_overrun<W: Write + Drop>(
 ) -> Result<(), ExportError>
     requires { IsBetweenLines lines.old }
     ensures between { OnOk result (IsBetweenLines lines.new) }
-    ensures text { OnOk result (Appends (text_written W.contents lines.old) (text_written W.contents lines.new) (account_line AccountExport.Overruns account.now balance)) }
+    ensures text { OnOk result (Appends (text_written W.contents lines.old)
+        (text_written W.contents lines.new)
+        (account_line AccountExport.Overruns account.now balance)) }
 {
     let above = overrun(balance);
     if above == 0 {

@@ -4,7 +4,8 @@ ghost use Rattle.std.specs.Prelude.{◌≡◌};
 use std::io;
 use std::io::{ErrorKind, Read};
 
-/// A reader under limits. Where the limit of octets is passed, the octet past it is still handed on and the next read fails.
+/// A reader under limits. Where the limit of octets is passed, the octet past it is still handed on
+/// and the next read fails.
 #[derive(Drop)]
 pub struct Capped<R> {
     inner: R,

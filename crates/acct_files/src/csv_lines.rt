@@ -43,7 +43,8 @@ impl From<NoMemory> for ExportError {
 /// A writer of lines that has written the header.
 pub(crate) fn begin<W: Write + Drop>(writer: W, header: &[&[u8]]) -> Result<Writer<W>, ExportError>
     ensures between { IfOk result IsBetweenLines }
-    ensures text { IfOk result (λ lines. Appends (W.contents writer) (text_written W.contents lines) (line (map (λ field. field.now) header.now))) }
+    ensures text { IfOk result (λ lines. Appends (W.contents writer) (text_written W.contents lines)
+        (line (map (λ field. field.now) header.now))) }
 {
     let mut lines = WriterBuilder::new().from_writer(writer);
     match lines.write_fields(header) {
@@ -59,7 +60,8 @@ pub(crate) fn write_line<W: Write + Drop>(
 ) -> Result<(), ExportError>
     requires { IsBetweenLines lines.old }
     ensures between { OnOk result (IsBetweenLines lines.new) }
-    ensures text { OnOk result (Appends (text_written W.contents lines.old) (text_written W.contents lines.new) (line (fields_of fields.now))) }
+    ensures text { OnOk result (Appends (text_written W.contents lines.old)
+        (text_written W.contents lines.new) (line (fields_of fields.now))) }
 {
     match lines.write_byte_record(fields) {
         Ok(()) => Ok(()),
@@ -96,7 +98,8 @@ pub(crate) fn push_shown(
     octets: &[u8],
 ) -> Result<(), ExportError>
     requires { partial_of fields.old ≡ [] }
-    ensures fields { OnOk result (fields_of fields.new ≡ fields_of fields.old ++ shown octets.now ∷ []) }
+    ensures fields { OnOk result (fields_of fields.new
+        ≡ fields_of fields.old ++ shown octets.now ∷ []) }
     ensures partial { OnOk result (partial_of fields.new ≡ []) }
 {
     match show(alloc, octets) {

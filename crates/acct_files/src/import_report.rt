@@ -1,5 +1,6 @@
 //! What an import reports.
-ghost use Rattle.std.specs.Prelude.{◌≡◌, ◌+◌, ◌≤◌, ◌<◌, ◌-◌, ◌^◌, ℕ, [], ◌∷◌, ◌++◌, length, List, OnOk, OnErr, IfErr, IsTrue, None, Ok};
+ghost use Rattle.std.specs.Prelude.{◌≡◌, ◌+◌, ◌≤◌, ◌<◌, ◌-◌, ◌^◌, ℕ, [], ◌∷◌, ◌++◌, length, List};
+ghost use Rattle.std.specs.Prelude.{OnOk, OnErr, IfErr, IsTrue, None, Ok};
 ghost use Rattle.acct_files.specs.Importing.{Counts, added_by};
 ghost use Rattle.acct_files.specs.Importing as spec;
 ghost use Rattle.acct_files.specs.declared.import_report.Outcome.{Outcome};
@@ -120,9 +121,11 @@ impl ImportReport {
     pub(crate) fn count(&mut self, number: u64, outcome: Outcome) -> Result<(), Stopped>
         requires added { self.old.added < 2 ^ 64 - 1 }
         requires repeated { self.old.repeated < 2 ^ 64 - 1 }
-        ensures ok { OnOk result ((outcomes : List Outcome) → Counts outcomes self.old → number ≡ length outcomes + 2 → Counts (outcomes ++ outcome ∷ []) self.new) }
+        ensures ok { OnOk result ((outcomes : List Outcome) → Counts outcomes self.old
+            → number ≡ length outcomes + 2 → Counts (outcomes ++ outcome ∷ []) self.new) }
         ensures err { OnErr result (self.new ≡ self.old) }
-        ensures full { IfErr result (λ stop. (stop ≡ Stopped.Memory) × IsTrue (spec.is_refused outcome)) }
+        ensures full { IfErr result (λ stop. (stop ≡ Stopped.Memory)
+            × IsTrue (spec.is_refused outcome)) }
         ensures added { OnOk result (self.new.added ≡ self.old.added + added_by (Ok outcome)) }
         ensures room { OnOk result (self.new.repeated ≤ self.old.repeated + 1) }
         ensures stopped { self.new.stopped ≡ self.old.stopped }

@@ -1,12 +1,14 @@
 //! Imports vouchers from CSV.
-ghost use Rattle.std.specs.Prelude.{◌≡◌, ◌^◌, ◌<◌, ⊤, List, [], Option, None, Some, IfSome, IfOk, IfErr, OnOk, option_map, Result, Ok, Err};
+ghost use Rattle.std.specs.Prelude.{◌≡◌, ◌^◌, ◌<◌, ⊤, List, [], Option, None, Some, IfSome, IfOk};
+ghost use Rattle.std.specs.Prelude.{IfErr, OnOk, option_map, Result, Ok, Err};
 ghost use Rattle.csv.specs.Reading.{ReadRecord, source_of, strip_bom, reader_state};
 ghost use Rattle.csv.specs.Records.{fields_of};
 ghost use Rattle.csv.specs.declared.parser.State.TheVariants as st;
 ghost use Rattle.acct_model.specs.declared.entry.Entry.{Entry};
 ghost use Rattle.acct_model.specs.Vouchers.{TopUpFacts};
 ghost use Rattle.acct_book.specs.Stands.{Stands};
-ghost use Rattle.acct_files.specs.Importing.{Keeps, Imports, Moves, Did, Counts, added_by, refused_by, stop_of, told_by};
+ghost use Rattle.acct_files.specs.Importing.{Keeps, Imports, Moves, Did, Counts, added_by};
+ghost use Rattle.acct_files.specs.Importing.{refused_by, stop_of, told_by};
 ghost use Rattle.acct_files.specs.Reading.{IsAtRecord, HasReadHeader, IsReadStop, IsHeaderStop};
 
 use crate::capped::Capped;
@@ -18,14 +20,15 @@ use csv::{ByteRecord, ErrorKind, Reader, ReaderBuilder};
 use std::alloc::Global;
 use std::io::Read;
 
-/// The most records behind the header.
+/// The most records after the header.
 const MOST_RECORDS: u64 = 1_000_000;
 /// The most octets of a text.
 const MOST_OCTETS: u64 = 67_108_864;
 /// The most reads of a text.
 const MOST_READS: u64 = 134_217_728;
 
-/// Records the vouchers of a text in a book, at a moment in seconds since 1970: a header, and then a voucher a record. The text is read
+/// Records the vouchers of a text in a book, at a moment in seconds since 1970: a header, and then
+/// a voucher a record. The text is read
 /// as a stream. What was recorded before the import stopped stays.
 pub fn import<R: Read + Drop, B: Book>(
     alloc: Global,
@@ -35,9 +38,13 @@ pub fn import<R: Read + Drop, B: Book>(
     moment: u64,
 ) -> ImportReport
     requires { moment < 2 ^ 53 }
-    ensures keeps { Keeps B.content B.is_sound B.is_open B.is_steady result.stopped result.added book.old book.new }
-    ensures imports { B.is_sound book.new → (history : List Entry) → (B.is_open book.old → Stands plans.now (B.content book.old) history)
-        → Imports B.content B.is_open B.left plans.now moment (option_map strip_bom (R.remaining reader)) history result.stopped result book.old book.new }
+    ensures keeps { Keeps B.content B.is_sound B.is_open B.is_steady result.stopped result.added
+        book.old book.new }
+    ensures imports { B.is_sound book.new → (history : List Entry)
+        → (B.is_open book.old → Stands plans.now (B.content book.old) history)
+        → Imports B.content B.is_open B.left plans.now moment
+        (option_map strip_bom (R.remaining reader)) history result.stopped result book.old
+        book.new }
 {
     let mut report = ImportReport::new(alloc);
     let capped = Capped::new(reader, MOST_OCTETS, MOST_READS);
@@ -65,9 +72,12 @@ fn import_rows<R: Read, B: Book>(
     requires rows { IsAtRecord rows.old }
     requires start { reader_state rows.old ≡ st.StartRecord }
     requires report { Counts [] report.old }
-    ensures keeps { Keeps B.content B.is_sound B.is_open B.is_steady (stop_of result) report.new.added book.old book.new }
-    ensures imports { B.is_sound book.new → (history : List Entry) → (B.is_open book.old → Stands plans.now (B.content book.old) history)
-        → Imports B.content B.is_open B.left plans.now moment (source_of R.remaining rows.old) history (stop_of result) report.new book.old book.new }
+    ensures keeps { Keeps B.content B.is_sound B.is_open B.is_steady (stop_of result)
+        report.new.added book.old book.new }
+    ensures imports { B.is_sound book.new → (history : List Entry)
+        → (B.is_open book.old → Stands plans.now (B.content book.old) history)
+        → Imports B.content B.is_open B.left plans.now moment (source_of R.remaining rows.old)
+        history (stop_of result) report.new book.old book.new }
 {
     read_header(rows, row)?;
     for number in 2..2 + MOST_RECORDS {
@@ -87,7 +97,8 @@ fn import_rows<R: Read, B: Book>(
 fn read_header<R: Read>(rows: &mut Reader<R>, row: &mut ByteRecord) -> Result<(), Stopped>
     requires rows { IsAtRecord rows.old }
     requires start { reader_state rows.old ≡ st.StartRecord }
-    ensures header { OnOk result (HasReadHeader R.remaining (source_of R.remaining rows.old) rows.new) }
+    ensures header { OnOk result (HasReadHeader R.remaining (source_of R.remaining rows.old)
+        rows.new) }
     ensures rows { OnOk result (IsAtRecord rows.new) }
     ensures stopped { IfErr result (IsHeaderStop (source_of R.remaining rows.old)) }
 {
@@ -103,7 +114,8 @@ fn read_header<R: Read>(rows: &mut Reader<R>, row: &mut ByteRecord) -> Result<()
 // Reads a record, and tells whether there was one.
 fn read_row<R: Read>(rows: &mut Reader<R>, row: &mut ByteRecord) -> Result<bool, Stopped>
     requires { IsAtRecord rows.old }
-    ensures read { IfOk result (λ found. ReadRecord R.remaining rows.old rows.new found (fields_of row.new)) }
+    ensures read { IfOk result (λ found.
+        ReadRecord R.remaining rows.old rows.new found (fields_of row.new)) }
     ensures rows { OnOk result (IsAtRecord rows.new) }
     ensures stopped { IfErr result IsReadStop }
 {
@@ -125,9 +137,12 @@ fn outcome_of<B: Book>(
     moment: u64,
 ) -> Result<Outcome, Stopped>
     requires { moment < 2 ^ 53 }
-    ensures keeps { Keeps B.content B.is_sound B.is_open B.is_steady (stop_of result) (added_by result) book.old book.new }
-    ensures did { B.is_sound book.new → (history : List Entry) → (B.is_open book.old → Stands plans.now (B.content book.old) history)
-        → (tried : Option TopUpFacts) × (after : List Entry) × Did plans.now moment history (fields_of row.now) result tried after
+    ensures keeps { Keeps B.content B.is_sound B.is_open B.is_steady (stop_of result)
+        (added_by result) book.old book.new }
+    ensures did { B.is_sound book.new → (history : List Entry)
+        → (B.is_open book.old → Stands plans.now (B.content book.old) history)
+        → (tried : Option TopUpFacts) × (after : List Entry)
+        × Did plans.now moment history (fields_of row.now) result tried after
         × Moves B.content B.is_open B.left plans.now history after tried book.old book.new }
 {
     let topup = match topup_in(alloc, row, moment) {

@@ -1,8 +1,10 @@
 //! What a shop uploads and what accounting downloads, as CSV.
 //!
-//! 1. `import` reads vouchers from a text, one record at a time, and records each in a book. A record is added, repeated or refused with
+//! 1. `import` reads vouchers from a text, one record at a time, and records each in a book. A
+//! record is added, repeated or refused with
 //!    its cause; what was recorded before the import stopped stays.
-//! 2. Records are numbered from 1, the header being 1. Only the list of refused records grows with the text.
+//! 2. Records are numbered from 1, the header being 1. Only the list of refused records grows with
+//! the text.
 #![tactic(auto)]
 
 mod account_lines;

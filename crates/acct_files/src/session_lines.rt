@@ -9,7 +9,9 @@ ghost use Rattle.acct_book.specs.Content.{key_of};
 ghost use Rattle.acct_book.specs.Maps.{key_cmp};
 ghost use Rattle.acct_book.specs.Row.{RowFacts};
 ghost use Rattle.acct_book.specs.Walk.{AreAllPast, IsNextRow};
-ghost use Rattle.acct_files.specs.Exporting.{IsBetweenLines, line, session_header, session_fields, session_name, session_counts, session_end, state_text, export_text};
+ghost use Rattle.acct_files.specs.Exporting.{IsBetweenLines, line, session_header, session_fields};
+ghost use Rattle.acct_files.specs.Exporting.{session_name, session_counts, session_end, state_text};
+ghost use Rattle.acct_files.specs.Exporting.{export_text};
 
 use crate::csv_lines::{ExportError, begin, finish, push, push_number, push_shown, write_line};
 use acct_book::{Book, Key, Row, SessionState, Unavailable, charge};
@@ -22,7 +24,8 @@ use std::io::Write;
 const MOST_SESSIONS: u64 = 9_223_372_036_854_775_807;
 
 /// Writes a header and a line for each session, in the order of their keys: who it is, its octets
-/// and their price under these plans, its moments, and how it ended. It holds one session at a time.
+/// and their price under these plans, its moments, and how it ended. It holds one session at a
+/// time.
 ///
 /// # Errors
 ///
@@ -104,7 +107,8 @@ fn write_session<W: Write + Drop>(
 // Client, session, account and class.
 fn push_name(alloc: Global, fields: &mut ByteRecord, row: &Row) -> Result<(), ExportError>
     requires { partial_of fields.old ≡ [] }
-    ensures fields { OnOk result (fields_of fields.new ≡ fields_of fields.old ++ session_name row.now) }
+    ensures fields { OnOk result (fields_of fields.new
+        ≡ fields_of fields.old ++ session_name row.now) }
     ensures partial { OnOk result (partial_of fields.new ≡ []) }
 {
     push(fields, row.client.as_str().as_bytes())?;
@@ -132,7 +136,8 @@ fn push_counts(fields: &mut ByteRecord, plans: &Plans, row: &Row) -> Result<(), 
 // How the session ended, and from where it was held.
 fn push_end(alloc: Global, fields: &mut ByteRecord, row: &Row) -> Result<(), ExportError>
     requires { partial_of fields.old ≡ [] }
-    ensures fields { OnOk result (fields_of fields.new ≡ fields_of fields.old ++ session_end row.now) }
+    ensures fields { OnOk result (fields_of fields.new
+        ≡ fields_of fields.old ++ session_end row.now) }
     ensures partial { OnOk result (partial_of fields.new ≡ []) }
 {
     push(fields, state_name(row.state))?;

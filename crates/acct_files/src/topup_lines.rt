@@ -6,7 +6,8 @@ ghost use Rattle.acct_model.specs.Vouchers.{TopUpFacts};
 ghost use Rattle.acct_book.specs.Book.{Reads};
 ghost use Rattle.acct_book.specs.Maps.{octets_cmp};
 ghost use Rattle.acct_book.specs.Walk.{AreAllPast, IsNextTopUp};
-ghost use Rattle.acct_files.specs.Exporting.{IsBetweenLines, line, topup_header, topup_fields, export_text};
+ghost use Rattle.acct_files.specs.Exporting.{IsBetweenLines, line, topup_header, topup_fields};
+ghost use Rattle.acct_files.specs.Exporting.{export_text};
 
 use crate::csv_lines::{ExportError, begin, finish, push, push_number, push_shown, write_line};
 use acct_book::{Book, Unavailable};
@@ -23,7 +24,8 @@ const MOST_TOPUPS: u64 = 9_223_372_036_854_775_807;
 ///
 /// # Errors
 ///
-/// `Unavailable` also past 2^63 - 1 top-ups. The book's content stays as it is, whatever the answer.
+/// `Unavailable` also past 2^63 - 1 top-ups. The book's content stays as it is, whatever the
+/// answer.
 pub fn export_topups<B: Book, W: Write + Drop>(
     alloc: Global,
     book: &mut B,

@@ -3,7 +3,8 @@ ghost use Rattle.std.specs.Prelude.{◌≡◌, ◌^◌, ◌<◌, Ok, IfOk, IfErr
 ghost use Rattle.std.specs.Char.{is_ascii_digit};
 ghost use Rattle.std.specs.List.{list_all};
 ghost use Rattle.csv.specs.Records.{fields_of};
-ghost use Rattle.acct_files.specs.Vouchers.{three_of, is_header as is_header_record, is_sum_text, sum_of, asked_by, asked, IsFault};
+ghost use Rattle.acct_files.specs.Vouchers.{three_of, is_header as is_header_record, is_sum_text};
+ghost use Rattle.acct_files.specs.Vouchers.{sum_of, asked_by, asked, IsFault};
 
 use crate::import_report::Cause;
 use acct_model::{TopUp, TopUpError};
@@ -69,7 +70,8 @@ fn topup_of(
 ) -> Result<TopUp, Fault>
     requires { moment < 2 ^ 53 }
     ensures asked { IfOk result (λ topup. asked moment voucher.now account.now sum ≡ Ok topup) }
-    ensures refused { IfErr result (λ fault. IsFault fault (asked moment voucher.now account.now sum)) }
+    ensures refused { IfErr result (λ fault.
+        IsFault fault (asked moment voucher.now account.now sum)) }
 {
     match TopUp::new(alloc, voucher, account, sum, moment) {
         Ok(topup) => Ok(topup),

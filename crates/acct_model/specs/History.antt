@@ -1,7 +1,8 @@
 -- What a history says of sessions, vouchers and balances.
 --
 -- A history is the list of accepted entries, **the newest first**: a history H with one more entry
--- e is e ∷ H, and what was accepted first stands deepest. It holds no totals and no balances: each is
+-- e is e ∷ H, and what was accepted first stands deepest. It holds no totals and no balances: each
+-- is
 -- computed from the entries alone.
 use Rattle.std.specs.Prelude.{◌≡◌, ℕ, ◌^◌, max, Bool, false, ◌&&◌, ◌||◌, Option, None, Some, List}
 use Rattle.std.specs.Prelude.{[], ◌∷◌, if◌then◌else◌, map, ℤ, pos, ◌-ℤ◌, ◌≤ℤ◌, ◌==◌, bytes_eq}

@@ -91,7 +91,7 @@ impl Clients {
     }
 }
 
-// What is wrong with a client behind earlier ones.
+// What is wrong with a client that comes after earlier ones.
 fn fault_behind(earlier: &[Client], client: &Client) -> Option<ClientError>
     ensures { result ≡ client_fault earlier.now client.now }
 {

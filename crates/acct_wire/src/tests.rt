@@ -27,7 +27,7 @@ const START_REPLY: [u8; 20] = [
 // A reply without Proxy-States.
 const SHORT_REPLY: Outcome = Outcome::Reply(20);
 
-// The Start's packet, and five octets of padding behind it.
+// The Start's packet, and five octets of padding after it.
 fn padded_start() -> [u8; 39] {
     let mut padded = [0xee; 39];
     padded[..34].copy_from_slice(&START_PACKET);
@@ -341,7 +341,7 @@ fn judged(
 #[test]
 fn attributes_are_judged(rt: HostRuntime) -> Result<(), Fail> {
     for (octets, reason) in [
-        // A Length of 1, also behind a status that isn't known.
+        // A Length of 1, also after a status that isn't known.
         (b"\x28\x01".as_slice(), Reason::BadAttribute),
         (b"\x28\x06\0\0\0\x09\x28\x01", Reason::BadAttribute),
         (b"\x2c\x04s1", Reason::NoStatus),

@@ -3,7 +3,7 @@ use Rattle.std.specs.Prelude.{◌≡◌, ◌≢◌, ℕ, ◌<◌, ◌⊎◌, Opt
 use Rattle.std.specs.Prelude.{length, slice_index}
 use Rattle.std.specs.Borrow.{Bor}
 
--- the first line of octets, which has no octet 10, and what stands behind the one that ends it
+-- the first line of octets, which has no octet 10, and what comes after the one that ends it
 pub record IsCut (octets line rest : List ℕ) : Type 0 where
   pub unbroken : (k : ℕ) → k < length line → slice_index line k ≢ 10
   pub whole : (octets ≡ line ++ 10 ∷ rest) ⊎ ((octets ≡ line) × (rest ≡ []))

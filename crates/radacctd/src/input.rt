@@ -13,7 +13,7 @@ pub const MOST_READS: u32 = 33_554_432;
 /// How many octets one read asks for.
 const BLOCK: usize = 16_384;
 
-/// Why an input can't be had.
+/// Why an input cannot be read.
 #[derive(Clone, Copy, PartialEq, Eq, Debug, Error)]
 pub enum InputFault {
     /// It has more than `MOST_OCTETS` octets.

@@ -49,7 +49,7 @@ impl<'a> Iterator for Lines<'a> {
     }
 }
 
-// The first line, and what stands behind its end.
+// The first line, and what comes after its end.
 fn cut_line(octets: &[u8]) -> (&[u8], &[u8])
     ensures cut { IsCut octets.now result.0.now result.1.now }
     ensures shorter { 0 < length octets.now → length result.1.now < length octets.now }

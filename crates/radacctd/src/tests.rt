@@ -206,7 +206,7 @@ const PACKETS: [Row; 22] = [
         "reply 0507001b96b5f5d7e84d51b106a002b4a77656662103782104797a\n",
         Done,
     ),
-    // A whole packet, and with five octets behind it.
+    // A whole packet, and with five octets after it.
     (
         "packet 1000 10.0.0.1 04070022a0219da781bf217105bbdd1d2b3a0e942806000000012c0473310104616c\
          \n",
