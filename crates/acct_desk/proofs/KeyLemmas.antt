@@ -1,4 +1,4 @@
--- Keys from a place on, and the places of their tokens.
+-- The faults of keys, and the places of their tokens.
 use Rattle.std.proofs.Common.{◌≡◌, ℕ, suc, ◌+◌, ◌-◌, ◌<◌, ◌≤◌, Bool, true, false, cond, ◌||◌, List}
 use Rattle.std.proofs.Common.{[], ◌∷◌, ◌++◌, length, take, drop, get_or, refl, sym, ◌∙◌, ap, subst}
 use Rattle.std.proofs.Common.{arith, length-take}
@@ -22,28 +22,9 @@ use Rattle.acct_desk.specs.declared.keys.DeskKey.{DeskKey}
 use Rattle.acct_desk.specs.declared.keys.KeysError.{KeysError}
 use Rattle.acct_desk.specs.declared.keys.KeysError.TheVariants.{TwiceKeyed}
 use Rattle.acct_desk.specs.Keys.{has_token, is_token_text}
-use Rattle.acct_desk.specs.KeyFaults.{key_fault, faults_behind, place_at, ArePlaces}
+use Rattle.acct_desk.specs.KeyFaults.{key_fault, place_at, ArePlaces}
 
 -- ---- faults
-
-abbrev pub faults_from : ℕ → List DeskKey → Option KeysError
-faults_from i keys = faults_behind (take i keys) (drop i keys)
-
-pub faults_from-more : (keys : List DeskKey) (i : ℕ) (key : DeskKey) → i < length keys
-    → key ≡ get_or keys i key
-    → faults_from i keys ≡ option_or (key_fault (take i keys) key) (faults_from (i + 1) keys)
-faults_from-more keys i key within is =
-    let rest : drop i keys ≡ key ∷ drop (i + 1) keys = drop_more keys i key within
-    ∙ ap (λ c. c ∷ drop (i + 1) keys) (sym is) in
-    let front : take (i + 1) keys ≡ take i keys ++ key ∷ [] = take_more keys i key within
-    ∙ ap (λ c. take i keys ++ c ∷ []) (sym is) in
-    ap (faults_behind (take i keys)) rest
-    ∙ ap (λ xs. option_or (key_fault (take i keys) key) (faults_behind xs (drop (i + 1) keys)))
-    (sym front)
-
-pub faults_from-all : (keys : List DeskKey) (i : ℕ) → length keys ≤ i
-    → faults_behind (take i keys) (drop i keys) ≡ faults_behind (take i keys) []
-faults_from-all keys i all = ap (faults_behind (take i keys)) (drop_all i keys all)
 
 -- a key whose token is in order and new has no fault
 pub no_fault : (earlier : List DeskKey) (key : DeskKey) → is_token_text key.token ≡ true

@@ -3,11 +3,11 @@ use Rattle.std.specs.Prelude.{◌≡◌, ℕ, not, Option, None, Some, List, [],
 use Rattle.std.specs.Prelude.{if◌then◌else◌}
 use Rattle.std.specs.Global.{Global}
 use Rattle.std.specs.List.{list_any, position_from}
-use Rattle.std.specs.Option.{option_or}
 use Rattle.std.specs.BTreeMap as tree
 use Rattle.std.specs.BTreeMap.{BTreeMap}
 use Rattle.matchit.specs.Rows.{RowsOf}
 use Rattle.matchit.specs.Router.{RouteOf}
+use Rattle.acct_model.specs.Faults.{first_fault}
 use Rattle.acct_book.specs.Maps.{octets_cmp}
 use Rattle.acct_desk.specs.declared.routes.Endpoint.{Endpoint}
 use Rattle.acct_desk.specs.declared.keys.DeskKey.{DeskKey}
@@ -16,22 +16,16 @@ use Rattle.acct_desk.specs.declared.keys.KeysError.TheVariants.{BadToken, TwiceK
 use Rattle.acct_desk.specs.Keys.{is_token_text, has_token}
 use Rattle.acct_desk.specs.Routes.{desk_rows}
 
--- what is wrong with a key behind earlier ones
+-- what is wrong with a key that comes after earlier ones
 abbrev pub key_fault : List DeskKey → DeskKey → Option KeysError
 key_fault earlier key =
     if not (is_token_text key.token) then Some BadToken
     else if list_any (has_token key.token) earlier then Some TwiceKeyed
     else None
 
--- the first fault of keys behind earlier ones
-abbrev pub faults_behind : List DeskKey → List DeskKey → Option KeysError
-faults_behind earlier [] = None
-faults_behind earlier (key ∷ keys) =
-    option_or (key_fault earlier key) (faults_behind (earlier ++ key ∷ []) keys)
-
 -- the first fault of a list of keys
 abbrev pub fault_of : List DeskKey → Option KeysError
-fault_of keys = faults_behind [] keys
+fault_of keys = first_fault key_fault keys
 
 -- an error is the first fault, or memory was refused, whatever the fault
 abbrev pub IsKeysError : Option KeysError → KeysError → Type 0

@@ -3,8 +3,9 @@ use Rattle.std.specs.Prelude.{is_some}
 use Rattle.std.specs.Option.{option_or}
 use Rattle.acct_desk.specs.declared.keys.DeskKey.{DeskKey}
 use Rattle.acct_desk.specs.Keys.{is_token_text}
-use Rattle.acct_desk.specs.KeyFaults.{place_at}
-use Rattle.acct_desk.proofs.KeyLemmas.{faults_from, faults_from-more, places-more, no_fault}
+use Rattle.acct_desk.specs.KeyFaults.{key_fault, place_at}
+use Rattle.acct_model.proofs.Faults.{faults_from, faults_from-more}
+use Rattle.acct_desk.proofs.KeyLemmas.{places-more, no_fault}
 use Rattle.acct_desk.proofs.KeyLemmas.{twice_keyed, is_among, on_ok}
 use Rattle.acct_desk.proofs.keys.places_of.Goals as goal
 
@@ -21,8 +22,8 @@ returns-then-contains_key-clause-refused c =
     let among = is_among c.loop-i.places (take i keys) key.token true c.loop-i.invariant.placed
     found in
     sym c.loop-i.invariant.faults
-    ∙ faults_from-more keys i key c.loop-i-test.true c.index-list-i.is
-    ∙ ap (λ o. option_or o (faults_from (i + 1) keys)) (twice_keyed (take i keys) key token among)
+    ∙ faults_from-more key_fault keys i key c.loop-i-test.true c.index-list-i.is
+    ∙ ap (λ o. option_or o (faults_from key_fault (i + 1) keys)) (twice_keyed (take i keys) key token among)
 
 pub loop-i-preserved : goal.loop-i-preserved
 loop-i-preserved c =
@@ -40,9 +41,9 @@ loop-i-preserved c =
     ∙ c.if-is_err.false) c.insert.ensures.updates in
     record {
       faults =
-          sym (ap (λ o. option_or o (faults_from (i + 1) keys))
+          sym (ap (λ o. option_or o (faults_from key_fault (i + 1) keys))
           (no_fault (take i keys) key token among))
-          ∙ sym (faults_from-more keys i key c.loop-i-test.true c.index-list-i.is)
+          ∙ sym (faults_from-more key_fault keys i key c.loop-i-test.true c.index-list-i.is)
           ∙ c.loop-i.invariant.faults;
       placed = places-more c.loop-i.places c.insert.new.self keys i key c.in_ok-token.token.items
           c.loop-i-test.true c.index-list-i.is
