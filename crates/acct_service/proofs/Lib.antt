@@ -1,0 +1,5 @@
+mod Asking
+mod Datagrams
+mod Requests
+mod Crashes
+mod Visits

@@ -1,0 +1,5 @@
+pub mod Machine
+pub mod Sending
+pub mod Told
+pub mod Serving
+pub mod Listed

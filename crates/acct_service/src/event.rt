@@ -1,0 +1,73 @@
+//! What comes to a server.
+ghost use Rattle.std.specs.Prelude.{◌≡◌, ◌<◌, ◌^◌, IfOk};
+
+use acct_model::Octets;
+use std::alloc::{AllocError, Global};
+
+/// What came, and from where.
+#[derive(Debug, Drop)]
+pub enum What {
+    /// A datagram.
+    Datagram {
+        /// The IPv4 address that it came from.
+        source: [u8; 4],
+        /// The UDP port that it came from.
+        port: u16,
+        /// Its octets.
+        bytes: Octets,
+    },
+    /// A request at the desk.
+    Desk {
+        /// Its octets.
+        bytes: Octets,
+    },
+}
+
+impl What {
+    // The same again.
+    fn copy(&self, alloc: Global) -> Result<What, AllocError>
+        ensures { IfOk result (λ copy. copy ≡ self.now) }
+    {
+        match self {
+            What::Datagram {
+                source,
+                port,
+                bytes,
+            } => Ok(What::Datagram {
+                source: *source,
+                port: *port,
+                bytes: bytes.copy(alloc)?,
+            }),
+            What::Desk { bytes } => Ok(What::Desk {
+                bytes: bytes.copy(alloc)?,
+            }),
+        }
+    }
+}
+
+/// Something that came, and when. Its moment is below 2^53.
+#[derive(Debug, Drop)]
+pub struct Event {
+    /// When it came, in seconds since 1970.
+    pub moment: u64,
+    /// What came.
+    pub what: What,
+    pub ghost moment_fits: { moment < 2 ^ 53 },
+}
+
+impl Event {
+    /// The same event again.
+    ///
+    /// # Errors
+    ///
+    /// Only where memory is refused.
+    pub fn copy(&self, alloc: Global) -> Result<Event, AllocError>
+        ensures { IfOk result (λ copy. copy ≡ self.now) }
+    {
+        let what = self.what.copy(alloc)?;
+        Ok(Event {
+            moment: self.moment,
+            what,
+        })
+    }
+}

@@ -1,0 +1,69 @@
+//! Where events come from and replies go.
+ghost use Rattle.std.specs.Prelude.{◌≡◌, ℕ, ◌+◌, ◌-◌, ◌^◌, ◌<◌, Option, []};
+ghost use Rattle.acct_service.specs.Told.{Told, Grows, given, GrowsByReply, CountsFault};
+
+use crate::event::Event;
+use acct_model::Octets;
+use thiserror::Error;
+
+/// The exchange failed.
+#[derive(Clone, Copy, PartialEq, Eq, Debug, Error)]
+#[error("the exchange failed")]
+pub struct Fault;
+
+/// A reply that was asked for.
+#[derive(Debug, Drop)]
+pub struct Asked {
+    /// The event that it answers.
+    pub event: Event,
+    /// Its octets.
+    pub bytes: Octets,
+    /// Whether the exchange took it.
+    pub is_taken: bool,
+}
+
+/// A source of events that takes replies to them.
+///
+/// It counts its turns and its faults, and may tell the lists of the events that it gave and of the
+/// replies that it was asked for.
+pub trait Exchange {
+    /// How many turns it made.
+    ghost turn_count: { Self → ℕ };
+
+    /// How many of its calls failed.
+    ghost failure_count: { Self → ℕ };
+
+    /// The events that it gave and the replies that it was asked for, if it tells them.
+    ghost told: { Self → Option Told };
+
+    /// One turn: the event that came, or None where nothing came.
+    ///
+    /// # Errors
+    ///
+    /// A `Fault` is counted, and gives no event.
+    fn next(&mut self) -> Result<Option<Event>, Fault>
+        requires turns { turn_count self.old < 2 ^ 64 - 1 }
+        requires failures { failure_count self.old < 2 ^ 64 - 1 }
+        ensures turns { turn_count self.new ≡ turn_count self.old + 1 }
+        ensures failures { CountsFault result (failure_count self.old) (failure_count self.new) }
+        ensures told { Grows (told self.old) (given result) [] (told self.new) };
+
+    /// Sends octets to where an event came from.
+    ///
+    /// # Errors
+    ///
+    /// A `Fault` is counted. The reply was asked for and not taken.
+    fn reply(&mut self, event: &Event, bytes: &[u8]) -> Result<(), Fault>
+        requires failures { failure_count self.old < 2 ^ 64 - 1 }
+        ensures turns { turn_count self.new ≡ turn_count self.old }
+        ensures failures { CountsFault result (failure_count self.old) (failure_count self.new) }
+        ensures told { GrowsByReply (told self.old) event.now bytes.now result (told self.new) };
+
+    /// How many turns it made.
+    fn turns(&self) -> u64
+        ensures { result ≡ turn_count self.now };
+
+    /// How many of its calls failed.
+    fn failures(&self) -> u64
+        ensures { result ≡ failure_count self.now };
+}

@@ -1,0 +1,27 @@
+//! The server behind the sockets: events in, replies out, over a book.
+//!
+//! 1. An event is a datagram or a desk request with the moment at which it came. An exchange gives
+//!    events and takes replies; sockets are one, a list of turns is another (`lists`).
+//! 2. `step` answers one event: a datagram by `acct_wire::answer`, a desk request by
+//!    `acct_desk::handle`. It is one step of the machine of `specs/Machine.antt`.
+//! 3. `serve` makes a number of turns over a book and an exchange. What it does is a run of that
+//!    machine: every balance and every reply is the one that the entries accepted before it
+//!    determine, whatever comes, repeated, reordered or failing (`specs/Serving.antt`).
+//! 4. A fault of the exchange is counted, and the next turn follows. An entry that was recorded
+//!    stays recorded when its reply fails.
+#![tactic(auto)]
+
+mod config;
+mod event;
+mod exchange;
+pub mod lists;
+mod outbox;
+mod server;
+mod stepping;
+
+pub use config::Config;
+pub use event::{Event, What};
+pub use exchange::{Asked, Exchange, Fault};
+pub use outbox::Outbox;
+pub use server::{Served, serve};
+pub use stepping::{Turn, step};

@@ -1,0 +1,170 @@
+//! An exchange over a list of turns, for tests and tools.
+ghost use Rattle.std.specs.Prelude.{◌≡◌, ◌++◌, ◌∷◌, [], OnOk, IfOk, Some};
+ghost use Rattle.acct_service.specs.Told.{asked};
+ghost use Rattle.acct_service.specs.Listed.{told_of};
+
+use crate::event::Event;
+use crate::exchange::{Asked, Exchange, Fault};
+use acct_model::Octets;
+use std::alloc::{AllocError, Global};
+use std::mem;
+
+/// What a turn of a list brings.
+#[derive(Debug, Drop)]
+pub enum Planned {
+    /// An event, and whether the exchange takes its reply.
+    Comes {
+        /// The event.
+        event: Event,
+        /// Whether its reply is taken. It fails otherwise.
+        takes_reply: bool,
+    },
+    /// Nothing.
+    Nothing,
+    /// A fault.
+    Fails,
+}
+
+/// An exchange that brings the turns of a list, and nothing after the last of them. It tells the
+/// events that it gave and the replies that it was asked for. A growth that is refused in it is a
+/// fault, and from then on it tells neither.
+#[derive(Debug, Drop)]
+pub struct ListExchange {
+    alloc: Global,
+    planned: Vec<Planned>,
+    place: usize,
+    takes_reply: bool,
+    turns: u64,
+    failures: u64,
+    tells: bool,
+    events: Vec<Event>,
+    replies: Vec<Asked>,
+}
+
+impl ListExchange {
+    ghost use Rattle.std.specs.Prelude.{List, Option};
+    ghost use Rattle.acct_service.specs.Told.{Told};
+
+    /// An exchange that brings these turns in their order, of which it made none.
+    pub fn new(alloc: Global, planned: Vec<Planned>) -> ListExchange
+        ensures turns { ⟦<ListExchange as Exchange>⟧.turn_count result ≡ 0 }
+        ensures failures { ⟦<ListExchange as Exchange>⟧.failure_count result ≡ 0 }
+        ensures told { ⟦<ListExchange as Exchange>⟧.told result
+            ≡ Some (record { events = []; replies = [] }) }
+    {
+        ListExchange {
+            alloc,
+            planned,
+            place: 0,
+            takes_reply: true,
+            turns: 0,
+            failures: 0,
+            tells: true,
+            events: Vec::new(alloc),
+            replies: Vec::new(alloc),
+        }
+    }
+
+    /// The events that it gave, in their order, as far as it tells them.
+    pub fn events(&self) -> &[Event]
+        ensures { result.now ≡ self.now.events.items }
+    {
+        &self.events
+    }
+
+    /// The replies that it was asked for, in their order, as far as it tells them.
+    pub fn replies(&self) -> &[Asked]
+        ensures { result.now ≡ self.now.replies.items }
+    {
+        &self.replies
+    }
+}
+
+// Keeps a copy of an event that is given.
+fn keep_event(alloc: Global, events: &mut Vec<Event>, event: &Event) -> Result<(), AllocError>
+    ensures { OnOk result (events.new.items ≡ events.old.items ++ event.now ∷ []) }
+{
+    let event = event.copy(alloc)?;
+    events.push(event)?;
+    Ok(())
+}
+
+// Keeps a reply that was asked for.
+fn keep_reply(
+    alloc: Global,
+    replies: &mut Vec<Asked>,
+    event: &Event,
+    bytes: &[u8],
+    is_taken: bool,
+) -> Result<(), AllocError>
+    ensures { OnOk result
+        (replies.new.items ≡ replies.old.items ++ asked event.now bytes.now is_taken ∷ []) }
+{
+    let event = event.copy(alloc)?;
+    let bytes = Octets::from_slice(alloc, bytes)?;
+    replies.push(Asked {
+        event,
+        bytes,
+        is_taken,
+    })?;
+    Ok(())
+}
+
+impl Exchange for ListExchange {
+    ghost turn_count = { λ e. e.turns };
+
+    ghost failure_count = { λ e. e.failures };
+
+    ghost told = { λ e. told_of e.tells e.events.items e.replies.items };
+
+    fn next(&mut self) -> Result<Option<Event>, Fault> {
+        self.turns += 1;
+        if self.place >= self.planned.len() {
+            return Ok(None);
+        }
+        let turn = mem::replace(&mut self.planned[self.place], Planned::Nothing);
+        self.place += 1;
+        match turn {
+            Planned::Nothing => Ok(None),
+            Planned::Fails => {
+                self.failures += 1;
+                Err(Fault)
+            }
+            Planned::Comes { event, takes_reply } => {
+                self.takes_reply = takes_reply;
+                if keep_event(self.alloc, &mut self.events, &event).is_err() {
+                    self.tells = false;
+                    self.failures += 1;
+                    return Err(Fault);
+                }
+                Ok(Some(event))
+            }
+        }
+    }
+
+    fn reply(&mut self, event: &Event, bytes: &[u8]) -> Result<(), Fault> {
+        let kept = keep_reply(
+            self.alloc,
+            &mut self.replies,
+            event,
+            bytes,
+            self.takes_reply,
+        );
+        if kept.is_err() {
+            self.tells = false;
+        }
+        if kept.is_ok() && self.takes_reply {
+            return Ok(());
+        }
+        self.failures += 1;
+        Err(Fault)
+    }
+
+    fn turns(&self) -> u64 {
+        self.turns
+    }
+
+    fn failures(&self) -> u64 {
+        self.failures
+    }
+}

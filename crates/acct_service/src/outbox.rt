@@ -1,0 +1,105 @@
+//! What is to be sent.
+ghost use Rattle.std.specs.Prelude.{◌≡◌, ◌≤◌, ◌<◌, ◌^◌, ℕ};
+ghost use Rattle.acct_service.specs.declared.event.What.TheVariants as what;
+ghost use Rattle.acct_service.specs.Machine.{TakesStep, answer_of};
+
+use crate::config::Config;
+use crate::stepping::Turn;
+use acct_book::Book;
+use acct_desk::handle;
+use acct_wire::{Datagram, Outcome, answer};
+use std::alloc::Global;
+use std::marker::Model;
+
+/// The octets of an answer: of the reply to a datagram, in an array that is made once, or of a
+/// response of the desk, as the desk gave them. Contracts see it as these octets.
+#[derive(Drop)]
+pub struct Outbox {
+    reply: [u8; 4096],
+    size: usize,
+    response: Option<Vec<u8>>,
+}
+
+impl Model for Outbox {
+    ghost use Rattle.std.specs.Prelude.{List, ℕ, ◌≤◌};
+    ghost use Rattle.acct_service.specs.Sending.{octets_in};
+
+    ghost Value = { List ℕ };
+
+    ghost view = { λ o. octets_in o.reply o.size o.response };
+
+    ghost invariant = { λ o. o.size ≤ 4096 };
+}
+
+impl Outbox {
+    /// An outbox with nothing in it. It takes no memory.
+    pub fn new() -> Outbox {
+        Outbox {
+            reply: [0; 4096],
+            size: 0,
+            response: None,
+        }
+    }
+
+    /// The octets of the last reply or response. It takes no memory.
+    pub fn bytes(&self) -> &[u8]
+        ensures { result.now ≡ self.now }
+    {
+        match &self.response {
+            Some(response) => response.as_slice(),
+            None => &self.reply[..self.size],
+        }
+    }
+
+    // Answers a datagram, and keeps the reply.
+    pub(crate) fn answer_datagram<B: Book>(
+        &mut self,
+        alloc: Global,
+        config: &Config,
+        book: &mut B,
+        datagram: &Datagram<'_>,
+    ) -> Turn
+        ensures { (port : ℕ) → TakesStep config.now datagram.now.moment
+            (what.Datagram datagram.now.source port datagram.now.bytes.now) B.content B.is_sound
+            B.is_open B.is_steady B.left book.old book.new (answer_of result self.new) }
+    {
+        let outcome = answer(
+            alloc,
+            &config.clients,
+            &config.plans,
+            book,
+            datagram,
+            &mut self.reply,
+        );
+        match outcome {
+            Outcome::Reply(size) => {
+                self.size = size;
+                self.response = None;
+                Turn::Reply
+            }
+            Outcome::Drop(reason) => Turn::Dropped(reason),
+        }
+    }
+
+    // Answers a request at the desk, and keeps the response.
+    pub(crate) fn answer_request<B: Book>(
+        &mut self,
+        alloc: Global,
+        config: &Config,
+        book: &mut B,
+        bytes: &[u8],
+        moment: u64,
+    ) -> Turn
+        requires { moment < 2 ^ 53 }
+        ensures { TakesStep config.now moment (what.Desk bytes.now) B.content B.is_sound B.is_open
+            B.is_steady B.left book.old book.new (answer_of result self.new) }
+    {
+        match handle(alloc, &config.keys, &config.plans, book, bytes, moment) {
+            Ok(response) => {
+                self.response = Some(response);
+                Turn::Reply
+            }
+            Err(_) => Turn::Mute,
+        }
+    }
+}

@@ -1,0 +1,153 @@
+//! The turns of a server.
+ghost use Rattle.std.specs.Prelude.{◌≡◌, ℕ, ◌+◌, ◌-◌, ◌^◌, ◌<◌, ◌≤◌, ◌==◌, slice_index, List, Option};
+ghost use Rattle.std.specs.Prelude.{if◌then◌else◌, []};
+ghost use Rattle.acct_model.specs.declared.entry.Entry.{Entry};
+ghost use Rattle.acct_book.specs.Step.{StoodFor};
+ghost use Rattle.acct_wire.specs.declared.reason.Reason.{Reason};
+ghost use Rattle.acct_service.specs.Told.{Told};
+ghost use Rattle.acct_service.specs.Serving.{Serves, Keeps, Counts, AtMost, place_of};
+
+use crate::config::Config;
+use crate::exchange::Exchange;
+use crate::outbox::Outbox;
+use crate::stepping::{Turn, step};
+use acct_book::Book;
+use acct_wire::Reason;
+use std::alloc::Global;
+
+/// What a server did in its turns, counted.
+#[derive(Clone, Copy, PartialEq, Eq, Debug)]
+pub struct Served {
+    /// The events that came.
+    pub events: u64,
+    /// The replies that were taken.
+    pub replies: u64,
+    /// The datagrams that were dropped, for each reason in the order of their numbers.
+    pub dropped: [u64; 13],
+    /// The requests at the desk for whose response there was no memory.
+    pub mute: u64,
+    /// The calls of the exchange that failed.
+    pub faults: u64,
+}
+
+// Where a reason is counted.
+fn place(reason: Reason) -> usize
+    ensures place { result ≡ place_of reason }
+    ensures within { result < 13 }
+{
+    reason as usize - 1
+}
+
+impl Served {
+    // Nothing yet.
+    fn none() -> Served
+        ensures counts { Counts [] result }
+        ensures faults { result.faults ≡ 0 }
+    {
+        Served {
+            events: 0,
+            replies: 0,
+            dropped: [0; 13],
+            mute: 0,
+            faults: 0,
+        }
+    }
+
+    // Counts a datagram that was dropped.
+    fn count_drop(&mut self, why: Reason)
+        requires { (reason : Reason)
+            → slice_index self.old.dropped (place_of reason) < 2 ^ 64 - 1 }
+        ensures dropped { (reason : Reason) → slice_index self.new.dropped (place_of reason)
+            ≡ slice_index self.old.dropped (place_of reason)
+            + (if place_of why == place_of reason then 1 else 0) }
+        ensures others { self.new ≡ record self.old { dropped = self.new.dropped } }
+    {
+        self.dropped[place(why)] += 1;
+    }
+}
+
+// One turn: what comes is answered and counted. It carries what was served so far, from whatever
+// history and book that began, on by one turn.
+fn take_turn<B: Book, X: Exchange>(
+    alloc: Global,
+    config: &Config,
+    book: &mut B,
+    exchange: &mut X,
+    out: &mut Outbox,
+    served: &mut Served,
+)
+    requires turns { X.turn_count exchange.old < 2 ^ 64 - 1 }
+    requires failures { X.failure_count exchange.old < 2 ^ 64 - 1 }
+    requires room { AtMost (2 ^ 64 - 2) served.old }
+    ensures turns { X.turn_count exchange.new ≡ X.turn_count exchange.old + 1 }
+    ensures faults { X.failure_count exchange.new + served.old.faults
+        ≡ X.failure_count exchange.old + served.new.faults }
+    ensures room { (n : ℕ) → AtMost n served.old → AtMost (n + 1) served.new }
+    ensures keeps { Keeps B.is_sound B.is_open B.is_steady book.old book.new }
+    ensures serves { (start : B) → (told : Option Told) → (history : List Entry)
+        → B.is_sound book.new
+        → Serves B.content B.is_open B.left config.now history start book.old told
+        (X.told exchange.old) served.old
+        → Serves B.content B.is_open B.left config.now history start book.new told
+        (X.told exchange.new) served.new }
+{
+    match exchange.next() {
+        Err(_) => served.faults += 1,
+        Ok(None) => {}
+        Ok(Some(event)) => {
+            served.events += 1;
+            match step(alloc, config, book, &event, out) {
+                Turn::Reply => match exchange.reply(&event, out.bytes()) {
+                    Ok(()) => served.replies += 1,
+                    Err(_) => served.faults += 1,
+                },
+                Turn::Dropped(reason) => served.count_drop(reason),
+                Turn::Mute => served.mute += 1,
+            }
+        }
+    }
+}
+
+/// Makes exactly `limit` turns, each one `next` and at most one `step` and one `reply`. A fault is
+/// counted and the next turn follows; an entry that was recorded stays recorded when its reply
+/// fails.
+///
+/// Over any book whose content stands for a history, and any exchange: there are events with
+/// answers that are a run of the machine from that history to another, for which the content then
+/// stands. So every account's balance is the sum of its distinct vouchers less the price of each of
+/// its sessions' greatest accepted total, whatever is lost, repeated or reordered, and every reply
+/// is the one that the entries accepted before it determine. These events are those that the
+/// exchange gave, and the replies that it was asked for are theirs, each for its own event and none
+/// left out, where it tells them. What a crash may leave at the end has every entry that was
+/// answered.
+///
+/// The buffers are made once. A turn costs what `answer` or `handle` costs.
+pub fn serve<B: Book, X: Exchange>(
+    alloc: Global,
+    config: &Config,
+    book: &mut B,
+    exchange: &mut X,
+    limit: u64,
+) -> Served
+    requires turns { X.turn_count exchange.old + limit ≤ 2 ^ 64 - 1 }
+    requires failures { X.failure_count exchange.old + limit ≤ 2 ^ 64 - 1 }
+
+    // Of the exchange alone: the turns that it made, and the faults that it counted.
+    ensures turns { X.turn_count exchange.new ≡ X.turn_count exchange.old + limit }
+    ensures faults { X.failure_count exchange.new
+        ≡ X.failure_count exchange.old + result.faults }
+
+    // Of the book, and of both together: a run from any history for which the content stood.
+    ensures keeps { Keeps B.is_sound B.is_open B.is_steady book.old book.new }
+    ensures serves { B.is_sound book.new → (history : List Entry)
+        → StoodFor config.now.plans B.content B.is_open book.old history
+        → Serves B.content B.is_open B.left config.now history book.old book.new
+        (X.told exchange.old) (X.told exchange.new) result }
+{
+    let mut out = Outbox::new();
+    let mut served = Served::none();
+    for turn in 0..limit {
+        take_turn(alloc, config, book, exchange, &mut out, &mut served);
+    }
+    served
+}

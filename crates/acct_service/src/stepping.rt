@@ -1,0 +1,54 @@
+//! One event, one answer.
+ghost use Rattle.acct_service.specs.Machine.{TakesStep, answer_of};
+
+use crate::config::Config;
+use crate::event::{Event, What};
+use crate::outbox::Outbox;
+use acct_book::Book;
+use acct_wire::{Datagram, Reason};
+use std::alloc::Global;
+
+/// What an event was answered.
+#[derive(Clone, Copy, PartialEq, Eq, Debug)]
+pub enum Turn {
+    /// The octets in the outbox are to be sent.
+    Reply,
+    /// The datagram was dropped, and nothing has changed.
+    Dropped(Reason),
+    /// There was no memory for a response of the desk. Nothing was recorded.
+    Mute,
+}
+
+/// Answers one event over a book whose content stands for a history under the plans of the
+/// configuration: a datagram by `acct_wire::answer`, a desk request by `acct_desk::handle`. It
+/// makes one step of the machine, whose answer is `Turn`, with the octets of the outbox.
+///
+/// Its cost is that of these two calls. The octets of the answer are not copied.
+pub fn step<B: Book>(
+    alloc: Global,
+    config: &Config,
+    book: &mut B,
+    event: &Event,
+    out: &mut Outbox,
+) -> Turn
+    ensures { TakesStep config.now event.now.moment event.now.what B.content B.is_sound B.is_open
+        B.is_steady B.left book.old book.new (answer_of result out.new) }
+{
+    match &event.what {
+        What::Datagram {
+            source,
+            port: _,
+            bytes,
+        } => {
+            let datagram = Datagram {
+                source: *source,
+                bytes: bytes.as_slice(),
+                moment: event.moment,
+            };
+            out.answer_datagram(alloc, config, book, &datagram)
+        }
+        What::Desk { bytes } => {
+            out.answer_request(alloc, config, book, bytes.as_slice(), event.moment)
+        }
+    }
+}
