@@ -1,6 +1,6 @@
 //! The turns of a server.
-ghost use Rattle.std.specs.Prelude.{◌≡◌, ℕ, ◌+◌, ◌-◌, ◌^◌, ◌<◌, ◌≤◌, ◌==◌, slice_index, List, Option};
-ghost use Rattle.std.specs.Prelude.{if◌then◌else◌, []};
+ghost use Rattle.std.specs.Prelude.{◌≡◌, ℕ, ◌+◌, ◌-◌, ◌^◌, ◌<◌, ◌≤◌, ◌==◌, List, Option};
+ghost use Rattle.std.specs.Prelude.{if◌then◌else◌, [], slice_index};
 ghost use Rattle.acct_model.specs.declared.entry.Entry.{Entry};
 ghost use Rattle.acct_book.specs.Step.{StoodFor};
 ghost use Rattle.acct_wire.specs.declared.reason.Reason.{Reason};
