@@ -1,10 +1,9 @@
 -- What a report says of one record more.
-use Rattle.std.proofs.Common.{◌≡◌, ◌≤◌, ◌+◌, ℕ, suc, cond, List, [], ◌∷◌, ◌++◌, length, refl, sym, ◌∙◌, ap, arith, Ok, Err}
-use Rattle.std.specs.Prelude.{count_by, IsTrue}
+use Rattle.std.proofs.Common.{◌≡◌, ◌+◌, ℕ, suc, cond, List, [], ◌∷◌, ◌++◌, length, refl, sym, ◌∙◌, ap, arith}
+use Rattle.std.specs.Prelude.{count_by}
 use Rattle.std.proofs.lemmas.List.Sums.{sum_by-append}
 use Rattle.acct_model.specs.declared.plan.Plan.{Plan}
 use Rattle.acct_model.specs.declared.entry.Entry.{Entry}
-use Rattle.acct_files.specs.declared.import_report.Refused.{Refused}
 use Rattle.acct_files.specs.declared.import_report.ImportReport.{ImportReport}
 use Rattle.acct_files.specs.declared.import_report.Outcome.{Outcome}
 use Rattle.acct_files.specs.declared.import_report.Outcome.TheVariants.{Added, Repeated, Refused as outcome_refused}

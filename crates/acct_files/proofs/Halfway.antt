@@ -1,9 +1,8 @@
 -- An import on its way through a text.
-use Rattle.std.proofs.Common.{◌≡◌, ◌≤◌, ◌+◌, ℕ, inl, inr, Bool, true, false, List, [], ◌∷◌, ◌++◌, length, Option, Some, None, Result, Ok, Err, refl, sym, ◌∙◌, ap, subst, arith}
+use Rattle.std.proofs.Common.{◌≡◌, ◌≤◌, ◌+◌, ℕ, inl, inr, true, false, List, [], ◌∷◌, ◌++◌, length, Option, Some, None, Result, Ok, Err, refl, sym, ◌∙◌, subst, arith}
 use Rattle.std.specs.Prelude.{IfSome, IsTrue}
 use Rattle.std.proofs.lemmas.List.{length-append}
-use Rattle.csv.specs.Machine.{next_record}
-use Rattle.csv.specs.Reading.{ReadRecord, Reached, default_config, reader_config, reader_state, source_of}
+use Rattle.csv.specs.Reading.{ReadRecord, default_config, reader_config, reader_state}
 use Rattle.csv.specs.declared.parser.State.TheVariants as st
 use Rattle.csv.specs.declared.reader.Reader.{Reader}
 use Rattle.csv.proofs.ReadFacts.{rows-end, rows-more}
@@ -20,7 +19,7 @@ use Rattle.acct_files.specs.declared.import_report.ImportReport.{ImportReport}
 use Rattle.acct_files.specs.declared.import_report.Outcome.{Outcome}
 use Rattle.acct_files.specs.declared.import_report.Outcome.TheVariants.{Added, Repeated, Refused}
 use Rattle.acct_files.specs.Vouchers.{Fields, asked_by, is_header}
-use Rattle.acct_files.specs.Importing.{IsRefused, Becomes, Imported, Imports, Counts, Begin, AreTaken, Did, Keeps, Moves, MayHaveTried, has_header, is_refused}
+use Rattle.acct_files.specs.Importing.{IsRefused, Becomes, Imported, Imports, Counts, Begin, AreTaken, Did, Moves, MayHaveTried, is_refused}
 use Rattle.acct_files.specs.Reading.{HasRead, HasReadHeader, IsHeaderStop, IsReadStop}
 use Rattle.acct_files.proofs.Counting.{run_more, run_length}
 use Rattle.acct_files.proofs.Offers.{stayed}

@@ -16,7 +16,6 @@ use Rattle.acct_book.specs.Step.{MayAdd}
 use Rattle.acct_book.specs.Stands.{Stands}
 use Rattle.acct_files.specs.declared.import_report.Stopped.{Stopped}
 use Rattle.acct_files.specs.declared.import_report.Stopped.TheVariants as stop
-use Rattle.acct_files.specs.declared.import_report.Outcome.{Outcome}
 use Rattle.acct_files.specs.declared.import_report.Outcome.TheVariants.{Added, Repeated, Refused}
 use Rattle.acct_files.specs.declared.import_report.Cause.TheVariants as cause
 use Rattle.acct_files.specs.declared.voucher_record.Fault.{Fault}

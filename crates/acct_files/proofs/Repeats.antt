@@ -17,7 +17,7 @@ use Rattle.acct_files.specs.declared.import_report.Outcome.{Outcome}
 use Rattle.acct_files.specs.declared.import_report.Outcome.TheVariants.{Added, Repeated, Refused}
 use Rattle.acct_files.specs.Importing.{Becomes, Imported, IsRefused, is_refused}
 use Rattle.acct_files.specs.Laws.{RepeatsLater}
-use Rattle.acct_files.specs.Vouchers.{Fields, three_of, sum_of, asked, asked_by}
+use Rattle.acct_files.specs.Vouchers.{Fields, three_of, sum_of, asked_by}
 
 -- the history keeps the voucher of a top-up, with its account and sum
 abbrev Keeps : List Entry → TopUpFacts → Type 0

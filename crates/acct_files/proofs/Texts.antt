@@ -1,9 +1,8 @@
 -- What the fields of a record spell.
-use Rattle.std.proofs.Common.{◌≡◌, ◌<◌, ◌≤◌, ◌^◌, ℕ, Bool, true, false, ◌&&◌, List, [], ◌∷◌, length, get_or, Option, Some, None, Result, Ok, Err, refl, sym, ◌∙◌, ap, inl, inr, arith, rules, if◌then◌else◌}
-use Rattle.std.specs.Prelude.{IsUtf8, nat_le, not, unwrap_or}
+use Rattle.std.proofs.Common.{◌≡◌, ◌<◌, ◌≤◌, ◌^◌, ℕ, Bool, true, false, ◌&&◌, List, [], ◌∷◌, length, get_or, Some, Result, Ok, refl, sym, ◌∙◌, ap, inl, inr, arith, rules}
+use Rattle.std.specs.Prelude.{IsUtf8, nat_le}
 use Rattle.std.specs.Char.{is_ascii_digit}
 use Rattle.std.specs.List.{list_all}
-use Rattle.std.specs.Result.{result_ok}
 use Rattle.std.specs.Str.Parse.{ParsesUnsigned, digits_value}
 use Rattle.std.proofs.lemmas.Bool.{cases_Bool}
 use Rattle.std.proofs.lemmas.Bool.Decides.{nat_tests}
@@ -13,11 +12,9 @@ use Rattle.std.proofs.lemmas.Str.{IsUtf8-from_ascii}
 use Rattle.std.proofs.lemmas.Str.Parse.{IsNumeralModel, numerals_by_value, parse_gives}
 use Rattle.std.proofs.lemmas.Int.Digits.{digits_value-lt}
 use Rattle.std.proofs.Math.Nat.{pow-le-pow_right}
-use Rattle.acct_model.specs.Vouchers.{is_voucher_octet, is_voucher_number, is_voucher_account, is_voucher_sum}
+use Rattle.acct_model.specs.Vouchers.{is_voucher_octet, is_voucher_number}
 use Rattle.csv.specs.Records.{field_at}
-use Rattle.percent_encoding.specs.Percent.{percent_decode}
-use Rattle.acct_files.specs.Vouchers.{three_of, is_sum_text, sum_of, asked}
-use Rattle.acct_files.specs.declared.import_report.Cause.TheVariants.{BadVoucher}
+use Rattle.acct_files.specs.Vouchers.{three_of, is_sum_text, sum_of}
 
 -- ---- text
 

@@ -1,5 +1,5 @@
 -- What the exports write.
-use Rattle.std.specs.Prelude.{◌≡◌, ℕ, ℤ, zero, suc, pos, negsuc, ◌+◌, ◌==◌, Bool, if◌then◌else◌}
+use Rattle.std.specs.Prelude.{◌≡◌, ℕ, ℤ, suc, pos, negsuc, ◌+◌, ◌==◌, if◌then◌else◌}
 use Rattle.std.specs.Prelude.{List, [], ◌∷◌, ◌++◌, codes, decimal, flat_map, false}
 use Rattle.std.specs.Fmt.{signed_decimal}
 use Rattle.csv.specs.Writing.{default_writer, row_text, writer_setup, fields_written, has_written}

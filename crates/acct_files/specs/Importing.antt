@@ -1,7 +1,7 @@
 -- What an import does: the records of a text, what became of each, and what the book then stands
 -- for.
 use Rattle.std.specs.Prelude.{◌≡◌, ◌≢◌, ◌⊎◌, ◌+◌, ◌≤◌, ⊤, ℕ, ℤ, Bool, true, false, List, [], ◌∷◌}
-use Rattle.std.specs.Prelude.{◌++◌, length, count_by, Option, Some, None, IfSome, option_map}
+use Rattle.std.specs.Prelude.{◌++◌, length, count_by, Option, Some, None, IfSome}
 use Rattle.std.specs.Prelude.{Result, Ok, Err}
 use Rattle.std.specs.Option.{option_map_or}
 use Rattle.csv.specs.Machine.{next_record}

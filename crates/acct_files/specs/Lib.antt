@@ -3,3 +3,9 @@ pub mod Importing
 pub mod Reading
 pub mod Exporting
 pub mod Laws
+pub mod Tables
+pub mod Entries
+pub mod ClientTables
+pub mod PlanTables
+pub mod KeyTables
+pub mod Config

@@ -1,8 +1,8 @@
 -- How the records of a text are read.
-use Rattle.std.specs.Prelude.{◌≡◌, ◌⊎◌, ⊤, ℕ, true, false, List, [], ◌∷◌, Option, Some, None}
+use Rattle.std.specs.Prelude.{◌≡◌, ◌⊎◌, ℕ, true, false, List, [], ◌∷◌, Option, Some}
 use Rattle.std.specs.Prelude.{IfSome}
 use Rattle.csv.specs.Reading.{Ready, Reached, default_config, source_of, reader_config}
-use Rattle.csv.specs.Reading.{reader_state, reader_trim, is_flexible}
+use Rattle.csv.specs.Reading.{reader_state, reader_trim}
 use Rattle.csv.specs.declared.parser.State.TheVariants as st
 use Rattle.csv.specs.declared.reader.Reader.{Reader}
 use Rattle.csv.specs.declared.reader.Trim.TheVariants as trim

@@ -1,7 +1,7 @@
-use Rattle.std.proofs.Common.{◌≡◌, Option, Some, None, Result, Ok, Err, sym, ◌∙◌, refl, ap}
+use Rattle.std.proofs.Common.{◌≡◌, Result, Ok, Err, sym, ◌∙◌, refl, ap}
 use Rattle.std.specs.Prelude.{option_map}
 use Rattle.std.specs.Result.{result_err}
-use Rattle.csv.specs.Reading.{builder_config, builder_trim, builder_names_headers, source_of, strip_bom}
+use Rattle.csv.specs.Reading.{strip_bom}
 use Rattle.acct_files.specs.declared.import_report.Stopped.{Stopped}
 use Rattle.acct_files.specs.Importing.{stop_of}
 use Rattle.acct_files.proofs.Halfway.{recounted}

@@ -1,11 +1,11 @@
-use Rattle.std.proofs.Common.{◌≡◌, ◌≤◌, ◌+◌, List, true, false, sym, ◌∙◌, inl, inr, refl, ap, arith, Some, Ok, Err, Result, subst}
+use Rattle.std.proofs.Common.{◌≡◌, ◌≤◌, ◌+◌, refl, ap, arith, Ok, Err, Result}
 use Rattle.std.specs.Prelude.{IsErr, IsErrAnd}
 use Rattle.csv.specs.Reading.{source_of}
 use Rattle.csv.specs.Records.{fields_of}
 use Rattle.acct_files.specs.declared.import_report.Outcome.{Outcome}
 use Rattle.acct_files.specs.declared.import_report.Outcome.TheVariants.{Added, Repeated, Refused}
 use Rattle.acct_files.specs.Importing.{added_by}
-use Rattle.acct_files.proofs.Halfway.{Halfway, at_start, beheaded, ended, more, stopped_at, too_many, uncounted, unread}
+use Rattle.acct_files.proofs.Halfway.{at_start, beheaded, ended, more, stopped_at, too_many, uncounted, unread}
 use Rattle.acct_files.proofs.Offers.{keeps_then}
 use Rattle.acct_files.proofs.importing.import_rows.Goals as goal
 

@@ -1,7 +1,4 @@
-use Rattle.std.proofs.Common.{refl, sym, ◌∙◌, ap, ◌≡◌, subst, None}
-use Rattle.acct_book.specs.Outcome.{Tells}
 use Rattle.csv.specs.Records.{fields_of}
-use Rattle.acct_files.specs.Importing.{Becomes, Did, Keeps, Moves, added_by, stop_of}
 use Rattle.acct_files.proofs.Offers.{offered, offer_keeps, faulted}
 use Rattle.acct_files.proofs.importing.outcome_of.Goals as goal
 

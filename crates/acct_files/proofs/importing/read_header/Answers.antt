@@ -1,4 +1,4 @@
-use Rattle.std.proofs.Common.{◌≡◌, true, false, sym, ◌∙◌, inl, inr, refl}
+use Rattle.std.proofs.Common.{sym, ◌∙◌, inr, refl}
 use Rattle.csv.specs.Records.{fields_of}
 use Rattle.acct_files.proofs.Headers.{first_read, first_other, no_first}
 use Rattle.acct_files.proofs.importing.read_header.Goals as goal

@@ -1,13 +1,11 @@
-use Rattle.std.proofs.Common.{◌≡◌, ◌++◌, ◌∷◌, ◌∙◌, [], sym, ap, refl, ℕ, List, Some, None, Ok, Err}
-use Rattle.std.specs.Prelude.{ℤ, option_map}
-use Rattle.csv.specs.Writing.{text_written}
+use Rattle.std.proofs.Common.{◌++◌, ◌∷◌, [], refl, Some, None}
 use Rattle.acct_book.specs.declared.key.Key.{Key}
 use Rattle.acct_book.specs.Row.{RowFacts}
 use Rattle.acct_book.specs.Content.{key_of}
 use Rattle.acct_book.specs.Maps.{key_cmp}
 use Rattle.acct_book.proofs.WalkLaws.{walks-meet-all}
 use Rattle.acct_files.specs.Exporting.{export_text, line, session_header, session_fields}
-use Rattle.acct_files.proofs.Walking.{Quiet, Walked, appends_kept, export_none, grown, if_ok, next_here, quiet_at_first, quiet_more, walked_all, walked_more}
+use Rattle.acct_files.proofs.Walking.{appends_kept, export_none, grown, if_ok, next_here, quiet_at_first, quiet_more, walked_all, walked_more}
 use Rattle.acct_files.proofs.session_lines.export_sessions.Goals as goal
 
 pub loop-turn-init : goal.loop-turn-init

@@ -1,10 +1,8 @@
-use Rattle.std.proofs.Common.{◌≡◌, ℕ, List, None}
-use Rattle.std.specs.Prelude.{ℤ, option_map}
+use Rattle.std.proofs.Common.{List, None}
 use Rattle.std.specs.Io.KnownBytes.{Appends}
 use Rattle.csv.specs.Writing.{text_written}
 use Rattle.acct_book.specs.declared.key.Key.{Key}
 use Rattle.acct_book.specs.Row.{RowFacts}
-use Rattle.acct_book.specs.Content.{key_of}
 use Rattle.acct_book.specs.Maps.{key_cmp}
 use Rattle.acct_files.specs.Exporting.{IsBetweenLines, export_text, line, session_header, session_fields}
 use Rattle.acct_files.proofs.Walking.{Quiet, Walked}

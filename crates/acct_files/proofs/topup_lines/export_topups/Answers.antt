@@ -1,11 +1,9 @@
-use Rattle.std.proofs.Common.{◌≡◌, ◌++◌, ◌∷◌, ◌∙◌, [], sym, ap, refl, ℕ, List, Some, None, Ok, Err}
-use Rattle.std.specs.Prelude.{ℤ, option_map}
-use Rattle.csv.specs.Writing.{text_written}
+use Rattle.std.proofs.Common.{◌++◌, ◌∷◌, [], refl, ℕ, List, Some, None}
 use Rattle.acct_model.specs.Vouchers.{TopUpFacts}
 use Rattle.acct_book.specs.Maps.{octets_cmp}
 use Rattle.acct_book.proofs.WalkLaws.{walks-meet-all}
 use Rattle.acct_files.specs.Exporting.{export_text, line, topup_header, topup_fields}
-use Rattle.acct_files.proofs.Walking.{Quiet, Walked, appends_kept, export_none, grown, if_ok, next_here, quiet_at_first, quiet_more, walked_all, walked_more}
+use Rattle.acct_files.proofs.Walking.{appends_kept, export_none, grown, if_ok, next_here, quiet_at_first, quiet_more, walked_all, walked_more}
 use Rattle.acct_files.proofs.topup_lines.export_topups.Goals as goal
 
 pub loop-turn-init : goal.loop-turn-init

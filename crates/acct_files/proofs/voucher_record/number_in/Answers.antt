@@ -1,6 +1,6 @@
-use Rattle.std.proofs.Common.{◌≡◌, true, sym, ◌∙◌, ap, cond}
+use Rattle.std.proofs.Common.{◌≡◌, true, sym, ◌∙◌, ap}
 use Rattle.std.specs.Result.{result_unwrap_or}
-use Rattle.acct_files.specs.Vouchers.{is_sum_text, sum_of}
+use Rattle.acct_files.specs.Vouchers.{is_sum_text}
 use Rattle.acct_files.proofs.Texts.{sum_is_text, sum_parsed}
 use Rattle.acct_files.proofs.voucher_record.number_in.Goals as goal
 

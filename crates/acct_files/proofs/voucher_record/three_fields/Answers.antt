@@ -1,4 +1,4 @@
-use Rattle.std.proofs.Common.{rules, ◌≡◌, ◌<◌, length, arith, sym, ◌∙◌}
+use Rattle.std.proofs.Common.{◌≡◌, length, arith, sym, ◌∙◌}
 use Rattle.csv.proofs.RecordFacts.{field-there}
 use Rattle.csv.specs.Records.{fields_of}
 use Rattle.acct_files.proofs.Texts.{three_from}

@@ -1,7 +1,6 @@
-use Rattle.std.proofs.Common.{rules, arith, ◌≡◌, ◌+◌, ◌∷◌, [], sym, ◌∙◌, ap, refl, add-zero}
+use Rattle.std.proofs.Common.{arith, sym, refl}
 use Rattle.std.proofs.lemmas.List.{append-nil}
 use Rattle.acct_files.specs.declared.import_report.Outcome.TheVariants.{Added, Repeated, Refused}
-use Rattle.acct_files.specs.Importing.{Counts}
 use Rattle.acct_files.proofs.Counting.{counts_more}
 use Rattle.acct_files.proofs.import_report.ImportReport.count.Goals as goal
 

@@ -1,0 +1,70 @@
+-- The configuration that a text spells, or the first fault of the text.
+use Rattle.std.specs.Prelude.{◌≡◌, ◌⊎◌, ℕ, Bool, true, ◌||◌, List, if◌then◌else◌, Option, None}
+use Rattle.std.specs.Prelude.{Some, bytes_eq, codes}
+use Rattle.toml.specs.Data.{Data, Members}
+use Rattle.toml.specs.Parse.{parse_document}
+use Rattle.acct_model.specs.declared.plan.Plan.{Plan}
+use Rattle.acct_wire.specs.declared.client.Client.{Client}
+use Rattle.acct_files.specs.declared.config.Config.{Config}
+use Rattle.acct_files.specs.declared.config_error.ConfigKind.TheVariants.{NotToml, BadShape}
+use Rattle.acct_files.specs.declared.config_error.ConfigKind.TheVariants.{Memory}
+use Rattle.acct_files.specs.declared.config_error.ConfigError.{ConfigError}
+use Rattle.acct_files.specs.Tables.{has_only, array_at, three, top_error}
+use Rattle.acct_files.specs.ClientTables.{AreClientTables, FirstClientRefused}
+use Rattle.acct_files.specs.PlanTables.{ArePlanTables, has_default, FirstPlanRefused, LacksDefault}
+use Rattle.acct_files.specs.KeyTables.{AreKeyTables, FirstKeyRefused}
+
+-- the names of the top level
+abbrev pub is_top_name : List ℕ → Bool
+is_top_name name = bytes_eq name (codes "client") || bytes_eq name (codes "plan")
+    || bytes_eq name (codes "key")
+
+-- what stands in the arrays of the clients, of the plans and of the keys
+abbrev pub Arrays : Type 0
+Arrays = List Data × List Data × List Data
+
+-- the arrays of a document whose top level has its shape
+abbrev pub arrays_in : Members → Option Arrays
+arrays_in top =
+    if has_only is_top_name top
+    then three (array_at (codes "client") 1024 top) (array_at (codes "plan") 256 top)
+    (array_at (codes "key") 4096 top)
+    else None
+
+-- the text is a document that spells this configuration
+pub record IsConfig (text : List ℕ) (config : Config) : Type 0 where
+  pub top : Members
+  pub parsed : parse_document text ≡ Some top
+  pub arrays : Arrays
+  pub shaped : arrays_in top ≡ Some arrays
+  pub clients : AreClientTables arrays.0 config.clients
+  pub plans : ArePlanTables arrays.1 config.plans
+  pub default : has_default config.plans ≡ true
+  pub keys : AreKeyTables arrays.2 config.keys
+
+-- the error tells the first fault of the plans, or of the keys where the plans have none
+abbrev pub IsLaterFault : Arrays → ConfigError → Type 0
+IsLaterFault arrays error =
+    FirstPlanRefused arrays.1 error
+    ⊎ LacksDefault arrays.1 error
+    ⊎ ((plans : List Plan) × ArePlanTables arrays.1 plans × (has_default plans ≡ true)
+    × FirstKeyRefused arrays.2 error)
+
+-- the error tells the first fault of a document's tables
+abbrev pub IsTableFault : Arrays → ConfigError → Type 0
+IsTableFault arrays error =
+    FirstClientRefused arrays.0 error
+    ⊎ ((clients : List Client) × AreClientTables arrays.0 clients × IsLaterFault arrays error)
+
+-- the error tells the first fault of a document
+abbrev pub IsDocumentFault : Members → ConfigError → Type 0
+IsDocumentFault top error =
+    ((error ≡ top_error BadShape) × (arrays_in top ≡ None))
+    ⊎ ((arrays : Arrays) × (arrays_in top ≡ Some arrays) × IsTableFault arrays error)
+
+-- the error tells the first fault of the text, or that memory was refused
+abbrev pub IsConfigError : List ℕ → ConfigError → Type 0
+IsConfigError text error =
+    (error.kind ≡ Memory)
+    ⊎ ((error ≡ top_error NotToml) × (parse_document text ≡ None))
+    ⊎ ((top : Members) × (parse_document text ≡ Some top) × IsDocumentFault top error)

@@ -1,0 +1,101 @@
+-- The tables of keys.
+use Rattle.std.specs.Prelude.{◌≡◌, ◌⊎◌, ℕ, Bool, true, ◌||◌, List, if◌then◌else◌, Option, None}
+use Rattle.std.specs.Prelude.{Some, option_map, bytes_eq, codes}
+use Rattle.percent_encoding.specs.Percent.{percent_decode}
+use Rattle.toml.specs.Data.{Data, table, Members, get_member, as_str, as_bool}
+use Rattle.acct_model.specs.Vouchers.{is_voucher_account}
+use Rattle.acct_desk.specs.declared.keys.Role.{Role}
+use Rattle.acct_desk.specs.declared.keys.Role.TheVariants.{Account, Cashier}
+use Rattle.acct_desk.specs.declared.keys.DeskKey.{DeskKey}
+use Rattle.acct_desk.specs.Keys.{is_token_text}
+use Rattle.acct_desk.specs.KeyFaults.{key_fault}
+use Rattle.acct_files.specs.declared.key_tables.Bearer as code
+use Rattle.acct_files.specs.declared.key_tables.Bearer.TheVariants as codes_of
+use Rattle.acct_files.specs.declared.config_error.ConfigKind.{ConfigKind}
+use Rattle.acct_files.specs.declared.config_error.ConfigKind.TheVariants.{BadShape, BadKey}
+use Rattle.acct_files.specs.declared.config_error.ConfigKind.TheVariants.{TwiceKeyed, Memory}
+use Rattle.acct_files.specs.declared.config_error.ConfigTable.TheVariants as place
+use Rattle.acct_files.specs.declared.config_error.ConfigError.{ConfigError}
+use Rattle.acct_files.specs.Tables.{has_only, text_at, two}
+use Rattle.acct_files.specs.Entries as entries
+
+-- whom a key's table names: an account, as shown, or whether it is the cashier
+pub data Bearer : Type 0 where
+  account : List ℕ → Bearer
+  cashier : Bool → Bearer
+
+abbrev pub bearer_view : code.Bearer → Bearer
+bearer_view (codes_of.Account text) = account text.now
+bearer_view (codes_of.Cashier is) = cashier is
+
+-- the bearer that a value names, at `account` and at `cashier`
+abbrev pub account_bearer : Data → Option Bearer
+account_bearer value = option_map account (as_str value)
+
+abbrev pub cashier_bearer : Data → Option Bearer
+cashier_bearer value = option_map cashier (as_bool value)
+
+-- the bearer of what stands at `account` and `cashier`: exactly one of them
+abbrev pub bearer_of : Option Data → Option Data → Option Bearer
+bearer_of (Some value) None = account_bearer value
+bearer_of None (Some value) = cashier_bearer value
+bearer_of None None = None
+bearer_of (Some _) (Some _) = None
+
+abbrev pub bearer_in : Members → Option Bearer
+bearer_in members =
+    bearer_of (get_member (codes "account") members) (get_member (codes "cashier") members)
+
+-- the names of a key's table
+abbrev pub is_key_name : List ℕ → Bool
+is_key_name name = bytes_eq name (codes "token") || bytes_eq name (codes "account")
+    || bytes_eq name (codes "cashier")
+
+-- the token and the bearer of a key's table
+abbrev pub KeyValues : Type 0
+KeyValues = List ℕ × Bearer
+
+abbrev pub values_in : Members → Option KeyValues
+values_in members =
+    if has_only is_key_name members
+    then two (text_at (codes "token") members) (bearer_in members)
+    else None
+
+abbrev pub key_values : Data → Option KeyValues
+key_values (table members) = values_in members
+key_values _ = None
+
+-- the bearer's role: a percent-decoded account of 1 to 253 octets, or the cashier
+abbrev pub SaysRole : Bearer → Role → Type 0
+SaysRole (account text) (Account octets) =
+    (octets ≡ percent_decode text) × (is_voucher_account octets ≡ true)
+SaysRole (account text) Cashier = ⊥
+SaysRole (cashier is) Cashier = is ≡ true
+SaysRole (cashier is) (Account octets) = ⊥
+
+-- the values are those of this key, each within its rule
+pub record SaysKey (values : KeyValues) (key : DeskKey) : Type 0 where
+  pub token_is : values.0 ≡ key.token
+  pub token_fits : is_token_text key.token ≡ true
+  pub role_is : SaysRole values.1 key.role
+
+abbrev pub SpellsKey : Data → DeskKey → Type 0
+SpellsKey = entries.Spells key_values SaysKey key_fault
+
+-- the tables spell these keys, of which no two share a token
+abbrev pub AreKeyTables : List Data → List DeskKey → Type 0
+AreKeyTables = entries.AreEntries key_values SaysKey key_fault
+
+-- why a table is no key, or memory was refused
+abbrev pub IsNoKey : Data → ConfigKind → Type 0
+IsNoKey value kind = (kind ≡ Memory)
+    ⊎ ((kind ≡ BadShape) × (key_values value ≡ None))
+    ⊎ ((kind ≡ BadKey) × entries.SpellsNone key_values SaysKey key_fault value)
+
+-- why a table after these keys is refused
+abbrev pub IsKeyRefused : List DeskKey → Data → ConfigKind → Type 0
+IsKeyRefused = entries.IsRefused key_values SaysKey key_fault BadKey TwiceKeyed
+
+-- the error tells the first key's table that is refused
+abbrev pub FirstKeyRefused : List Data → ConfigError → Type 0
+FirstKeyRefused = entries.FirstRefused key_values SaysKey key_fault place.Key BadKey TwiceKeyed

@@ -1,0 +1,65 @@
+-- What stands at the names of a document's tables.
+use Rattle.std.specs.Prelude.{ℕ, ℤ, Bool, List, [], ◌∷◌, length, nat_le, if◌then◌else◌}
+use Rattle.std.specs.Prelude.{Option, Some, None, option_and_then}
+use Rattle.std.specs.List.{list_all}
+use Rattle.toml.specs.Data.{Data, array, Items, no_items, item, Members, no_members, member}
+use Rattle.toml.specs.Data.{get_member, as_str, as_integer}
+use Rattle.acct_files.specs.declared.config_error.ConfigKind.{ConfigKind}
+use Rattle.acct_files.specs.declared.config_error.ConfigTable.TheVariants.{Top}
+use Rattle.acct_files.specs.declared.config_error.ConfigError.{ConfigError}
+
+-- what is wrong with the text as a whole
+abbrev pub top_error : ConfigKind → ConfigError
+top_error kind = record { kind = kind; table = Top; index = 0 }
+
+-- the names of a table
+abbrev pub names_of : Members → List (List ℕ)
+names_of no_members = []
+names_of (member name value rest) = name ∷ names_of rest
+
+-- each name of the table is a known one
+abbrev pub has_only : (List ℕ → Bool) → Members → Bool
+has_only is_known table = list_all is_known (names_of table)
+
+-- the text that stands at a name
+abbrev pub text_at : List ℕ → Members → Option (List ℕ)
+text_at name table = option_and_then as_str (get_member name table)
+
+-- the whole number that stands at a name
+abbrev pub integer_at : List ℕ → Members → Option ℤ
+integer_at name table = option_and_then as_integer (get_member name table)
+
+-- the elements of an array
+abbrev pub elements : Items → List Data
+elements no_items = []
+elements (item value rest) = value ∷ elements rest
+
+-- the elements of the array at a name, where it is an array; an absent one is empty
+abbrev pub elements_at : Option Data → Option (List Data)
+elements_at None = Some []
+elements_at (Some (array items)) = Some (elements items)
+elements_at (Some _) = None
+
+-- a list that is no longer than this
+abbrev pub at_most : ℕ → Option (List Data) → Option (List Data)
+at_most limit None = None
+at_most limit (Some list) = if nat_le (length list) limit then Some list else None
+
+-- the elements of the array at a name, of which there are no more than this
+abbrev pub array_at : List ℕ → ℕ → Members → Option (List Data)
+array_at name limit top = at_most limit (elements_at (get_member name top))
+
+module _ {A B C : Type 0} where
+  -- three values, if each is there
+  abbrev pub three : Option A → Option B → Option C → Option (A × B × C)
+  three (Some a) (Some b) (Some c) = Some (a, b, c)
+  three None _ _ = None
+  three (Some a) None _ = None
+  three (Some a) (Some b) None = None
+
+module _ {A B : Type 0} where
+  -- two values, if both are there
+  abbrev pub two : Option A → Option B → Option (A × B)
+  two (Some a) (Some b) = Some (a, b)
+  two None _ = None
+  two (Some a) None = None
