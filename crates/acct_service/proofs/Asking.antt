@@ -14,7 +14,7 @@ use Rattle.acct_wire.specs.declared.client.Client.{Client}
 use Rattle.acct_wire.specs.Datagrams.{Asks, AsksFor, IsAsking}
 use Rattle.acct_wire.specs.Outcomes.{IsReplyTo}
 use Rattle.acct_wire.proofs.Asked.{one_entry}
-use Rattle.acct_service.specs.declared.config.Config.{Config}
+use Rattle.acct_files.specs.declared.config.Config.{Config}
 use Rattle.acct_service.specs.Machine.{IsReplyFor}
 
 no_fault : (e : EntryError) → Some e ≡ None → ⊥

@@ -23,7 +23,7 @@ use Rattle.acct_desk.specs.Asks as desk
 use Rattle.acct_desk.specs.Responses.{recorded_response, added_response, unavailable_response}
 use Rattle.acct_desk.specs.Responses.{error_response, result_response}
 use Rattle.acct_desk.proofs.AskLemmas.{one_ask}
-use Rattle.acct_service.specs.declared.config.Config.{Config}
+use Rattle.acct_files.specs.declared.config.Config.{Config}
 use Rattle.acct_service.specs.declared.event.What.{What}
 use Rattle.acct_service.specs.declared.event.What.TheVariants.{Datagram, Desk}
 use Rattle.acct_service.specs.Machine.{Answer, replied, dropped, mute, Effect, failed}

@@ -11,7 +11,7 @@ use Rattle.acct_wire.specs.declared.answering.Outcome.{Outcome}
 use Rattle.acct_wire.specs.declared.answering.Outcome.TheVariants.{Reply, Drop}
 use Rattle.acct_wire.specs.Datagrams.{Breaks, AsksFor, IsAsking}
 use Rattle.acct_wire.specs.Outcomes as wire
-use Rattle.acct_service.specs.declared.config.Config.{Config}
+use Rattle.acct_files.specs.declared.config.Config.{Config}
 use Rattle.acct_service.specs.declared.event.What.TheVariants.{Datagram}
 use Rattle.acct_service.specs.Machine.{Answer, replied, dropped, mute, Effect, added, failed, passed}
 use Rattle.acct_service.specs.Machine.{after_effect, AnswersDatagram, TakesStep}

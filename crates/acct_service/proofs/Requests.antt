@@ -18,7 +18,7 @@ use Rattle.acct_desk.specs.Asks as desk
 use Rattle.acct_desk.specs.Handling as handling
 use Rattle.acct_desk.specs.Responses.{added_response, unavailable_response}
 use Rattle.acct_desk.proofs.AskLemmas.{one_ask}
-use Rattle.acct_service.specs.declared.config.Config.{Config}
+use Rattle.acct_files.specs.declared.config.Config.{Config}
 use Rattle.acct_service.specs.declared.event.What.TheVariants.{Desk}
 use Rattle.acct_service.specs.Machine.{Answer, replied, dropped, mute, Effect, added, repeated, failed}
 use Rattle.acct_service.specs.Machine.{passed, after_effect, effect_of, AnswersAsk, AnswersRequest}

@@ -24,7 +24,7 @@ use Rattle.acct_desk.specs.Asks as desk
 use Rattle.acct_desk.specs.Handling.{IsTold, IsOfBook}
 use Rattle.acct_desk.specs.Responses.{refusal_response, recorded_response}
 use Rattle.acct_desk.specs.Responses.{added_response, unavailable_response}
-use Rattle.acct_service.specs.declared.config.Config.{Config}
+use Rattle.acct_files.specs.declared.config.Config.{Config}
 use Rattle.acct_service.specs.declared.event.What.{What}
 use Rattle.acct_service.specs.declared.event.What.TheVariants.{Datagram, Desk}
 use Rattle.acct_service.specs.declared.event.Event.{Event}

@@ -11,7 +11,6 @@
 //!    stays recorded when its reply fails.
 #![tactic(auto)]
 
-mod config;
 mod event;
 mod exchange;
 pub mod lists;
@@ -19,7 +18,6 @@ mod outbox;
 mod server;
 mod stepping;
 
-pub use config::Config;
 pub use event::{Event, What};
 pub use exchange::{Asked, Exchange, Fault};
 pub use outbox::Outbox;

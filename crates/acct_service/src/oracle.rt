@@ -84,18 +84,28 @@ impl Oracle<'_> {
 
     // The first top-up by a voucher.
     fn kept(self, voucher: u8) -> Option<Credit> {
-        self.accepted.iter().filter_map(|wish| wish.credit_by(voucher)).next()
+        self.accepted
+            .iter()
+            .filter_map(|wish| wish.credit_by(voucher))
+            .next()
     }
 
     // The first report of a session.
     fn first(self, session: u8) -> Option<Usage> {
-        self.accepted.iter().filter_map(|wish| wish.usage_of(session)).next()
+        self.accepted
+            .iter()
+            .filter_map(|wish| wish.usage_of(session))
+            .next()
     }
 
     // The greatest total of a session.
     fn greatest(self, session: u8) -> u32 {
         let mut most = 0;
-        for usage in self.accepted.iter().filter_map(|wish| wish.usage_of(session)) {
+        for usage in self
+            .accepted
+            .iter()
+            .filter_map(|wish| wish.usage_of(session))
+        {
             most = most.max(usage.total);
         }
         most

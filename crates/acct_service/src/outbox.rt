@@ -3,10 +3,10 @@ ghost use Rattle.std.specs.Prelude.{◌≡◌, ◌≤◌, ◌<◌, ◌^◌, ℕ}
 ghost use Rattle.acct_service.specs.declared.event.What.TheVariants as what;
 ghost use Rattle.acct_service.specs.Machine.{TakesStep, answer_of};
 
-use crate::config::Config;
 use crate::stepping::Turn;
 use acct_book::Book;
 use acct_desk::handle;
+use acct_files::Config;
 use acct_wire::{Datagram, Outcome, answer};
 use std::alloc::Global;
 use std::marker::Model;

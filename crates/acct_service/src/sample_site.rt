@@ -1,9 +1,10 @@
 //! A site for tests, and lists of turns over it: one client, two plans, the keys of two accounts
 //! and of a cashier.
 use crate::lists::{ListExchange, Planned};
-use crate::{Config, Event, Served, What, serve};
+use crate::{Event, Served, What, serve};
 use acct_book::Book;
 use acct_desk::{DeskKey, Keys, Role};
+use acct_files::Config;
 use acct_model::{Octets, Plan, Plans, Text};
 use acct_wire::{Client, Clients};
 use radius_codec::sign_request;
@@ -104,7 +105,11 @@ fn comes(what: What, takes_reply: bool) -> Result<Planned, Fail> {
 fn signed(alloc: Global, identifier: u8, octets: &[u8]) -> Result<What, Fail> {
     let mut request = [0; 4096];
     let size = sign_request(identifier, octets, SECRET, &mut request)?;
-    datagram(alloc, AP1, request.get(..size).ok_or("the size is past the array")?)
+    datagram(
+        alloc,
+        AP1,
+        request.get(..size).ok_or("the size is past the array")?,
+    )
 }
 
 pub(crate) fn datagram(alloc: Global, source: [u8; 4], octets: &[u8]) -> Result<What, Fail> {

@@ -7,11 +7,11 @@ ghost use Rattle.acct_wire.specs.declared.reason.Reason.{Reason};
 ghost use Rattle.acct_service.specs.Told.{Told};
 ghost use Rattle.acct_service.specs.Serving.{Serves, Keeps, Counts, AtMost, place_of};
 
-use crate::config::Config;
 use crate::exchange::Exchange;
 use crate::outbox::Outbox;
 use crate::stepping::{Turn, step};
 use acct_book::Book;
+use acct_files::Config;
 use acct_wire::Reason;
 use std::alloc::Global;
 

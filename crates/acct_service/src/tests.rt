@@ -10,18 +10,26 @@ use std::test::Fail;
 const START: &[u8] = b"\x28\x06\0\0\0\x01\x2c\x04s1\x01\x04al";
 // An Interim-Update of the session `s2` of `al`, of the Class `gold`, with so many input octets.
 const GOLD_0: &[u8] = b"\x28\x06\0\0\0\x03\x2c\x04s2\x01\x04al\x19\x06gold\x2a\x06\0\0\0\0";
+
 const GOLD_1: &[u8] = b"\x28\x06\0\0\0\x03\x2c\x04s2\x01\x04al\x19\x06gold\x2a\x06\0\0\0\x01";
+
 const GOLD_BLOCK: &[u8] = b"\x28\x06\0\0\0\x03\x2c\x04s2\x01\x04al\x19\x06gold\x2a\x06\0\x10\0\0";
+
 const GOLD_MORE: &[u8] = b"\x28\x06\0\0\0\x03\x2c\x04s2\x01\x04al\x19\x06gold\x2a\x06\0\x10\0\x01";
 // The same of the session `s3` of `bo`.
 const OF_BO: &[u8] = b"\x28\x06\0\0\0\x03\x2c\x04s3\x01\x04bo\x19\x06gold\x2a\x06\0\x10\0\x01";
 
 const BALANCE: &[u8] = b"GET /me/balance HTTP/1.1\r\nDesk-Key: al-key-0000000001\r\n\r\n";
+
 const SESSIONS: &[u8] = b"GET /me/sessions HTTP/1.1\r\nDesk-Key: al-key-0000000001\r\n\r\n";
+
 const BY_NOBODY: &[u8] = b"GET /me/sessions HTTP/1.1\r\n\r\n";
+
 const BY_CASHIER: &[u8] = b"GET /me/sessions HTTP/1.1\r\nDesk-Key: cash-key-00000001\r\n\r\n";
+
 const TOP_UP: &[u8] = b"POST /topups HTTP/1.1\r\nDesk-Key: cash-key-00000001\r\n\
     Content-Length: 42\r\n\r\n{\"account\":\"al\",\"sum\":500,\"voucher\":\"V-1\"}";
+
 const OTHER_SUM: &[u8] = b"POST /topups HTTP/1.1\r\nDesk-Key: cash-key-00000001\r\n\
     Content-Length: 42\r\n\r\n{\"account\":\"al\",\"sum\":501,\"voucher\":\"V-1\"}";
 
@@ -122,7 +130,10 @@ static TOPPED_UP: [Sent; 4] = [
 static TOP_UPS: [(&[u8], &[u8]); 4] = [
     (b"HTTP/1.1 201 Created\r\n", b"{\"result\":\"new\"}"),
     (OK, b"{\"result\":\"repeat\"}"),
-    (b"HTTP/1.1 409 Conflict\r\n", b"{\"error\":\"voucher differs\"}"),
+    (
+        b"HTTP/1.1 409 Conflict\r\n",
+        b"{\"error\":\"voucher differs\"}",
+    ),
     (OK, b"{\"account\":\"al\",\"balance\":500,\"overrun\":0}"),
 ];
 
@@ -146,7 +157,10 @@ static LOOKS: [(&[u8], &[u8]); 5] = [
     (b"\x05\x09\0\x14", b""),
     (OK, b"{\"account\":\"al\",\"sessions\":[]}"),
     (b"HTTP/1.1 401 Unauthorized\r\n", b"{\"error\":\"no key\"}"),
-    (b"HTTP/1.1 403 Forbidden\r\n", b"{\"error\":\"not allowed\"}"),
+    (
+        b"HTTP/1.1 403 Forbidden\r\n",
+        b"{\"error\":\"not allowed\"}",
+    ),
 ];
 
 #[test]
@@ -259,13 +273,19 @@ fn with_refused_call(alloc: Global, call: u64) -> Result<(bool, u64), Fail> {
     let (served, exchange) = site.serve(&BUSY)?;
     let book = &mut site.book.book;
     let kept = (book.balance(b"al")?, book.balance(b"bo")?);
-    Ok((kept == told_balances(&exchange), refusals(&served, &exchange)))
+    Ok((
+        kept == told_balances(&exchange),
+        refusals(&served, &exchange),
+    ))
 }
 
 #[test]
 fn a_refused_call_changes_nothing(rt: HostRuntime) -> Result<(), Fail> {
     for call in 1..15 {
-        assert!(rt; with_refused_call(rt.alloc(), call)? == (true, 1), "at {call}");
+        assert!(rt;
+            with_refused_call(rt.alloc(), call)? == (true, 1),
+            "at {call}"
+        );
     }
     assert!(rt; with_refused_call(rt.alloc(), 15)? == (true, 0));
     Ok(())
@@ -288,7 +308,10 @@ fn a_shut_book_tells_no_more(rt: HostRuntime) -> Result<(), Fail> {
         (3, (480, 0), true),
         (4, (480, -20), false),
     ] {
-        assert!(rt; until_shut(rt.alloc(), writes)? == (told, is_shut), "at {writes}");
+        assert!(rt;
+            until_shut(rt.alloc(), writes)? == (told, is_shut),
+            "at {writes}"
+        );
     }
     Ok(())
 }

@@ -79,7 +79,11 @@ fn turns_of(alloc: Global, numbers: &mut Numbers) -> Result<Vec<Turn>, Fail> {
     let mut turns: Vec<Turn> = Vec::new(alloc);
     for _ in 0..200 {
         let back = usize::from(numbers.next()) * 8 + usize::from(numbers.next());
-        let again = if numbers.next() < 2 { turns.get(back) } else { None };
+        let again = if numbers.next() < 2 {
+            turns.get(back)
+        } else {
+            None
+        };
         let wish = match again {
             Some(turn) => turn.wish,
             None if numbers.next() == 0 => None,
@@ -97,7 +101,11 @@ fn turns_of(alloc: Global, numbers: &mut Numbers) -> Result<Vec<Turn>, Fail> {
 fn request(alloc: Global, attributes: &[(u8, &[u8])], secret: &[u8]) -> Result<What, Fail> {
     let mut request = [0; 4096];
     let size = write_request(77, attributes, secret, &mut request)?;
-    datagram(alloc, AP1, request.get(..size).ok_or("the size is past the array")?)
+    datagram(
+        alloc,
+        AP1,
+        request.get(..size).ok_or("the size is past the array")?,
+    )
 }
 
 // An Interim-Update.
@@ -116,15 +124,15 @@ fn report(alloc: Global, usage: Usage, secret: &[u8]) -> Result<What, Fail> {
 
 // A cashier's top-up.
 fn top_up(alloc: Global, credit: Credit) -> Result<What, Fail> {
-    let account = NAMES.get(usize::from(credit.account)).ok_or("no such name")?;
+    let account = NAMES
+        .get(usize::from(credit.account))
+        .ok_or("no such name")?;
     let (voucher, sum) = (credit.voucher, credit.sum);
-    let body = format!(
-        in alloc;
+    let body = format!(in alloc;
         "{{\"voucher\":\"V-{voucher}\",\"account\":\"{account}\",\"sum\":{sum}}}"
     )?;
     let size = body.len();
-    let request = format!(
-        in alloc;
+    let request = format!(in alloc;
         "POST /topups HTTP/1.1\r\nDesk-Key: {CASHIER}\r\nContent-Length: {size}\r\n\r\n{body}"
     )?;
     desk(alloc, request.as_bytes())
@@ -150,7 +158,11 @@ fn what_of(alloc: Global, wish: Wish) -> Result<What, Fail> {
 // A turn without a wish brings nothing, or a fault; one with a wish may lose its reply.
 fn planned_of(alloc: Global, turn: Turn, moment: u32) -> Result<Planned, Fail> {
     let Some(wish) = turn.wish else {
-        return Ok(if turn.fails { Planned::Fails } else { Planned::Nothing });
+        return Ok(if turn.fails {
+            Planned::Fails
+        } else {
+            Planned::Nothing
+        });
     };
     let what = what_of(alloc, wish)?;
     let event = Event {
@@ -187,7 +199,10 @@ fn course_of(alloc: Global, turns: &[Turn]) -> Result<Course, Fail> {
     let mut accepted = Vec::new(alloc);
     for turn in turns {
         if let Some(wish) = turn.wish {
-            let due = Oracle { accepted: &accepted }.due(wish);
+            let due = Oracle {
+                accepted: &accepted,
+            }
+            .due(wish);
             dues.push((due, !turn.fails))?;
             if due == Due::Recorded || due == Due::Added {
                 accepted.push(wish)?;
@@ -202,8 +217,15 @@ impl Course {
     fn served(&self, turns: &[Turn]) -> Served {
         let events = self.dues.iter().count() as u64;
         let drops = self.dues.iter().filter(|due| due.0 == Due::Dropped).count() as u64;
-        let taken = self.dues.iter().filter(|due| due.0 != Due::Dropped && due.1).count() as u64;
-        let failed = turns.iter().filter(|turn| turn.wish.is_none() && turn.fails).count() as u64;
+        let taken = self
+            .dues
+            .iter()
+            .filter(|due| due.0 != Due::Dropped && due.1)
+            .count() as u64;
+        let failed = turns
+            .iter()
+            .filter(|turn| turn.wish.is_none() && turn.fails)
+            .count() as u64;
         Served {
             events,
             replies: taken,
@@ -240,8 +262,7 @@ fn is_due(alloc: Global, due: Due, octets: &[u8]) -> Result<bool, Fail> {
         Due::Balance(account, balance) => {
             let name = NAMES.get(usize::from(account)).ok_or("no such name")?;
             let overrun = 0.max(balance.saturating_neg());
-            let body = format!(
-                in alloc;
+            let body = format!(in alloc;
                 "\r\n\r\n{{\"account\":\"{name}\",\"balance\":{balance},\"overrun\":{overrun}}}"
             )?;
             Ok(octets.ends_with(body.as_bytes()))

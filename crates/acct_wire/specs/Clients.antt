@@ -12,3 +12,7 @@ has_address address client = bytes_eq client.address address
 -- the client that sends from an address
 abbrev pub client_at : List ℕ → List Client → Option Client
 client_at address clients = find (has_address address) clients
+
+-- the client of a name
+abbrev pub client_named : List ℕ → List Client → Option Client
+client_named name clients = find (has_name name) clients

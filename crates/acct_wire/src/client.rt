@@ -2,7 +2,7 @@
 ghost use Rattle.std.specs.Prelude.{◌≡◌, Some, None, IfOk, IfErr, OnOk};
 ghost use Rattle.std.specs.List.{list_any};
 ghost use Rattle.std.specs.Option.{option_copied};
-ghost use Rattle.acct_wire.specs.Clients.{has_name, has_address, client_at};
+ghost use Rattle.acct_wire.specs.Clients.{has_name, has_address, client_at, client_named};
 ghost use Rattle.acct_wire.specs.ClientFaults.{client_fault};
 
 use acct_model::{Octets, Text};
@@ -76,6 +76,18 @@ impl Clients {
         ensures { result.now ≡ self.now }
     {
         &self.clients
+    }
+
+    /// The client of this name. It goes through the clients once.
+    pub fn named(&self, name: &str) -> Option<&Client>
+        ensures { option_copied result ≡ client_named name.now self.now }
+    {
+        for client in &self.clients {
+            if client.name.as_str() == name {
+                return Some(client);
+            }
+        }
+        None
     }
 
     /// The client that sends from this address. It goes through the clients once.
