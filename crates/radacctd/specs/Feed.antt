@@ -1,7 +1,8 @@
 -- What a line is answered by, over a book.
 use Rattle.std.specs.Str.{IsUtf8}
 use Rattle.std.specs.Io.KnownBytes.{Appends, Keeps}
-use Rattle.std.specs.Prelude.{◌≡◌, ◌<◌, ℕ, ℤ, ◌⊎◌, List, Option, Result, IfOk, length, [], ◌∷◌}
+use Rattle.std.specs.Prelude.{◌≡◌, ◌<◌, ℕ, ℤ, ◌⊎◌, List, Option, Result, IfOk, MatchOption}
+use Rattle.std.specs.Prelude.{length, [], ◌∷◌}
 use Rattle.std.specs.Prelude.{◌++◌}
 use Rattle.radius_codec.specs.Packet.{request_octets}
 use Rattle.acct_model.specs.declared.plan.Plan.{Plan}
@@ -18,13 +19,13 @@ use Rattle.acct_book.specs.Row.{RowFacts}
 use Rattle.acct_book.specs.Step.{IsStep}
 use Rattle.acct_wire.specs.declared.answering.Outcome.{Outcome}
 use Rattle.acct_wire.specs.declared.client.Client.{Client}
+use Rattle.acct_wire.specs.Clients.{client_named}
 use Rattle.acct_wire.specs.Datagrams.{AsksFor}
 use Rattle.acct_wire.specs.Outcomes.{Judges, Writes, IsTold, IsDrop, Steps}
 use Rattle.radacctd.specs.Answers.{answer_text, packet_answer, signed_answer, balance_answer}
 use Rattle.radacctd.specs.Answers.{credit_of}
 use Rattle.radacctd.specs.Answers.{session_answer}
 use Rattle.radacctd.specs.Line.{IsBad, Spells}
-use Rattle.radacctd.specs.SampleSite.{ap1}
 use Rattle.radacctd.specs.declared.answer.Answer.{Answer}
 use Rattle.radacctd.specs.declared.answer.Answer.TheVariants as form
 use Rattle.radacctd.specs.declared.line.Line.{Line}
@@ -60,24 +61,37 @@ module _ {B : Type 0} (content : B → Content) (is_sound is_open is_steady : B 
         told
     pub shown : answer ≡ form.Voucher (credit_of told)
 
-  -- The row of a session was asked for.
-  pub record AnswersSession (key : Key) (answer : Answer) : Type 0 where
+  -- The row of a configured client's session was asked for.
+  pub record AnswersKnown (key : Key) (answer : Answer) : Type 0 where
     pub told : Result (Option RowFacts) Refusal
     pub found : is_open new → IfOk told (λ row. row ≡ (content old).rows key)
     pub reads : Reads content is_sound is_open is_steady left old new told
     pub shown : answer ≡ session_answer plans told
 
-  -- Attributes that fit a request are sent from the sample client's address, signed by its secret.
-  abbrev pub AnswersSigned : ℕ → ℕ → List ℕ → Answer → Type 0
-  AnswersSigned moment identifier octets answer =
+  -- The row of a session was asked for: a bad line where no client has the name.
+  abbrev pub AnswersSession : Key → Answer → Type 0
+  AnswersSession key answer =
+      MatchOption (client_named key.client clients) (answer ≡ form.BadLine)
+      (λ client. AnswersKnown key answer)
+
+  -- Attributes are sent from a client's address, signed by its secret: a bad line where they do not
+  -- fit a request.
+  abbrev pub AnswersRequest : ℕ → Client → ℕ → List ℕ → Answer → Type 0
+  AnswersRequest moment client identifier octets answer =
       ((4076 < length octets) × (answer ≡ form.BadLine))
-      ⊎ AnswersDatagram ap1.address (request_octets identifier octets ap1.secret) moment
+      ⊎ AnswersDatagram client.address (request_octets identifier octets client.secret) moment
       signed_answer answer
+
+  -- the same, a bad line where no client has the name
+  abbrev pub AnswersSigned : ℕ → List ℕ → ℕ → List ℕ → Answer → Type 0
+  AnswersSigned moment name identifier octets answer =
+      MatchOption (client_named name clients) (answer ≡ form.BadLine)
+      (λ client. AnswersRequest moment client identifier octets answer)
 
   -- what a line is answered by
   abbrev pub Answers : Line → Answer → Type 0
-  Answers (line.Signed moment identifier octets) answer = AnswersSigned moment identifier octets
-      answer
+  Answers (line.Signed moment client identifier octets) answer =
+      AnswersSigned moment client identifier octets answer
   Answers (line.Packet moment source octets) answer =
       AnswersDatagram source octets moment packet_answer answer
   Answers (line.Balance account) answer = AnswersBalance account answer

@@ -1,5 +1,7 @@
 pub mod Answers
 pub mod CommandLine
+pub mod Counts
+pub mod Endings
 pub mod Faults
 pub mod Feed
 pub mod Line

@@ -10,12 +10,13 @@ use Rattle.radacctd.specs.Words.{words}
 use Rattle.radacctd.specs.declared.line.Line.{Line}
 use Rattle.radacctd.specs.declared.line.Line.TheVariants as line
 
--- `signed MOMENT ap1 IDENTIFIER OCTETS`
-pub record AreSigned (all : List (List ℕ)) (moment identifier : ℕ) (octets : List ℕ) : Type 0 where
+-- `signed MOMENT CLIENT IDENTIFIER OCTETS`
+pub record AreSigned (all : List (List ℕ)) (moment : ℕ) (client : List ℕ) (identifier : ℕ)
+    (octets : List ℕ) : Type 0 where
   pub moment_word : List ℕ
   pub identifier_word : List ℕ
   pub octets_word : List ℕ
-  pub are : all ≡ codes "signed" ∷ moment_word ∷ codes "ap1" ∷ identifier_word ∷ octets_word ∷ []
+  pub are : all ≡ codes "signed" ∷ moment_word ∷ client ∷ identifier_word ∷ octets_word ∷ []
   pub moment_is : number_up_to (2 ^ 53 - 1) moment_word ≡ Some moment
   pub identifier_is : number_up_to 255 identifier_word ≡ Some identifier
   pub octets_are : octets_in_hex octets_word ≡ Some octets
@@ -47,16 +48,16 @@ pub record AreTopUp (all : List (List ℕ)) (topup : TopUpFacts) : Type 0 where
   pub sum_is : number_of sum_word ≡ Some topup.sum
   pub faultless : topup_fault topup.voucher topup.account topup.sum ≡ None
 
--- `session ap1 SESSION`
+-- `session CLIENT SESSION`
 pub record AreSession (all : List (List ℕ)) (key : Key) : Type 0 where
   pub session_word : List ℕ
-  pub are : all ≡ codes "session" ∷ codes "ap1" ∷ session_word ∷ []
-  pub client_is : key.client ≡ codes "ap1"
+  pub are : all ≡ codes "session" ∷ key.client ∷ session_word ∷ []
   pub session_is : octets_shown session_word ≡ Some key.session
 
 -- the words of a line
 abbrev pub AreWordsOf : List (List ℕ) → Line → Type 0
-AreWordsOf all (line.Signed moment identifier octets) = AreSigned all moment identifier octets
+AreWordsOf all (line.Signed moment client identifier octets) =
+    AreSigned all moment client identifier octets
 AreWordsOf all (line.Packet moment source octets) = ArePacket all moment source octets
 AreWordsOf all (line.Balance account) = AreBalance all account
 AreWordsOf all (line.TopUp topup) = AreTopUp all topup
@@ -72,7 +73,7 @@ IsBad text = (text ≢ []) × ((line : Line) → Spells text line → ⊥)
 
 -- its moment, if it has one, is below 2^53
 abbrev pub HasMoment : Line → Type 0
-HasMoment (line.Signed moment identifier octets) = moment < 2 ^ 53
+HasMoment (line.Signed moment client identifier octets) = moment < 2 ^ 53
 HasMoment (line.Packet moment source octets) = moment < 2 ^ 53
 HasMoment (line.Balance account) = ⊤
 HasMoment (line.TopUp topup) = ⊤

@@ -1,6 +1,8 @@
 -- The sample site.
 use Rattle.std.specs.Prelude.{List, [], ◌∷◌, codes}
 use Rattle.acct_model.specs.declared.plan.Plan.{Plan}
+use Rattle.acct_desk.specs.declared.keys.DeskKey.{DeskKey}
+use Rattle.acct_desk.specs.declared.keys.Role.TheVariants.{Account, Cashier}
 use Rattle.acct_wire.specs.declared.client.Client.{Client}
 
 abbrev pub gold : Plan
@@ -17,3 +19,9 @@ ap1 = record { name = codes "ap1"; address = 10 ∷ 0 ∷ 0 ∷ 1 ∷ []; secret
 
 abbrev pub sample_clients : List Client
 sample_clients = ap1 ∷ []
+
+abbrev pub sample_keys : List DeskKey
+sample_keys =
+    (record { token = codes "al-key-0000000001"; role = Account (codes "al") })
+    ∷ (record { token = codes "bo-key-0000000001"; role = Account (codes "bo") })
+    ∷ (record { token = codes "cash-key-00000001"; role = Cashier }) ∷ []

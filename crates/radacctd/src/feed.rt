@@ -12,37 +12,37 @@ ghost use Rattle.radacctd.specs.Feed.{AnswersSigned};
 ghost use Rattle.radacctd.specs.Feed.{AnswersBalance, AnswersTopUp, AnswersSession};
 ghost use Rattle.radacctd.specs.Answers.{packet_answer};
 ghost use Rattle.radacctd.specs.Line.{HasMoment};
-ghost use Rattle.radacctd.specs.SampleSite.{ap1};
+ghost use Rattle.acct_wire.specs.Clients.{client_named};
 
 use crate::answer::Answer;
 use crate::input::{InputFault, read_input};
 use crate::line::{Line, read_line};
 use crate::line_fault::LineFault;
 use crate::lines::Lines;
-use crate::sample_site;
-use crate::sample_site::Site;
 use crate::server::{LONGEST_PACKET, Server};
 use crate::status::Status;
 use crate::stop::Stop;
 use acct_book::{Book, Key, MemBook, record};
+use acct_files::Config;
 use acct_model::{Entry, TopUp};
-use acct_wire::Datagram;
+use acct_wire::{Client, Datagram};
 use radius_codec::sign_request;
 use std::alloc::Global;
 use std::io::{Read, Write};
 use std::str;
 
-/// Answers the lines of the reader over a book in memory at the sample site, and says how it ended:
+/// Answers the lines of the reader over a book in memory, and says how it ended:
 /// `Refused` after a bad line, an input that is too long or cannot be read, or a writer that fails.
 pub fn run_feed<R: Read + Drop, W: Write + Drop>(
     alloc: Global,
+    config: Config,
     mut reader: R,
     mut writer: W,
 ) -> Status
     ensures { result ≢ Status.WrongWords }
 {
     let status = match read_input(alloc, &mut reader) {
-        Ok(input) => answer_input(alloc, MemBook::new(alloc), &input, &mut writer),
+        Ok(input) => answer_input(alloc, config, MemBook::new(alloc), &input, &mut writer),
         Err(InputFault::TooLong) => end(&mut writer, "too long", Status::Refused),
         Err(InputFault::CannotRead) => end(&mut writer, "cannot read", Status::Refused),
         Err(InputFault::NoMemory) => end(&mut writer, "unavailable", Status::Unavailable),
@@ -56,17 +56,14 @@ pub fn run_feed<R: Read + Drop, W: Write + Drop>(
 /// Answers the lines of an input over a book, and says how it ended.
 pub fn answer_input<B: Book + Drop, W: Write>(
     alloc: Global,
+    config: Config,
     book: B,
     input: &[u8],
     writer: &mut W,
 ) -> Status
     ensures { result ≢ Status.WrongWords }
 {
-    let answered = match Site::sample(alloc) {
-        Ok(site) => Feed::new(alloc, site, book).answer_lines(input, writer),
-        Err(_) => Err(Stop::NoMemory),
-    };
-    match answered {
+    match Feed::new(alloc, config, book).answer_lines(input, writer) {
         Ok(true) => Status::Done,
         Ok(false) | Err(Stop::CannotWrite) => Status::Refused,
         Err(Stop::NoMemory) => end(writer, "unavailable", Status::Unavailable),
@@ -92,13 +89,13 @@ pub struct Feed<B> {
 }
 
 impl<B: Book> Feed<B> {
-    /// A run over this book, at this site.
-    pub fn new(alloc: Global, site: Site, book: B) -> Feed<B>
-        ensures site { result.server.site ≡ site }
+    /// A run over this book, with this configuration.
+    pub fn new(alloc: Global, config: Config, book: B) -> Feed<B>
+        ensures config { result.server.config ≡ config }
         ensures book { result.server.book ≡ book }
     {
         Feed {
-            server: Server::new(alloc, site, book),
+            server: Server::new(alloc, config, book),
             request: [0; LONGEST_PACKET],
         }
     }
@@ -116,7 +113,7 @@ impl<B: Book> Feed<B> {
     // Answers a line, and says whether it was good.
     fn answer_line<W: Write>(&mut self, octets: &[u8], writer: &mut W) -> Result<bool, Stop>
         ensures printed { OnOk result (Prints B.content B.is_sound B.is_open B.is_steady B.left
-            self.old.server.site.clients self.old.server.site.plans
+            self.old.server.config.clients self.old.server.config.plans
             self.old.server.book self.new.server.book octets.now
             (W.contents writer.old) (W.contents writer.new)) }
     {
@@ -131,7 +128,7 @@ impl<B: Book> Feed<B> {
     fn answer_to(&mut self, octets: &[u8]) -> Result<Option<Answer>, Stop>
         ensures answers { IfOk result (λ answer. MatchOption answer (octets.now ≡ [])
             (AnswersOctets B.content B.is_sound B.is_open B.is_steady B.left
-            self.old.server.site.clients self.old.server.site.plans
+            self.old.server.config.clients self.old.server.config.plans
             self.old.server.book self.new.server.book octets.now)) }
     {
         let Ok(text) = str::from_utf8(octets) else {
@@ -153,15 +150,16 @@ impl<B: Book> Feed<B> {
     pub fn answer(&mut self, line: Line) -> Result<Answer, Stop>
         requires { HasMoment line }
         ensures answers { IfOk result (Answers B.content B.is_sound B.is_open B.is_steady B.left
-            self.old.server.site.clients self.old.server.site.plans
+            self.old.server.config.clients self.old.server.config.plans
             self.old.server.book self.new.server.book line) }
     {
         match line {
             Line::Signed {
                 moment,
+                client,
                 identifier,
                 octets,
-            } => self.answer_signed(moment, identifier, octets.as_slice()),
+            } => self.answer_signed(moment, client.as_str(), identifier, octets.as_slice()),
             Line::Packet {
                 moment,
                 source,
@@ -180,19 +178,28 @@ impl<B: Book> Feed<B> {
         }
     }
 
-    // Signs the attributes' octets as the client does, and answers the request.
-    fn answer_signed(&mut self, moment: u64, identifier: u8, octets: &[u8]) -> Result<Answer, Stop>
+    // Signs the attributes' octets as the client of this name does, and answers the request.
+    fn answer_signed(
+        &mut self,
+        moment: u64,
+        client: &str,
+        identifier: u8,
+        octets: &[u8],
+    ) -> Result<Answer, Stop>
         requires { moment < 2 ^ 53 }
         ensures answers { IfOk result (AnswersSigned B.content B.is_sound B.is_open B.is_steady
             B.left
-            self.old.server.site.clients self.old.server.site.plans
-            self.old.server.book self.new.server.book moment identifier octets.now) }
+            self.old.server.config.clients self.old.server.config.plans
+            self.old.server.book self.new.server.book moment client.now identifier octets.now) }
     {
-        let Some(request) = signed_request(identifier, octets, &mut self.request) else {
+        let Some(client) = self.server.config.clients.named(client) else {
+            return Ok(Answer::BadLine);
+        };
+        let Some(request) = signed_request(client, identifier, octets, &mut self.request) else {
             return Ok(Answer::BadLine);
         };
         let datagram = Datagram {
-            source: sample_site::ADDRESS,
+            source: client.address,
             bytes: request,
             moment,
         };
@@ -205,7 +212,7 @@ impl<B: Book> Feed<B> {
     fn answer_packet(&mut self, datagram: &Datagram<'_>) -> Result<Answer, Stop>
         ensures answers { IfOk result (AnswersDatagram B.content B.is_sound B.is_open B.is_steady
             B.left
-            self.old.server.site.clients self.old.server.site.plans
+            self.old.server.config.clients self.old.server.config.plans
             self.old.server.book self.new.server.book datagram.now.source datagram.now.bytes.now
             datagram.now.moment packet_answer) }
     {
@@ -217,7 +224,7 @@ impl<B: Book> Feed<B> {
     fn answer_balance(&mut self, account: &[u8]) -> Result<Answer, Stop>
         ensures answers { IfOk result (AnswersBalance B.content B.is_sound B.is_open B.is_steady
             B.left
-            self.old.server.site.clients self.old.server.site.plans
+            self.old.server.config.clients self.old.server.config.plans
             self.old.server.book self.new.server.book account.now) }
     {
         let told = self.server.book.balance(account);
@@ -228,37 +235,47 @@ impl<B: Book> Feed<B> {
     // Credits a voucher.
     fn answer_topup(&mut self, topup: TopUp) -> Answer
         ensures answers { AnswersTopUp B.content B.is_sound B.is_open B.is_steady B.left
-            self.old.server.site.clients self.old.server.site.plans
+            self.old.server.config.clients self.old.server.config.plans
             self.old.server.book self.new.server.book topup result }
     {
         let entry = Entry::TopUp(topup);
         let server = &mut self.server;
-        let told = record(server.alloc, &mut server.book, &server.site.plans, &entry);
+        let told = record(server.alloc, &mut server.book, &server.config.plans, &entry);
         Answer::of_voucher(told)
     }
 
     fn answer_session(&mut self, key: &Key) -> Result<Answer, Stop>
         ensures answers { IfOk result (AnswersSession B.content B.is_sound B.is_open B.is_steady
             B.left
-            self.old.server.site.clients self.old.server.site.plans
+            self.old.server.config.clients self.old.server.config.plans
             self.old.server.book self.new.server.book key.now) }
     {
+        if self
+            .server
+            .config
+            .clients
+            .named(key.client.as_str())
+            .is_none()
+        {
+            return Ok(Answer::BadLine);
+        }
         let told = self.server.book.session(key);
-        let answer = Answer::of_session(self.server.alloc, &self.server.site.plans, told)?;
+        let answer = Answer::of_session(self.server.alloc, &self.server.config.plans, told)?;
         Ok(answer)
     }
 }
 
-// The request of these attributes, signed as the sample client does, where they fit one.
+// The request of these attributes, signed as the client does, where they fit one.
 fn signed_request<'a>(
+    client: &Client,
     identifier: u8,
     octets: &[u8],
     room: &'a mut [u8; LONGEST_PACKET],
 ) -> Option<&'a [u8]>
     ensures { MatchOption result (4076 < length octets.now)
-        (λ request. request.now ≡ request_octets identifier octets.now ap1.secret) }
+        (λ request. request.now ≡ request_octets identifier octets.now client.now.secret) }
 {
-    match sign_request(identifier, octets, sample_site::SECRET, room) {
+    match sign_request(identifier, octets, client.secret.as_slice(), room) {
         Ok(size) => Some(&room[..size]),
         Err(_) => None,
     }

@@ -1,22 +1,59 @@
 //! What the words of the command line ask for.
-ghost use Rattle.std.specs.Prelude.{◌≡◌, IfOk, map, string_bytes};
-ghost use Rattle.clap.specs.Words.{app_of, subcommand_of};
-ghost use Rattle.radacctd.specs.CommandLine.{app, feed_app, NamesJob};
+ghost use Rattle.std.specs.Prelude.{◌≡◌, Some, false, IfOk, IfSome, codes, map, string_bytes};
+ghost use Rattle.clap.specs.Words.{app_of, first_of, rows_of, rule_of, found_of, subcommand_of};
+ghost use Rattle.radacctd.specs.CommandLine.{app, config_rule, bind_rule, port_rule, turns_rule};
+ghost use Rattle.radacctd.specs.CommandLine.{feed_app, check_app, addressed_app, listening_app};
+ghost use Rattle.radacctd.specs.CommandLine.{serve_app, AsksFor, IsNumber, IsListening, NamesJob};
+ghost use Rattle.radacctd.specs.CommandLine.{HasTurns};
 
+use crate::number::number_up_to;
+use acct_model::Text;
 use clap::error::ErrorKind;
-use clap::{Command, Error};
+use clap::{Arg, ArgMatches, Command, Error};
 use std::alloc::{AllocError, Global};
 
 /// The program's name.
 const PROGRAM: &str = "radacctd";
 /// The program's version.
 const VERSION: &str = "0.1.0";
+/// The greatest number of turns, and the number where none is given.
+const MOST_TURNS: u64 = (1 << 63) - 1;
+/// The greatest number of a port.
+const LAST_PORT: u64 = 65_535;
 
-/// A job of the program: its command.
-#[derive(Clone, Copy, PartialEq, Eq, Debug)]
+/// A job of the program: its command, and what its options say.
+#[derive(Debug, Drop)]
 pub enum Job {
     /// Answers the lines of standard input.
-    Feed,
+    Feed {
+        /// The file of the configuration; none for the sample site.
+        config: Option<Text>,
+    },
+    /// Reads a configuration, and says how much it has.
+    Check {
+        /// The file of the configuration.
+        config: Text,
+    },
+    /// Answers access servers and callers of the desk.
+    Serve {
+        /// The file of the configuration.
+        config: Text,
+        /// Where it listens.
+        listening: Listening,
+        /// How many turns it makes, at least one.
+        turns: u64,
+    },
+}
+
+/// Where a server listens.
+#[derive(Debug, Drop)]
+pub struct Listening {
+    /// Its IPv4 address, as it was written.
+    pub address: Text,
+    /// The port for accounting reports, by UDP.
+    pub radius_port: u16,
+    /// The port of the desk, by TCP.
+    pub desk_port: u16,
 }
 
 /// The job that the words name, the program's name first.
@@ -26,13 +63,116 @@ pub enum Job {
 /// What `clap` says: of wrong words, of help or the version that was asked for, and where memory is
 /// refused.
 pub fn job_of(alloc: Global, words: Vec<String>) -> Result<Job, Error>
-    ensures { IfOk result (NamesJob (subcommand_of app (map string_bytes words.items))) }
+    ensures named { IfOk result (NamesJob (subcommand_of app (map string_bytes words.items))) }
+    ensures turns { IfOk result HasTurns }
 {
     let matches = command(alloc)?.try_get_matches_from(words.as_slice())?;
-    match matches.subcommand_name() {
-        Some("feed") => Ok(Job::Feed),
-        _ => Err(no_command(alloc)),
+    let Some((name, options)) = matches.subcommand() else {
+        return Err(no_job(alloc));
+    };
+    match asked(alloc, name, options)? {
+        Some(job) => Ok(job),
+        None => Err(no_job(alloc)),
     }
+}
+
+// What the options of a command ask for, if it is one of ours and they fit.
+fn asked(alloc: Global, name: &str, options: &ArgMatches<'_>) -> Result<Option<Job>, AllocError>
+    ensures asked { IfOk result (λ job. IfSome job
+        (AsksFor name.now (rows_of (found_of options.now)))) }
+    ensures turns { IfOk result (λ job. IfSome job HasTurns) }
+{
+    let config = text_option(alloc, options, "config")?;
+    if name == "feed" {
+        return Ok(Some(Job::Feed { config }));
+    }
+    let Some(config) = config else {
+        return Ok(None);
+    };
+    match name {
+        "check" => Ok(Some(Job::Check { config })),
+        "serve" => asked_to_serve(alloc, config, options),
+        _ => Ok(None),
+    }
+}
+
+// What the options of `serve` ask for.
+fn asked_to_serve(
+    alloc: Global,
+    config: Text,
+    options: &ArgMatches<'_>,
+) -> Result<Option<Job>, AllocError>
+    requires { first_of (codes "config") (rows_of (found_of options.now)) ≡ Some config }
+    ensures asked { IfOk result (λ job. IfSome job
+        (AsksFor (codes "serve") (rows_of (found_of options.now)))) }
+    ensures turns { IfOk result (λ job. IfSome job HasTurns) }
+{
+    let Some(listening) = listening_option(alloc, options)? else {
+        return Ok(None);
+    };
+    let Some(turns) = number_option(options, "turns", MOST_TURNS) else {
+        return Ok(None);
+    };
+    Ok(Some(Job::Serve {
+        config,
+        listening,
+        turns,
+    }))
+}
+
+// Where the options say that a server listens.
+fn listening_option(
+    alloc: Global,
+    options: &ArgMatches<'_>,
+) -> Result<Option<Listening>, AllocError>
+    ensures { IfOk result (λ listening. IfSome listening
+        (IsListening (rows_of (found_of options.now)))) }
+{
+    let Some(address) = text_option(alloc, options, "bind")? else {
+        return Ok(None);
+    };
+    let Some(radius_port) = port_option(options, "radius-port") else {
+        return Ok(None);
+    };
+    let Some(desk_port) = port_option(options, "desk-port") else {
+        return Ok(None);
+    };
+    Ok(Some(Listening {
+        address,
+        radius_port,
+        desk_port,
+    }))
+}
+
+// The text of an option, if it has one.
+fn text_option(
+    alloc: Global,
+    options: &ArgMatches<'_>,
+    id: &str,
+) -> Result<Option<Text>, AllocError>
+    ensures { IfOk result (λ text. text ≡ first_of id.now (rows_of (found_of options.now))) }
+{
+    match options.get_str(id) {
+        Some(text) => Ok(Some(Text::from_str(alloc, text)?)),
+        None => Ok(None),
+    }
+}
+
+// The number of an option, if it has one from 1 to the given one.
+fn number_option(options: &ArgMatches<'_>, id: &str, most: u64) -> Option<u64>
+    ensures { IfSome result (IsNumber id.now (rows_of (found_of options.now)) most) }
+{
+    let text = options.get_str(id)?;
+    let number = number_up_to(text, most)?;
+    if number == 0 { None } else { Some(number) }
+}
+
+// The port of an option, if it has one.
+fn port_option(options: &ArgMatches<'_>, id: &str) -> Option<u16>
+    ensures { IfSome result (IsNumber id.now (rows_of (found_of options.now)) 65535) }
+{
+    let port = number_option(options, id, LAST_PORT)?;
+    Some(port as u16)
 }
 
 // The command line.
@@ -43,21 +183,106 @@ fn command<'a>(alloc: Global) -> Result<Command<'a>, AllocError>
         .about("A RADIUS accounting server with prepaid data allowances (RFC 2866)")
         .version(VERSION)
         .subcommand_required(true)
-        .subcommand(feed_command(alloc))
+        .subcommand(feed_command(alloc)?)?
+        .subcommand(check_command(alloc)?)?
+        .subcommand(serve_command(alloc)?)
 }
 
-fn feed_command<'a>(alloc: Global) -> Command<'a>
-    ensures { app_of result ≡ feed_app }
+fn feed_command<'a>(alloc: Global) -> Result<Command<'a>, AllocError>
+    ensures { IfOk result (λ c. app_of c ≡ feed_app) }
 {
-    Command::new(alloc, "feed").about(
-        "Answers packets, vouchers and questions from standard input, over a book in memory",
-    )
+    Command::new(alloc, "feed")
+        .about("Answers packets, vouchers and questions from standard input, over a book in memory")
+        .arg(config_option(alloc))
 }
 
-// The error where the words name no command.
-fn no_command(alloc: Global) -> Error {
+fn check_command<'a>(alloc: Global) -> Result<Command<'a>, AllocError>
+    ensures { IfOk result (λ c. app_of c ≡ check_app) }
+{
+    Command::new(alloc, "check")
+        .about("Reads a configuration, and says what it has or the first thing that is wrong")
+        .arg(config_option(alloc).required(true))
+}
+
+fn serve_command<'a>(alloc: Global) -> Result<Command<'a>, AllocError>
+    ensures { IfOk result (λ c. app_of c ≡ serve_app) }
+{
+    listening_command(alloc)?.arg(turns_option(alloc))
+}
+
+// `serve` with its options up to the ports.
+fn listening_command<'a>(alloc: Global) -> Result<Command<'a>, AllocError>
+    ensures { IfOk result (λ c. app_of c ≡ listening_app) }
+{
+    addressed_command(alloc)?
+        .arg(port(alloc, "radius-port", "1813").help(
+            "The UDP port for accounting reports, 1 to 65535",
+        ))?
+        .arg(port(alloc, "desk-port", "8066").help("The TCP port of the desk, 1 to 65535"))
+}
+
+// `serve` with its options up to the address.
+fn addressed_command<'a>(alloc: Global) -> Result<Command<'a>, AllocError>
+    ensures { IfOk result (λ c. app_of c ≡ addressed_app) }
+{
+    Command::new(alloc, "serve")
+        .about("Answers access servers by RADIUS accounting, and callers of the desk by HTTP")
+        .arg(config_option(alloc).required(true))?
+        .arg(bind_option(alloc))
+}
+
+fn config_option<'a>(alloc: Global) -> Arg<'a>
+    ensures rule { rule_of result ≡ config_rule }
+    ensures local { result.global ≡ false }
+{
+    Arg::new(alloc, "config")
+        .long("config")
+        .value_name("FILE")
+        .help("The clients, plans and keys, as TOML: /etc/radacctd.toml, say")
+}
+
+fn bind_option<'a>(alloc: Global) -> Arg<'a>
+    ensures rule { rule_of result ≡ bind_rule }
+    ensures local { result.global ≡ false }
+{
+    Arg::new(alloc, "bind")
+        .long("bind")
+        .value_name("A.B.C.D")
+        .default_value("127.0.0.1")
+        .help("The IPv4 address to listen at; 0.0.0.0 for each of the machine's")
+}
+
+// An option for a port.
+fn port<'a>(alloc: Global, id: &'a str, default: &'a str) -> Arg<'a>
+    ensures rule { rule_of result ≡ port_rule id.now default.now }
+    ensures local { result.global ≡ false }
+{
+    Arg::new(alloc, id)
+        .long(id)
+        .value_name("PORT")
+        .value_parser(clap::value_parser!(u16).range(1..))
+        .default_value(default)
+}
+
+fn turns_option<'a>(alloc: Global) -> Arg<'a>
+    ensures rule { rule_of result ≡ turns_rule }
+    ensures local { result.global ≡ false }
+{
+    Arg::new(alloc, "turns")
+        .long("turns")
+        .value_name("N")
+        .value_parser(clap::value_parser!(i64).range(1..))
+        .default_value("9223372036854775807")
+        .help("How many turns to make before the end; one takes 20 milliseconds at most to wait")
+}
+
+// The error where the words name no command, or an option is missing or out of its range.
+fn no_job(alloc: Global) -> Error {
     let mut command = Command::new(alloc, PROGRAM);
-    match command.error(ErrorKind::MissingSubcommand, "a command is missing") {
+    match command.error(
+        ErrorKind::InvalidValue,
+        "a command or an option is missing, or a number isn't plain digits",
+    ) {
         Ok(error) => error,
         Err(error) => Error::from(error),
     }

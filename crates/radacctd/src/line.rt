@@ -4,7 +4,7 @@
 //! hexadecimal digits or `-`, and an account or a session id is shown as `acct_model::show` shows
 //! it,
 //! `-` where it is empty.
-ghost use Rattle.std.specs.Prelude.{◌≡◌, ℕ, List, [], ◌∷◌, codes, IfOk, IfErr, IfSome, IsTrue, ◌↔◌};
+ghost use Rattle.std.specs.Prelude.{◌≡◌, ℕ, List, [], ◌∷◌, codes, IfOk, IfErr, IfSome};
 ghost use Rattle.std.specs.Prelude.{MatchOption};
 ghost use Rattle.acct_model.specs.Vouchers.{TopUpFacts};
 ghost use Rattle.acct_book.specs.declared.key.Key.{Key};
@@ -16,7 +16,6 @@ ghost use Rattle.radacctd.specs.declared.line_fault.LineFault.TheVariants.{Bad a
 use crate::line_fault::LineFault;
 use crate::number::{number_of, number_up_to};
 use crate::octet_words::{octets_of, octets_shown};
-use crate::sample_site;
 use crate::words::{cut_word, four_words, one_word, three_words, two_words};
 use acct_book::Key;
 use acct_model::{Octets, Text, TopUp, address_of};
@@ -28,10 +27,12 @@ const LAST_MOMENT: u64 = (1 << 53) - 1;
 /// What a line asks for.
 #[derive(Debug, Drop)]
 pub enum Line {
-    /// To sign a request of these attributes as the sample client does, and to answer it.
+    /// To sign a request of these attributes as a client does, and to answer it.
     Signed {
         /// When it comes, in seconds since 1970.
         moment: u64,
+        /// The client's name.
+        client: Text,
         /// The request's identifier.
         identifier: u8,
         /// The octets of its attributes.
@@ -56,7 +57,7 @@ pub enum Line {
         /// The voucher, its account and its sum.
         topup: TopUp,
     },
-    /// To tell the row of a session of the sample client.
+    /// To tell the row of a session.
     Session {
         /// The session's key.
         key: Key,
@@ -89,31 +90,25 @@ pub fn read_line(alloc: Global, text: &str) -> Result<Option<Line>, LineFault>
     Ok(Some(line))
 }
 
-// `MOMENT CLIENT IDENTIFIER OCTETS`, of the sample client.
+// `MOMENT CLIENT IDENTIFIER OCTETS`.
 fn read_signed(alloc: Global, words: &str) -> Result<Line, LineFault>
     ensures spelled { IfOk result (AreWordsOf (codes "signed" ∷ words_in words.now)) }
-    ensures refused { IfErr result (λ fault. fault ≡ bad → (moment identifier : ℕ) (octets : List ℕ)
-        → AreSigned (codes "signed" ∷ words_in words.now) moment identifier octets → ⊥) }
+    ensures refused { IfErr result (λ fault. fault ≡ bad → (moment identifier : ℕ)
+        (client octets : List ℕ)
+        → AreSigned (codes "signed" ∷ words_in words.now) moment client identifier octets → ⊥) }
     ensures moment { IfOk result HasMoment }
 {
     let (moment, client, identifier, octets) = four_words(words).ok_or(LineFault::Bad)?;
-    if !is_sample_client(client) {
-        return Err(LineFault::Bad);
-    }
     let moment = number_up_to(moment, LAST_MOMENT).ok_or(LineFault::Bad)?;
     let identifier = number_up_to(identifier, 255).ok_or(LineFault::Bad)? as u8;
     let octets = octets_of(alloc, octets)?;
+    let client = Text::from_str(alloc, client)?;
     Ok(Line::Signed {
         moment,
+        client,
         identifier,
         octets,
     })
-}
-
-fn is_sample_client(word: &str) -> bool
-    ensures { IsTrue result ↔ (word.now ≡ codes "ap1") }
-{
-    word == sample_site::CLIENT
 }
 
 // `MOMENT ADDRESS OCTETS`.
@@ -163,7 +158,7 @@ fn read_topup(alloc: Global, words: &str) -> Result<Line, LineFault>
     Ok(Line::TopUp { topup })
 }
 
-// `CLIENT SESSION`, of the sample client.
+// `CLIENT SESSION`.
 fn read_session(alloc: Global, words: &str) -> Result<Line, LineFault>
     ensures spelled { IfOk result (AreWordsOf (codes "session" ∷ words_in words.now)) }
     ensures refused { IfErr result (λ fault. fault ≡ bad → (key : Key)
@@ -171,9 +166,6 @@ fn read_session(alloc: Global, words: &str) -> Result<Line, LineFault>
     ensures moment { IfOk result HasMoment }
 {
     let (client, session) = two_words(words).ok_or(LineFault::Bad)?;
-    if !is_sample_client(client) {
-        return Err(LineFault::Bad);
-    }
     let session = octets_shown(alloc, session)?;
     let client = Text::from_str(alloc, client)?;
     Ok(Line::Session {

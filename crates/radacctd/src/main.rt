@@ -1,10 +1,18 @@
 //! radacctd: a RADIUS accounting server (RFC 2866) with prepaid data allowances.
 //!
-//! `radacctd feed` answers a script of packets and questions over a book in memory, at the sample
-//! site.
+//! `radacctd feed` answers a script of packets and questions, `check` reads a configuration, and
+//! `serve` answers access servers and callers of the desk.
 #![tactic(auto)]
 
+ghost use Rattle.radacctd.specs.CommandLine.{HasTurns};
+
 mod answer;
+mod caller;
+mod check;
+mod command;
+mod config_file;
+mod counts;
+mod fault;
 mod feed;
 mod input;
 mod job;
@@ -15,14 +23,16 @@ mod number;
 mod octet_words;
 mod sample_site;
 mod server;
+mod serving;
 mod shown_row;
+mod sockets;
 mod status;
 mod stop;
 #[cfg(test)]
 mod tests;
 mod words;
 
-use crate::feed::run_feed;
+use crate::command::run;
 use crate::job::{Job, job_of};
 use crate::status::Status;
 use clap::Error;
@@ -39,7 +49,7 @@ fn main(rt: HostRuntime) -> ExitCode {
         }
     };
     match job_of(rt.alloc(), words) {
-        Ok(Job::Feed) => ExitCode::from(feed_on_standard_streams(&rt)),
+        Ok(job) => ExitCode::from(run_on_standard_streams(&rt, &job)),
         Err(error) => ExitCode::from(tell(&rt, &error)),
     }
 }
@@ -53,10 +63,12 @@ fn words_of(rt: &HostRuntime) -> io::Result<Vec<String>> {
     Ok(words)
 }
 
-// Runs `feed` over standard input and output, and says how it ended.
-fn feed_on_standard_streams(rt: &HostRuntime) -> Status {
+// Does a job over standard input, output and error, and says how it ended.
+fn run_on_standard_streams(rt: &HostRuntime, job: &Job) -> Status
+    requires { HasTurns job.now }
+{
     match BufWriter::new(rt.alloc(), rt.stdout()) {
-        Ok(writer) => run_feed(rt.alloc(), rt.stdin(), writer),
+        Ok(output) => run(rt, rt.alloc(), job, rt.stdin(), output, &mut rt.stderr()),
         Err(_) => {
             let _ = println!(rt; "unavailable");
             Status::Unavailable

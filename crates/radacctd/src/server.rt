@@ -1,25 +1,25 @@
-//! A site with its book: what answers datagrams.
+//! A configuration with its book: what answers datagrams.
 ghost use Rattle.std.specs.Prelude.{◌≡◌};
 ghost use Rattle.acct_book.specs.Step.{IsStep};
 ghost use Rattle.acct_wire.specs.Datagrams.{AsksFor};
 ghost use Rattle.acct_wire.specs.Outcomes.{Judges, Writes, IsTold, IsDrop, Steps};
 ghost use Rattle.radacctd.specs.Answers.{ReplyFits};
 
-use crate::sample_site::Site;
 use acct_book::Book;
+use acct_files::Config;
 use acct_wire::{Datagram, Outcome, answer};
 use std::alloc::Global;
 
 /// The most octets of a packet (RFC 2866, section 3).
 pub const LONGEST_PACKET: usize = 4096;
 
-/// A site with its book, and room for a reply.
+/// A configuration with its book, and room for a reply.
 #[derive(Drop)]
 pub struct Server<B> {
     /// What grows the book's rows.
     pub alloc: Global,
     /// Who may send, and what sessions cost.
-    pub site: Site,
+    pub config: Config,
     /// What was accepted.
     pub book: B,
     /// The last reply, at its front.
@@ -27,14 +27,14 @@ pub struct Server<B> {
 }
 
 impl<B: Book> Server<B> {
-    /// A site with a book.
-    pub fn new(alloc: Global, site: Site, book: B) -> Server<B>
-        ensures site { result.site ≡ site }
+    /// A configuration with a book.
+    pub fn new(alloc: Global, config: Config, book: B) -> Server<B>
+        ensures config { result.config ≡ config }
         ensures book { result.book ≡ book }
     {
         Server {
             alloc,
-            site,
+            config,
             book,
             reply: [0; LONGEST_PACKET],
         }
@@ -42,23 +42,23 @@ impl<B: Book> Server<B> {
 
     /// Answers a datagram: the reply, if it gets one, stands at the front of `reply`.
     pub fn answer(&mut self, datagram: &Datagram<'_>) -> Outcome
-        ensures judged { Judges self.old.site.clients datagram.now.source datagram.now.bytes.now
+        ensures judged { Judges self.old.config.clients datagram.now.source datagram.now.bytes.now
             result }
-        ensures written { Writes self.old.site.clients datagram.now.source datagram.now.bytes.now
+        ensures written { Writes self.old.config.clients datagram.now.source datagram.now.bytes.now
             self.old.reply self.new.reply result }
         ensures fits { ReplyFits result }
-        ensures step { IsStep self.old.site.plans B.content B.is_sound B.is_open B.is_steady B.left
+        ensures step { IsStep self.old.config.plans B.content B.is_sound B.is_open B.is_steady B.left
             self.old.book self.new.book (IsTold result) (IsDrop result)
-            (λ history after. Steps self.old.site.clients self.old.site.plans datagram.now.source
+            (λ history after. Steps self.old.config.clients self.old.config.plans datagram.now.source
             datagram.now.bytes.now datagram.now.moment result history after)
-            (λ asked. AsksFor self.old.site.clients datagram.now.source datagram.now.bytes.now
+            (λ asked. AsksFor self.old.config.clients datagram.now.source datagram.now.bytes.now
             datagram.now.moment asked) }
-        ensures same_site { self.new.site ≡ self.old.site }
+        ensures same_config { self.new.config ≡ self.old.config }
     {
         answer(
             self.alloc,
-            &self.site.clients,
-            &self.site.plans,
+            &self.config.clients,
+            &self.config.plans,
             &mut self.book,
             datagram,
             &mut self.reply,

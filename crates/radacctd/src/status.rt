@@ -12,6 +12,8 @@ pub enum Status {
     WrongWords = 2,
     /// Memory was refused.
     Unavailable = 3,
+    /// A socket could not be bound.
+    Socket = 4,
 }
 
 impl From<Status> for ExitCode {

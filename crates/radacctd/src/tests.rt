@@ -3,6 +3,7 @@
 use crate::feed::{answer_input, run_feed};
 use crate::input::{InputFault, MOST_OCTETS, MOST_READS, read_input};
 use crate::job::{Job, job_of};
+use crate::sample_site::sample_config;
 use crate::status::Status;
 use crate::status::Status::{Done, Refused, WrongWords};
 use crate::tell;
@@ -379,10 +380,18 @@ fn failing(alloc: Global, rows: &[Row]) -> Option<&'static str> {
     None
 }
 
+// Runs `feed` at the sample site.
+fn feed<R: Read + Drop, W: Write + Drop>(alloc: Global, reader: R, writer: W) -> Status {
+    match sample_config(alloc) {
+        Ok(config) => run_feed(alloc, config, reader, writer),
+        Err(_) => Status::Unavailable,
+    }
+}
+
 // Whether an input prints this and ends so.
 fn answers(alloc: Global, input: &[u8], wanted: &str, status: Status) -> bool {
     let mut output = Vec::new(alloc);
-    let ended = run_feed(alloc, input, &mut output);
+    let ended = feed(alloc, input, &mut output);
     ended == status && output.as_slice() == wanted.as_bytes()
 }
 
@@ -433,7 +442,10 @@ fn are_signed(
 // Whether a book answers an input so.
 fn book_answers<B: Book + Drop>(alloc: Global, book: B, input: &str, wanted: &str) -> bool {
     let mut output = Vec::new(alloc);
-    let ended = answer_input(alloc, book, input.as_bytes(), &mut output);
+    let Ok(config) = sample_config(alloc) else {
+        return false;
+    };
+    let ended = answer_input(alloc, config, book, input.as_bytes(), &mut output);
     ended == Done && output.as_slice() == wanted.as_bytes()
 }
 
@@ -594,12 +606,12 @@ fn reader_gives(alloc: Global, fault: ErrorKind, wanted: &str, status: Status) -
         others: b"ance bo\n",
     };
     let mut output = Vec::new(alloc);
-    run_feed(alloc, reader, &mut output) == status && output.as_slice() == wanted.as_bytes()
+    feed(alloc, reader, &mut output) == status && output.as_slice() == wanted.as_bytes()
 }
 
 fn line_ends_give(alloc: Global, left: usize, wanted: &str, status: Status) -> bool {
     let mut output = Vec::new(alloc);
-    let ended = run_feed(alloc, LineEnds { left }, &mut output);
+    let ended = feed(alloc, LineEnds { left }, &mut output);
     ended == status && output.as_slice() == wanted.as_bytes()
 }
 
@@ -672,8 +684,8 @@ fn tells_of_writers(rt: HostRuntime) -> Result<(), Fail> {
 fn least_room(alloc: Global) -> Result<usize, Fail> {
     let input = b"balance al\nbalance bo\n".as_slice();
     for room in 0..100 {
-        let plain = run_feed(alloc, input, Full { room });
-        let buffered = run_feed(alloc, input, BufWriter::new(alloc, Full { room })?);
+        let plain = feed(alloc, input, Full { room });
+        let buffered = feed(alloc, input, BufWriter::new(alloc, Full { room })?);
         match (plain, buffered) {
             (Refused, Refused) => {}
             (Done, Done) => return Ok(room),
@@ -740,7 +752,7 @@ fn reads_command_lines(rt: HostRuntime) -> Result<(), Fail> {
 
 fn names_feed(alloc: Global) -> Result<bool, AllocError> {
     let words = words_of(alloc, &["radacctd", "feed"])?;
-    Ok(matches!(&job_of(alloc, words), Ok(Job::Feed)))
+    Ok(matches!(&job_of(alloc, words), Ok(Job::Feed { config: None })))
 }
 
 // How the program ends by words that name no job, and the texts that it prints.

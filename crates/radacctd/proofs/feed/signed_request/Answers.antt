@@ -5,9 +5,10 @@ use Rattle.radacctd.proofs.feed.signed_request.Goals as goal
 pub returns-in-Ok : goal.returns-in-Ok
 returns-in-Ok c =
     front c.args.identifier _ c.in-Ok.size c.args.octets.now _ _ _ (omega arith)
-    c.in-Ok.ensures.written c.in-Ok.ensures.size
+    (rw c.as_slice.ensures at c.in-Ok.ensures.written) c.in-Ok.ensures.size
 
 pub shared_ref_as_front-result : goal.shared_ref_as_front-result
 shared_ref_as_front-result c =
     fits c.args.identifier c.in-Ok.size c.args.octets.now _ _ _
-    c.in-Ok.ensures.written c.in-Ok.ensures.size c.sign_request.array_long
+    (rw c.as_slice.ensures at c.in-Ok.ensures.written) c.in-Ok.ensures.size
+    c.sign_request.array_long

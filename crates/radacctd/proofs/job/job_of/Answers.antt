@@ -1,4 +1,4 @@
-use Rattle.std.proofs.Common.{rules, ap, ap₂, refl, true, map, ◌≡◌, ◌∙◌}
+use Rattle.std.proofs.Common.{ap, ap₂, refl, true, map, ◌≡◌, ◌∙◌}
 use Rattle.clap.specs.Words.{is_simple, subcommand_of}
 use Rattle.clap.proofs.OnLiterals.{clap_on_literals}
 use Rattle.radacctd.specs.CommandLine.{app}
@@ -10,11 +10,13 @@ simple : is_simple app ≡ true
 unfolding clap_on_literals
 simple = refl
 
-pub returns-in-Some-feed : goal.returns-in-Some-feed
-returns-in-Some-feed c =
+pub returns-in-Some-2-clause-named : goal.returns-in-Some-2-clause-named
+returns-in-Some-2-clause-named c =
     let app_is = c.in_ok-command.ensures in
     let rows = (c.in_ok-matches.ensures.matches (ap is_simple app_is ∙ simple)).1 in
-    let named = rw c.in-Some-feed.is at c.subcommand_name.ensures in
-    names_job c.in_ok-matches.matches _ c.in-Some-feed.field-0.now _
+    let named = rw c.in-Some.is at c.subcommand.ensures.name in
+    let with = rw c.in-Some.is at c.subcommand.ensures.rows in
+    let asked = rw c.in-Some-2.is at c.in_ok-job.ensures.asked in
+    names_job c.in_ok-matches.matches _ c.in-Some.name.now _ c.in-Some-2.job
     (rows ∙ ap₂ subcommand_of app_is (ap (map (λ s. string_bytes s)) c.as_slice.ensures.value))
-    named (search rules)
+    named with asked

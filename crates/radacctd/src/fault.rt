@@ -1,0 +1,90 @@
+//! What ends a command before its time.
+ghost use Rattle.std.specs.Prelude.{◌≢◌, IfOk};
+ghost use Rattle.radacctd.specs.Endings.{fault_text};
+
+use crate::status::Status;
+use acct_files::ConfigError;
+use std::alloc::AllocError;
+use std::io::Write;
+use std::{fmt, io};
+
+/// What ends a command before its time.
+#[derive(Clone, Copy, PartialEq, Eq, Debug)]
+pub enum Fault {
+    /// The file of the configuration cannot be read, or is too long.
+    CannotRead,
+    /// The configuration is wrong.
+    Config(ConfigError),
+    /// A socket could not be bound.
+    CannotBind,
+    /// What was to be printed could not be written.
+    CannotWrite,
+    /// Memory was refused.
+    NoMemory,
+}
+
+impl fmt::Display for Fault {
+    ghost output = { fault_text };
+
+    fn fmt<W: fmt::Write>(&self, f: &mut fmt::Formatter<W>) -> fmt::Result {
+        match self {
+            Fault::CannotRead => f.write_str("file: cannot read"),
+            Fault::Config(error) => write!(f, "config: {error}"),
+            Fault::CannotBind => f.write_str("socket: cannot bind"),
+            Fault::CannotWrite => f.write_str("cannot write"),
+            Fault::NoMemory => f.write_str("out of memory"),
+        }
+    }
+}
+
+impl Fault {
+    /// How a command ends that this ends.
+    pub fn status(self) -> Status
+        ensures { result ≢ Status.WrongWords }
+    {
+        match self {
+            Fault::CannotRead | Fault::Config(_) | Fault::CannotWrite => Status::Refused,
+            Fault::CannotBind => Status::Socket,
+            Fault::NoMemory => Status::Unavailable,
+        }
+    }
+}
+
+impl From<io::Error> for Fault {
+    ghost use Rattle.std.specs.Prelude.{◌≡◌};
+    ghost use Rattle.radacctd.specs.declared.fault.Fault.TheVariants.{CannotWrite};
+
+    ghost from_gives = { λ _ fault. fault ≡ CannotWrite };
+
+    fn from(_error: io::Error) -> Fault {
+        Fault::CannotWrite
+    }
+}
+
+impl From<AllocError> for Fault {
+    ghost use Rattle.std.specs.Prelude.{◌≡◌};
+    ghost use Rattle.radacctd.specs.declared.fault.Fault.TheVariants.{NoMemory};
+
+    ghost from_gives = { λ _ fault. fault ≡ NoMemory };
+
+    fn from(_error: AllocError) -> Fault {
+        Fault::NoMemory
+    }
+}
+
+/// How a command ends: as it says, or by its fault, which is told. Of a writer that failed nothing
+/// is told.
+pub fn end<E: Write>(faults: &mut E, ended: Result<Status, Fault>) -> Status
+    requires { IfOk ended (λ status. status ≢ Status.WrongWords) }
+    ensures { result ≢ Status.WrongWords }
+{
+    match ended {
+        Ok(status) => status,
+        Err(fault) => {
+            if fault != Fault::CannotWrite {
+                let _ = writeln!(faults, "{fault}");
+            }
+            fault.status()
+        }
+    }
+}

@@ -1,0 +1,241 @@
+//! The sockets of a server: datagrams of access servers, and callers of the desk.
+//!
+//! 1. A turn first gives up the caller that is still connected. Then it waits 20 milliseconds for a
+//!    datagram, and where none came it takes one caller that waits already.
+//! 2. A timeout with no caller is a turn without an event. Every other fault is counted.
+//! 3. Room for a datagram is made once, and not for each turn.
+ghost use Rattle.std.specs.Prelude.{◌≡◌, ◌<◌, ◌^◌, None, IfOk};
+
+use crate::caller::Caller;
+use acct_desk::read_request;
+use acct_model::Octets;
+use acct_service::{Event, Exchange, Fault, What};
+use std::alloc::{AllocError, Global};
+use std::io;
+use std::io::ErrorKind;
+use std::net::{Ipv4Addr, Net, OpenListener, SocketAddr, TcpListener, UdpSocket};
+use std::time::{Clock, Duration, SystemTime, UNIX_EPOCH};
+use thiserror::Error;
+
+/// The most octets of a datagram.
+const LONGEST_DATAGRAM: usize = 65_535;
+/// How many milliseconds a turn waits for a datagram.
+const PATIENCE: u64 = 20;
+/// The last moment, in seconds since 1970.
+const LAST_MOMENT: u64 = (1 << 53) - 1;
+
+/// Why a server has no sockets.
+#[derive(Debug, Drop, Error)]
+pub enum BindError {
+    /// A socket could not be bound.
+    #[error("socket: cannot bind")]
+    CannotBind,
+    /// Memory was refused.
+    #[error("out of memory")]
+    NoMemory,
+}
+
+impl From<io::Error> for BindError {
+    fn from(_error: io::Error) -> BindError {
+        BindError::CannotBind
+    }
+}
+
+impl From<AllocError> for BindError {
+    fn from(_error: AllocError) -> BindError {
+        BindError::NoMemory
+    }
+}
+
+/// The two sockets of a server, with the caller that is connected.
+#[derive(Drop)]
+pub struct Sockets<'r, R: Net> {
+    runtime: &'r R,
+    alloc: Global,
+    radius: UdpSocket,
+    desk: R::Listener,
+    caller: Option<Caller<'r, R>>,
+    room: Vec<u8>,
+    turns: u64,
+    failures: u64,
+}
+
+impl<'r, R: Net + Clock> Sockets<'r, R> {
+    /// Binds a socket for datagrams and one for callers at an IPv4 address. At port 0 the system
+    /// chooses one.
+    ///
+    /// # Errors
+    ///
+    /// `CannotBind` where a port is taken, needs a right that the program hasn't, or the machine
+    /// hasn't the address.
+    pub fn bind(
+        runtime: &'r R,
+        alloc: Global,
+        address: [u8; 4],
+        radius: u16,
+        desk: u16,
+    ) -> Result<Sockets<'r, R>, BindError>
+        ensures fresh { IfOk result (λ s. (s.turns ≡ 0) × (s.failures ≡ 0)) }
+    {
+        let address = Ipv4Addr::from(address);
+        let radius = UdpSocket::bind(runtime, (address, radius))?;
+        radius.set_read_timeout(Some(Duration::from_millis(PATIENCE)))?;
+        let desk = TcpListener::bind(runtime, (address, desk))?;
+        desk.set_nonblocking(true)?;
+        Ok(Sockets {
+            runtime,
+            alloc,
+            radius,
+            desk,
+            caller: None,
+            room: vec![in alloc; 0; LONGEST_DATAGRAM]?,
+            turns: 0,
+            failures: 0,
+        })
+    }
+
+    /// The ports of datagrams and of callers.
+    ///
+    /// # Errors
+    ///
+    /// Those of the system.
+    pub fn ports(&self) -> io::Result<(u16, u16)> {
+        Ok((
+            self.radius.local_addr()?.port(),
+            self.desk.local_addr()?.port(),
+        ))
+    }
+
+    // What comes in a turn.
+    fn receive(&mut self) -> Result<Option<Event>, Fault>
+        ensures turns { self.new.turns ≡ self.old.turns }
+        ensures failures { self.new.failures ≡ self.old.failures }
+    {
+        match self.radius.recv_from(self.room.as_mut_slice()) {
+            Ok((size, SocketAddr::V4(source))) => {
+                let bytes = self.copy(size)?;
+                let what = What::Datagram {
+                    source: source.ip().octets(),
+                    port: source.port(),
+                    bytes,
+                };
+                Ok(Some(self.event(what)))
+            }
+            Ok((_, SocketAddr::V6(_))) => Err(Fault),
+            Err(error) if nothing_came(&error) => self.accept(),
+            Err(_) => Err(Fault),
+        }
+    }
+
+    // The octets that the last datagram left at the front of the room.
+    fn copy(&self, size: usize) -> Result<Octets, Fault> {
+        let octets = self.room.get(..size).ok_or(Fault)?;
+        Octets::from_slice(self.alloc, octets).map_err(|_| Fault)
+    }
+
+    // What a caller asks that waits already, if one does.
+    fn accept(&mut self) -> Result<Option<Event>, Fault>
+        ensures turns { self.new.turns ≡ self.old.turns }
+        ensures failures { self.new.failures ≡ self.old.failures }
+    {
+        match self.desk.accept() {
+            Ok((stream, _)) => self.listen_to(stream),
+            Err(error) if nothing_came(&error) => Ok(None),
+            Err(_) => Err(Fault),
+        }
+    }
+
+    // What a caller asks.
+    fn listen_to(&mut self, stream: R::Stream) -> Result<Option<Event>, Fault>
+        ensures turns { self.new.turns ≡ self.old.turns }
+        ensures failures { self.new.failures ≡ self.old.failures }
+    {
+        let mut caller = Caller::new(self.runtime, stream).map_err(|_| Fault)?;
+        let octets = read_request(self.alloc, &mut caller).map_err(|_| Fault)?;
+        self.caller = Some(caller);
+        let bytes = Octets { octets };
+        Ok(Some(self.event(What::Desk { bytes })))
+    }
+
+    // What came, at the clock's moment.
+    fn event(&self, what: What) -> Event {
+        let moment = self.moment();
+        Event { moment, what }
+    }
+
+    // The clock's seconds since 1970: 0 before 1970, and at most 2^53 - 1.
+    fn moment(&self) -> u64
+        ensures { result < 2 ^ 53 }
+    {
+        let Ok(now) = SystemTime::now(self.runtime) else {
+            return 0;
+        };
+        match now.duration_since(UNIX_EPOCH) {
+            Ok(since) => since.as_secs().min(LAST_MOMENT),
+            Err(_) => 0,
+        }
+    }
+
+    // Sends octets to where an event came from.
+    fn send(&mut self, what: &What, bytes: &[u8]) -> Result<(), Fault>
+        ensures turns { self.new.turns ≡ self.old.turns }
+        ensures failures { self.new.failures ≡ self.old.failures }
+    {
+        match what {
+            What::Datagram { source, port, .. } => {
+                let address = Ipv4Addr::from(*source);
+                match self.radius.send_to(bytes, (address, *port)) {
+                    Ok(count) if count == bytes.len() => Ok(()),
+                    _ => Err(Fault),
+                }
+            }
+            What::Desk { .. } => {
+                let mut caller = self.caller.take().ok_or(Fault)?;
+                let room = self.room.as_mut_slice();
+                caller.answer(bytes, room).map_err(|_| Fault)
+            }
+        }
+    }
+}
+
+impl<'r, R: Net + Clock> Exchange for Sockets<'r, R> {
+    ghost turn_count = { λ s. s.turns };
+
+    ghost failure_count = { λ s. s.failures };
+
+    ghost told = { λ _. None };
+
+    fn next(&mut self) -> Result<Option<Event>, Fault> {
+        self.turns += 1;
+        self.caller = None;
+        let came = self.receive();
+        if came.is_err() {
+            self.failures += 1;
+        }
+        came
+    }
+
+    fn reply(&mut self, event: &Event, bytes: &[u8]) -> Result<(), Fault> {
+        let sent = self.send(&event.what, bytes);
+        if sent.is_err() {
+            self.failures += 1;
+        }
+        sent
+    }
+
+    fn turns(&self) -> u64 {
+        self.turns
+    }
+
+    fn failures(&self) -> u64 {
+        self.failures
+    }
+}
+
+// Whether a socket only has nothing yet.
+fn nothing_came(error: &io::Error) -> bool {
+    matches!(
+        error.kind(),
+        ErrorKind::WouldBlock | ErrorKind::TimedOut | ErrorKind::Interrupted
+    )
+}
