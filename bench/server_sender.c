@@ -1,0 +1,147 @@
+/* Sends datagrams over loopback and waits for their replies, keeping a number of them on their way; or answers each
+ * datagram by itself, as the plain echo that a server is held against.
+ *
+ *   server_sender echo PORT
+ *   server_sender send PORT WINDOW FILE
+ *
+ * FILE holds datagrams, each after its size as two octets, the high one first. The second octet of a datagram is its
+ * identifier, the number of the datagram modulo 256; a reply has it at the same place. What no reply came for within
+ * a second counts as lost and is not sent again. It prints how many were answered and lost, the seconds from the first
+ * sending to the last reply, and the median and the 99th percentile of the time to a reply, in microseconds. */
+#include <arpa/inet.h>
+#include <stdint.h>
+#include <stdio.h>
+#include <stdlib.h>
+#include <string.h>
+#include <sys/socket.h>
+#include <time.h>
+#include <unistd.h>
+
+#define LONGEST 4096
+#define MOST 2000000
+#define PATIENCE 1000000000ll
+
+static int64_t now(void) {
+    struct timespec t;
+    clock_gettime(CLOCK_MONOTONIC, &t);
+    return t.tv_sec * 1000000000ll + t.tv_nsec;
+}
+
+static int bound(int port) {
+    struct sockaddr_in at = {.sin_family = AF_INET, .sin_port = htons(port), .sin_addr.s_addr = htonl(INADDR_LOOPBACK)};
+    int s = socket(AF_INET, SOCK_DGRAM, 0);
+    if (bind(s, (struct sockaddr *)&at, sizeof at) != 0) {
+        perror("bind");
+        exit(1);
+    }
+    return s;
+}
+
+static _Noreturn void echo(int port) {
+    int s = bound(port);
+    static unsigned char octets[LONGEST];
+    for (;;) {
+        struct sockaddr_in from;
+        socklen_t size = sizeof from;
+        ssize_t n = recvfrom(s, octets, sizeof octets, 0, (struct sockaddr *)&from, &size);
+        if (n >= 20) {
+            sendto(s, octets, 20, 0, (struct sockaddr *)&from, size);
+        }
+    }
+}
+
+static int by_size(const void *a, const void *b) {
+    int64_t x = *(const int64_t *)a, y = *(const int64_t *)b;
+    return (x > y) - (x < y);
+}
+
+static int64_t took[MOST];
+static int64_t sent_at[256];
+static int is_out[256];
+
+/* Takes the replies that are there, waiting for one. */
+static long take(int s, long *answered, int64_t *last) {
+    unsigned char octets[LONGEST];
+    ssize_t n = recv(s, octets, sizeof octets, 0);
+    if (n < 2 || !is_out[octets[1]]) {
+        return 0;
+    }
+    *last = now();
+    is_out[octets[1]] = 0;
+    took[(*answered)++] = *last - sent_at[octets[1]];
+    return 1;
+}
+
+/* Gives up what was sent too long ago. */
+static long give_up(void) {
+    long lost = 0;
+    int64_t t = now();
+    for (int i = 0; i < 256; i++) {
+        if (is_out[i] && t - sent_at[i] > PATIENCE) {
+            is_out[i] = 0;
+            lost++;
+        }
+    }
+    return lost;
+}
+
+static int send_all(int port, long window, const char *path) {
+    FILE *file = fopen(path, "rb");
+    if (file == NULL) {
+        perror(path);
+        return 1;
+    }
+    struct sockaddr_in to = {.sin_family = AF_INET, .sin_port = htons(port), .sin_addr.s_addr = htonl(INADDR_LOOPBACK)};
+    int s = bound(0);
+    struct timeval patience = {.tv_sec = 0, .tv_usec = 200000};
+    setsockopt(s, SOL_SOCKET, SO_RCVTIMEO, &patience, sizeof patience);
+    connect(s, (struct sockaddr *)&to, sizeof to);
+    long answered = 0, lost = 0, out = 0;
+    int64_t first = now(), last = first;
+    unsigned char octets[LONGEST];
+    int high;
+    while ((high = fgetc(file)) != EOF) {
+        size_t size = (size_t)high << 8 | (size_t)fgetc(file);
+        if (size > sizeof octets || fread(octets, 1, size, file) != size) {
+            fprintf(stderr, "%s is cut\n", path);
+            return 1;
+        }
+        while (out >= window || is_out[octets[1]]) {
+            if (take(s, &answered, &last)) {
+                out--;
+            } else {
+                long gone = give_up();
+                lost += gone;
+                out -= gone;
+            }
+        }
+        sent_at[octets[1]] = now();
+        is_out[octets[1]] = 1;
+        out++;
+        send(s, octets, size, 0);
+    }
+    while (out > 0) {
+        if (take(s, &answered, &last)) {
+            out--;
+        } else {
+            long gone = give_up();
+            lost += gone;
+            out -= gone;
+        }
+    }
+    qsort(took, (size_t)answered, sizeof took[0], by_size);
+    int64_t median = answered ? took[answered / 2] : 0, late = answered ? took[answered * 99 / 100] : 0;
+    printf("%ld %ld %.6f %.1f %.1f\n", answered, lost, (last - first) / 1e9, median / 1e3, late / 1e3);
+    return 0;
+}
+
+int main(int count, char **words) {
+    if (count == 3 && strcmp(words[1], "echo") == 0) {
+        echo(atoi(words[2]));
+    }
+    if (count == 5 && strcmp(words[1], "send") == 0) {
+        return send_all(atoi(words[2]), atol(words[3]), words[4]);
+    }
+    fprintf(stderr, "server_sender echo PORT, or server_sender send PORT WINDOW FILE\n");
+    return 2;
+}
