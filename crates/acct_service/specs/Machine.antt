@@ -54,7 +54,7 @@ pub data Effect : Type 0 where
   added : Entry → Effect
   -- the top-up was kept already, with the same account and sum
   repeated : TopUpFacts → Effect
-  -- the entry was asked for, and the book or memory was unavailable
+  -- the entry was asked for, and the store or memory refused: the call was Unavailable
   failed : Entry → Effect
   -- no entry was asked for, or it was refused
   passed : Effect
@@ -80,9 +80,9 @@ pub record IsReplyFor (config : Config) (source bytes : List ℕ) (moment : ℕ)
       attributes asked
   pub reply : octets ≡ reply_octets identifier authenticator attributes client.secret
 
--- A reply says that the entry which the datagram asks for was accepted; a drop for the balance,
--- that it may not be; a drop for the book, that nobody knows; any other drop names the first rule
--- that the datagram breaks.
+-- A reply says that the entry which the datagram asks for may be accepted, and was. A drop for the
+-- balance says that it may not be; a drop for the book, that the store or memory refused it. Any
+-- other drop names the first rule that the datagram breaks, and then no entry was asked for.
 abbrev pub AnswersDatagram : Config → List Entry → List ℕ → List ℕ → ℕ → Answer → Effect → Type 0
 AnswersDatagram config history source bytes moment (replied octets) effect =
     (asked : Entry) × IsReplyFor config source bytes moment asked octets
