@@ -279,6 +279,14 @@ fn with_refused_call(alloc: Global, call: u64) -> Result<(bool, u64), Fail> {
     ))
 }
 
+// The same over a book that refuses none, and what the run counts.
+fn with_memory(alloc: Global) -> Result<(bool, Served), Fail> {
+    let mut site = Site::over(alloc, MemBook::new(alloc))?;
+    let (served, exchange) = site.serve(&BUSY)?;
+    let kept = (site.balance(b"al"), site.balance(b"bo"));
+    Ok((kept == told_balances(&exchange), served))
+}
+
 #[test]
 fn a_refused_call_changes_nothing(rt: HostRuntime) -> Result<(), Fail> {
     for call in 1..15 {
@@ -288,6 +296,15 @@ fn a_refused_call_changes_nothing(rt: HostRuntime) -> Result<(), Fail> {
         );
     }
     assert!(rt; with_refused_call(rt.alloc(), 15)? == (true, 0));
+    Ok(())
+}
+
+// Memory may be refused at any place of this test. What was told then is kept; an exchange that is
+// refused memory counts a fault, and tells no more.
+#[test]
+fn refused_memory_changes_nothing(rt: HostRuntime) -> Result<(), Fail> {
+    let (kept, served) = with_memory(rt.alloc())?;
+    assert!(rt; kept || served.faults > 0);
     Ok(())
 }
 
