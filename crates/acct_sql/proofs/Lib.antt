@@ -1,0 +1,24 @@
+pub mod QueryLemmas
+pub mod ValueLemmas
+pub mod FindLemmas
+pub mod WriteLemmas
+pub mod StatementLemmas
+pub mod TextLemmas
+pub mod KeyLemmas
+pub mod SessionLemmas
+pub mod CloseLemmas
+pub mod AccountLemmas
+pub mod VoucherLemmas
+pub mod MadeLemmas
+pub mod StepLemmas
+pub mod CommitLemmas
+pub mod ReadLemmas
+pub mod MakeLemmas
+mod CreateLemmas
+mod NextLemmas
+mod KeyedLemmas
+mod WalkLemmas
+mod ListLemmas
+mod IdLemmas
+mod LookLemmas
+mod PlanLemmas

@@ -1,0 +1,110 @@
+-- Queries outside a transaction, which change nothing.
+use Rattle.std.proofs.Common.{◌≡◌, ◌⊎◌, inl, inr, List, false, Option, Some, None, Ok, Err, Result}
+use Rattle.std.proofs.Common.{IsTrue, IfOk, IfErr, OnOk, sym, ap, subst, ◌∙◌, arith, ℕ}
+use Rattle.sqlite.specs.declared.error.Error.{Error}
+use Rattle.sqlite.specs.Order.{Row}
+use Rattle.sqlite.specs.Effect.{Database}
+use Rattle.sqlite.specs.State.{State, HasCleanDisk, IsUnchanged, IsRolledBack, Shown, FailsToQuery}
+use Rattle.sqlite.specs.State.{FailsToShow, IsNotRun, Survives, CommitsShowing}
+use Rattle.sqlite.specs.Listing.{understood}
+use Rattle.sqlite.proofs.Callers.{IsPlain, never_commits}
+use Rattle.sqlite.proofs.StateLemmas.{survives_then, survives_weaker}
+use Rattle.sqlite_schema.specs.declared.command.Returning.{Returning}
+use Rattle.sqlite_resolve.specs.declared.compiled.Compiled.{Compiled}
+use Rattle.acct_sql.specs.Tables.{book_schema}
+use Rattle.acct_sql.specs.Look.{IsIdle, OnlyLooks, HasSchema}
+use Rattle.acct_sql.proofs.ReadLemmas.{shown_same}
+
+runs_quiet : (old new : State) (sql : List ℕ) (c : Compiled) (params : Row) (e : Error)
+    (r : Option Returning) → FailsToShow old new sql c params e r → IsUnchanged old new
+    ⊎ IsRolledBack old new
+runs_quiet old new sql c params e None h = inl h.3
+runs_quiet old new sql c params e (Some what) (inl refused) = inl refused.1
+runs_quiet old new sql c params e (Some what) (inr failed) = inr failed.3
+
+query_quiet : (sql : List ℕ) (params : Row) (old new : State) (e : Error)
+    → FailsToQuery sql params old new e → IsUnchanged old new ⊎ IsRolledBack old new
+unfolding FailsToQuery IsNotRun
+query_quiet sql params old new e (inl (inl refused)) = inl refused.1
+query_quiet sql params old new e (inl (inr failed)) = inr failed.3
+query_quiet sql params old new e (inr h) = runs_quiet old new sql h.0 _ e h.0.returning h.2
+
+module _ (sql : List ℕ) (params : Row) (old new : State) {V : Type 0} (items : V → List Row)
+    (r : Result V Error) (idle : IsIdle old) (has : HasSchema old)
+    (plain : IsPlain (understood book_schema sql))
+    (ok : HasCleanDisk new → IfOk r (λ rows. Shown sql params old new (items rows)))
+    (err : HasCleanDisk new → IfErr r (FailsToQuery sql params old new))
+    (mode : old.in_transaction ≡ false → new.in_transaction ≡ false)
+    (survives : Survives old new (CommitsShowing sql params old)) where
+  early : HasCleanDisk new → HasCleanDisk old
+  early clean = omega (arith, survives.clean, clean)
+
+  plain_here : HasCleanDisk new → IsPlain (understood old.now.schema sql)
+  plain_here clean = subst (λ schema. IsPlain (understood schema sql)) (sym (has (early clean)))
+      plain
+
+  quiet_by : HasCleanDisk new → (q : Result V Error) → IfOk q
+      (λ rows. Shown sql params old new (items rows)) → IfErr q (FailsToQuery sql params old new)
+      → IsUnchanged old new ⊎ IsRolledBack old new
+  quiet_by clean (Ok rows) shown failed = inl (shown_same sql params old new (items rows)
+      (plain_here clean) shown)
+  quiet_by clean (Err e) shown failed = query_quiet sql params old new e failed
+
+  quiet : HasCleanDisk new → IsUnchanged old new ⊎ IsRolledBack old new
+  quiet clean = quiet_by clean r (ok clean) (err clean)
+
+  opened : IsTrue new.is_open → IsUnchanged old new ⊎ IsRolledBack old new → IsTrue old.is_open
+  opened o (inl same) = same.0.was_open
+  opened o (inr rolled) = rolled.was_open o
+
+  settled_by : HasCleanDisk new → IsTrue new.is_open → IsUnchanged old new ⊎ IsRolledBack old new
+      → new.now ≡ new.committed
+  settled_by clean o (inl same) = same.0.now_is ∙ (idle.settled (early clean) same.0.was_open
+      ∙ sym same.0.committed_is)
+  settled_by clean o (inr rolled) = (rolled.undone o).0 ∙ sym (rolled.undone o).1
+
+  same_by : HasCleanDisk new → IsTrue new.is_open → IsUnchanged old new ⊎ IsRolledBack old new
+      → new.now ≡ old.now
+  same_by clean o (inl same) = same.0.now_is
+  same_by clean o (inr rolled) = (rolled.undone o).0 ∙ sym
+      (idle.settled (early clean) (rolled.was_open o))
+
+  pub peeked : OnlyLooks old new
+  peeked = record {
+    idle = record {
+      autocommit = mode idle.autocommit;
+      settled = λ clean o. settled_by clean o
+          (quiet clean);
+    };
+    was_open = λ clean o. opened o (quiet clean);
+    same = λ clean o. same_by clean o (quiet clean);
+    survives = survives_weaker old new (CommitsShowing sql params old) (λ _. ⊥)
+        (λ clean db commits. never_commits sql params old db (plain_here clean) commits) survives;
+  }
+
+  open_by : HasCleanDisk new → (q : Result V Error) → IfOk q
+      (λ rows. Shown sql params old new (items rows)) → OnOk q (IsTrue new.is_open)
+  open_by clean (Ok rows) shown = (shown_same sql params old new (items rows) (plain_here clean)
+      shown).0.is_open
+  open_by clean (Err e) shown = tt
+
+  pub peeked_open : HasCleanDisk new → OnOk r (IsTrue new.is_open)
+  peeked_open clean = open_by clean r (ok clean)
+
+-- ---- one look after another
+
+pub looks_then : (a b c : State) → OnlyLooks a b → OnlyLooks b c → OnlyLooks a c
+looks_then a b c one two = record {
+  idle = two.idle;
+  was_open = λ clean o. one.was_open (omega (arith, two.survives.clean, clean))
+      (two.was_open clean o);
+  same = λ clean o. two.same clean o ∙ one.same (omega (arith, two.survives.clean, clean))
+      (two.was_open clean o);
+  survives = survives_then a b c (λ _. ⊥) (λ _. ⊥) (λ _. ⊥) (λ _ db none. none) (λ _ db none. none)
+      one.survives two.survives;
+}
+
+pub has_after : (a b : State) → OnlyLooks a b → HasSchema a → (HasCleanDisk b → IsTrue b.is_open)
+    → HasSchema b
+has_after a b look has o clean = ap (λ (d : Database). d.schema) (look.same clean (o clean))
+    ∙ has (omega (arith, look.survives.clean, clean))

@@ -1,0 +1,373 @@
+-- What the statements inside a transaction make of the content of a book.
+use Rattle.std.proofs.Common.{◌≡◌, ◌≢◌, ℕ, ℤ, List, [], ◌∷◌, drop, cond, Ok, IsTrue, Option, Some}
+use Rattle.std.proofs.Common.{option_map, refl, sym, ap, subst, ◌∙◌, arith, bytes_eq}
+use Rattle.std.specs.Map.{update}
+use Rattle.sqlite.specs.declared.types.Value.TheVariants.{Null, Int, Text, Blob}
+use Rattle.sqlite.specs.Order.{Row, column}
+use Rattle.sqlite.specs.Tree.{Trees, rowid}
+use Rattle.sqlite.specs.Term.{Term, eval_all}
+use Rattle.sqlite.specs.Edit.{next_rowid}
+use Rattle.sqlite.specs.Effect.{Database, IsDatabase}
+use Rattle.sqlite.specs.Command.TheVariants.{Update}
+use Rattle.sqlite.specs.Listing.{understood}
+use Rattle.sqlite.proofs.Callers.{IsPlain, command_of}
+use Rattle.acct_book.specs.declared.key.Key.{Key}
+use Rattle.acct_sql.specs.Tidy.{IsTidy}
+use Rattle.acct_sql.proofs.QueryLemmas.{over_table, all_rows}
+use Rattle.sqlite.specs.State.{State, Executes, ExecutesInside}
+use Rattle.sqlite_schema.specs.declared.schema.Keys.TheVariants.{Enforced}
+use Rattle.acct_model.specs.Vouchers.{TopUpFacts}
+use Rattle.acct_book.specs.Row.{RowFacts}
+use Rattle.acct_book.specs.Content.{Content, same_key, key_of, with_closed, closed_by}
+use Rattle.acct_sql.specs.Tables.{book_schema, account, voucher, session}
+use Rattle.acct_sql.specs.Columns.{session_columns, topup_columns, framed_in, framed_octets}
+use Rattle.acct_sql.specs.Content.{content_of, with_row, with_balance, with_voucher}
+use Rattle.acct_sql.specs.Book.{IsBook, HasMade}
+use Rattle.acct_sql.proofs.TextLemmas as t
+use Rattle.acct_sql.proofs.StatementLemmas.{updates, inserts}
+use Rattle.acct_sql.proofs.WriteLemmas.{update_tidy, insert_tidy}
+use Rattle.acct_sql.proofs.SessionLemmas as s
+use Rattle.acct_sql.proofs.CloseLemmas as c
+use Rattle.acct_sql.proofs.AccountLemmas as a
+use Rattle.acct_sql.proofs.VoucherLemmas as v
+
+-- ---- the tables that a statement does not write
+
+after_session : (old new : Database) → IsBook old → new.schema ≡ book_schema → IsDatabase new
+    → IsTidy (new.trees 8) → new.trees 4 ≡ old.trees 4 → new.trees 6 ≡ old.trees 6 → IsBook new
+after_session old new book schema sound tidy accounts vouchers =
+    record {
+      schema = schema;
+      sound = sound;
+      accounts = subst IsTidy (sym accounts) book.accounts;
+      vouchers = subst IsTidy (sym vouchers) book.vouchers;
+      sessions = tidy;
+    }
+
+after_account : (old new : Database) → IsBook old → new.schema ≡ book_schema → IsDatabase new
+    → IsTidy (new.trees 4) → new.trees 6 ≡ old.trees 6 → new.trees 8 ≡ old.trees 8 → IsBook new
+after_account old new book schema sound tidy vouchers sessions =
+    record {
+      schema = schema;
+      sound = sound;
+      accounts = tidy;
+      vouchers = subst IsTidy (sym vouchers) book.vouchers;
+      sessions = subst IsTidy (sym sessions) book.sessions;
+    }
+
+after_voucher : (old new : Database) → IsBook old → new.schema ≡ book_schema → IsDatabase new
+    → IsTidy (new.trees 6) → new.trees 4 ≡ old.trees 4 → new.trees 8 ≡ old.trees 8 → IsBook new
+after_voucher old new book schema sound tidy accounts sessions =
+    record {
+      schema = schema;
+      sound = sound;
+      accounts = subst IsTidy (sym accounts) book.accounts;
+      vouchers = tidy;
+      sessions = subst IsTidy (sym sessions) book.sessions;
+    }
+
+-- the content with other rows, other balances, other top-ups
+rows_changed : (old new : Trees) (f : Key → Option RowFacts)
+    → ((key : Key) → s.rows_in (new 8) key ≡ f key) → new 4 ≡ old 4 → new 6 ≡ old 6
+    → content_of new ≡ record {
+      rows = f;
+      balances = (content_of old).balances;
+      topups = (content_of old).topups;
+    }
+rows_changed old new f rows accounts vouchers = λ i. record {
+  rows = λ key. rows key i;
+  balances = a.balances_in (accounts i);
+  topups = v.topups_in (vouchers i);
+}
+
+balances_changed : (old new : Trees) (f : List ℕ → Option ℤ)
+    → ((name : List ℕ) → a.balances_in (new 4) name ≡ f name) → new 6 ≡ old 6 → new 8 ≡ old 8
+    → content_of new ≡ record {
+      rows = (content_of old).rows;
+      balances = f;
+      topups = (content_of old).topups;
+    }
+balances_changed old new f balances vouchers sessions = λ i. record {
+  rows = s.rows_in (sessions i);
+  balances = λ name. balances name i;
+  topups = v.topups_in (vouchers i);
+}
+
+topups_changed : (old new : Trees) (f : List ℕ → Option TopUpFacts)
+    → ((number : List ℕ) → v.topups_in (new 6) number ≡ f number) → new 4 ≡ old 4 → new 8 ≡ old 8
+    → content_of new ≡ record {
+      rows = (content_of old).rows;
+      balances = (content_of old).balances;
+      topups = f;
+    }
+topups_changed old new f topups accounts sessions = λ i. record {
+  rows = s.rows_in (sessions i);
+  balances = a.balances_in (accounts i);
+  topups = λ number. topups number i;
+}
+
+abbrev IsBookIf : State → Type 0
+IsBookIf old = IsTrue old.is_open → IsBook old.now
+
+-- ---- one write after another
+
+pub made_then : (old mid new : State) (f g : Content → Content) → HasMade old mid f
+    → HasMade mid new g → HasMade old new (λ c. g (f c))
+made_then old mid new f g first second = record {
+  shows = record {
+    was_open = first.shows.was_open;
+    is_open = second.shows.is_open;
+    now_is = refl;
+    committed_is = second.shows.committed_is ∙ first.shows.committed_is;
+    mode = second.shows.mode;
+  };
+  book = second.book;
+  content = second.content ∙ ap g first.content;
+}
+
+-- ---- session
+
+session_updates : (text : List ℕ) (filter project : List Term) (params : Row) (old new : State)
+    (count : ℕ)
+    → command_of (understood book_schema text) ≡ Update 4
+    (record { lets = []; body = over_table 8 filter project [] all_rows })
+    → IsPlain (understood book_schema text)
+    → old.now.schema ≡ book_schema → Executes text params old new (Ok count)
+    → s.IsUpdatedBy filter project params old new count
+session_updates = updates 4 session.name 8 session.columns (1 ∷ 2 ∷ []) refl (λ db. refl)
+    (λ taken news. refl)
+
+session_kept : (params : Row) (filter project : List Term) (old new : State) (count : ℕ)
+    → s.IsUpdatedBy filter project params old new count → (new.now.trees 4 ≡ old.now.trees 4)
+    × (new.now.trees 6 ≡ old.now.trees 6)
+session_kept params filter project old new count done = (
+  done.applies.tables.1.1.0
+      (λ e. absurd (omega (arith, e))),
+  done.applies.tables.1.1.1.0 (λ e. absurd (omega (arith, e))),
+)
+
+session_tidy : (filter project : List Term) (params : Row) (old new : State) (count : ℕ)
+    (book : IsBook old.now) (done : s.IsUpdatedBy filter project params old new count)
+    → ((r : Row) → rowid (eval_all project (params ∷ r ∷ [])) ≡ rowid r)
+    → ((r : Row) → column (drop 1 (eval_all project (params ∷ r ∷ []))) 0 ≡ rowid r)
+    → IsTidy (new.now.trees 8)
+session_tidy filter project params old new count book done first second =
+    update_tidy book_schema Enforced session filter project Null old.now.trees new.now.trees params
+    done.answer done.selects first second book.sessions done.applies
+
+pub made_row : (row : RowFacts) (old new : State) (count : ℕ) → IsBookIf old
+    → framed_in (framed_octets row.framed) ≡ row.framed → count ≢ 0
+    → ExecutesInside 0 t.set_session_text (session_columns row) old new (Ok count)
+    → HasMade old new (λ c. with_row c row)
+made_row row old new count books framed some h =
+    let book = books h.1.was_open in
+    let params = session_columns row in
+    let done = session_updates t.set_session_text t.session_filter t.session_project params old new
+    count t.set_session_is t.set_session_plain book.schema h.0 in
+    let kept = session_kept params t.session_filter t.session_project old new count done in
+    let tidy = session_tidy t.session_filter t.session_project params old new count book done
+    (λ r. refl) (λ r. refl) in
+    record {
+      shows = h.1;
+      book = after_session old.now new.now book done.schema done.sound tidy kept.0 kept.1;
+      content = rows_changed old.now.trees new.now.trees
+          (update same_key (s.rows_in (old.now.trees 8)) (key_of row) (Some row))
+          (s.set_row row old new count book framed done some) kept.0 kept.1;
+    }
+
+pub made_new_row : (row : RowFacts) (old mid new : State) (count more : ℕ) → IsBookIf old
+    → framed_in (framed_octets row.framed) ≡ row.framed → count ≡ 0
+    → ExecutesInside 0 t.set_session_text (session_columns row) old mid (Ok count)
+    → ExecutesInside 0 t.new_session_text (session_columns row) mid new (Ok more)
+    → HasMade old new (λ c. with_row c row)
+made_new_row row old mid new count more books framed none first second =
+    let book = books first.1.was_open in
+    let params = session_columns row in
+    let done = session_updates t.set_session_text t.session_filter t.session_project params old mid
+    count t.set_session_is t.set_session_plain book.schema first.0 in
+    let kept = session_kept params t.session_filter t.session_project old mid count done in
+    let tidy = session_tidy t.session_filter t.session_project params old mid count book done
+    (λ r. refl) (λ r. refl) in
+    let book' = after_session old.now mid.now book done.schema done.sound tidy kept.0 kept.1 in
+    let added = inserts 4 session.name 8 session.columns (1 ∷ 2 ∷ []) refl (λ db. refl)
+    (λ taken news. refl) t.new_session_text t.session_terms 14 params (Null ∷ params) mid new
+    more t.new_session_is t.new_session_plain refl book'.schema second.0 in
+    let accounts = added.applies.tables.1.1.0 (λ e. absurd (omega (arith, e))) in
+    let vouchers = added.applies.tables.1.1.1.0 (λ e. absurd (omega (arith, e))) in
+    let fresh = s.none_kept row old mid count book framed done none in
+    let tidy' = insert_tidy book_schema Enforced session mid.now.trees new.now.trees (Null ∷ params)
+    refl added.applies book'.sessions (next_rowid (mid.now.trees 8))
+    (ap rowid (s.put_is row mid new book' framed added fresh)) in
+    let same = s.set_none row old mid count book framed done none in
+    record {
+      shows = record {
+        was_open = first.1.was_open;
+        is_open = second.1.is_open;
+        now_is = refl;
+        committed_is = second.1.committed_is ∙ first.1.committed_is;
+        mode = second.1.mode;
+      };
+      book = after_session mid.now new.now book' added.schema added.sound tidy' accounts vouchers;
+      content = rows_changed old.now.trees new.now.trees
+          (update same_key (s.rows_in (old.now.trees 8)) (key_of row) (Some row))
+          (λ key. s.new_row row mid new book' framed added fresh key
+          ∙ ap (λ o. cond (same_key (key_of row) key) (Some row) o) (same key))
+          (accounts ∙ kept.0) (vouchers ∙ kept.1);
+    }
+
+pub made_closed : (client : List ℕ) (old new : State) (count : ℕ) → IsBookIf old
+    → ExecutesInside 0 t.close_text (Text client ∷ []) old new (Ok count)
+    → HasMade old new (λ c. with_closed c client)
+made_closed client old new count books h =
+    let book = books h.1.was_open in
+    let params = Text client ∷ [] in
+    let done = session_updates t.close_text t.close_filter t.close_project params old new count
+    t.close_is t.close_plain book.schema h.0 in
+    let kept = session_kept params t.close_filter t.close_project old new count done in
+    let tidy = session_tidy t.close_filter t.close_project params old new count book done
+    (λ r. refl) (λ r. refl) in
+    record {
+      shows = h.1;
+      book = after_session old.now new.now book done.schema done.sound tidy kept.0 kept.1;
+      content = rows_changed old.now.trees new.now.trees
+          (λ key. option_map (closed_by client) (s.rows_in (old.now.trees 8) key))
+          (c.closed_rows client old new count book done) kept.0 kept.1;
+    }
+
+-- ---- account
+
+account_updates : (params : Row) (old new : State) (count : ℕ) → old.now.schema ≡ book_schema
+    → Executes t.set_balance_text params old new (Ok count) → a.IsUpdated params old new count
+account_updates params old new count = updates 2 account.name 4 account.columns (1 ∷ []) refl
+    (λ db. refl) (λ taken news. refl) t.set_balance_text t.name_filter t.balance_project params old
+    new count t.set_balance_is t.set_balance_plain
+
+pub made_balance : (name : List ℕ) (n : ℤ) (old new : State) (count : ℕ) → IsBookIf old → count ≢ 0
+    → ExecutesInside 0 t.set_balance_text (Blob name ∷ Int n ∷ []) old new (Ok count)
+    → HasMade old new (λ c. with_balance c name n)
+made_balance name n old new count books some h =
+    let book = books h.1.was_open in
+    let params = Blob name ∷ Int n ∷ [] in
+    let done = account_updates params old new count book.schema h.0 in
+    let vouchers = done.applies.tables.1.1.1.0 (λ e. absurd (omega (arith, e))) in
+    let sessions = done.applies.tables.1.1.1.1.0 (λ e. absurd (omega (arith, e))) in
+    let tidy = update_tidy book_schema Enforced account t.name_filter t.balance_project Null
+    old.now.trees new.now.trees params done.answer done.selects (λ r. refl) (λ r. refl)
+    book.accounts done.applies in
+    record {
+      shows = h.1;
+      book = after_account old.now new.now book done.schema done.sound tidy vouchers sessions;
+      content = balances_changed old.now.trees new.now.trees
+          (update bytes_eq (a.balances_in (old.now.trees 4)) name (Some n))
+          (a.set_balance name n old new count book done some) vouchers sessions;
+    }
+
+pub made_new_balance : (name : List ℕ) (n : ℤ) (old mid new : State) (count more : ℕ) → IsBookIf old
+    → count ≡ 0
+    → ExecutesInside 0 t.set_balance_text (Blob name ∷ Int n ∷ []) old mid (Ok count)
+    → ExecutesInside 0 t.new_balance_text (Blob name ∷ Int n ∷ []) mid new (Ok more)
+    → HasMade old new (λ c. with_balance c name n)
+made_new_balance name n old mid new count more books none first second =
+    let book = books first.1.was_open in
+    let params = Blob name ∷ Int n ∷ [] in
+    let done = account_updates params old mid count book.schema first.0 in
+    let vouchers = done.applies.tables.1.1.1.0 (λ e. absurd (omega (arith, e))) in
+    let sessions = done.applies.tables.1.1.1.1.0 (λ e. absurd (omega (arith, e))) in
+    let tidy = update_tidy book_schema Enforced account t.name_filter t.balance_project Null
+    old.now.trees mid.now.trees params done.answer done.selects (λ r. refl) (λ r. refl)
+    book.accounts done.applies in
+    let book' = after_account old.now mid.now book done.schema done.sound tidy vouchers sessions in
+    let added = inserts 2 account.name 4 account.columns (1 ∷ []) refl (λ db. refl)
+    (λ taken news. refl) t.new_balance_text t.balance_terms 3 params (Null ∷ params) mid new
+    more t.new_balance_is t.new_balance_plain refl book'.schema second.0 in
+    let vouchers' = added.applies.tables.1.1.1.0 (λ e. absurd (omega (arith, e))) in
+    let sessions' = added.applies.tables.1.1.1.1.0 (λ e. absurd (omega (arith, e))) in
+    let fresh = a.none_kept name n old mid count book done none in
+    let tidy' = insert_tidy book_schema Enforced account mid.now.trees new.now.trees (Null ∷ params)
+    refl added.applies book'.accounts (next_rowid (mid.now.trees 4))
+    (ap rowid (a.put_is name n mid new book' added fresh)) in
+    let same = a.set_none name n old mid count book done none in
+    record {
+      shows = record {
+        was_open = first.1.was_open;
+        is_open = second.1.is_open;
+        now_is = refl;
+        committed_is = second.1.committed_is ∙ first.1.committed_is;
+        mode = second.1.mode;
+      };
+      book = after_account mid.now new.now book' added.schema added.sound tidy' vouchers' sessions';
+      content = balances_changed old.now.trees new.now.trees
+          (update bytes_eq (a.balances_in (old.now.trees 4)) name (Some n))
+          (λ key. a.new_balance name n mid new book' added fresh key
+          ∙ ap (λ o. cond (bytes_eq name key) (Some n) o) (same key)) (vouchers' ∙ vouchers)
+          (sessions' ∙ sessions);
+    }
+
+-- ---- voucher
+
+voucher_updates : (params : Row) (old new : State) (count : ℕ) → old.now.schema ≡ book_schema
+    → Executes t.set_topup_text params old new (Ok count) → v.IsUpdated params old new count
+voucher_updates params old new count = updates 3 voucher.name 6 voucher.columns (1 ∷ []) refl
+    (λ db. refl) (λ taken news. refl) t.set_topup_text t.name_filter t.topup_project params old new
+    count t.set_topup_is t.set_topup_plain
+
+pub made_topup : (topup : TopUpFacts) (old new : State) (count : ℕ) → IsBookIf old → count ≢ 0
+    → ExecutesInside 0 t.set_topup_text (topup_columns topup) old new (Ok count)
+    → HasMade old new (λ c. with_voucher c topup)
+made_topup topup old new count books some h =
+    let book = books h.1.was_open in
+    let params = topup_columns topup in
+    let done = voucher_updates params old new count book.schema h.0 in
+    let accounts = done.applies.tables.1.1.0 (λ e. absurd (omega (arith, e))) in
+    let sessions = done.applies.tables.1.1.1.1.0 (λ e. absurd (omega (arith, e))) in
+    let tidy = update_tidy book_schema Enforced voucher t.name_filter t.topup_project Null
+    old.now.trees new.now.trees params done.answer done.selects (λ r. refl) (λ r. refl)
+    book.vouchers done.applies in
+    record {
+      shows = h.1;
+      book = after_voucher old.now new.now book done.schema done.sound tidy accounts sessions;
+      content = topups_changed old.now.trees new.now.trees
+          (update bytes_eq (v.topups_in (old.now.trees 6)) topup.voucher (Some topup))
+          (v.set_topup topup old new count book done some) accounts sessions;
+    }
+
+pub made_new_topup : (topup : TopUpFacts) (old mid new : State) (count more : ℕ) → IsBookIf old
+    → count ≡ 0
+    → ExecutesInside 0 t.set_topup_text (topup_columns topup) old mid (Ok count)
+    → ExecutesInside 0 t.new_topup_text (topup_columns topup) mid new (Ok more)
+    → HasMade old new (λ c. with_voucher c topup)
+made_new_topup topup old mid new count more books none first second =
+    let book = books first.1.was_open in
+    let params = topup_columns topup in
+    let done = voucher_updates params old mid count book.schema first.0 in
+    let accounts = done.applies.tables.1.1.0 (λ e. absurd (omega (arith, e))) in
+    let sessions = done.applies.tables.1.1.1.1.0 (λ e. absurd (omega (arith, e))) in
+    let tidy = update_tidy book_schema Enforced voucher t.name_filter t.topup_project Null
+    old.now.trees mid.now.trees params done.answer done.selects (λ r. refl) (λ r. refl)
+    book.vouchers done.applies in
+    let book' = after_voucher old.now mid.now book done.schema done.sound tidy accounts sessions in
+    let added = inserts 3 voucher.name 6 voucher.columns (1 ∷ []) refl (λ db. refl)
+    (λ taken news. refl) t.new_topup_text t.topup_terms 5 params (Null ∷ params) mid new more
+    t.new_topup_is t.new_topup_plain refl book'.schema second.0 in
+    let accounts' = added.applies.tables.1.1.0 (λ e. absurd (omega (arith, e))) in
+    let sessions' = added.applies.tables.1.1.1.1.0 (λ e. absurd (omega (arith, e))) in
+    let fresh = v.none_kept topup old mid count book done none in
+    let tidy' = insert_tidy book_schema Enforced voucher mid.now.trees new.now.trees (Null ∷ params)
+    refl added.applies book'.vouchers (next_rowid (mid.now.trees 6))
+    (ap rowid (v.put_is topup mid new book' added fresh)) in
+    let same = v.set_none topup old mid count book done none in
+    record {
+      shows = record {
+        was_open = first.1.was_open;
+        is_open = second.1.is_open;
+        now_is = refl;
+        committed_is = second.1.committed_is ∙ first.1.committed_is;
+        mode = second.1.mode;
+      };
+      book = after_voucher mid.now new.now book' added.schema added.sound tidy' accounts' sessions';
+      content = topups_changed old.now.trees new.now.trees
+          (update bytes_eq (v.topups_in (old.now.trees 6)) topup.voucher (Some topup))
+          (λ key. v.new_topup topup mid new book' added fresh key
+          ∙ ap (λ o. cond (bytes_eq topup.voucher key) (Some topup) o) (same key))
+          (accounts' ∙ accounts) (sessions' ∙ sessions);
+    }

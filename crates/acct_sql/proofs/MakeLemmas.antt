@@ -1,0 +1,258 @@
+-- What the statements that make the tables do, one after the other.
+use Rattle.std.proofs.Common.{◌≡◌, ℕ, List, [], ◌∷◌, codes, false, Some, None, Ok, slice_get, refl}
+use Rattle.std.proofs.Common.{sym, ap, subst, ◌∙◌, take, decimal, arith}
+use Rattle.std.proofs.lemmas.Fmt.{decimal_digit}
+use Rattle.sqlite.specs.Command.TheVariants.{CreateTable, CreateIndex}
+use Rattle.sqlite.specs.Compile.{table_defined_by, index_defined_by}
+use Rattle.sqlite.specs.Change.{created, indexed, next_tree, KeepsRows}
+use Rattle.sqlite.specs.Schema.{Schema}
+use Rattle.sqlite.specs.Table.{Table}
+use Rattle.sqlite_schema.specs.declared.schema.Index.{Index}
+use Rattle.sqlite.specs.Does.{Tally, Does, Defines, MakesIndex, AtPlace, lacks_sequence}
+use Rattle.sqlite.specs.Effect.{Database, IsDatabase}
+use Rattle.sqlite_tied.specs.Compute.{everything}
+use Rattle.sqlite.specs.Listing.{understood}
+use Rattle.sqlite.specs.State.{State, mode_of, Writes, Executes}
+use Rattle.sqlite.proofs.Callers.{IsPlain, command_of, statement_of, runs_as}
+use Rattle.acct_sql.specs.Tables.{book_schema, no_schema, meta, price_plan, account, voucher}
+use Rattle.acct_sql.specs.Tables.{session, index_of}
+use Rattle.acct_sql.specs.Make.{AreEmpty}
+use Rattle.acct_sql.proofs.StatementLemmas.{went, same_value}
+
+abbrev pub meta_text : List ℕ
+meta_text = codes
+    "CREATE TABLE meta (name TEXT NOT NULL PRIMARY KEY, value INTEGER NOT NULL) STRICT"
+
+abbrev pub plan_text : List ℕ
+plan_text = codes
+    "CREATE TABLE price_plan (class BLOB NOT NULL PRIMARY KEY, block INTEGER NOT NULL, unit INTEGER NOT NULL) STRICT"
+
+abbrev pub account_text : List ℕ
+account_text = codes
+    "CREATE TABLE account (name BLOB NOT NULL PRIMARY KEY, balance INTEGER NOT NULL) STRICT"
+
+abbrev pub voucher_text : List ℕ
+voucher_text = codes
+    "CREATE TABLE voucher (number TEXT NOT NULL PRIMARY KEY, account BLOB NOT NULL, amount INTEGER NOT NULL, moment INTEGER NOT NULL) STRICT"
+
+abbrev pub session_text : List ℕ
+session_text = codes
+    "CREATE TABLE session (client TEXT NOT NULL, id BLOB NOT NULL, account BLOB NOT NULL, class BLOB NOT NULL, input INTEGER NOT NULL, output INTEGER NOT NULL, seconds INTEGER NOT NULL, first_seen INTEGER NOT NULL, last_seen INTEGER NOT NULL, state INTEGER NOT NULL, cause INTEGER NOT NULL, calling BLOB NOT NULL, framed BLOB NOT NULL, PRIMARY KEY (client, id)) STRICT"
+
+abbrev pub by_account_text : List ℕ
+by_account_text = codes "CREATE INDEX session_account ON session (account)"
+
+abbrev pub vouchers_text : List ℕ
+vouchers_text = codes "CREATE INDEX voucher_account ON voucher (account)"
+
+-- the first tables, each with the index of its key
+abbrev pub stage : ℕ → Schema
+stage n = record {
+  tables = take n book_schema.tables;
+  indexes = take n book_schema.indexes;
+  views = [];
+}
+
+-- and with the first of the two other indexes
+abbrev pub six : Schema
+six = record book_schema { indexes = take 6 book_schema.indexes }
+
+-- what CREATE TABLE did
+pub record HasDefined (schema after : Schema) (old new : Database) : Type 0 where
+  pub listed : new.schema ≡ after
+  pub empty : new.trees (next_tree schema) ≡ []
+  pub others : KeepsRows schema.tables old.trees new.trees
+  pub sound : IsDatabase new
+
+pub defines : (schema after : Schema) (text : List ℕ) (table : Table) (old new : State) (count : ℕ)
+    → (command_of (understood schema text) ≡ CreateTable)
+    × (statement_of text (understood schema text) ≡ text) × (table_defined_by text ≡ Ok table)
+    → IsPlain (understood schema text)
+    → created schema table ≡ after → lacks_sequence after ≡ false → old.now.schema ≡ schema
+    → Executes text [] old new (Ok count) → HasDefined schema after old.now new.now
+defines schema after text table old new count is plain next none has h =
+    let w = subst (λ t. Writes old new None CreateTable t [] count) is.1
+    (runs_as text [] old new schema has CreateTable is.0 plain count h) in
+    let all = went w.changed in
+    let first = went all.1 in
+    let made = first.1 in
+    let both : Ok made.table ≡ Ok table = sym made.defined ∙ is.2 in
+    let same : made.table ≡ table = cc in
+    let now_schema : first.0.schema ≡ after = made.is ∙ (ap (λ s. created s made.table) has
+    ∙ (ap (created schema) same ∙ next)) in
+    let lacks : lacks_sequence first.0.schema ≡ false = ap lacks_sequence now_schema ∙ none in
+    let now : new.now ≡ first.0 = ap (λ (p : Tally × Database). p.1) (same_value all.2)
+    ∙ same_value (rw lacks at first.2) in
+    record {
+      listed = ap (λ (d : Database). d.schema) now ∙ now_schema;
+      empty = ap (λ (d : Database). d.trees (next_tree schema)) now
+          ∙ subst (λ s. first.0.trees (next_tree s) ≡ []) has made.empty;
+      others = subst (λ (d : Database). KeepsRows schema.tables old.now.trees d.trees) (sym now)
+          (subst (λ s. KeepsRows s.tables old.now.trees first.0.trees) has made.others);
+      sound = w.sound;
+    }
+
+-- what CREATE INDEX did
+pub record HasIndexed (schema after : Schema) (old new : Database) : Type 0 where
+  pub listed : new.schema ≡ after
+  pub others : KeepsRows schema.tables old.trees new.trees
+  pub sound : IsDatabase new
+
+pub indexes : (schema after : Schema) (text : List ℕ) (at : ℕ) (table : Table) (index : Index)
+    (old new : State) (count : ℕ)
+    → (command_of (understood schema text) ≡ CreateIndex at)
+    × (statement_of text (understood schema text) ≡ text)
+    × (slice_get schema.tables at ≡ Some table) × (index_defined_by table text ≡ Ok index)
+    → IsPlain (understood schema text) → indexed schema table index ≡ after → old.now.schema
+    ≡ schema → Executes text [] old new (Ok count) → HasIndexed schema after old.now new.now
+indexes schema after text at table index old new count is plain next has h =
+    let w = subst (λ t. Writes old new None (CreateIndex at) t [] count) is.1
+    (runs_as text [] old new schema has (CreateIndex at) is.0 plain count h) in
+    let db : Database = record old.now { schema = schema } in
+    let out = Ok (w.tally, new.now) in
+    let all = subst (λ s. Does old.step_limit (mode_of old) [] (record old.now { schema = s }) text
+    None (CreateIndex at) out) has w.changed in
+    let placed = subst (λ o. AtPlace (λ t. Defines (mode_of old) (MakesIndex text db t)) o out) is.2
+    all in
+    let done = went placed in
+    let made = done.1 in
+    let both : Ok made.index ≡ Ok index = sym made.defined ∙ is.3 in
+    let same : made.index ≡ index = cc in
+    let now : new.now ≡ done.0 = ap (λ (p : Tally × Database). p.1) (same_value done.2) in
+    record {
+      listed = ap (λ (d : Database). d.schema) now ∙ (made.is
+          ∙ (ap (indexed schema table) same ∙ next));
+      others = subst (λ (d : Database). KeepsRows schema.tables old.now.trees d.trees) (sym now)
+          made.rows;
+      sound = w.sound;
+    }
+
+-- ---- the texts, each under the schema so far
+
+pub meta_is : (command_of (understood no_schema meta_text) ≡ CreateTable)
+    × (statement_of meta_text (understood no_schema meta_text) ≡ meta_text)
+    × (table_defined_by meta_text ≡ Ok (record meta { tree = 0 }))
+unfolding understood everything
+meta_is = (refl, refl, refl)
+
+pub meta_plain : IsPlain (understood no_schema meta_text)
+unfolding understood everything
+meta_plain = (refl, refl)
+
+pub meta_next : created no_schema (record meta { tree = 0 }) ≡ stage 1
+meta_next = let one : decimal 1 ≡ codes "1" = decimal_digit 1 (omega arith) in rw one refl
+
+pub plan_is : (command_of (understood (stage 1) plan_text) ≡ CreateTable)
+    × (statement_of plan_text (understood (stage 1) plan_text) ≡ plan_text)
+    × (table_defined_by plan_text ≡ Ok (record price_plan { tree = 0 }))
+unfolding understood everything
+plan_is = (refl, refl, refl)
+
+pub plan_plain : IsPlain (understood (stage 1) plan_text)
+unfolding understood everything
+plan_plain = (refl, refl)
+
+pub plan_next : created (stage 1) (record price_plan { tree = 0 }) ≡ stage 2
+plan_next = let one : decimal 1 ≡ codes "1" = decimal_digit 1 (omega arith) in rw one refl
+
+pub account_is : (command_of (understood (stage 2) account_text) ≡ CreateTable)
+    × (statement_of account_text (understood (stage 2) account_text) ≡ account_text)
+    × (table_defined_by account_text ≡ Ok (record account { tree = 0 }))
+unfolding understood everything
+account_is = (refl, refl, refl)
+
+pub account_plain : IsPlain (understood (stage 2) account_text)
+unfolding understood everything
+account_plain = (refl, refl)
+
+pub account_next : created (stage 2) (record account { tree = 0 }) ≡ stage 3
+account_next = let one : decimal 1 ≡ codes "1" = decimal_digit 1 (omega arith) in rw one refl
+
+pub voucher_is : (command_of (understood (stage 3) voucher_text) ≡ CreateTable)
+    × (statement_of voucher_text (understood (stage 3) voucher_text) ≡ voucher_text)
+    × (table_defined_by voucher_text ≡ Ok (record voucher { tree = 0 }))
+unfolding understood everything
+voucher_is = (refl, refl, refl)
+
+pub voucher_plain : IsPlain (understood (stage 3) voucher_text)
+unfolding understood everything
+voucher_plain = (refl, refl)
+
+pub voucher_next : created (stage 3) (record voucher { tree = 0 }) ≡ stage 4
+voucher_next = let one : decimal 1 ≡ codes "1" = decimal_digit 1 (omega arith) in rw one refl
+
+pub session_is : (command_of (understood (stage 4) session_text) ≡ CreateTable)
+    × (statement_of session_text (understood (stage 4) session_text) ≡ session_text)
+    × (table_defined_by session_text ≡ Ok (record session { tree = 0 }))
+unfolding understood everything
+session_is = (refl, refl, refl)
+
+pub session_plain : IsPlain (understood (stage 4) session_text)
+unfolding understood everything
+session_plain = (refl, refl)
+
+pub session_next : created (stage 4) (record session { tree = 0 }) ≡ stage 5
+session_next = let one : decimal 1 ≡ codes "1" = decimal_digit 1 (omega arith) in rw one refl
+
+abbrev by_account : Index
+by_account = index_of (codes "session_account") 0 8 (3 ∷ []) false
+
+abbrev vouchers : Index
+vouchers = index_of (codes "voucher_account") 0 6 (2 ∷ []) false
+
+pub by_account_is : (command_of (understood (stage 5) by_account_text) ≡ CreateIndex 4)
+    × (statement_of by_account_text (understood (stage 5) by_account_text) ≡ by_account_text)
+    × (slice_get (stage 5).tables 4 ≡ Some session) × (index_defined_by session by_account_text
+    ≡ Ok by_account)
+unfolding understood everything
+by_account_is = (refl, refl, refl, refl)
+
+pub by_account_plain : IsPlain (understood (stage 5) by_account_text)
+unfolding understood everything
+by_account_plain = (refl, refl)
+
+pub vouchers_is : (command_of (understood six vouchers_text) ≡ CreateIndex 3)
+    × (statement_of vouchers_text (understood six vouchers_text) ≡ vouchers_text)
+    × (slice_get six.tables 3 ≡ Some voucher) × (index_defined_by voucher vouchers_text
+    ≡ Ok vouchers)
+unfolding understood everything
+vouchers_is = (refl, refl, refl, refl)
+
+pub vouchers_plain : IsPlain (understood six vouchers_text)
+unfolding understood everything
+vouchers_plain = (refl, refl)
+
+-- ---- all of them
+
+pub all_made : (a b c d e f g h : State) (i j k l m n o : ℕ) → a.now.schema ≡ no_schema
+    → Executes meta_text [] a b (Ok i) → Executes plan_text [] b c (Ok j)
+    → Executes account_text [] c d (Ok k) → Executes voucher_text [] d e (Ok l)
+    → Executes session_text [] e f (Ok m)
+    → Executes by_account_text [] f g (Ok n) → Executes vouchers_text [] g h (Ok o) → AreEmpty h.now
+all_made a b c d e f g h i j k l m n o has one two three four five six' seven =
+    let x1 = defines no_schema (stage 1) meta_text (record meta { tree = 0 }) a b i meta_is
+    meta_plain meta_next refl has one in
+    let x2 = defines (stage 1) (stage 2) plan_text (record price_plan { tree = 0 }) b c j plan_is
+    plan_plain plan_next refl x1.listed two in
+    let x3 = defines (stage 2) (stage 3) account_text (record account { tree = 0 }) c d k account_is
+    account_plain account_next refl x2.listed three in
+    let x4 = defines (stage 3) (stage 4) voucher_text (record voucher { tree = 0 }) d e l voucher_is
+    voucher_plain voucher_next refl x3.listed four in
+    let x5 = defines (stage 4) (stage 5) session_text (record session { tree = 0 }) e f m session_is
+    session_plain session_next refl x4.listed five in
+    let x6 = indexes (stage 5) six by_account_text 4 session by_account f g n by_account_is
+    by_account_plain refl x5.listed six' in
+    let x7 = indexes six book_schema vouchers_text 3 voucher vouchers g h o vouchers_is
+    vouchers_plain refl x6.listed seven in
+    record {
+      schema = x7.listed;
+      sound = x7.sound;
+      meta_rows = x7.others.0 ∙ (x6.others.0 ∙ (x5.others.0
+          ∙ (x4.others.0 ∙ (x3.others.0 ∙ (x2.others.0 ∙ x1.empty)))));
+      plans = x7.others.1.0 ∙ (x6.others.1.0 ∙ (x5.others.1.0
+          ∙ (x4.others.1.0 ∙ (x3.others.1.0 ∙ x2.empty))));
+      accounts = x7.others.1.1.0 ∙ (x6.others.1.1.0 ∙ (x5.others.1.1.0
+          ∙ (x4.others.1.1.0 ∙ x3.empty)));
+      vouchers = x7.others.1.1.1.0 ∙ (x6.others.1.1.1.0 ∙ (x5.others.1.1.1.0 ∙ x4.empty));
+      sessions = x7.others.1.1.1.1.0 ∙ (x6.others.1.1.1.1.0 ∙ x5.empty);
+    }

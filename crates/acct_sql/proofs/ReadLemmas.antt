@@ -1,0 +1,342 @@
+-- What queries show of a book, and that they change nothing.
+use Rattle.std.proofs.Common.{◌≡◌, inl, inr, ℕ, List, [], ◌∷◌, true, Option, Some, None, Ok, Err}
+use Rattle.std.proofs.Common.{Result, IsTrue, IsOk, OnOk, OnErr, IfOk, IfErr, ◌⊎◌, slice_get}
+use Rattle.std.proofs.Common.{option_map, refl, sym, ap, subst, ◌∙◌}
+use Rattle.std.proofs.lemmas.Bool.{and_parts}
+use Rattle.sqlite.specs.declared.types.Value.TheVariants.{Null, Text, Blob}
+use Rattle.sqlite.specs.declared.error.Error.{Error}
+use Rattle.sqlite.specs.Order.{Row, column}
+use Rattle.sqlite.specs.Program.{overlay}
+use Rattle.sqlite.specs.Query.{IsAnswerAs}
+use Rattle.sqlite.specs.Effect.{Database}
+use Rattle.sqlite.specs.Store.{Ghosts}
+use Rattle.sqlite.specs.Held.{Held, state}
+use Rattle.sqlite.specs.State.{State, IsUnchanged, KeepsCommit, Fails, Shown, ShowsRows}
+use Rattle.sqlite.specs.State.{FailsToQuery, FailsToShow, IsNotRun, IsTooLate}
+use Rattle.sqlite.specs.Listing.{understood}
+use Rattle.sqlite.proofs.Callers.{reads_as, IsPlain}
+use Rattle.sqlite_schema.specs.declared.command.Returning.{Returning}
+use Rattle.sqlite_resolve.specs.declared.compiled.Compiled.{Compiled}
+use Rattle.acct_book.specs.declared.key.Key.{Key}
+use Rattle.acct_book.specs.Row.{RowFacts}
+use Rattle.acct_model.specs.Vouchers.{TopUpFacts}
+use Rattle.acct_book.specs.Book.{Reads}
+use Rattle.acct_book.specs.declared.book.Unavailable.{Unavailable}
+use Rattle.acct_sql.specs.Tables.{book_schema}
+use Rattle.acct_sql.specs.Columns.{session_of, topup_of, columns, int_in}
+use Rattle.acct_sql.specs.Content.{is_session, is_account, is_voucher, content_of}
+use Rattle.acct_sql.specs.Book.{IsBook, IsResting, IsSettled, HasMade, HasRead, HasShown, HasFirst}
+use Rattle.acct_sql.specs.Book.{first_row, Wrote, content_at, is_sound_at, is_open_at, is_steady_at}
+use Rattle.acct_sql.specs.Book.{left_at}
+use Rattle.acct_sql.proofs.CommitLemmas.{of_ok, unavailable}
+use Rattle.acct_sql.proofs.TextLemmas as t
+use Rattle.acct_sql.proofs.QueryLemmas.{over_table, all_rows, meets, shown_has, has_shown}
+use Rattle.acct_sql.proofs.QueryLemmas.{seen_bare}
+use Rattle.acct_sql.proofs.FindLemmas.{not_true, found_is, none_is}
+use Rattle.acct_sql.proofs.ValueLemmas.{equal_blob, blob_equal, equal_text, text_equal, is_its_text}
+use Rattle.acct_sql.proofs.ValueLemmas.{is_its_blob, blob_is, text_is}
+use Rattle.acct_sql.proofs.KeyLemmas.{one_session, one_account, one_voucher}
+use Rattle.acct_sql.proofs.SessionLemmas.{key_here}
+use Rattle.acct_sql.proofs.StepLemmas.{rolled_keeps, unchanged_keeps}
+
+-- ---- what is shown
+
+pub session_found : (key : Key) (old new : State) (rows : List Row) → IsBook old.now
+    → Shown t.session_text (Text key.client ∷ Blob key.session ∷ []) old new rows
+    → first_row (λ r. session_of (column r)) rows ≡ (content_of old.now.trees).rows key
+session_found key old new rows book h =
+    let params = Text key.client ∷ Blob key.session ∷ [] in
+    let read = reads_as t.session_text params old new book_schema book.schema _ t.session_is
+    t.session_plain t.session_unlisted rows h in
+    go rows (seen_bare 8 t.session_filter t.session_shown [] all_rows Null
+    (overlay old.now.trees []) old.now.trees params rows refl (read.answer Null))
+  where
+    go : (shown : List Row) → IsAnswerAs Null (over_table 8 t.session_filter t.session_shown []
+        all_rows) old.now.trees (Text key.client ∷ Blob key.session ∷ []) shown
+        → first_row (λ r. session_of (column r)) shown ≡ (content_of old.now.trees).rows key
+    go [] a = sym (ap (option_map (λ r. session_of (columns r)))
+        (none_is (is_session key) (old.now.trees 8) (λ r there. not_true _ (λ mine.
+        let k = key_here key r mine in
+        let passes : meets 8 t.session_filter t.session_shown [] Null old.now.trees
+        (Text key.client ∷ Blob key.session ∷ []) r ≡ true = rw
+        (k.0, k.1, text_equal key.client, blob_equal key.session) refl in
+        has_shown 8 t.session_filter t.session_shown [] Null old.now.trees
+        (Text key.client ∷ Blob key.session ∷ []) [] a r there passes))))
+    go (row ∷ more) a =
+        let r = shown_has 8 t.session_filter t.session_shown [] Null old.now.trees
+        (Text key.client ∷ Blob key.session ∷ []) (row ∷ more) a row (inl refl) in
+        let one = and_parts _ _ r.2 in
+        let two = and_parts _ _ one.1 in
+        let client = equal_text (column r.0 1) key.client one.0 in
+        let id = equal_blob (column r.0 2) key.session two.0 in
+        let mine : is_session key r.0 ≡ true = rw (
+          client,
+          id,
+          is_its_text key.client,
+          is_its_blob key.session,
+        ) refl in
+        let found = found_is (is_session key) (old.now.trees 8) r.0 r.1 mine
+        (λ s there passes. one_session old.now book key s r.0 there r.1 passes mine) in
+        ap (λ x. Some (session_of (column x))) r.3 ∙ sym
+        (ap (option_map (λ r. session_of (columns r))) found)
+
+pub balance_found : (name : List ℕ) (old new : State) (rows : List Row) → IsBook old.now
+    → Shown t.balance_text (Blob name ∷ []) old new rows
+    → first_row (λ r. int_in (column r 0)) rows ≡ (content_of old.now.trees).balances name
+balance_found name old new rows book h =
+    let params = Blob name ∷ [] in
+    let read = reads_as t.balance_text params old new book_schema book.schema _ t.balance_is
+    t.balance_plain t.balance_unlisted rows h in
+    go rows (seen_bare 4 t.name_filter t.balance_shown [] all_rows Null (overlay old.now.trees [])
+    old.now.trees params rows refl (read.answer Null))
+  where
+    go : (shown : List Row) → IsAnswerAs Null (over_table 4 t.name_filter t.balance_shown []
+        all_rows) old.now.trees (Blob name ∷ []) shown
+        → first_row (λ r. int_in (column r 0)) shown ≡ (content_of old.now.trees).balances name
+    go [] a = sym (ap (option_map (λ r. int_in (column r 2)))
+        (none_is (is_account name) (old.now.trees 4) (λ r there. not_true _ (λ mine.
+        let passes : meets 4 t.name_filter t.balance_shown [] Null old.now.trees (Blob name ∷ []) r
+        ≡ true = rw (blob_is name (column r 1) mine, blob_equal name) refl in
+        has_shown 4 t.name_filter t.balance_shown [] Null old.now.trees (Blob name ∷ []) [] a r
+        there passes))))
+    go (row ∷ more) a =
+        let r = shown_has 4 t.name_filter t.balance_shown [] Null old.now.trees (Blob name ∷ [])
+        (row ∷ more) a row (inl refl) in
+        let named = equal_blob (column r.0 1) name (and_parts _ _ r.2).0 in
+        let mine : is_account name r.0 ≡ true = rw (named, is_its_blob name) refl in
+        let found = found_is (is_account name) (old.now.trees 4) r.0 r.1 mine
+        (λ s there passes. one_account old.now book name s r.0 there r.1 passes mine) in
+        ap (λ x. Some (int_in (column x 0))) r.3 ∙ sym (ap (option_map (λ r. int_in (column r 2)))
+        found)
+
+pub topup_found : (number : List ℕ) (old new : State) (rows : List Row) → IsBook old.now
+    → Shown t.topup_text (Text number ∷ []) old new rows
+    → first_row (λ r. topup_of (column r)) rows ≡ (content_of old.now.trees).topups number
+topup_found number old new rows book h =
+    let params = Text number ∷ [] in
+    let read = reads_as t.topup_text params old new book_schema book.schema _ t.topup_is
+    t.topup_plain t.topup_unlisted rows h in
+    go rows (seen_bare 6 t.name_filter t.topup_shown [] all_rows Null (overlay old.now.trees [])
+    old.now.trees params rows refl (read.answer Null))
+  where
+    go : (shown : List Row) → IsAnswerAs Null (over_table 6 t.name_filter t.topup_shown [] all_rows)
+        old.now.trees (Text number ∷ []) shown
+        → first_row (λ r. topup_of (column r)) shown ≡ (content_of old.now.trees).topups number
+    go [] a = sym (ap (option_map (λ r. topup_of (columns r)))
+        (none_is (is_voucher number) (old.now.trees 6) (λ r there. not_true _ (λ mine.
+        let passes : meets 6 t.name_filter t.topup_shown [] Null old.now.trees (Text number ∷ []) r
+        ≡ true = rw (text_is number (column r 1) mine, text_equal number) refl in
+        has_shown 6 t.name_filter t.topup_shown [] Null old.now.trees (Text number ∷ []) [] a r
+        there passes))))
+    go (row ∷ more) a =
+        let r = shown_has 6 t.name_filter t.topup_shown [] Null old.now.trees (Text number ∷ [])
+        (row ∷ more) a row (inl refl) in
+        let named = equal_text (column r.0 1) number (and_parts _ _ r.2).0 in
+        let mine : is_voucher number r.0 ≡ true = rw (named, is_its_text number) refl in
+        let found = found_is (is_voucher number) (old.now.trees 6) r.0 r.1 mine
+        (λ s there passes. one_voucher old.now book number s r.0 there r.1 passes mine) in
+        ap (λ x. Some (topup_of (column x))) r.3 ∙ sym (ap (option_map (λ r. topup_of (columns r)))
+        found)
+
+-- ---- a query in a transaction that is rolled back
+
+shows_keeps : (old new : State) (sql : List ℕ) (c : Compiled) (params : Row) (rows : List Row)
+    (r : Option Returning) → old.in_transaction ≡ true → ShowsRows old new sql c params rows r
+    → KeepsCommit old new
+shows_keeps old new sql c params rows None on h = unchanged_keeps old new h.3
+shows_keeps old new sql c params rows (Some what) on h = record
+    { was_open = λ _. h.1.shown.was_open; committed = λ _. rw on at h.1.shown.committed_is }
+
+shown_keeps : (sql : List ℕ) (params : Row) (old new : State) (rows : List Row) → old.in_transaction
+    ≡ true → Shown sql params old new rows → KeepsCommit old new
+unfolding Shown
+shown_keeps sql params old new rows on h = shows_keeps old new sql h.0 _ rows h.0.returning on h.2
+
+fails_keeps : (old new : State) (P : Type 0) (e : Error) → Fails old new P e → KeepsCommit old new
+fails_keeps old new P e h = rolled_keeps old new h.3
+
+runs_keeps : (old new : State) (sql : List ℕ) (c : Compiled) (params : Row) (e : Error)
+    (r : Option Returning) → FailsToShow old new sql c params e r → KeepsCommit old new
+runs_keeps old new sql c params e None h = unchanged_keeps old new h.3
+runs_keeps old new sql c params e (Some what) (inl refused) = unchanged_keeps old new refused.1
+runs_keeps old new sql c params e (Some what) (inr failed) = fails_keeps old new _ e failed
+
+query_keeps : (sql : List ℕ) (params : Row) (old new : State) (e : Error)
+    → FailsToQuery sql params old new e → KeepsCommit old new
+unfolding FailsToQuery IsNotRun
+query_keeps sql params old new e (inl (inl refused)) = unchanged_keeps old new refused.1
+query_keeps sql params old new e (inl (inr failed)) = fails_keeps old new _ e failed
+query_keeps sql params old new e (inr h) = runs_keeps old new sql h.0 _ e h.0.returning h.2
+
+open_shown : (old new : State) (sql : List ℕ) (c : Compiled) (params : Row) (rows : List Row)
+    (r : Option Returning) → ShowsRows old new sql c params rows r → IsTrue old.is_open
+    × IsTrue new.is_open
+open_shown old new sql c params rows None h = (h.3.0.was_open, h.3.0.is_open)
+open_shown old new sql c params rows (Some what) h = (h.1.shown.was_open, h.1.shown.is_open)
+
+pub shown_open : (sql : List ℕ) (params : Row) (old new : State) (rows : List Row)
+    → Shown sql params old new rows → IsTrue old.is_open × IsTrue new.is_open
+unfolding Shown
+shown_open sql params old new rows h = open_shown old new sql h.0 _ rows h.0.returning h.2
+
+-- ---- a query as a write that changes nothing
+
+rows_same : (old new : State) (sql : List ℕ) (c : Compiled) (params : Row) (rows : List Row)
+    (r : Option Returning) → r ≡ None → ShowsRows old new sql c params rows r → IsUnchanged old new
+rows_same old new sql c params rows None none h = h.3
+rows_same old new sql c params rows (Some what) none h = absurd (cc)
+
+pub shown_same : (sql : List ℕ) (params : Row) (old new : State) (rows : List Row)
+    → IsPlain (understood old.now.schema sql) → Shown sql params old new rows → IsUnchanged old new
+unfolding Shown
+shown_same sql params old new rows plain h = rows_same old new sql h.0 _ rows h.0.returning
+    (subst IsPlain h.1.is plain).0 h.2
+
+pub look_made : (sql : List ℕ) (params : Row) (old new : State) (rows : List Row)
+    → (IsTrue old.is_open → IsBook old.now) → IsPlain (understood book_schema sql)
+    → IsTrue old.in_transaction
+    → Shown sql params old new rows → HasMade old new (λ c. c)
+look_made sql params old new rows books plain on h =
+    let book = books (shown_open sql params old new rows h).0 in
+    let same = shown_same sql params old new rows (subst (λ schema. IsPlain (understood schema sql))
+    (sym book.schema) plain) h in
+    record {
+      shows = record {
+        was_open = same.0.was_open;
+        is_open = same.0.is_open;
+        now_is = refl;
+        committed_is = same.0.committed_is;
+        mode = same.0.mode ∙ on;
+      };
+      book = subst IsBook (sym same.0.now_is) book;
+      content = ap (λ (d : Database). content_of d.trees) same.0.now_is;
+    }
+
+pub look_kept : (sql : List ℕ) (params : Row) (old new : State) {V : Type 0} (items : V → List Row)
+    (r : Result V Error) → IsTrue old.in_transaction
+    → IfOk r (λ rows. Shown sql params old new (items rows))
+    → IfErr r (λ e. FailsToQuery sql params old new e ⊎ IsTooLate sql params old new e)
+    → KeepsCommit old new
+look_kept sql params old new items (Ok rows) on ok err = shown_keeps sql params old new (items rows)
+    on ok
+look_kept sql params old new items (Err e) on ok (inl failed) = query_keeps sql params old new e
+    failed
+look_kept sql params old new items (Err e) on ok (inr late) = unchanged_keeps old new late.5
+
+pub answered : {T E : Type 0} {P Q : Type 0} (r : Result T E) → (P → Q) → OnOk r P → OnOk r Q
+answered (Ok x) f p = f p
+answered (Err e) f p = tt
+
+-- what changed nothing is a read
+pub read_of : {S T E : Type 0} (g : Ghosts S) (old new : Held S) (result : Result T E)
+    → IsResting (state g old) → (IsTrue (state g old).is_open
+    → (state g old).may_leave (state g old).committed.trees)
+    → Wrote g old new (λ c. c) result → HasRead g old new result
+read_of {T = T} {E = E} g old new result resting stays w = record {
+  was_sound = w.was_sound;
+  was_open = w.was_open;
+  keeps_steady = w.keeps_steady;
+  answers = w.answers;
+  same = λ o. same_by o result (w.ok o) (w.err o);
+  adds_none = λ clean c left. elim (w.adds_written clean c left) [
+    | inl was ↦ was
+    | inr same ↦ (
+      (state g old).committed.trees,
+      stays same.0.0.1,
+      same.1
+          ∙ ap (λ (d : Database). content_of d.trees) same.0.1,
+    )
+  ];
+}
+  where
+    same_by : IsSettled (state g new) → (r : Result T E)
+        → OnOk r (content_at g new ≡ content_at g old) → OnErr r
+        (content_at g new ≡ content_at g old) → content_at g new ≡ content_at g old
+    same_by o (Ok x) ok err = ok
+    same_by o (Err e) ok err = err
+
+-- what is made of the rows changes nothing either
+pub read_on : {S T U E F : Type 0} (g : Ghosts S) (old new : Held S) (rows : Result T E)
+    (result : Result U F) → IsOk rows → HasRead g old new rows → HasRead g old new result
+read_on {U = U} {F = F} g old new rows result is h = record {
+  was_sound = h.was_sound;
+  was_open = h.was_open;
+  keeps_steady = h.keeps_steady;
+  answers = λ clean. on_any result (of_ok rows is (h.answers clean));
+  same = h.same;
+  adds_none = h.adds_none;
+}
+  where
+    on_any : {P : Type 0} (r : Result U F) → P → OnOk r P
+    on_any (Ok x) p = p
+    on_any (Err e) p = tt
+
+-- the same read, told by the book's error
+pub read_told : {S T U E : Type 0} (g : Ghosts S) (old inside new : Held S) (r : Result T E)
+    → inside ≡ old → HasRead g inside new r
+    → Reads {T = U} {E = Unavailable} (content_at g) (is_sound_at g) (is_open_at g) (is_steady_at g)
+    (left_at g) old new (Err unavailable)
+read_told {U = U} g old inside new r same w =
+    let h = subst (λ k. HasRead g k new r) same w in
+    record {
+      was_sound = h.was_sound;
+      was_open = h.was_open;
+      keeps_steady = h.keeps_steady;
+      answers = λ clean. tt;
+      same = h.same;
+      adds_none = h.adds_none;
+    }
+
+pub if_same : {T E : Type 0} (r d : Result T E) (P : T → Type 0) → OnOk r (r ≡ d) → IfOk d P
+    → IfOk r P
+if_same (Ok x) d P same h = subst (λ q. IfOk q P) (sym same) h
+if_same (Err e) d P same h = tt
+
+-- what was read of the first row, or of none
+pub first_is : {X : Type 0} (read : Row → X) (rows front : List Row) (o : Option Row)
+    (target : Option X) → front ≡ rows → o ≡ slice_get front 0 → first_row read rows ≡ target
+    → option_map read o ≡ target
+first_is read rows front o target same first found = ap (option_map read)
+    (first ∙ ap (λ (l : List Row). slice_get l 0) same) ∙ found
+
+module _ {S : Type 0} (g : Ghosts S) (old : Held S) where
+  pub session_shown : (key : Key) (rows : List Row) → IsBook (state g old).now
+      → HasShown g old t.session_text (Text key.client ∷ Blob key.session ∷ []) rows
+      → first_row (λ r. session_of (column r)) rows ≡ (content_at g old).rows key
+  session_shown key rows book h = session_found key (state g (record old { in_transaction = true }))
+      (state g h.0) rows book h.1
+
+  pub balance_shown : (name : List ℕ) (rows : List Row) → IsBook (state g old).now
+      → HasShown g old t.balance_text (Blob name ∷ []) rows
+      → first_row (λ r. int_in (column r 0)) rows ≡ (content_at g old).balances name
+  balance_shown name rows book h = balance_found name (state g
+      (record old { in_transaction = true })) (state g h.0) rows book h.1
+
+  pub topup_shown : (number : List ℕ) (rows : List Row) → IsBook (state g old).now
+      → HasShown g old t.topup_text (Text number ∷ []) rows
+      → first_row (λ r. topup_of (column r)) rows ≡ (content_at g old).topups number
+  topup_shown number rows book h = topup_found number (state g
+      (record old { in_transaction = true })) (state g h.0) rows book h.1
+
+  pub session_first : (key : Key) (o : Option RowFacts) → IsBook (state g old).now
+      → HasFirst g old t.session_text (Text key.client ∷ Blob key.session ∷ [])
+      (λ r. session_of (column r)) o → o ≡ (content_at g old).rows key
+  session_first key o book h = sym h.2 ∙ session_shown key h.0 book h.1
+
+  pub topup_first : (number : List ℕ) (o : Option TopUpFacts) → IsBook (state g old).now
+      → HasFirst g old t.topup_text (Text number ∷ []) (λ r. topup_of (column r)) o → o
+      ≡ (content_at g old).topups number
+  topup_first number o book h = sym h.2 ∙ topup_shown number h.0 book h.1
+
+-- one read after another
+pub read_then : {S T U E F : Type 0} (g : Ghosts S) (old mid new : Held S) (first : Result T E)
+    (second : Result U F) → HasRead g old mid first → HasRead g mid new second
+    → HasRead g old new second
+read_then g old mid new first second a b = record {
+  was_sound = λ s. a.was_sound (b.was_sound s);
+  was_open = λ o. a.was_open (b.was_open o);
+  keeps_steady = λ s. b.keeps_steady (a.keeps_steady s);
+  answers = b.answers;
+  same = λ o. b.same o ∙ a.same (b.was_open o);
+  adds_none = λ s c left. a.adds_none (b.was_sound s) c (b.adds_none s c left);
+}

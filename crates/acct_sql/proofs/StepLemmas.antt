@@ -1,0 +1,55 @@
+-- Statements one after another inside a transaction.
+use Rattle.std.proofs.Common.{◌≡◌, inl, inr, ℕ, List, Bool, true, false, Ok, Err, Result, IsTrue}
+use Rattle.std.proofs.Common.{refl, sym, subst, ◌∙◌}
+use Rattle.std.proofs.lemmas.Bool.{cases_Bool}
+use Rattle.sqlite.specs.Order.{Row}
+use Rattle.sqlite.specs.Store.{Ghosts}
+use Rattle.sqlite.specs.Held.{Held, state}
+use Rattle.sqlite.specs.declared.error.Error.{Error}
+use Rattle.sqlite.specs.State.{State, ExecutesInside, KeepsCommit, IsRolledBack, IsUnchanged}
+
+pub is_inside : {X : Type 0} (b : Bool) (x : X) (r : Result X Error) (e : Error) → r ≡ Ok x
+    → (b ≡ false → r ≡ Err e) → IsTrue b
+is_inside true x r e is ended = refl
+is_inside false x r e is ended = absurd (let one = sym is ∙ ended refl in cc)
+
+pub keeps_then : (a b c : State) → KeepsCommit a b → KeepsCommit b c → KeepsCommit a c
+keeps_then a b c p q = record {
+  was_open = λ o. p.was_open (q.was_open o);
+  committed = λ o. q.committed o ∙ p.committed (q.was_open o);
+}
+
+pub rolled_keeps : (old new : State) → IsRolledBack old new → KeepsCommit old new
+rolled_keeps old new r = record { was_open = r.was_open; committed = λ o. (r.undone o).1 }
+
+pub unchanged_keeps : (old new : State) → IsUnchanged old new → KeepsCommit old new
+unchanged_keeps old new u = record {
+  was_open = λ _. u.0.was_open;
+  committed = λ _. u.0.committed_is;
+}
+
+inside_keeps : (sql : List ℕ) (params : Row) (old new : State) (r : Result ℕ Error)
+    → ExecutesInside 0 sql params old new r → KeepsCommit old new
+inside_keeps sql params old new (Ok count) h = record {
+  was_open = λ _. h.1.was_open;
+  committed = λ _. h.1.committed_is;
+}
+inside_keeps sql params old new (Err e) (inl ran) = elim ran.1
+    [ inl same ↦ unchanged_keeps old new same | inr rolled ↦ rolled_keeps old new rolled ]
+inside_keeps sql params old new (Err e) (inr ended) = unchanged_keeps old new ended.2
+
+same_keeps : {S : Type 0} (g : Ghosts S) (old new : Held S) → new ≡ old
+    → KeepsCommit (state g old) (state g new)
+same_keeps g old new same = subst (λ h. KeepsCommit (state g old) (state g h)) (sym same)
+    (record { was_open = λ o. o; committed = λ _. refl })
+
+-- in or out of a transaction
+pub execute_keeps : {S : Type 0} (g : Ghosts S) (sql : List ℕ) (params : Row) (old new : Held S)
+    (r : Result ℕ Error) → ((state g old).in_transaction ≡ false → new ≡ old)
+    → (IsTrue (state g old).in_transaction → ExecutesInside 0 sql params (state g old) (state g new)
+    r) → KeepsCommit (state g old) (state g new)
+execute_keeps g sql params old new r out inside = elim (cases_Bool (state g old).in_transaction) [
+  | inl on ↦ inside_keeps sql params (state g old) (state g new) r (inside on)
+  | inr off ↦
+      same_keeps g old new (out off)
+]

@@ -1,0 +1,23 @@
+use Rattle.std.proofs.Common.{rules, ◌≡◌, subst, refl}
+use Rattle.sqlite.specs.Held.{state}
+use Rattle.acct_sql.specs.Look.{OnlyLooks}
+use Rattle.acct_sql.proofs.ReadLemmas.{look_kept}
+use Rattle.acct_sql.proofs.PlanLemmas.{let_fall}
+use Rattle.acct_sql.proofs.adopting.glance.Goals as goal
+
+pub returns : goal.returns
+returns g c =
+    let same : c.drop-tx.new.self.0 ≡ c.conn-1.given.0 = search rules in
+    let inside = rw c.transaction-tx.ensures.begun at c.query_all.ensures.survives in
+    let ok = rw c.transaction-tx.ensures.begun at c.query_all.ensures.ok in
+    let err = rw c.transaction-tx.ensures.begun at c.query_all.ensures.err in
+    subst (λ h. OnlyLooks (state g.S.Store c.args.conn.now) (state g.S.Store h)) same
+    (let_fall g.S.Store c.args.conn.now c.drop-tx.new.self.0
+    (state g.S.Store c.query_all.new.self.conn.now) c.requires inside
+    c.drop-tx.ensures.survives c.drop-tx.ensures.undone c.drop-tx.ensures.ended
+    (λ clean o.
+    let k = look_kept _ _ (state g.S.Store (record c.args.conn.now
+    { in_transaction = Rattle.std.proofs.Common.true }))
+    (state g.S.Store c.query_all.new.self.conn.now) (λ rows. rows.items)
+    c.query_all.result refl (ok clean) (err clean) in
+    (k.was_open o, k.committed o)))

@@ -1,0 +1,54 @@
+use Rattle.std.proofs.Common.{option_map, subst}
+use Rattle.std.proofs.lemmas.Result.{IfOk-weaker}
+use Rattle.acct_book.specs.Content.{Content}
+use Rattle.acct_book.specs.Maps.{key_cmp}
+use Rattle.acct_sql.specs.Book.{content_at}
+use Rattle.acct_sql.specs.Next.{IsLeast, IsWithin, IsBeyond}
+use Rattle.acct_sql.proofs.WalkLemmas.{within_plain, beyond_plain, is_within, is_beyond}
+use Rattle.acct_sql.proofs.WalkLemmas.{within_next, beyond_next, keyed_row}
+use Rattle.acct_sql.proofs.reading.session_after.Goals as goal
+
+pub first_session-requires-clause-plain : goal.first_session-requires-clause-plain
+first_session-requires-clause-plain g c = within_plain
+
+pub first_session-requires-in-None-clause-plain : goal.first_session-requires-in-None-clause-plain
+first_session-requires-in-None-clause-plain g c = beyond_plain
+
+pub returns-in-Some-clause-found : goal.returns-in-Some-clause-found
+returns-in-Some-clause-found g c o =
+    let early = c.in_ok-row.ensures.read.was_open o in
+    let shown = rw (
+      c.params-to_sql.ensures,
+      c.params-to_sql-2.ensures,
+      c.as_str-client.ensures,
+      c.as_slice.ensures,
+    ) at (c.in_ok-row.ensures.first o.0.0) in
+    let near = is_within g.S.Store c.args.conn.now (c.requires.book early.0.0 early.0.1)
+    c.in_ok-row.row c.args.key.now shown in
+    within_next (content_at g.S.Store c.args.conn.now).rows c.args.key.now _ c.in-Some.row
+    (subst (λ r. IsLeast key_cmp (content_at g.S.Store c.args.conn.now).rows
+    (IsWithin c.args.key.now) (option_map keyed_row r)) c.in-Some.is near)
+
+pub returns-in-None-clause-found : goal.returns-in-None-clause-found
+returns-in-None-clause-found g c o =
+    let mid = c.first_session-in-None.ensures.read.was_open o in
+    let early = c.in_ok-row.ensures.read.was_open mid in
+    let same = c.in_ok-row.ensures.read.same mid in
+    let first = rw (
+      c.params-to_sql.ensures,
+      c.params-to_sql-2.ensures,
+      c.as_str-client.ensures,
+      c.as_slice.ensures,
+    ) at (c.in_ok-row.ensures.first mid.0.0) in
+    let near = is_within g.S.Store c.args.conn.now (c.requires.book early.0.0 early.0.1)
+    c.in_ok-row.row c.args.key.now first in
+    let none = subst (λ r. IsLeast key_cmp (content_at g.S.Store c.args.conn.now).rows
+    (IsWithin c.args.key.now) (option_map keyed_row r)) c.in-None.is near in
+    let second = rw (c.params-to_sql-in-None.ensures, c.as_str-client.ensures) at
+    (c.first_session-in-None.ensures.first o.0.0) in
+    IfOk-weaker c.first_session-in-None.result _ _ (λ row h.
+    beyond_next (content_at g.S.Store c.args.conn.now).rows c.args.key.now
+    (option_map keyed_row row) none
+    (subst (λ (content : Content). IsLeast key_cmp content.rows (IsBeyond c.args.key.now.client)
+    (option_map keyed_row row)) same (is_beyond g.S.Store c.first_session.new.conn
+    (c.in_ok-row.ensures.resting.book mid.0.0 mid.0.1) row c.args.key.now.client h))) second

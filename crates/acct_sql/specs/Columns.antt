@@ -1,0 +1,120 @@
+-- What the columns of a row say.
+use Rattle.std.specs.Prelude.{ℕ, ℤ, zero, suc, pos, negsuc, ◌+◌, Bool, false, bytes_eq, List, []}
+use Rattle.std.specs.Prelude.{◌∷◌, Option, Some, None}
+use Rattle.sqlite.specs.declared.types.Value.{Value}
+use Rattle.sqlite.specs.declared.types.Value.TheVariants.{Null, Int, Real, Text, Blob}
+use Rattle.sqlite.specs.Order.{Row, column}
+use Rattle.sqlite_value.specs.Order.{bytes}
+use Rattle.acct_model.specs.Vouchers.{TopUpFacts}
+use Rattle.acct_model.specs.declared.plan.Plan.{Plan}
+use Rattle.acct_book.specs.declared.row.SessionState.{SessionState}
+use Rattle.acct_book.specs.declared.row.SessionState.TheVariants.{Live, Closed, Stopped}
+use Rattle.acct_book.specs.Row.{RowFacts}
+
+abbrev pub is_blob : List ℕ → Value → Bool
+is_blob octets Null = false
+is_blob octets (Int n) = false
+is_blob octets (Real x) = false
+is_blob octets (Text t) = false
+is_blob octets (Blob b) = bytes_eq b octets
+
+abbrev pub is_text : List ℕ → Value → Bool
+is_text octets Null = false
+is_text octets (Int n) = false
+is_text octets (Real x) = false
+is_text octets (Text t) = bytes_eq t octets
+is_text octets (Blob b) = false
+
+abbrev pub int_in : Value → ℤ
+int_in Null = pos 0
+int_in (Int n) = n
+int_in (Real x) = pos 0
+int_in (Text t) = pos 0
+int_in (Blob b) = pos 0
+
+-- an integer below 0 counts as 0
+abbrev pub size_of : ℤ → ℕ
+size_of (pos n) = n
+size_of (negsuc n) = 0
+
+abbrev pub count_in : Value → ℕ
+count_in v = size_of (int_in v)
+
+abbrev pub state_of : ℤ → SessionState
+state_of (pos zero) = Live
+state_of (pos (suc zero)) = Closed
+state_of (pos (suc (suc n))) = Stopped
+state_of (negsuc n) = Stopped
+
+-- 0 is open and 1 closed
+abbrev pub state_in : Value → SessionState
+state_in Null = Stopped
+state_in (Int n) = state_of n
+state_in (Real x) = Stopped
+state_in (Text t) = Stopped
+state_in (Blob b) = Stopped
+
+abbrev pub framed_in : List ℕ → Option (List ℕ)
+framed_in [] = None
+framed_in (octet ∷ octets) = Some (octet ∷ octets)
+
+-- a session by its columns: client, id, account, class, input, output, seconds, first_seen,
+-- last_seen, state, cause, calling, framed
+abbrev pub session_of : (ℕ → Value) → RowFacts
+session_of at = record {
+  client = bytes (at 0);
+  session = bytes (at 1);
+  account = bytes (at 2);
+  class = bytes (at 3);
+  input = count_in (at 4);
+  output = count_in (at 5);
+  seconds = count_in (at 6);
+  first = count_in (at 7);
+  last = count_in (at 8);
+  state = state_in (at 9);
+  cause = count_in (at 10);
+  calling = bytes (at 11);
+  framed = framed_in (bytes (at 12));
+}
+
+-- a top-up by its columns: number, account, amount, moment
+abbrev pub topup_of : (ℕ → Value) → TopUpFacts
+topup_of at = record {
+  voucher = bytes (at 0);
+  account = bytes (at 1);
+  sum = count_in (at 2);
+  when = count_in (at 3);
+}
+
+-- an account and its balance by their columns
+abbrev pub account_of : (ℕ → Value) → List ℕ × ℤ
+account_of at = (bytes (at 0), int_in (at 1))
+
+-- the columns of a row, which come after its rowid
+abbrev pub columns : Row → ℕ → Value
+columns row at = column row (at + 1)
+
+-- ---- the columns that are written
+
+abbrev pub code_of : SessionState → ℕ
+code_of Live = 0
+code_of Closed = 1
+code_of Stopped = 2
+
+abbrev pub framed_octets : Option (List ℕ) → List ℕ
+framed_octets None = []
+framed_octets (Some octets) = octets
+
+abbrev pub session_columns : RowFacts → Row
+session_columns row =
+    Text row.client ∷ Blob row.session ∷ Blob row.account ∷ Blob row.class ∷ Int (pos row.input) ∷
+    Int (pos row.output) ∷ Int (pos row.seconds) ∷ Int (pos row.first) ∷ Int (pos row.last)
+    ∷ Int (pos (code_of row.state)) ∷ Int (pos row.cause) ∷ Blob row.calling ∷ Blob
+    (framed_octets row.framed) ∷ []
+
+abbrev pub topup_columns : TopUpFacts → Row
+topup_columns topup = Text topup.voucher ∷ Blob topup.account ∷ Int (pos topup.sum) ∷ Int
+    (pos topup.when) ∷ []
+
+abbrev pub plan_columns : Plan → Row
+plan_columns plan = Blob plan.class ∷ Int (pos plan.block) ∷ Int (pos plan.unit) ∷ []

@@ -1,0 +1,9 @@
+pub mod Tables
+pub mod Tidy
+pub mod Columns
+pub mod Content
+pub mod Book
+pub mod Next
+pub mod Make
+pub mod Look
+pub mod Laws

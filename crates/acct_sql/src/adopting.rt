@@ -1,0 +1,365 @@
+//! Whether a database is a book, by queries that change nothing.
+ghost use Rattle.std.specs.Prelude.{◌≡◌, pos, Some, [], IsTrue, IfOk, IfSome, OnOk, map};
+ghost use Rattle.std.specs.Ordering.{int_cmp};
+ghost use Rattle.std.specs.declared.cmp.Ordering.TheVariants.{Less};
+ghost use Rattle.std.specs.List.{AllByRecursion};
+ghost use Rattle.std.specs.List.Sorted.{IsStrictlySortedBy};
+ghost use Rattle.sqlite.specs.State.{HasCleanDisk, Shown};
+ghost use Rattle.sqlite.specs.Held.{state};
+ghost use Rattle.sqlite.specs.Given.{IsPlain};
+ghost use Rattle.sqlite.specs.Listing.{understood};
+ghost use Rattle.sqlite.specs.Edit.{id_in};
+ghost use Rattle.sqlite_value.specs.Order.{column};
+ghost use Rattle.sqlite_value.specs.declared.value.Value.TheVariants.{Int, Blob};
+ghost use Rattle.acct_sql.specs.Tables.{book_schema};
+ghost use Rattle.acct_sql.specs.Tidy.{IsTidy};
+ghost use Rattle.acct_sql.specs.Book.{IsBook, first_row};
+ghost use Rattle.acct_sql.specs.Make.{HasNumber, KeepsPlans};
+ghost use Rattle.acct_sql.specs.Look.{IsIdle, OnlyLooks, HasSchema, ShowsPlan, IsShownIn, IsPlanIn};
+
+use crate::book_schema::is_book_schema;
+use crate::sql_book_error::SqlBookError;
+use acct_model::{Plan, Plans};
+use sqlite::types::ValueRef;
+use sqlite::{Alter, Connection, Error, ErrorCode};
+
+const NUMBER: &str = "SELECT value FROM meta WHERE name = 'schema'";
+
+const PLANS: &str = "SELECT class, block, unit FROM price_plan";
+
+const ACCOUNT_IDS: &str = "SELECT rowid FROM account ORDER BY rowid";
+
+const VOUCHER_IDS: &str = "SELECT rowid FROM voucher ORDER BY rowid";
+
+const SESSION_IDS: &str = "SELECT rowid FROM session ORDER BY rowid";
+
+// What a query shows of the tables of a book.
+fn peek<S: Alter>(conn: &mut Connection<S>, sql: &str) -> Result<Vec<sqlite::Row>, SqlBookError>
+    requires idle { IsIdle (state S.Store conn.old) }
+    requires has { HasSchema (state S.Store conn.old) }
+    requires plain { IsPlain (understood book_schema sql.now) }
+    ensures looks { OnlyLooks (state S.Store conn.old) (state S.Store conn.new) }
+    ensures open { HasCleanDisk (state S.Store conn.new)
+        → OnOk result (IsTrue (state S.Store conn.new).is_open) }
+    ensures shown { HasCleanDisk (state S.Store conn.new)
+        → IfOk result (λ rows. Shown sql.now [] (state S.Store conn.old) (state S.Store conn.new)
+        rows.items) }
+{
+    match conn.query_all(sql, &[]) {
+        Ok(rows) => Ok(rows),
+        Err(_) => Err(SqlBookError::Unavailable),
+    }
+}
+
+// Refuses tables in which two rows have one rowid. It reads each rowid once.
+pub(crate) fn check_rowids<S: Alter>(conn: &mut Connection<S>) -> Result<(), SqlBookError>
+    requires idle { IsIdle (state S.Store conn.old) }
+    requires has { HasSchema (state S.Store conn.old) }
+    ensures looks { OnlyLooks (state S.Store conn.old) (state S.Store conn.new) }
+    ensures open { HasCleanDisk (state S.Store conn.new)
+        → OnOk result (IsTrue (state S.Store conn.new).is_open) }
+    ensures accounts { HasCleanDisk (state S.Store conn.new)
+        → OnOk result (IsTidy ((state S.Store conn.old).now.trees 4)) }
+    ensures vouchers { HasCleanDisk (state S.Store conn.new)
+        → OnOk result (IsTidy ((state S.Store conn.old).now.trees 6)) }
+    ensures sessions { HasCleanDisk (state S.Store conn.new)
+        → OnOk result (IsTidy ((state S.Store conn.old).now.trees 8)) }
+{
+    check_accounts(conn)?;
+    check_vouchers(conn)?;
+    check_sessions(conn)
+}
+
+fn check_accounts<S: Alter>(conn: &mut Connection<S>) -> Result<(), SqlBookError>
+    requires idle { IsIdle (state S.Store conn.old) }
+    requires has { HasSchema (state S.Store conn.old) }
+    ensures looks { OnlyLooks (state S.Store conn.old) (state S.Store conn.new) }
+    ensures open { HasCleanDisk (state S.Store conn.new)
+        → OnOk result (IsTrue (state S.Store conn.new).is_open) }
+    ensures tidy { HasCleanDisk (state S.Store conn.new)
+        → OnOk result (IsTidy ((state S.Store conn.old).now.trees 4)) }
+{
+    let rows = peek(conn, ACCOUNT_IDS)?;
+    if are_ids(&rows) && ids_ascend(&rows) {
+        Ok(())
+    } else {
+        Err(SqlBookError::Unavailable)
+    }
+}
+
+fn check_vouchers<S: Alter>(conn: &mut Connection<S>) -> Result<(), SqlBookError>
+    requires idle { IsIdle (state S.Store conn.old) }
+    requires has { HasSchema (state S.Store conn.old) }
+    ensures looks { OnlyLooks (state S.Store conn.old) (state S.Store conn.new) }
+    ensures open { HasCleanDisk (state S.Store conn.new)
+        → OnOk result (IsTrue (state S.Store conn.new).is_open) }
+    ensures tidy { HasCleanDisk (state S.Store conn.new)
+        → OnOk result (IsTidy ((state S.Store conn.old).now.trees 6)) }
+{
+    let rows = peek(conn, VOUCHER_IDS)?;
+    if are_ids(&rows) && ids_ascend(&rows) {
+        Ok(())
+    } else {
+        Err(SqlBookError::Unavailable)
+    }
+}
+
+fn check_sessions<S: Alter>(conn: &mut Connection<S>) -> Result<(), SqlBookError>
+    requires idle { IsIdle (state S.Store conn.old) }
+    requires has { HasSchema (state S.Store conn.old) }
+    ensures looks { OnlyLooks (state S.Store conn.old) (state S.Store conn.new) }
+    ensures open { HasCleanDisk (state S.Store conn.new)
+        → OnOk result (IsTrue (state S.Store conn.new).is_open) }
+    ensures tidy { HasCleanDisk (state S.Store conn.new)
+        → OnOk result (IsTidy ((state S.Store conn.old).now.trees 8)) }
+{
+    let rows = peek(conn, SESSION_IDS)?;
+    if are_ids(&rows) && ids_ascend(&rows) {
+        Ok(())
+    } else {
+        Err(SqlBookError::Unavailable)
+    }
+}
+
+fn are_ids(rows: &[sqlite::Row]) -> bool
+    ensures { IsTrue result → AllByRecursion (λ row. column row 0 ≡ Int (id_in (column row 0)))
+        rows.now }
+{
+    for row in rows {
+        if id_of(row).is_none() {
+            return false;
+        }
+    }
+    true
+}
+
+fn ids_ascend(rows: &[sqlite::Row]) -> bool
+    ensures { IsTrue result → IsStrictlySortedBy int_cmp
+        (map (λ row. id_in (column row 0)) rows.now) }
+{
+    for at in 1..rows.len() {
+        if !id_precedes(&rows[at - 1], &rows[at]) {
+            return false;
+        }
+    }
+    true
+}
+
+fn id_precedes(row: &sqlite::Row, next: &sqlite::Row) -> bool
+    ensures { IsTrue result → int_cmp (id_in (column row.now 0)) (id_in (column next.now 0))
+        ≡ Less }
+{
+    match (id_of(row), id_of(next)) {
+        (Some(id), Some(next)) => id < next,
+        _ => false,
+    }
+}
+
+fn id_of(row: &sqlite::Row) -> Option<i64>
+    ensures { IfSome result (λ id. column row.now 0 ≡ Int id) }
+{
+    row.get(0).ok()
+}
+
+/// Whether a database is the book of these plans, by the tests in their order.
+pub(crate) fn examine<S: Alter>(conn: &mut Connection<S>, plans: &Plans) -> Result<(), SqlBookError>
+    requires { IsIdle (state S.Store conn.old) }
+    ensures looks { OnlyLooks (state S.Store conn.old) (state S.Store conn.new) }
+    ensures open { HasCleanDisk (state S.Store conn.new)
+        → OnOk result (IsTrue (state S.Store conn.new).is_open) }
+    ensures book { HasCleanDisk (state S.Store conn.new)
+        → OnOk result (IsBook (state S.Store conn.new).now) }
+    ensures number { HasCleanDisk (state S.Store conn.new)
+        → OnOk result (HasNumber (pos 1) (state S.Store conn.new).now.trees) }
+    ensures plans { HasCleanDisk (state S.Store conn.new)
+        → OnOk result (KeepsPlans plans.now (state S.Store conn.new).now.trees) }
+{
+    if is_book_schema(conn.schema()) {
+        examine_book(conn, plans.list())
+    } else {
+        Err(fault_of_other(conn))
+    }
+}
+
+// The same of a database that has the tables of a book.
+fn examine_book<S: Alter>(conn: &mut Connection<S>, plans: &[Plan]) -> Result<(), SqlBookError>
+    requires idle { IsIdle (state S.Store conn.old) }
+    requires has { HasSchema (state S.Store conn.old) }
+    ensures looks { OnlyLooks (state S.Store conn.old) (state S.Store conn.new) }
+    ensures open { HasCleanDisk (state S.Store conn.new)
+        → OnOk result (IsTrue (state S.Store conn.new).is_open) }
+    ensures number { HasCleanDisk (state S.Store conn.new)
+        → OnOk result (HasNumber (pos 1) (state S.Store conn.old).now.trees) }
+    ensures plans { HasCleanDisk (state S.Store conn.new)
+        → OnOk result (KeepsPlans plans.now (state S.Store conn.old).now.trees) }
+    ensures accounts { HasCleanDisk (state S.Store conn.new)
+        → OnOk result (IsTidy ((state S.Store conn.old).now.trees 4)) }
+    ensures vouchers { HasCleanDisk (state S.Store conn.new)
+        → OnOk result (IsTidy ((state S.Store conn.old).now.trees 6)) }
+    ensures sessions { HasCleanDisk (state S.Store conn.new)
+        → OnOk result (IsTidy ((state S.Store conn.old).now.trees 8)) }
+{
+    check_number(conn)?;
+    check_plans(conn, plans)?;
+    check_rowids(conn)
+}
+
+// Refuses another schema number than 1, and tables that have none.
+fn check_number<S: Alter>(conn: &mut Connection<S>) -> Result<(), SqlBookError>
+    requires idle { IsIdle (state S.Store conn.old) }
+    requires has { HasSchema (state S.Store conn.old) }
+    ensures looks { OnlyLooks (state S.Store conn.old) (state S.Store conn.new) }
+    ensures open { HasCleanDisk (state S.Store conn.new)
+        → OnOk result (IsTrue (state S.Store conn.new).is_open) }
+    ensures number { HasCleanDisk (state S.Store conn.new)
+        → OnOk result (HasNumber (pos 1) (state S.Store conn.old).now.trees) }
+{
+    let rows = peek(conn, NUMBER)?;
+    match first_number(&rows) {
+        Some(1) => Ok(()),
+        Some(number) => Err(SqlBookError::WrongSchema(number)),
+        None => Err(SqlBookError::NotABook),
+    }
+}
+
+// The number that a query shows first.
+fn first_number(rows: &[sqlite::Row]) -> Option<i64>
+    ensures { IfSome result
+        (λ number. first_row (λ row. column row 0) rows.now ≡ Some (Int number)) }
+{
+    match rows.first() {
+        None => None,
+        Some(row) => id_of(row),
+    }
+}
+
+// Refuses a book that was made with other plans.
+fn check_plans<S: Alter>(conn: &mut Connection<S>, plans: &[Plan]) -> Result<(), SqlBookError>
+    requires idle { IsIdle (state S.Store conn.old) }
+    requires has { HasSchema (state S.Store conn.old) }
+    ensures looks { OnlyLooks (state S.Store conn.old) (state S.Store conn.new) }
+    ensures open { HasCleanDisk (state S.Store conn.new)
+        → OnOk result (IsTrue (state S.Store conn.new).is_open) }
+    ensures plans { HasCleanDisk (state S.Store conn.new)
+        → OnOk result (KeepsPlans plans.now (state S.Store conn.old).now.trees) }
+{
+    let rows = peek(conn, PLANS)?;
+    if are_shown(plans, &rows) && are_plans(&rows, plans) {
+        Ok(())
+    } else {
+        Err(SqlBookError::PlansDiffer)
+    }
+}
+
+// Why a database with other tables is no book: it has no schema number, or another.
+fn fault_of_other<S: Alter>(conn: &mut Connection<S>) -> SqlBookError
+    requires { IsIdle (state S.Store conn.old) }
+    ensures looks { OnlyLooks (state S.Store conn.old) (state S.Store conn.new) }
+{
+    match glance(conn) {
+        Err(error) if is_failure(&error) => SqlBookError::Unavailable,
+        Err(_) => SqlBookError::NotABook,
+        Ok(rows) => match first_number(&rows) {
+            None => SqlBookError::NotABook,
+            Some(1) => SqlBookError::Unavailable,
+            Some(number) => SqlBookError::WrongSchema(number),
+        },
+    }
+}
+
+// What the query for the schema number shows under any tables. What it might do is undone.
+fn glance<S: Alter>(conn: &mut Connection<S>) -> Result<Vec<sqlite::Row>, Error>
+    requires { IsIdle (state S.Store conn.old) }
+    ensures { OnlyLooks (state S.Store conn.old) (state S.Store conn.new) }
+{
+    let mut tx = conn.transaction();
+    tx.query_all(NUMBER, &[])
+}
+
+// The store or memory failed, or the limit on steps was met.
+fn is_failure(error: &Error) -> bool {
+    matches!(
+        error,
+        Error::SqliteFailure(
+            ErrorCode::OutOfMemory
+                | ErrorCode::SystemIoFailure
+                | ErrorCode::DatabaseCorrupt
+                | ErrorCode::DiskFull
+                | ErrorCode::Closed
+                | ErrorCode::TooBig
+                | ErrorCode::OperationInterrupted
+        )
+    )
+}
+
+// Each plan is shown by a row.
+fn are_shown(plans: &[Plan], rows: &[sqlite::Row]) -> bool
+    ensures { IsTrue result → AllByRecursion (IsShownIn rows.now) plans.now }
+{
+    for plan in plans {
+        if !is_shown(plan, rows) {
+            return false;
+        }
+    }
+    true
+}
+
+fn is_shown(plan: &Plan, rows: &[sqlite::Row]) -> bool
+    ensures { IsTrue result → IsShownIn rows.now plan.now }
+{
+    for row in rows {
+        if shows_plan(row, plan) {
+            return true;
+        }
+    }
+    false
+}
+
+// Each row shows a plan.
+fn are_plans(rows: &[sqlite::Row], plans: &[Plan]) -> bool
+    ensures { IsTrue result → AllByRecursion (IsPlanIn plans.now) rows.now }
+{
+    for row in rows {
+        if !is_plan(row, plans) {
+            return false;
+        }
+    }
+    true
+}
+
+fn is_plan(row: &sqlite::Row, plans: &[Plan]) -> bool
+    ensures { IsTrue result → IsPlanIn plans.now row.now }
+{
+    for plan in plans {
+        if shows_plan(row, plan) {
+            return true;
+        }
+    }
+    false
+}
+
+fn shows_plan(row: &sqlite::Row, plan: &Plan) -> bool
+    ensures { IsTrue result → ShowsPlan plan.now row.now }
+{
+    has_blob(row, plan.class.as_slice())
+        && has_count(row, 1, plan.block)
+        && has_count(row, 2, plan.unit)
+}
+
+fn has_blob(row: &sqlite::Row, octets: &[u8]) -> bool
+    ensures { IsTrue result → column row.now 0 ≡ Blob octets.now }
+{
+    match row.get_ref(0) {
+        Ok(ValueRef::Blob(blob)) => blob == octets,
+        _ => false,
+    }
+}
+
+fn has_count(row: &sqlite::Row, at: usize, count: u64) -> bool
+    ensures { IsTrue result → column row.now at ≡ Int (pos count) }
+{
+    match row.get::<u64>(at) {
+        Ok(kept) => kept == count,
+        Err(_) => false,
+    }
+}

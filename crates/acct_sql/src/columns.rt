@@ -1,0 +1,216 @@
+//! Rows of the tables, as the values of their columns.
+ghost use Rattle.std.specs.Prelude.{◌≡◌, ◌+◌, ◌<◌, ◌^◌, pos, IfOk};
+ghost use Rattle.sqlite.specs.Values.{bound};
+ghost use Rattle.sqlite_value.specs.Order.{column, bytes};
+ghost use Rattle.acct_sql.specs.Columns.{session_columns, topup_columns, plan_columns, account_of};
+ghost use Rattle.acct_sql.specs.Columns.{framed_octets, framed_in, code_of, count_in, state_in};
+ghost use Rattle.acct_sql.specs.Columns.{int_in, session_of, topup_of};
+
+use crate::refused::Refused;
+use acct_book::{Row, SessionState};
+use acct_model::{Octets, Plan, Text, TopUp};
+use sqlite::types::ValueRef;
+use std::alloc::Global;
+
+// Four octets, or none, are told apart by their number.
+fn reads_back(framed: Option<[u8; 4]>)
+    ensures { framed_in (framed_octets framed) ≡ framed }
+{
+    if let Some([_, _, _, _]) = framed {}
+}
+
+fn framed_octets(row: &Row) -> &[u8]
+    ensures { result.now ≡ framed_octets row.now.framed }
+{
+    match &row.framed {
+        Some(octets) => octets.as_slice(),
+        None => &[],
+    }
+}
+
+fn code_of(state: SessionState) -> i64
+    ensures { result ≡ pos (code_of state) }
+{
+    match state {
+        SessionState::Live => 0,
+        SessionState::Closed => 1,
+        SessionState::Stopped => 2,
+    }
+}
+
+/// The columns of a session: client, id, account, class, input, output, seconds, first_seen,
+/// last_seen, state, cause, calling, framed.
+pub(crate) fn session_values(row: &Row) -> [ValueRef<'_>; 13]
+    ensures value { bound result ≡ session_columns row.now }
+    ensures back { framed_in (framed_octets row.now.framed) ≡ row.now.framed }
+{
+    reads_back(row.framed);
+    [
+        ValueRef::Text(row.client.as_str().as_bytes()),
+        ValueRef::Blob(row.session.as_slice()),
+        ValueRef::Blob(row.account.as_slice()),
+        ValueRef::Blob(row.class.as_slice()),
+        ValueRef::Int(row.input as i64),
+        ValueRef::Int(row.output as i64),
+        ValueRef::Int(i64::from(row.seconds)),
+        ValueRef::Int(row.first as i64),
+        ValueRef::Int(row.last as i64),
+        ValueRef::Int(code_of(row.state)),
+        ValueRef::Int(i64::from(row.cause)),
+        ValueRef::Blob(row.calling.as_slice()),
+        ValueRef::Blob(framed_octets(row)),
+    ]
+}
+
+/// The columns of a top-up: number, account, amount, moment.
+pub(crate) fn topup_values(topup: &TopUp) -> [ValueRef<'_>; 4]
+    ensures { bound result ≡ topup_columns topup.now }
+{
+    [
+        ValueRef::Text(topup.voucher.as_str().as_bytes()),
+        ValueRef::Blob(topup.account.as_slice()),
+        ValueRef::Int(topup.sum as i64),
+        ValueRef::Int(topup.when as i64),
+    ]
+}
+
+/// The columns of a plan: class, block, unit.
+pub(crate) fn plan_values(plan: &Plan) -> [ValueRef<'_>; 3]
+    requires block { plan.now.block < 2 ^ 63 }
+    requires unit { plan.now.unit < 2 ^ 63 }
+    ensures { bound result ≡ plan_columns plan.now }
+{
+    [
+        ValueRef::Blob(plan.class.as_slice()),
+        ValueRef::Int(plan.block as i64),
+        ValueRef::Int(plan.unit as i64),
+    ]
+}
+
+fn text_at(columns: &sqlite::Row, at: usize) -> Result<Text, Refused>
+    ensures { IfOk result (λ text. text ≡ bytes (column columns.now at)) }
+{
+    Ok(Text {
+        text: columns.get(at)?,
+    })
+}
+
+fn octets_at(columns: &sqlite::Row, at: usize) -> Result<Octets, Refused>
+    ensures { IfOk result (λ octets. octets ≡ bytes (column columns.now at)) }
+{
+    Ok(Octets {
+        octets: columns.get(at)?,
+    })
+}
+
+fn count_at(columns: &sqlite::Row, at: usize) -> Result<u64, Refused>
+    ensures { IfOk result (λ n. n ≡ count_in (column columns.now at)) }
+{
+    Ok(columns.get(at)?)
+}
+
+fn word_at(columns: &sqlite::Row, at: usize) -> Result<u32, Refused>
+    ensures { IfOk result (λ n. n ≡ count_in (column columns.now at)) }
+{
+    Ok(columns.get(at)?)
+}
+
+// A moment below 2^53.
+fn moment_at(columns: &sqlite::Row, at: usize) -> Result<u64, Refused>
+    ensures value { IfOk result (λ n. n ≡ count_in (column columns.now at)) }
+    ensures fits { IfOk result (λ n. n < 2 ^ 53) }
+{
+    let moment = count_at(columns, at)?;
+    if moment < 1 << 53 {
+        Ok(moment)
+    } else {
+        Err(Refused)
+    }
+}
+
+fn state_at(columns: &sqlite::Row, at: usize) -> Result<SessionState, Refused>
+    ensures { IfOk result (λ state. state ≡ state_in (column columns.now at)) }
+{
+    let code: i64 = columns.get(at)?;
+    match code {
+        0 => Ok(SessionState::Live),
+        1 => Ok(SessionState::Closed),
+        2 => Ok(SessionState::Stopped),
+        _ => Err(Refused),
+    }
+}
+
+fn framed_at(columns: &sqlite::Row, at: usize) -> Result<Option<[u8; 4]>, Refused>
+    ensures { IfOk result (λ framed. framed ≡ framed_in (bytes (column columns.now at))) }
+{
+    let octets = octets_at(columns, at)?;
+    match octets.as_slice() {
+        [] => Ok(None),
+        [a, b, c, d] => Ok(Some([*a, *b, *c, *d])),
+        _ => Err(Refused),
+    }
+}
+
+// Input and output, which are below 2^63 together.
+fn counters_at(columns: &sqlite::Row) -> Result<(u64, u64), Refused>
+    ensures value { IfOk result (λ pair. (pair.0 ≡ count_in (column columns.now 4))
+        × (pair.1 ≡ count_in (column columns.now 5))) }
+    ensures fits { IfOk result (λ pair. pair.0 + pair.1 < 2 ^ 63) }
+{
+    let input = count_at(columns, 4)?;
+    let output = count_at(columns, 5)?;
+    if input < 1 << 63 && output < (1 << 63) - input {
+        Ok((input, output))
+    } else {
+        Err(Refused)
+    }
+}
+
+/// The session of a row of the table, where it keeps the bounds.
+pub(crate) fn session_at(columns: &sqlite::Row) -> Result<Row, Refused>
+    ensures { IfOk result (λ row. row ≡ session_of (column columns.now)) }
+{
+    let (input, output) = counters_at(columns)?;
+    Ok(Row {
+        client: text_at(columns, 0)?,
+        session: octets_at(columns, 1)?,
+        account: octets_at(columns, 2)?,
+        class: octets_at(columns, 3)?,
+        input,
+        output,
+        seconds: word_at(columns, 6)?,
+        first: moment_at(columns, 7)?,
+        last: moment_at(columns, 8)?,
+        state: state_at(columns, 9)?,
+        cause: word_at(columns, 10)?,
+        calling: octets_at(columns, 11)?,
+        framed: framed_at(columns, 12)?,
+    })
+}
+
+/// The top-up of a row of the table, where it keeps the bounds.
+pub(crate) fn topup_at(alloc: Global, columns: &sqlite::Row) -> Result<TopUp, Refused>
+    ensures { IfOk result (λ topup. topup ≡ topup_of (column columns.now)) }
+{
+    let number = text_at(columns, 0)?;
+    let account = octets_at(columns, 1)?;
+    let sum = count_at(columns, 2)?;
+    let when = moment_at(columns, 3)?;
+    Ok(TopUp::new(alloc, number.as_str(), account.as_slice(), sum, when)?)
+}
+
+/// The balance of a row that has it alone.
+pub(crate) fn balance_at(columns: &sqlite::Row) -> Result<i64, Refused>
+    ensures { IfOk result (λ balance. balance ≡ int_in (column columns.now 0)) }
+{
+    Ok(columns.get(0)?)
+}
+
+/// The account and the balance of a row that has these two.
+pub(crate) fn account_at(columns: &sqlite::Row) -> Result<(Vec<u8>, i64), Refused>
+    ensures { IfOk result (λ kept. (kept.0.items, kept.1) ≡ account_of (column columns.now)) }
+{
+    let name: Vec<u8> = columns.get(0)?;
+    let balance: i64 = columns.get(1)?;
+    Ok((name, balance))
+}

@@ -1,0 +1,298 @@
+//! The queries, each in a transaction of its own that writes nothing.
+ghost use Rattle.std.specs.Prelude.{◌≡◌, None, Some, IsTrue, IsOk, IfOk, OnOk, option_map};
+ghost use Rattle.std.specs.Option.{option_copied};
+ghost use Rattle.sqlite_value.specs.Order.{column};
+ghost use Rattle.acct_book.specs.Walk.{IsNextRow, IsNextBalance, IsNextTopUp};
+ghost use Rattle.acct_sql.specs.Columns.{session_of, topup_of, account_of};
+ghost use Rattle.sqlite.specs.State.{HasCleanDisk, KeepsCommit, Survives, Shown};
+ghost use Rattle.sqlite.specs.Held.{state};
+ghost use Rattle.sqlite.specs.Given.{IsPlain};
+ghost use Rattle.sqlite.specs.Listing.{understood};
+ghost use Rattle.sqlite.specs.Values.{bound};
+ghost use Rattle.acct_book.specs.Content.{kept_balance};
+ghost use Rattle.acct_sql.specs.Tables.{book_schema};
+ghost use Rattle.acct_sql.specs.Book.{IsBook, IsResting, HasMade, HasFinished, HasRead, HasShown};
+ghost use Rattle.acct_sql.specs.Book.{HasFirst, Wrote, content_at, is_open_at};
+
+use crate::columns::{account_at, balance_at, session_at, topup_at};
+use crate::refused::Refused;
+use acct_book::{Key, Row};
+use acct_model::TopUp;
+use sqlite::types::ValueRef;
+use sqlite::{Alter, Connection, Transaction, params};
+use std::alloc::Global;
+
+const FIRST_SESSION: &str = "\
+    SELECT client, id, account, class, input, output, seconds, first_seen, last_seen, state, \
+    cause, calling, framed FROM session ORDER BY client, id LIMIT 1";
+
+const NEXT_ID: &str = "\
+    SELECT client, id, account, class, input, output, seconds, first_seen, last_seen, state, \
+    cause, calling, framed FROM session WHERE client = ?1 AND id > ?2 ORDER BY id LIMIT 1";
+
+const NEXT_CLIENT: &str = "\
+    SELECT client, id, account, class, input, output, seconds, first_seen, last_seen, state, \
+    cause, calling, framed FROM session WHERE client > ?1 ORDER BY client, id LIMIT 1";
+
+const FIRST_ACCOUNT: &str = "SELECT name, balance FROM account ORDER BY name LIMIT 1";
+
+const NEXT_ACCOUNT: &str = "\
+    SELECT name, balance FROM account WHERE name > ?1 ORDER BY name LIMIT 1";
+
+const FIRST_TOPUP: &str = "\
+    SELECT number, account, amount, moment FROM voucher ORDER BY number LIMIT 1";
+
+const NEXT_TOPUP: &str = "\
+    SELECT number, account, amount, moment FROM voucher WHERE number > ?1 ORDER BY number LIMIT 1";
+
+const SESSION: &str = "\
+    SELECT client, id, account, class, input, output, seconds, first_seen, last_seen, state, \
+    cause, calling, framed FROM session WHERE client = ?1 AND id = ?2";
+
+const BALANCE: &str = "SELECT balance FROM account WHERE name = ?1";
+
+const VOUCHER: &str = "SELECT number, account, amount, moment FROM voucher WHERE number = ?1";
+
+fn look<S: Alter>(
+    tx: &mut Transaction<'_, S>,
+    sql: &str,
+    params: &[ValueRef<'_>],
+) -> Result<Vec<sqlite::Row>, Refused>
+    requires book { HasCleanDisk (state S.Store tx.old.conn.now)
+        → IsTrue (state S.Store tx.old.conn.now).is_open
+        → IsBook (state S.Store tx.old.conn.now).now }
+    requires inside { IsTrue (state S.Store tx.old.conn.now).in_transaction }
+    requires plain { IsPlain (understood book_schema sql.now) }
+    ensures same_reference { tx.new.conn.ghost_name ≡ tx.old.conn.ghost_name }
+    ensures made { HasCleanDisk (state S.Store tx.new.conn.now)
+        → OnOk result (HasMade (state S.Store tx.old.conn.now) (state S.Store tx.new.conn.now)
+        (λ c. c)) }
+    ensures kept { HasCleanDisk (state S.Store tx.new.conn.now)
+        → KeepsCommit (state S.Store tx.old.conn.now) (state S.Store tx.new.conn.now) }
+    ensures survives { Survives (state S.Store tx.old.conn.now) (state S.Store tx.new.conn.now)
+        (λ _. ⊥) }
+    ensures shown { HasCleanDisk (state S.Store tx.new.conn.now)
+        → IfOk result (λ rows. Shown sql.now (bound params.now) (state S.Store tx.old.conn.now)
+        (state S.Store tx.new.conn.now) rows.items) }
+{
+    Ok(tx.query_all(sql, params)?)
+}
+
+fn finish_rows<S: Alter>(
+    tx: Transaction<'_, S>,
+    done: Result<Vec<sqlite::Row>, Refused>,
+) -> Result<Vec<sqlite::Row>, Refused>
+    ensures finished { HasFinished done (state S.Store tx.entry.conn.now)
+        (state S.Store tx.exit.0.now) result }
+    ensures same { OnOk result (result ≡ done) }
+{
+    match done {
+        Ok(rows) => {
+            tx.commit()?;
+            Ok(rows)
+        }
+        Err(refused) => Err(refused),
+    }
+}
+
+// What a query shows, in a transaction of its own.
+pub(crate) fn ask<S: Alter>(
+    conn: &mut Connection<S>,
+    sql: &str,
+    params: &[ValueRef<'_>],
+) -> Result<Vec<sqlite::Row>, Refused>
+    requires resting { IsResting (state S.Store conn.old) }
+    requires plain { IsPlain (understood book_schema sql.now) }
+    ensures resting { IsResting (state S.Store conn.new) }
+    ensures read { HasRead S.Store conn.old conn.new result }
+    ensures shown { HasCleanDisk (state S.Store conn.new)
+        → IfOk result (λ rows. HasShown S.Store conn.old sql.now (bound params.now) rows.items) }
+{
+    let mut tx = conn.transaction();
+    let rows = look(&mut tx, sql, params);
+    finish_rows(tx, rows)
+}
+
+// The session of the first row that a query shows.
+fn first_session<S: Alter>(
+    conn: &mut Connection<S>,
+    sql: &str,
+    params: &[ValueRef<'_>],
+) -> Result<Option<Row>, Refused>
+    requires resting { IsResting (state S.Store conn.old) }
+    requires plain { IsPlain (understood book_schema sql.now) }
+    ensures resting { IsResting (state S.Store conn.new) }
+    ensures read { HasRead S.Store conn.old conn.new result }
+    ensures first { HasCleanDisk (state S.Store conn.new)
+        → IfOk result (HasFirst S.Store conn.old sql.now (bound params.now)
+        (λ r. session_of (column r))) }
+{
+    let rows = ask(conn, sql, params)?;
+    match rows.first() {
+        None => Ok(None),
+        Some(row) => Ok(Some(session_at(row)?)),
+    }
+}
+
+// The top-up of the first row that a query shows.
+fn first_topup<S: Alter>(
+    alloc: Global,
+    conn: &mut Connection<S>,
+    sql: &str,
+    params: &[ValueRef<'_>],
+) -> Result<Option<TopUp>, Refused>
+    requires resting { IsResting (state S.Store conn.old) }
+    requires plain { IsPlain (understood book_schema sql.now) }
+    ensures resting { IsResting (state S.Store conn.new) }
+    ensures read { HasRead S.Store conn.old conn.new result }
+    ensures first { HasCleanDisk (state S.Store conn.new)
+        → IfOk result (HasFirst S.Store conn.old sql.now (bound params.now)
+        (λ r. topup_of (column r))) }
+{
+    let rows = ask(conn, sql, params)?;
+    match rows.first() {
+        None => Ok(None),
+        Some(row) => Ok(Some(topup_at(alloc, row)?)),
+    }
+}
+
+// The account of the first row that a query shows, with its balance.
+fn first_account<S: Alter>(
+    conn: &mut Connection<S>,
+    sql: &str,
+    params: &[ValueRef<'_>],
+) -> Result<Option<(Vec<u8>, i64)>, Refused>
+    requires resting { IsResting (state S.Store conn.old) }
+    requires plain { IsPlain (understood book_schema sql.now) }
+    ensures resting { IsResting (state S.Store conn.new) }
+    ensures read { HasRead S.Store conn.old conn.new result }
+    ensures first { HasCleanDisk (state S.Store conn.new)
+        → IfOk result (λ kept. HasFirst S.Store conn.old sql.now (bound params.now)
+        (λ r. account_of (column r)) (option_map (λ k. (k.0.items, k.1)) kept)) }
+{
+    let rows = ask(conn, sql, params)?;
+    match rows.first() {
+        None => Ok(None),
+        Some(row) => Ok(Some(account_at(row)?)),
+    }
+}
+
+/// The row of a session.
+pub(crate) fn read_session<S: Alter>(
+    conn: &mut Connection<S>,
+    key: &Key,
+) -> Result<Option<Row>, Refused>
+    requires { IsResting (state S.Store conn.old) }
+    ensures resting { IsResting (state S.Store conn.new) }
+    ensures read { HasRead S.Store conn.old conn.new result }
+    ensures found { is_open_at S.Store conn.new → IfOk result
+        (λ row. row ≡ (content_at S.Store conn.old).rows key.now) }
+{
+    first_session(
+        conn,
+        SESSION,
+        params![key.client.as_str(), key.session.as_slice()],
+    )
+}
+
+/// The balance of an account, 0 where none is kept.
+pub(crate) fn read_balance<S: Alter>(
+    conn: &mut Connection<S>,
+    account: &[u8],
+) -> Result<i64, Refused>
+    requires { IsResting (state S.Store conn.old) }
+    ensures resting { IsResting (state S.Store conn.new) }
+    ensures read { HasRead S.Store conn.old conn.new result }
+    ensures found { is_open_at S.Store conn.new → IfOk result
+        (λ balance. balance ≡ kept_balance (content_at S.Store conn.old) account.now) }
+{
+    let rows = ask(conn, BALANCE, params![account])?;
+    match rows.first() {
+        None => Ok(0),
+        Some(row) => balance_at(row),
+    }
+}
+
+/// The top-up that is kept by a number.
+pub(crate) fn read_voucher<S: Alter>(
+    alloc: Global,
+    conn: &mut Connection<S>,
+    number: &str,
+) -> Result<Option<TopUp>, Refused>
+    requires { IsResting (state S.Store conn.old) }
+    ensures resting { IsResting (state S.Store conn.new) }
+    ensures read { HasRead S.Store conn.old conn.new result }
+    ensures found { is_open_at S.Store conn.new → IfOk result
+        (λ topup. topup ≡ (content_at S.Store conn.old).topups number.now) }
+{
+    first_topup(alloc, conn, VOUCHER, params![number])
+}
+
+/// The row at the least key after the given one, or at the least of all.
+pub(crate) fn read_next_session<S: Alter>(
+    conn: &mut Connection<S>,
+    after: Option<&Key>,
+) -> Result<Option<Row>, Refused>
+    requires { IsResting (state S.Store conn.old) }
+    ensures resting { IsResting (state S.Store conn.new) }
+    ensures read { HasRead S.Store conn.old conn.new result }
+    ensures found { is_open_at S.Store conn.new → IfOk result
+        (IsNextRow (content_at S.Store conn.old) (option_copied after.entry)) }
+{
+    match after {
+        None => first_session(conn, FIRST_SESSION, &[]),
+        Some(key) => session_after(conn, key),
+    }
+}
+
+// The same client's later sessions come first, and then those of later clients.
+fn session_after<S: Alter>(conn: &mut Connection<S>, key: &Key) -> Result<Option<Row>, Refused>
+    requires { IsResting (state S.Store conn.old) }
+    ensures resting { IsResting (state S.Store conn.new) }
+    ensures read { HasRead S.Store conn.old conn.new result }
+    ensures found { is_open_at S.Store conn.new → IfOk result
+        (IsNextRow (content_at S.Store conn.old) (Some key.now)) }
+{
+    let client = key.client.as_str();
+    let row = first_session(conn, NEXT_ID, params![client, key.session.as_slice()])?;
+    match row {
+        Some(row) => Ok(Some(row)),
+        None => first_session(conn, NEXT_CLIENT, params![client]),
+    }
+}
+
+/// The least account after the given one, or the least of all, with its balance.
+pub(crate) fn read_next_account<S: Alter>(
+    conn: &mut Connection<S>,
+    after: Option<&[u8]>,
+) -> Result<Option<(Vec<u8>, i64)>, Refused>
+    requires { IsResting (state S.Store conn.old) }
+    ensures resting { IsResting (state S.Store conn.new) }
+    ensures read { HasRead S.Store conn.old conn.new result }
+    ensures found { is_open_at S.Store conn.new → IfOk result
+        (λ kept. IsNextBalance (content_at S.Store conn.old) (option_copied after.entry)
+        (option_map (λ k. (k.0.items, k.1)) kept)) }
+{
+    match after {
+        None => first_account(conn, FIRST_ACCOUNT, &[]),
+        Some(name) => first_account(conn, NEXT_ACCOUNT, params![name]),
+    }
+}
+
+/// The top-up at the least number after the given one, or at the least of all.
+pub(crate) fn read_next_topup<S: Alter>(
+    alloc: Global,
+    conn: &mut Connection<S>,
+    after: Option<&str>,
+) -> Result<Option<TopUp>, Refused>
+    requires { IsResting (state S.Store conn.old) }
+    ensures resting { IsResting (state S.Store conn.new) }
+    ensures read { HasRead S.Store conn.old conn.new result }
+    ensures found { is_open_at S.Store conn.new → IfOk result
+        (IsNextTopUp (content_at S.Store conn.old) (option_copied after.entry)) }
+{
+    match after {
+        None => first_topup(alloc, conn, FIRST_TOPUP, &[]),
+        Some(number) => first_topup(alloc, conn, NEXT_TOPUP, params![number]),
+    }
+}

@@ -1,0 +1,244 @@
+//! The book on tables.
+ghost use Rattle.sqlite.specs.Held.{state};
+
+use crate::adopting::examine;
+use crate::listing::{read_sessions, read_topups};
+use crate::making::{is_bare, make_book};
+use crate::reading::{
+    read_balance, read_next_account, read_next_session, read_next_topup, read_session, read_voucher,
+};
+use crate::sql_book_error::SqlBookError;
+use crate::writing::{close_sessions, write_session, write_topup};
+use acct_book::{Book, Key, Row, Unavailable};
+use acct_model::{Plans, TopUp};
+use sqlite::{Alter, Connection};
+use std::alloc::Global;
+use std::marker::Model;
+
+/// A book on the tables of a database.
+#[derive(Drop)]
+pub struct SqlBook<S: Alter> {
+    conn: Connection<S>,
+    alloc: Global,
+}
+
+impl<S: Alter> Model for SqlBook<S> {
+    ghost use Rattle.sqlite.specs.Held.{Held, held_code, state};
+    ghost use Rattle.acct_sql.specs.Book.{IsResting};
+
+    ghost Value = { Held S };
+
+    ghost coded = { held_code S.code };
+
+    ghost view = { λ book. book.conn };
+
+    ghost invariant = { λ book. IsResting (state S.Store book.conn) };
+}
+
+impl<S: Alter> SqlBook<S> {
+    ghost use Rattle.std.specs.Prelude.{◌≡◌, ◌↔◌, ◌≢◌, ◌⊎◌, pos, false, IsTrue, IfOk, IfErr};
+    ghost use Rattle.std.specs.Prelude.{IsErrAnd};
+    ghost use Rattle.sqlite.specs.State.{HasCleanDisk, Survives};
+    ghost use Rattle.acct_sql.specs.Tables.{no_schema};
+    ghost use Rattle.acct_sql.specs.Make.{IsNew, HasNumber, KeepsPlans};
+    ghost use Rattle.acct_sql.specs.Look.{OnlyLooks};
+    ghost use Rattle.acct_sql.specs.Book.{IsSettled, IsBookOver};
+
+    /// Makes an empty database an empty book that is kept by these plans: the five tables, their
+    /// two indices, the schema number 1 and a row for each plan, in one transaction. It is handed
+    /// back on an error, as it was.
+    ///
+    /// # Errors
+    ///
+    /// `NotABook` for each database that has a table, an index or a view. `Unavailable` where the
+    /// store or memory refused.
+    pub fn create(
+        alloc: Global,
+        mut conn: Connection<S>,
+        plans: &Plans,
+    ) -> Result<SqlBook<S>, (SqlBookError, Connection<S>)>
+        requires { (state S.Store conn).in_transaction ≡ false }
+        ensures not_a_book { IsErrAnd result (λ e. e.0 ≡ SqlBookError.NotABook)
+            ↔ ((state S.Store conn).now.schema ≢ no_schema) }
+        ensures other { IfErr result (λ e. (e.0 ≡ SqlBookError.NotABook)
+            ⊎ (e.0 ≡ SqlBookError.Unavailable)) }
+        ensures made { IfOk result (λ book. HasCleanDisk (state S.Store book)
+            → IsSettled (state S.Store book) × IsNew plans.now (state S.Store book).now.trees) }
+        ensures tables { IfOk result (IsBookOver S.Store ⟦<SqlBook<S> as Book>⟧.content
+            ⟦<SqlBook<S> as Book>⟧.is_sound ⟦<SqlBook<S> as Book>⟧.is_open
+            ⟦<SqlBook<S> as Book>⟧.left) }
+        ensures idle { IfErr result (λ e. (state S.Store e.1).in_transaction ≡ false) }
+        ensures same { IfErr result (λ e. HasCleanDisk (state S.Store e.1)
+            → IsTrue (state S.Store e.1).is_open → (state S.Store e.1).now
+            ≡ (state S.Store conn).now) }
+        ensures crash { IfOk result (λ book. Survives (state S.Store conn) (state S.Store book)
+            (IsNew plans.now)) }
+        ensures crash_err { IfErr result (λ e. Survives (state S.Store conn) (state S.Store e.1)
+            (IsNew plans.now)) }
+    {
+        if !is_bare(conn.schema()) {
+            return Err((SqlBookError::NotABook, conn));
+        }
+        match make_book(&mut conn, plans) {
+            Ok(()) => Ok(SqlBook { conn, alloc }),
+            Err(_) => Err((SqlBookError::Unavailable, conn)),
+        }
+    }
+
+    /// Takes a database as the book that it is. It changes nothing, and hands the database back on
+    /// an error. It reads each rowid of the accounts, top-ups and sessions once.
+    ///
+    /// # Errors
+    ///
+    /// `NotABook` where no schema number can be read, `WrongSchema` where it is not 1, and
+    /// `PlansDiffer` where the book was made with other plans, in this order. `Unavailable` where
+    /// the store or memory refused, where the tables are not exactly those of a book, or where two
+    /// rows have one rowid.
+    pub fn adopt(
+        alloc: Global,
+        mut conn: Connection<S>,
+        plans: &Plans,
+    ) -> Result<SqlBook<S>, (SqlBookError, Connection<S>)>
+        requires { (state S.Store conn).in_transaction ≡ false }
+        ensures adopted { IfOk result (λ book. HasCleanDisk (state S.Store book)
+            → IsSettled (state S.Store book)) }
+        ensures number { IfOk result (λ book. HasCleanDisk (state S.Store book)
+            → HasNumber (pos 1) (state S.Store book).now.trees) }
+        ensures plans { IfOk result (λ book. HasCleanDisk (state S.Store book)
+            → KeepsPlans plans.now (state S.Store book).now.trees) }
+        ensures tables { IfOk result (IsBookOver S.Store ⟦<SqlBook<S> as Book>⟧.content
+            ⟦<SqlBook<S> as Book>⟧.is_sound ⟦<SqlBook<S> as Book>⟧.is_open
+            ⟦<SqlBook<S> as Book>⟧.left) }
+        ensures looks { IfOk result (λ book. OnlyLooks (state S.Store conn) (state S.Store book)) }
+        ensures looks_err { IfErr result (λ e. OnlyLooks (state S.Store conn) (state S.Store e.1)) }
+    {
+        let is_idle = conn.is_autocommit();
+        prove!(is_idle);
+        match examine(&mut conn, plans) {
+            Ok(()) => Ok(SqlBook { conn, alloc }),
+            Err(error) => Err((error, conn)),
+        }
+    }
+
+    /// The connection, whose tables stay as they are. It takes no memory.
+    pub fn into_connection(self) -> Connection<S>
+        ensures { result ≡ self }
+    {
+        let SqlBook { conn, alloc: _ } = self;
+        conn
+    }
+}
+
+impl<S: Alter> Book for SqlBook<S> {
+    ghost use Rattle.acct_sql.specs.Book.{content_at, is_sound_at, is_open_at, is_steady_at};
+    ghost use Rattle.acct_sql.specs.Book.{left_at};
+    ghost use Rattle.acct_sql.specs.Laws.{own_keys, open_settled};
+
+    ghost content = { content_at S.Store };
+
+    ghost is_sound = { is_sound_at S.Store };
+
+    ghost is_open = { is_open_at S.Store };
+
+    ghost is_steady = { is_steady_at S.Store };
+
+    ghost left = { left_at S.Store };
+
+    fn session(&mut self, key: &Key) -> Result<Option<Row>, Unavailable> {
+        let row = match read_session(&mut self.conn, key) {
+            Ok(row) => row,
+            Err(_) => return Err(Unavailable),
+        };
+        Ok(row)
+    }
+
+    fn balance(&mut self, account: &[u8]) -> Result<i64, Unavailable> {
+        let balance = match read_balance(&mut self.conn, account) {
+            Ok(balance) => balance,
+            Err(_) => return Err(Unavailable),
+        };
+        Ok(balance)
+    }
+
+    fn voucher(&mut self, number: &str) -> Result<Option<TopUp>, Unavailable> {
+        let topup = match read_voucher(self.alloc, &mut self.conn, number) {
+            Ok(topup) => topup,
+            Err(_) => return Err(Unavailable),
+        };
+        Ok(topup)
+    }
+
+    fn put_session(&mut self, row: &Row, balance: i64) -> Result<(), Unavailable> {
+        match write_session(&mut self.conn, row, balance) {
+            Ok(()) => {}
+            Err(_) => return Err(Unavailable),
+        }
+        Ok(())
+    }
+
+    fn put_topup(&mut self, topup: &TopUp, balance: i64) -> Result<(), Unavailable> {
+        match write_topup(&mut self.conn, topup, balance) {
+            Ok(()) => {}
+            Err(_) => return Err(Unavailable),
+        }
+        Ok(())
+    }
+
+    fn close_client(&mut self, client: &str) -> Result<(), Unavailable> {
+        match close_sessions(&mut self.conn, client) {
+            Ok(()) => {}
+            Err(_) => return Err(Unavailable),
+        }
+        Ok(())
+    }
+
+    fn sessions_of(&mut self, account: &[u8]) -> Result<Vec<Row>, Unavailable> {
+        let rows = match read_sessions(self.alloc, &mut self.conn, account) {
+            Ok(rows) => rows,
+            Err(_) => return Err(Unavailable),
+        };
+        Ok(rows)
+    }
+
+    fn topups_of(&mut self, account: &[u8]) -> Result<Vec<TopUp>, Unavailable> {
+        let topups = match read_topups(self.alloc, &mut self.conn, account) {
+            Ok(topups) => topups,
+            Err(_) => return Err(Unavailable),
+        };
+        Ok(topups)
+    }
+
+    fn next_session(&mut self, after: Option<&Key>) -> Result<Option<Row>, Unavailable> {
+        let row = match read_next_session(&mut self.conn, after) {
+            Ok(row) => row,
+            Err(_) => return Err(Unavailable),
+        };
+        Ok(row)
+    }
+
+    fn next_account(
+        &mut self,
+        after: Option<&[u8]>,
+    ) -> Result<Option<(Vec<u8>, i64)>, Unavailable> {
+        let kept = match read_next_account(&mut self.conn, after) {
+            Ok(kept) => kept,
+            Err(_) => return Err(Unavailable),
+        };
+        Ok(kept)
+    }
+
+    fn next_topup(&mut self, after: Option<&str>) -> Result<Option<TopUp>, Unavailable> {
+        let topup = match read_next_topup(self.alloc, &mut self.conn, after) {
+            Ok(topup) => topup,
+            Err(_) => return Err(Unavailable),
+        };
+        Ok(topup)
+    }
+
+    ghost open_sound = { λ book told. told.0.0 };
+
+    ghost own_keys = { λ book _. own_keys (S.Store.view book.store).trees };
+
+    ghost settled = { λ book told. open_settled (λ db left. S.Store.settled book.store db told.0.1
+        left) told.1 };
+}
