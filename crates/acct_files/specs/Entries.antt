@@ -8,8 +8,8 @@ use Rattle.acct_files.specs.declared.config_error.ConfigKind.TheVariants.{BadSha
 use Rattle.acct_files.specs.declared.config_error.ConfigTable.{ConfigTable}
 use Rattle.acct_files.specs.declared.config_error.ConfigError.{ConfigError}
 
--- For entries of one kind: the values of an element that has their shape, when values are those of an
--- entry within its rules, and what is wrong with an entry that comes after earlier ones.
+-- For entries of one kind: the values of an element that has their shape, when values are those of
+-- an entry within its rules, and what is wrong with an entry that comes after earlier ones.
 module _ {V X E : Type 0} (values_of : Data → Option V) (Says : V → X → Type 0)
     (fault : List X → X → Option E) where
   -- the element has the shape, and its values are those of the entry

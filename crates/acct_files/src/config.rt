@@ -43,7 +43,8 @@ pub struct Config {
 ///
 /// The text is gone through once. Each key is looked up among the earlier ones by its token, so
 /// the cost of the keys grows as their number times its logarithm. Each client is compared with
-/// all earlier ones, at most 1,023, and each plan, at most 255.
+/// all earlier ones, at most 1,023, and each plan with at most 255, here and once more by
+/// `Clients::new` and `Plans::new`.
 ///
 /// # Errors
 ///
@@ -71,7 +72,8 @@ pub fn config_of(alloc: Global, text: &str) -> Result<Config, ConfigError>
 
 // The document that a text is.
 fn document_of(alloc: Global, text: &str) -> Result<Table, ConfigError>
-    ensures parsed { IfOk result (λ document. parse_document text.now ≡ Some (table_view document)) }
+    ensures parsed { IfOk result (λ document. parse_document text.now
+        ≡ Some (table_view document)) }
     ensures refused { IfErr result (λ error. (error.kind ≡ kind.Memory)
         ⊎ ((error ≡ top_error kind.NotToml) × (parse_document text.now ≡ None))) }
 {

@@ -59,7 +59,7 @@ static REFUSED: [Refused; 39] = [
         "client = [{name='a', address='1.2.3.4', secret=''}]",
         "BadClient in Client 0",
     ),
-    // A bad client before a table that comes after it and has not its shape, and behind one.
+    // A bad client before a table that comes after it and has not its shape, and after one.
     (
         "client = [{name='a', address='1.2.3', secret='s'}, 2]",
         "BadClient in Client 0",
@@ -70,16 +70,20 @@ static REFUSED: [Refused; 39] = [
     ),
     // The rules are tested before earlier clients.
     (
-        "client = [{name='a', address='1.2.3.4', secret='s'}, {name='a', address='1.2.3', secret='s'}]",
+        "client = [{name='a', address='1.2.3.4', secret='s'},
+{name='a', address='1.2.3', secret='s'}]",
         "BadClient in Client 1",
     ),
     // The same name, and the same address, before a table that has not its shape.
     (
-        "client = [{name='a', address='1.2.3.4', secret='s'}, {name='a', address='1.2.3.5', secret='t'}, 3]",
+        "client = [{name='a', address='1.2.3.4', secret='s'},
+{name='a', address='1.2.3.5', secret='t'}, 3]",
         "TwiceClient in Client 1",
     ),
     (
-        "client = [{name='a', address='1.2.3.4', secret='s'}, {name='b', address='1.2.3.5', secret='s'}, {name='c', address='1.2.3.4', secret='t'}]\nplan = [1]",
+        "client = [{name='a', address='1.2.3.4', secret='s'},
+{name='b', address='1.2.3.5', secret='s'},
+{name='c', address='1.2.3.4', secret='t'}]\nplan = [1]",
         "TwiceClient in Client 2",
     ),
     // All clients are tested before the first plan.
@@ -126,7 +130,8 @@ static REFUSED: [Refused; 39] = [
         "TwicePlanned in Plan 1",
     ),
     (
-        "plan = [{class='a', block=1, unit=0}, {class='b', block=1, unit=0}, {class='a', block=1, unit=0}]",
+        "plan = [{class='a', block=1, unit=0}, {class='b', block=1, unit=0},
+{class='a', block=1, unit=0}]",
         "TwicePlanned in Plan 2",
     ),
     // That none is `default` is told before any key.
@@ -178,15 +183,19 @@ static REFUSED_KEYS: [Refused; 16] = [
     ),
     // The rules are tested before earlier keys.
     (
-        "key = [{token='al-key-0000000001', account='al'}, {token='al-key-0000000001', cashier=false}]",
+        "key = [{token='al-key-0000000001', account='al'},
+{token='al-key-0000000001', cashier=false}]",
         "BadKey in Key 1",
     ),
     (
-        "key = [{token='al-key-0000000001', account='al'}, {token='al-key-0000000001', cashier=true}, 3]",
+        "key = [{token='al-key-0000000001', account='al'},
+{token='al-key-0000000001', cashier=true}, 3]",
         "TwiceKeyed in Key 1",
     ),
     (
-        "key = [{token='al-key-0000000001', account='al'}, {token='al-key-0000000002', account='al'}, {token='al-key-0000000003', account='al'}, {token='al-key-0000000002', account='bo'}]",
+        "key = [{token='al-key-0000000001', account='al'},
+{token='al-key-0000000002', account='al'}, {token='al-key-0000000003', account='al'},
+{token='al-key-0000000002', account='bo'}]",
         "TwiceKeyed in Key 3",
     ),
 ];

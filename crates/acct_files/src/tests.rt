@@ -6,6 +6,8 @@ use acct_book::fakes::FailingBook;
 use acct_book::{Book, MemBook, Row, SessionState};
 use acct_model::{Octets, Plan, Plans, Text, TopUp};
 use std::alloc::Global;
+use std::io;
+use std::io::{ErrorKind, Read, Write};
 use std::test::Fail;
 
 // A text and what its import says: added, repeated, the refused records and why it stopped.
@@ -251,5 +253,161 @@ fn refused_calls_stop(rt: HostRuntime) -> Result<(), Fail> {
     for (call, added) in [(1, 0), (2, 0), (3, 0), (4, 1), (5, 1), (6, 1), (7, 2)] {
         assert!(rt; stops(rt.alloc(), call, added)?);
     }
+    Ok(())
+}
+
+// Gives its text one octet a read, and fails once it has been read so often.
+#[derive(Drop)]
+struct FailingReader {
+    text: &'static [u8],
+    reads_left: u64,
+}
+
+impl Read for FailingReader {
+    fn read(&mut self, buf: &mut [u8]) -> io::Result<usize> {
+        if self.reads_left == 0 {
+            return Err(io::Error::from(ErrorKind::Other));
+        }
+        self.reads_left -= 1;
+        let room = buf.len().min(1);
+        self.text.read(&mut buf[..room])
+    }
+}
+
+// What an import tells of the vouchers where its reader fails after so many reads: how many were
+// added, how many refused, and why it stopped.
+fn read_until(alloc: Global, reads: u64) -> Result<(u64, usize, Option<Stopped>), Fail> {
+    let reader = FailingReader {
+        text: VOUCHERS,
+        reads_left: reads,
+    };
+    let mut book = MemBook::new(alloc);
+    let report = import(alloc, reader, &plans(alloc)?, &mut book, 3000);
+    Ok((
+        report.added,
+        report.refused.as_slice().len(),
+        report.stopped,
+    ))
+}
+
+// The records end at octets 31, 42 and 53.
+#[test]
+fn failed_reads_stop(rt: HostRuntime) -> Result<(), Fail> {
+    for reads in 0..53 {
+        let added = u64::from(reads >= 31) + u64::from(reads >= 42);
+        assert!(rt; read_until(rt.alloc(), reads)? == (added, 0, Some(Stopped::Unreadable)));
+    }
+    assert!(rt; read_until(rt.alloc(), 53)? == (2, 1, Some(Stopped::Unreadable)));
+    assert!(rt; read_until(rt.alloc(), 54)? == (2, 1, None));
+    Ok(())
+}
+
+// Takes 16 octets a write at most, and fails once it has been written to so often.
+#[derive(Drop)]
+struct FailingWriter {
+    taken: Vec<u8>,
+    writes_left: u64,
+}
+
+impl Write for FailingWriter {
+    fn write(&mut self, buf: &[u8]) -> io::Result<usize> {
+        if self.writes_left == 0 {
+            return Err(io::Error::from(ErrorKind::StorageFull));
+        }
+        self.writes_left -= 1;
+        let count = buf.len().min(16);
+        match self.taken.extend_from_slice(&buf[..count]) {
+            Ok(()) => Ok(count),
+            Err(_) => Err(io::Error::from(ErrorKind::OutOfMemory)),
+        }
+    }
+
+    fn flush(&mut self) -> io::Result<()> {
+        Ok(())
+    }
+}
+
+const TOPUPS: &[u8] = b"voucher,account,sum,when\nV-1,al,500,3000\nV-2,bo,300,3000\n";
+
+// The least writes with which the top-ups are written. Fewer are a fault of the writer.
+fn least_writes(alloc: Global) -> Result<u64, Fail> {
+    let mut book = MemBook::new(alloc);
+    import(alloc, VOUCHERS, &plans(alloc)?, &mut book, 3000);
+    for writes_left in 0..100 {
+        let writer = FailingWriter {
+            taken: Vec::new(alloc),
+            writes_left,
+        };
+        match export_topups(alloc, &mut book, writer) {
+            Ok(writer) if writer.taken.as_slice() == TOPUPS => return Ok(writes_left),
+            Err(ExportError::WriteFault) => {}
+            _ => return Err("told otherwise".into()),
+        }
+    }
+    Err("never written".into())
+}
+
+// The 57 octets of the top-ups are 4 times at most 16.
+#[test]
+fn failed_writes_are_told(rt: HostRuntime) -> Result<(), Fail> {
+    assert!(rt; least_writes(rt.alloc())? == 4);
+    Ok(())
+}
+
+// The call of an export of two sessions with which the book can't refuse it any more. Each earlier
+// one is told.
+fn first_call_past(alloc: Global) -> Result<u64, Fail> {
+    for calls_left in 1..100 {
+        let mut book = FailingBook {
+            book: MemBook::new(alloc),
+            calls_left: 0,
+        };
+        book.put_session(&first_row(alloc)?, -20)?;
+        book.put_session(&full_row(alloc)?, 5)?;
+        book.calls_left = calls_left;
+        match export_sessions(alloc, &mut book, &plans(alloc)?, Vec::new(alloc)) {
+            Ok(text) if text.as_slice() == SESSIONS => return Ok(calls_left),
+            Err(ExportError::Unavailable) => {}
+            _ => return Err("told otherwise".into()),
+        }
+    }
+    Err("never exported".into())
+}
+
+// Three calls: one for each session, and one that finds no further one.
+#[test]
+fn refused_calls_end_an_export(rt: HostRuntime) -> Result<(), Fail> {
+    assert!(rt; first_call_past(rt.alloc())? == 4);
+    Ok(())
+}
+
+const SOLD: &[u8] = b"voucher,account,sum\nV-1,\"a,b\",500\nV-2,%25%0A%FF,300\nV-3,\"c\"\"d\",1\n";
+
+// The first three columns of the top-ups. A shown account has no line end in it.
+fn cut(alloc: Global, topups: &[u8]) -> Result<String, Fail> {
+    let mut text = String::new(alloc);
+    for line in std::str::from_utf8(topups)?.lines() {
+        if let Some((columns, _when)) = line.rsplit_once(',') {
+            text.push_str(columns)?;
+            text.push_str("\n")?;
+        }
+    }
+    Ok(text)
+}
+
+// Whether the top-ups of a book are credited to an empty one from their first three columns.
+fn comes_back(alloc: Global) -> Result<bool, Fail> {
+    let (mut book, mut other) = (MemBook::new(alloc), MemBook::new(alloc));
+    import(alloc, SOLD, &plans(alloc)?, &mut book, 3000);
+    let topups = export_topups(alloc, &mut book, Vec::new(alloc))?;
+    let text = cut(alloc, topups.as_slice())?;
+    let report = import(alloc, text.as_bytes(), &plans(alloc)?, &mut other, 3000);
+    let again = export_topups(alloc, &mut other, Vec::new(alloc))?;
+    Ok(report.added == 3 && topups.as_slice() == again.as_slice())
+}
+
+#[test]
+fn exported_topups_are_imported(rt: HostRuntime) -> Result<(), Fail> {
+    assert!(rt; comes_back(rt.alloc())?);
     Ok(())
 }
