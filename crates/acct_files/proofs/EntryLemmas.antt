@@ -64,10 +64,6 @@ module _ {V X E : Type 0} (values_of : Data → Option V) (Says : V → X → Ty
   each_more [] (e ∷ entries) element entry each spells = absurd each
   each_more (t ∷ tables) [] element entry each spells = absurd each
 
-  -- no entries
-  pub no_entries : AreEntries values_of Says fault [] []
-  no_entries = record { spelled = tt; faultless = refl }
-
   -- one more
   pub more_entries : (tables : List Data) (entries : List X) (element : Data) (entry : X)
       → AreEntries values_of Says fault tables entries → Spells values_of Says fault element entry

@@ -1,4 +1,4 @@
--- Keys that tables spell.
+-- The places of tokens, one more at a time.
 use Rattle.std.proofs.Common.{◌≡◌, ℕ, ◌+◌, ◌<◌, List, [], ◌∷◌, ◌++◌, length, take, get_or}
 use Rattle.std.proofs.Common.{Some, refl, sym, ap, subst, false, arith}
 use Rattle.std.proofs.lemmas.List.{take_all, length-append}
@@ -6,36 +6,13 @@ use Rattle.std.specs.Prelude.{is_some, Vec}
 use Rattle.std.specs.Global.{Global}
 use Rattle.std.specs.BTreeMap as tree
 use Rattle.std.specs.BTreeMap.{BTreeMap}
-use Rattle.toml.specs.Data.{Data}
 use Rattle.acct_book.specs.Maps.{octets_cmp}
 use Rattle.acct_book.proofs.MapSteps.{vec_cmp}
 use Rattle.acct_desk.specs.declared.keys.DeskKey.{DeskKey}
-use Rattle.acct_desk.specs.declared.keys.Role.{Role}
-use Rattle.acct_desk.specs.Keys.{is_token_text}
-use Rattle.acct_desk.specs.KeyFaults.{key_fault, place_at, ArePlaces}
+use Rattle.acct_desk.specs.KeyFaults.{place_at, ArePlaces}
 use Rattle.acct_desk.proofs.KeyLemmas.{places-more}
-use Rattle.acct_files.specs.Entries.{SpellsNone}
-use Rattle.acct_files.specs.KeyTables.{key_values, KeyValues, SaysKey, SaysRole}
 
--- a token or a bearer out of its rule is no key's
-
-pub bad_token : (d : Data) (values : KeyValues) → key_values d ≡ Some values
-    → is_token_text values.0 ≡ false → SpellsNone key_values SaysKey key_fault d
-bad_token d values shape bad = record {
-  values = values;
-  shape = shape;
-  none = λ key says. cc (says.token_fits, says.token_is, bad);
-}
-
-pub bad_bearer : (d : Data) (values : KeyValues) → key_values d ≡ Some values
-    → ((role : Role) → SaysRole values.1 role → ⊥) → SpellsNone key_values SaysKey key_fault d
-bad_bearer d values shape bad = record {
-  values = values;
-  shape = shape;
-  none = λ key says. bad key.role says.role_is;
-}
-
--- ---- one more place, behind the keys before it
+-- one more place, after those of the earlier keys
 
 last : (keys : List DeskKey) (key d : DeskKey) → key ≡ get_or (keys ++ key ∷ []) (length keys) d
 last [] key d = refl
