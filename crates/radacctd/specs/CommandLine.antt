@@ -6,8 +6,11 @@ use Rattle.clap.specs.Words.{with_subcommand}
 use Rattle.clap.specs.declared.builder.value_parser.ValueParser.TheVariants as parser
 use Rattle.radacctd.specs.Numbers.{number_up_to}
 use Rattle.radacctd.specs.declared.job.Job.{Job}
-use Rattle.radacctd.specs.declared.job.Job.TheVariants.{Feed, Check, Serve}
+use Rattle.radacctd.specs.declared.job.Job.TheVariants as job
+use Rattle.radacctd.specs.declared.job.Export.{Export}
+use Rattle.radacctd.specs.declared.job.Export.TheVariants.{Sessions, Balances, TopUps, Overruns}
 use Rattle.radacctd.specs.declared.job.Listening.{Listening}
+use Rattle.radacctd.specs.declared.job.Paths.{Paths}
 
 -- an option of one value
 abbrev pub option_rule : Text → Rule
@@ -20,6 +23,14 @@ required r = record r { required = true }
 -- `--config FILE`
 abbrev pub config_rule : Rule
 config_rule = option_rule (codes "config")
+
+-- `--db FILE`
+abbrev pub database_rule : Rule
+database_rule = option_rule (codes "db")
+
+-- `WHAT`
+abbrev pub what_rule : Rule
+what_rule = record (new_rule (codes "what")) { value_names = 1 }
 
 -- `--bind A.B.C.D`
 abbrev pub bind_rule : Rule
@@ -47,9 +58,18 @@ feed_app = with_rule (new_app (codes "feed")) config_rule
 abbrev pub check_app : App
 check_app = with_rule (new_app (codes "check")) (required config_rule)
 
--- `serve --config FILE [--bind A.B.C.D]`
+-- a command that keeps a book: `--config FILE --db FILE`
+abbrev pub book_app : Text → App
+book_app name =
+    with_rule (with_rule (new_app name) (required config_rule)) (required database_rule)
+
+-- `export --config FILE --db FILE WHAT`
+abbrev pub export_app : App
+export_app = with_rule (book_app (codes "export")) (required what_rule)
+
+-- `serve --config FILE --db FILE [--bind A.B.C.D]`
 abbrev pub addressed_app : App
-addressed_app = with_rule (with_rule (new_app (codes "serve")) (required config_rule)) bind_rule
+addressed_app = with_rule (book_app (codes "serve")) bind_rule
 
 -- the same with `[--radius-port PORT] [--desk-port PORT]`
 abbrev pub listening_app : App
@@ -73,10 +93,15 @@ requires_subcommand a = record a { top = record a.top { subcommand_required = tr
 abbrev pub bare_app : App
 bare_app = requires_subcommand (has_version (new_app (codes "radacctd")))
 
+-- the program with its commands that keep no book
+abbrev pub bookless_app : App
+bookless_app = with_subcommand (with_subcommand bare_app feed_app.top) check_app.top
+
 -- the program's command line
 abbrev pub app : App
-app = with_subcommand (with_subcommand (with_subcommand bare_app feed_app.top) check_app.top)
-    serve_app.top
+app =
+    with_subcommand (with_subcommand (with_subcommand (with_subcommand bookless_app
+    (book_app (codes "init")).top) serve_app.top) (book_app (codes "import")).top) export_app.top
 
 -- the option has this number, from 1 to the given one
 abbrev pub IsNumber : Text → List Row → ℕ → ℕ → Type 0
@@ -91,15 +116,36 @@ IsListening rows listening =
     × IsNumber (codes "radius-port") rows 65535 listening.radius_port
     × IsNumber (codes "desk-port") rows 65535 listening.desk_port
 
+-- the files that the options name
+abbrev pub ArePaths : List Row → Paths → Type 0
+ArePaths rows paths =
+    (first_of (codes "config") rows ≡ Some paths.config)
+    × (first_of (codes "db") rows ≡ Some paths.database)
+
+-- the name of what is written
+abbrev pub export_name : Export → Text
+export_name Sessions = codes "sessions"
+export_name Balances = codes "balances"
+export_name TopUps = codes "topups"
+export_name Overruns = codes "overruns"
+
+-- the options name what is to be written
+abbrev pub IsExport : List Row → Export → Type 0
+IsExport rows what = first_of (codes "what") rows ≡ Some (export_name what)
+
 -- what the rows of a subcommand's options ask for
 abbrev pub AsksFor : Text → List Row → Job → Type 0
-AsksFor name rows (Feed config) =
+AsksFor name rows (job.Feed config) =
     (name ≡ codes "feed") × (first_of (codes "config") rows ≡ config)
-AsksFor name rows (Check config) =
+AsksFor name rows (job.Check config) =
     (name ≡ codes "check") × (first_of (codes "config") rows ≡ Some config)
-AsksFor name rows (Serve config listening turns) =
-    (name ≡ codes "serve") × (first_of (codes "config") rows ≡ Some config)
+AsksFor name rows (job.Init paths) = (name ≡ codes "init") × ArePaths rows paths
+AsksFor name rows (job.Serve paths listening turns) =
+    (name ≡ codes "serve") × ArePaths rows paths
     × IsListening rows listening × IsNumber (codes "turns") rows 9223372036854775807 turns
+AsksFor name rows (job.Import paths) = (name ≡ codes "import") × ArePaths rows paths
+AsksFor name rows (job.Export paths what) =
+    (name ≡ codes "export") × ArePaths rows paths × IsExport rows what
 
 -- the job is that of the subcommand that the words name
 abbrev pub NamesJob : Option (Text × List Row) → Job → Type 0
@@ -108,6 +154,9 @@ NamesJob (Some p) job = AsksFor p.0 p.1 job
 
 -- a server makes fewer than 2^63 turns
 abbrev pub HasTurns : Job → Type 0
-HasTurns (Feed config) = ⊤
-HasTurns (Check config) = ⊤
-HasTurns (Serve config listening turns) = turns < 2 ^ 63
+HasTurns (job.Feed config) = ⊤
+HasTurns (job.Check config) = ⊤
+HasTurns (job.Init paths) = ⊤
+HasTurns (job.Serve paths listening turns) = turns < 2 ^ 63
+HasTurns (job.Import paths) = ⊤
+HasTurns (job.Export paths what) = ⊤

@@ -1,27 +1,28 @@
 //! The commands of the program.
+//!
+//! A command takes its configuration, then its book, then its sockets, and then standard input. The
+//! first fault ends it. A command that kept a book closes it at its end.
 ghost use Rattle.std.specs.Prelude.{◌≢◌, ◌≡◌, ◌<◌, ◌^◌, IfOk};
 ghost use Rattle.radacctd.specs.CommandLine.{HasTurns};
 
 use crate::check::run_check;
+use crate::clock::moment_of;
 use crate::config_file::read_config;
+use crate::database::{adopted, close, made};
+use crate::exporting::run_export;
 use crate::fault::{Fault, end};
 use crate::feed::run_feed;
-use crate::job::{Job, Listening};
+use crate::importing::run_import;
+use crate::job::{Export, Job, Listening, Paths};
 use crate::sample_site::sample_config;
 use crate::serving::run_serve;
 use crate::status::Status;
-use acct_book::MemBook;
 use acct_model::Text;
-use std::alloc::Global;
-use std::fs::Files;
 use std::io::{Read, Write};
-use std::net::Net;
-use std::time::Clock;
 
 /// Does a job over these streams, and says how it ended. What ended it early is told to `faults`.
-pub fn run<R: Files + Net + Clock, I: Read + Drop, W: Write + Drop, E: Write>(
-    runtime: &R,
-    alloc: Global,
+pub fn run<I: Read + Drop, W: Write + Drop, E: Write>(
+    runtime: &HostRuntime,
     job: &Job,
     input: I,
     mut output: W,
@@ -31,27 +32,30 @@ pub fn run<R: Files + Net + Clock, I: Read + Drop, W: Write + Drop, E: Write>(
     ensures { result ≢ Status.WrongWords }
 {
     let ended = match job {
-        Job::Feed { config } => feed(runtime, alloc, config.as_ref(), input, output),
-        Job::Check { config } => run_check(runtime, alloc, config, &mut output),
+        Job::Feed { config } => feed(runtime, config.as_ref(), input, output),
+        Job::Check { config } => run_check(runtime, runtime.alloc(), config, &mut output),
+        Job::Init { paths } => init(runtime, paths, &mut output),
         Job::Serve {
-            config,
+            paths,
             listening,
             turns,
-        } => serve(runtime, alloc, config, listening, *turns, &mut output),
+        } => serve(runtime, paths, listening, *turns, &mut output),
+        Job::Import { paths } => import(runtime, paths, input, &mut output),
+        Job::Export { paths, what } => export(runtime, paths, *what, output),
     };
     end(faults, ended)
 }
 
 // `feed` with the configuration of a file, or that of the sample site.
-fn feed<R: Files, I: Read + Drop, W: Write + Drop>(
-    runtime: &R,
-    alloc: Global,
+fn feed<I: Read + Drop, W: Write + Drop>(
+    runtime: &HostRuntime,
     file: Option<&Text>,
     input: I,
     mut output: W,
 ) -> Result<Status, Fault>
     ensures { IfOk result (λ status. status ≢ Status.WrongWords) }
 {
+    let alloc = runtime.alloc();
     let config = match file {
         Some(file) => read_config(runtime, alloc, file)?,
         None => match sample_config(alloc) {
@@ -66,11 +70,22 @@ fn feed<R: Files, I: Read + Drop, W: Write + Drop>(
     Ok(run_feed(alloc, config, input, output))
 }
 
-// `serve` with the configuration of a file, over a book in memory.
-fn serve<R: Files + Net + Clock, W: Write>(
-    runtime: &R,
-    alloc: Global,
-    file: &Text,
+// `init`: an empty book.
+fn init<W: Write>(runtime: &HostRuntime, paths: &Paths, output: &mut W) -> Result<Status, Fault>
+    ensures { IfOk result (λ status. status ≡ Status.Done) }
+{
+    let config = read_config(runtime, runtime.alloc(), &paths.config)?;
+    let book = made(runtime, &paths.database, &config.plans)?;
+    close(book)?;
+    writeln!(output, "book made")?;
+    output.flush()?;
+    Ok(Status::Done)
+}
+
+// `serve` over the book of a file.
+fn serve<W: Write>(
+    runtime: &HostRuntime,
+    paths: &Paths,
     listening: &Listening,
     turns: u64,
     output: &mut W,
@@ -78,7 +93,45 @@ fn serve<R: Files + Net + Clock, W: Write>(
     requires { turns < 2 ^ 63 }
     ensures { IfOk result (λ status. status ≡ Status.Done) }
 {
-    let config = read_config(runtime, alloc, file)?;
-    let mut book = MemBook::new(alloc);
-    run_serve(runtime, alloc, &config, &mut book, listening, turns, output)
+    let alloc = runtime.alloc();
+    let config = read_config(runtime, alloc, &paths.config)?;
+    let mut book = adopted(runtime, &paths.database, &config.plans)?;
+    let status = run_serve(runtime, alloc, &config, &mut book, listening, turns, output)?;
+    close(book)?;
+    Ok(status)
+}
+
+// `import` into the book of a file.
+fn import<I: Read + Drop, W: Write>(
+    runtime: &HostRuntime,
+    paths: &Paths,
+    input: I,
+    output: &mut W,
+) -> Result<Status, Fault>
+    ensures { IfOk result (λ status. status ≢ Status.WrongWords) }
+{
+    let alloc = runtime.alloc();
+    let config = read_config(runtime, alloc, &paths.config)?;
+    let mut book = adopted(runtime, &paths.database, &config.plans)?;
+    let moment = moment_of(runtime);
+    let status = run_import(alloc, &config.plans, &mut book, moment, input, output)?;
+    close(book)?;
+    Ok(status)
+}
+
+// `export` of the book of a file.
+fn export<W: Write + Drop>(
+    runtime: &HostRuntime,
+    paths: &Paths,
+    what: Export,
+    output: W,
+) -> Result<Status, Fault>
+    ensures { IfOk result (λ status. status ≡ Status.Done) }
+{
+    let alloc = runtime.alloc();
+    let config = read_config(runtime, alloc, &paths.config)?;
+    let mut book = adopted(runtime, &paths.database, &config.plans)?;
+    let status = run_export(alloc, what, &config.plans, &mut book, output)?;
+    close(book)?;
+    Ok(status)
 }

@@ -1,9 +1,10 @@
 //! What ends a command before its time.
-ghost use Rattle.std.specs.Prelude.{◌≢◌, IfOk};
-ghost use Rattle.radacctd.specs.Endings.{fault_text};
+ghost use Rattle.std.specs.Prelude.{◌≡◌, ◌≢◌, IfOk};
+ghost use Rattle.radacctd.specs.Endings.{fault_text, store_fault_text};
 
 use crate::status::Status;
 use acct_files::ConfigError;
+use acct_sql::SqlBookError;
 use std::alloc::AllocError;
 use std::io::Write;
 use std::{fmt, io};
@@ -15,6 +16,12 @@ pub enum Fault {
     CannotRead,
     /// The configuration is wrong.
     Config(ConfigError),
+    /// The book's file cannot be opened.
+    CannotOpen,
+    /// The book could not be made or adopted, or refused.
+    Store(SqlBookError),
+    /// Memory was refused while the book was written out.
+    StoreMemory,
     /// A socket could not be bound.
     CannotBind,
     /// What was to be printed could not be written.
@@ -30,10 +37,25 @@ impl fmt::Display for Fault {
         match self {
             Fault::CannotRead => f.write_str("file: cannot read"),
             Fault::Config(error) => write!(f, "config: {error}"),
+            Fault::CannotOpen => f.write_str("db: cannot open"),
+            Fault::Store(error) => f.write_str(store_text(*error)),
+            Fault::StoreMemory => f.write_str("db: Memory"),
             Fault::CannotBind => f.write_str("socket: cannot bind"),
             Fault::CannotWrite => f.write_str("cannot write"),
             Fault::NoMemory => f.write_str("out of memory"),
         }
+    }
+}
+
+// What is wrong with a book.
+fn store_text(error: SqlBookError) -> &'static str
+    ensures { result.now ≡ store_fault_text error }
+{
+    match error {
+        SqlBookError::NotABook => "db: NotABook",
+        SqlBookError::PlansDiffer => "db: PlansDiffer",
+        SqlBookError::WrongSchema(_) => "db: WrongSchema",
+        SqlBookError::Unavailable => "db: Unavailable",
     }
 }
 
@@ -44,8 +66,10 @@ impl Fault {
     {
         match self {
             Fault::CannotRead | Fault::Config(_) | Fault::CannotWrite => Status::Refused,
+            Fault::CannotOpen | Fault::Store(_) | Fault::StoreMemory | Fault::NoMemory => {
+                Status::Unavailable
+            }
             Fault::CannotBind => Status::Socket,
-            Fault::NoMemory => Status::Unavailable,
         }
     }
 }

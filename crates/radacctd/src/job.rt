@@ -1,10 +1,12 @@
 //! What the words of the command line ask for.
 ghost use Rattle.std.specs.Prelude.{◌≡◌, Some, false, IfOk, IfSome, codes, map, string_bytes};
 ghost use Rattle.clap.specs.Words.{app_of, first_of, rows_of, rule_of, found_of, subcommand_of};
-ghost use Rattle.radacctd.specs.CommandLine.{app, config_rule, bind_rule, port_rule, turns_rule};
-ghost use Rattle.radacctd.specs.CommandLine.{feed_app, check_app, addressed_app, listening_app};
-ghost use Rattle.radacctd.specs.CommandLine.{serve_app, AsksFor, IsNumber, IsListening, NamesJob};
-ghost use Rattle.radacctd.specs.CommandLine.{HasTurns};
+ghost use Rattle.radacctd.specs.CommandLine.{app, config_rule, database_rule, what_rule};
+ghost use Rattle.radacctd.specs.CommandLine.{bind_rule, port_rule, turns_rule, required};
+ghost use Rattle.radacctd.specs.CommandLine.{feed_app, check_app, book_app, addressed_app};
+ghost use Rattle.radacctd.specs.CommandLine.{listening_app, serve_app, export_app, export_name};
+ghost use Rattle.radacctd.specs.CommandLine.{AsksFor, ArePaths, IsExport, IsListening, IsNumber};
+ghost use Rattle.radacctd.specs.CommandLine.{HasTurns, NamesJob};
 
 use crate::number::number_up_to;
 use acct_model::Text;
@@ -34,15 +36,54 @@ pub enum Job {
         /// The file of the configuration.
         config: Text,
     },
+    /// Makes a book.
+    Init {
+        /// Its files.
+        paths: Paths,
+    },
     /// Answers access servers and callers of the desk.
     Serve {
-        /// The file of the configuration.
-        config: Text,
+        /// Its files.
+        paths: Paths,
         /// Where it listens.
         listening: Listening,
         /// How many turns it makes, at least one.
         turns: u64,
     },
+    /// Credits the vouchers of standard input.
+    Import {
+        /// Its files.
+        paths: Paths,
+    },
+    /// Writes the book as CSV.
+    Export {
+        /// Its files.
+        paths: Paths,
+        /// What of the book.
+        what: Export,
+    },
+}
+
+/// The files of a command that keeps a book.
+#[derive(Debug, Drop)]
+pub struct Paths {
+    /// The file of the configuration.
+    pub config: Text,
+    /// The file of the book.
+    pub database: Text,
+}
+
+/// What of a book is written.
+#[derive(Clone, Copy, PartialEq, Eq, Debug)]
+pub enum Export {
+    /// A line for each session.
+    Sessions,
+    /// A line for each account.
+    Balances,
+    /// A line for each voucher.
+    TopUps,
+    /// A line for each account that owes.
+    Overruns,
 }
 
 /// Where a server listens.
@@ -89,9 +130,32 @@ fn asked(alloc: Global, name: &str, options: &ArgMatches<'_>) -> Result<Option<J
     let Some(config) = config else {
         return Ok(None);
     };
+    if name == "check" {
+        return Ok(Some(Job::Check { config }));
+    }
+    let Some(database) = text_option(alloc, options, "db")? else {
+        return Ok(None);
+    };
+    asked_of_book(alloc, name, Paths { config, database }, options)
+}
+
+// What the options of a command ask for that keeps a book.
+fn asked_of_book(
+    alloc: Global,
+    name: &str,
+    paths: Paths,
+    options: &ArgMatches<'_>,
+) -> Result<Option<Job>, AllocError>
+    requires { ArePaths (rows_of (found_of options.now)) paths }
+    ensures asked { IfOk result (λ job. IfSome job
+        (AsksFor name.now (rows_of (found_of options.now)))) }
+    ensures turns { IfOk result (λ job. IfSome job HasTurns) }
+{
     match name {
-        "check" => Ok(Some(Job::Check { config })),
-        "serve" => asked_to_serve(alloc, config, options),
+        "init" => Ok(Some(Job::Init { paths })),
+        "serve" => asked_to_serve(alloc, paths, options),
+        "import" => Ok(Some(Job::Import { paths })),
+        "export" => Ok(asked_to_export(paths, options)),
         _ => Ok(None),
     }
 }
@@ -99,10 +163,10 @@ fn asked(alloc: Global, name: &str, options: &ArgMatches<'_>) -> Result<Option<J
 // What the options of `serve` ask for.
 fn asked_to_serve(
     alloc: Global,
-    config: Text,
+    paths: Paths,
     options: &ArgMatches<'_>,
 ) -> Result<Option<Job>, AllocError>
-    requires { first_of (codes "config") (rows_of (found_of options.now)) ≡ Some config }
+    requires { ArePaths (rows_of (found_of options.now)) paths }
     ensures asked { IfOk result (λ job. IfSome job
         (AsksFor (codes "serve") (rows_of (found_of options.now)))) }
     ensures turns { IfOk result (λ job. IfSome job HasTurns) }
@@ -114,10 +178,41 @@ fn asked_to_serve(
         return Ok(None);
     };
     Ok(Some(Job::Serve {
-        config,
+        paths,
         listening,
         turns,
     }))
+}
+
+// What the options of `export` ask for.
+fn asked_to_export(paths: Paths, options: &ArgMatches<'_>) -> Option<Job>
+    requires { ArePaths (rows_of (found_of options.now)) paths }
+    ensures asked { IfSome result (AsksFor (codes "export") (rows_of (found_of options.now))) }
+    ensures turns { IfSome result HasTurns }
+{
+    let what = export_option(options)?;
+    Some(Job::Export { paths, what })
+}
+
+// What the options say that is to be written.
+fn export_option(options: &ArgMatches<'_>) -> Option<Export>
+    ensures { IfSome result (IsExport (rows_of (found_of options.now))) }
+{
+    let text = options.get_str("what")?;
+    export_named(text)
+}
+
+// What of a book has this name.
+fn export_named(name: &str) -> Option<Export>
+    ensures { IfSome result (λ what. name.now ≡ export_name what) }
+{
+    match name {
+        "sessions" => Some(Export::Sessions),
+        "balances" => Some(Export::Balances),
+        "topups" => Some(Export::TopUps),
+        "overruns" => Some(Export::Overruns),
+        _ => None,
+    }
 }
 
 // Where the options say that a server listens.
@@ -185,7 +280,10 @@ fn command<'a>(alloc: Global) -> Result<Command<'a>, AllocError>
         .subcommand_required(true)
         .subcommand(feed_command(alloc)?)?
         .subcommand(check_command(alloc)?)?
-        .subcommand(serve_command(alloc)?)
+        .subcommand(init_command(alloc)?)?
+        .subcommand(serve_command(alloc)?)?
+        .subcommand(import_command(alloc)?)?
+        .subcommand(export_command(alloc)?)
 }
 
 fn feed_command<'a>(alloc: Global) -> Result<Command<'a>, AllocError>
@@ -225,10 +323,42 @@ fn listening_command<'a>(alloc: Global) -> Result<Command<'a>, AllocError>
 fn addressed_command<'a>(alloc: Global) -> Result<Command<'a>, AllocError>
     ensures { IfOk result (λ c. app_of c ≡ addressed_app) }
 {
-    Command::new(alloc, "serve")
-        .about("Answers access servers by RADIUS accounting, and callers of the desk by HTTP")
+    let about = "Answers access servers by RADIUS accounting, and callers of the desk by HTTP";
+    book_command(alloc, "serve", about)?.arg(bind_option(alloc))
+}
+
+fn init_command<'a>(alloc: Global) -> Result<Command<'a>, AllocError>
+    ensures { IfOk result (λ c. app_of c ≡ book_app (codes "init")) }
+{
+    book_command(
+        alloc,
+        "init",
+        "Makes an empty book in a file, for the plans of a configuration",
+    )
+}
+
+fn import_command<'a>(alloc: Global) -> Result<Command<'a>, AllocError>
+    ensures { IfOk result (λ c. app_of c ≡ book_app (codes "import")) }
+{
+    let about = "Credits the vouchers of standard input, CSV of voucher,account,sum";
+    book_command(alloc, "import", about)
+}
+
+fn export_command<'a>(alloc: Global) -> Result<Command<'a>, AllocError>
+    ensures { IfOk result (λ c. app_of c ≡ export_app) }
+{
+    let about = "Writes the sessions, balances, topups or overruns of a book as CSV";
+    book_command(alloc, "export", about)?.arg(what_option(alloc))
+}
+
+// A command that keeps a book.
+fn book_command<'a>(alloc: Global, name: &'a str, about: &'a str) -> Result<Command<'a>, AllocError>
+    ensures { IfOk result (λ c. app_of c ≡ book_app name.now) }
+{
+    Command::new(alloc, name)
+        .about(about)
         .arg(config_option(alloc).required(true))?
-        .arg(bind_option(alloc))
+        .arg(database_option(alloc).required(true))
 }
 
 fn config_option<'a>(alloc: Global) -> Arg<'a>
@@ -239,6 +369,26 @@ fn config_option<'a>(alloc: Global) -> Arg<'a>
         .long("config")
         .value_name("FILE")
         .help("The clients, plans and keys, as TOML: /etc/radacctd.toml, say")
+}
+
+fn database_option<'a>(alloc: Global) -> Arg<'a>
+    ensures rule { rule_of result ≡ database_rule }
+    ensures local { result.global ≡ false }
+{
+    Arg::new(alloc, "db")
+        .long("db")
+        .value_name("FILE")
+        .help("The book, a SQLite database: /var/lib/radacctd/book, say")
+}
+
+fn what_option<'a>(alloc: Global) -> Arg<'a>
+    ensures rule { rule_of result ≡ required what_rule }
+    ensures local { result.global ≡ false }
+{
+    Arg::new(alloc, "what")
+        .value_name("WHAT")
+        .required(true)
+        .help("sessions, balances, topups or overruns")
 }
 
 fn bind_option<'a>(alloc: Global) -> Arg<'a>

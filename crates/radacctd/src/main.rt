@@ -9,11 +9,15 @@ ghost use Rattle.radacctd.specs.CommandLine.{HasTurns};
 mod answer;
 mod caller;
 mod check;
+mod clock;
 mod command;
 mod config_file;
 mod counts;
+mod database;
+mod exporting;
 mod fault;
 mod feed;
+mod importing;
 mod input;
 mod job;
 mod line;
@@ -68,7 +72,7 @@ fn run_on_standard_streams(rt: &HostRuntime, job: &Job) -> Status
     requires { HasTurns job.now }
 {
     match BufWriter::new(rt.alloc(), rt.stdout()) {
-        Ok(output) => run(rt, rt.alloc(), job, rt.stdin(), output, &mut rt.stderr()),
+        Ok(output) => run(rt, job, rt.stdin(), output, &mut rt.stderr()),
         Err(_) => {
             let _ = println!(rt; "unavailable");
             Status::Unavailable

@@ -4,9 +4,10 @@
 //!    datagram, and where none came it takes one caller that waits already.
 //! 2. A timeout with no caller is a turn without an event. Every other fault is counted.
 //! 3. Room for a datagram is made once, and not for each turn.
-ghost use Rattle.std.specs.Prelude.{◌≡◌, ◌<◌, ◌^◌, None, IfOk};
+ghost use Rattle.std.specs.Prelude.{◌≡◌, None, IfOk};
 
 use crate::caller::Caller;
+use crate::clock::moment_of;
 use acct_desk::read_request;
 use acct_model::Octets;
 use acct_service::{Event, Exchange, Fault, What};
@@ -14,15 +15,13 @@ use std::alloc::{AllocError, Global};
 use std::io;
 use std::io::ErrorKind;
 use std::net::{Ipv4Addr, Net, OpenListener, SocketAddr, TcpListener, UdpSocket};
-use std::time::{Clock, Duration, SystemTime, UNIX_EPOCH};
+use std::time::{Clock, Duration};
 use thiserror::Error;
 
 /// The most octets of a datagram.
 const LONGEST_DATAGRAM: usize = 65_535;
 /// How many milliseconds a turn waits for a datagram.
 const PATIENCE: u64 = 20;
-/// The last moment, in seconds since 1970.
-const LAST_MOMENT: u64 = (1 << 53) - 1;
 
 /// Why a server has no sockets.
 #[derive(Debug, Drop, Error)]
@@ -159,21 +158,8 @@ impl<'r, R: Net + Clock> Sockets<'r, R> {
 
     // What came, at the clock's moment.
     fn event(&self, what: What) -> Event {
-        let moment = self.moment();
+        let moment = moment_of(self.runtime);
         Event { moment, what }
-    }
-
-    // The clock's seconds since 1970: 0 before 1970, and at most 2^53 - 1.
-    fn moment(&self) -> u64
-        ensures { result < 2 ^ 53 }
-    {
-        let Ok(now) = SystemTime::now(self.runtime) else {
-            return 0;
-        };
-        match now.duration_since(UNIX_EPOCH) {
-            Ok(since) => since.as_secs().min(LAST_MOMENT),
-            Err(_) => 0,
-        }
     }
 
     // Sends octets to where an event came from.

@@ -10,7 +10,7 @@ pub enum Status {
     Refused = 1,
     /// The words of the command line are wrong.
     WrongWords = 2,
-    /// Memory was refused.
+    /// The book cannot be opened or refused, or memory was refused.
     Unavailable = 3,
     /// A socket could not be bound.
     Socket = 4,

@@ -1,0 +1,43 @@
+//! `export`: the book as CSV.
+ghost use Rattle.std.specs.Prelude.{◌≡◌, IfOk};
+
+use crate::fault::Fault;
+use crate::job::Export;
+use crate::status::Status;
+use acct_book::Book;
+use acct_files::{ExportError, export_balances, export_overruns, export_sessions, export_topups};
+use acct_model::Plans;
+use acct_sql::SqlBookError;
+use std::alloc::Global;
+use std::io::Write;
+
+/// Writes one of the exports, and flushes the writer.
+///
+/// # Errors
+///
+/// `Store` where the book refuses, `StoreMemory` where memory is refused, `CannotWrite`.
+pub fn run_export<B: Book, W: Write + Drop>(
+    alloc: Global,
+    what: Export,
+    plans: &Plans,
+    book: &mut B,
+    output: W,
+) -> Result<Status, Fault>
+    ensures { IfOk result (λ status. status ≡ Status.Done) }
+{
+    let written = match what {
+        Export::Sessions => export_sessions(alloc, book, plans, output),
+        Export::Balances => export_balances(alloc, book, output),
+        Export::TopUps => export_topups(alloc, book, output),
+        Export::Overruns => export_overruns(alloc, book, output),
+    };
+    match written {
+        Ok(mut writer) => {
+            writer.flush()?;
+            Ok(Status::Done)
+        }
+        Err(ExportError::Unavailable) => Err(Fault::Store(SqlBookError::Unavailable)),
+        Err(ExportError::WriteFault) => Err(Fault::CannotWrite),
+        Err(ExportError::Memory) => Err(Fault::StoreMemory),
+    }
+}

@@ -1,0 +1,68 @@
+//! `import`: credits the vouchers of a CSV text.
+ghost use Rattle.std.specs.Prelude.{◌<◌, ◌^◌, ◌≢◌, IfOk};
+
+use crate::fault::Fault;
+use crate::status::Status;
+use acct_book::Book;
+use acct_files::{ImportReport, Refused, Stopped, import};
+use acct_model::Plans;
+use std::alloc::Global;
+use std::io;
+use std::io::{Read, Write};
+
+/// Credits the vouchers of a reader at a moment, in seconds since 1970, and tells what became of
+/// them: how many were added, repeated and refused, each refused record with its cause, and why the
+/// import stopped, if it did.
+///
+/// # Errors
+///
+/// `CannotWrite`. What was credited stays.
+pub fn run_import<B: Book, I: Read + Drop, W: Write>(
+    alloc: Global,
+    plans: &Plans,
+    book: &mut B,
+    moment: u64,
+    input: I,
+    output: &mut W,
+) -> Result<Status, Fault>
+    requires { moment < 2 ^ 53 }
+    ensures { IfOk result (λ status. status ≢ Status.WrongWords) }
+{
+    let report = import(alloc, input, plans, book, moment);
+    write_report(output, &report)?;
+    output.flush()?;
+    Ok(status_of(&report))
+}
+
+fn status_of(report: &ImportReport) -> Status
+    ensures { result ≢ Status.WrongWords }
+{
+    match report.stopped {
+        Some(Stopped::Unavailable) => Status::Unavailable,
+        Some(_) => Status::Refused,
+        None if report.refused.as_slice().is_empty() => Status::Done,
+        None => Status::Refused,
+    }
+}
+
+fn write_report<W: Write>(output: &mut W, report: &ImportReport) -> io::Result<()> {
+    let (added, repeated) = (report.added, report.repeated);
+    let refused = report.refused.as_slice();
+    let count = refused.len();
+    writeln!(
+        output,
+        "added {added}, repeated {repeated}, refused {count}"
+    )?;
+    for record in refused {
+        write_refused(output, record)?;
+    }
+    match report.stopped {
+        Some(stopped) => writeln!(output, "stopped: {stopped}"),
+        None => Ok(()),
+    }
+}
+
+fn write_refused<W: Write>(output: &mut W, record: &Refused) -> io::Result<()> {
+    let (number, cause) = (record.number, record.cause);
+    writeln!(output, "{number}: {cause}")
+}
