@@ -22,17 +22,20 @@ use crate::lines::Lines;
 use crate::server::{LONGEST_PACKET, Server};
 use crate::status::Status;
 use crate::stop::Stop;
-use acct_book::{Book, Key, MemBook, record};
+use acct_book::{Book, Key, Unavailable, record};
 use acct_files::Config;
-use acct_model::{Entry, TopUp};
+use acct_model::{Entry, Plans, TopUp};
+use acct_sql::SqlBook;
 use acct_wire::{Client, Datagram};
 use radius_codec::sign_request;
+use sqlite::{Connection, MemStore};
 use std::alloc::Global;
 use std::io::{Read, Write};
 use std::str;
 
-/// Answers the lines of the reader over a book in memory, and says how it ended:
-/// `Refused` after a bad line, an input that is too long or cannot be read, or a writer that fails.
+/// Answers the lines of the reader over an empty book, whose tables are kept in memory, and says how
+/// it ended: `Refused` after a bad line, an input that is too long or cannot be read, or a writer
+/// that fails.
 pub fn run_feed<R: Read + Drop, W: Write + Drop>(
     alloc: Global,
     config: Config,
@@ -41,15 +44,40 @@ pub fn run_feed<R: Read + Drop, W: Write + Drop>(
 ) -> Status
     ensures { result ≢ Status.WrongWords }
 {
-    let status = match read_input(alloc, &mut reader) {
-        Ok(input) => answer_input(alloc, config, MemBook::new(alloc), &input, &mut writer),
-        Err(InputFault::TooLong) => end(&mut writer, "too long", Status::Refused),
-        Err(InputFault::CannotRead) => end(&mut writer, "cannot read", Status::Refused),
-        Err(InputFault::NoMemory) => end(&mut writer, "unavailable", Status::Unavailable),
+    let status = match empty_book(alloc, &config.plans) {
+        Ok(book) => answer_reader(alloc, config, book, &mut reader, &mut writer),
+        Err(_) => end(&mut writer, "unavailable", Status::Unavailable),
     };
     match writer.flush() {
         Ok(()) => status,
         Err(_) => Status::Refused,
+    }
+}
+
+// An empty book in tables that are kept in memory.
+fn empty_book(alloc: Global, plans: &Plans) -> Result<SqlBook<MemStore>, Unavailable> {
+    let connection = Connection::open_in_memory(alloc)?;
+    match SqlBook::create(alloc, connection, plans) {
+        Ok(book) => Ok(book),
+        Err(_) => Err(Unavailable),
+    }
+}
+
+// Answers the lines of the reader over a book.
+fn answer_reader<B: Book + Drop, R: Read, W: Write>(
+    alloc: Global,
+    config: Config,
+    book: B,
+    reader: &mut R,
+    writer: &mut W,
+) -> Status
+    ensures { result ≢ Status.WrongWords }
+{
+    match read_input(alloc, reader) {
+        Ok(input) => answer_input(alloc, config, book, &input, writer),
+        Err(InputFault::TooLong) => end(writer, "too long", Status::Refused),
+        Err(InputFault::CannotRead) => end(writer, "cannot read", Status::Refused),
+        Err(InputFault::NoMemory) => end(writer, "unavailable", Status::Unavailable),
     }
 }
 
