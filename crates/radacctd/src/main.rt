@@ -34,6 +34,8 @@ mod status;
 mod stop;
 #[cfg(test)]
 mod tests;
+#[cfg(test)]
+mod tests_commands;
 mod words;
 
 use crate::command::run;
