@@ -21,6 +21,8 @@ mod reading;
 mod refused;
 mod sql_book;
 mod sql_book_error;
+#[cfg(test)]
+mod tests;
 mod writing;
 
 pub use sql_book::SqlBook;
