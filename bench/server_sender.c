@@ -85,6 +85,16 @@ static long give_up(void) {
     return lost;
 }
 
+/* Waits for a reply, or gives up what has waited too long: how many are no longer on their way. */
+static long settle(int s, long *answered, long *lost, int64_t *last) {
+    if (take(s, answered, last)) {
+        return 1;
+    }
+    long gone = give_up();
+    *lost += gone;
+    return gone;
+}
+
 static int send_all(int port, long window, const char *path) {
     FILE *file = fopen(path, "rb");
     if (file == NULL) {
@@ -107,13 +117,7 @@ static int send_all(int port, long window, const char *path) {
             return 1;
         }
         while (out >= window || is_out[octets[1]]) {
-            if (take(s, &answered, &last)) {
-                out--;
-            } else {
-                long gone = give_up();
-                lost += gone;
-                out -= gone;
-            }
+            out -= settle(s, &answered, &lost, &last);
         }
         sent_at[octets[1]] = now();
         is_out[octets[1]] = 1;
@@ -121,13 +125,7 @@ static int send_all(int port, long window, const char *path) {
         send(s, octets, size, 0);
     }
     while (out > 0) {
-        if (take(s, &answered, &last)) {
-            out--;
-        } else {
-            long gone = give_up();
-            lost += gone;
-            out -= gone;
-        }
+        out -= settle(s, &answered, &lost, &last);
     }
     qsort(took, (size_t)answered, sizeof took[0], by_size);
     int64_t median = answered ? took[answered / 2] : 0, late = answered ? took[answered * 99 / 100] : 0;
