@@ -4,7 +4,7 @@ ghost use Rattle.std.specs.Prelude.{◌<◌, ◌^◌};
 use std::time::{Clock, SystemTime, UNIX_EPOCH};
 
 /// The last moment, in seconds since 1970.
-const LAST_MOMENT: u64 = (1 << 53) - 1;
+pub const LAST_MOMENT: u64 = (1 << 53) - 1;
 
 /// The clock's seconds since 1970: 0 before 1970, or where the clock cannot be read, and at most
 /// 2^53 - 1.

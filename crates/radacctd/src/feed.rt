@@ -12,7 +12,6 @@ ghost use Rattle.radacctd.specs.Feed.{AnswersSigned};
 ghost use Rattle.radacctd.specs.Feed.{AnswersBalance, AnswersTopUp, AnswersSession};
 ghost use Rattle.radacctd.specs.Answers.{packet_answer};
 ghost use Rattle.radacctd.specs.Line.{HasMoment};
-ghost use Rattle.acct_wire.specs.Clients.{client_named};
 
 use crate::answer::Answer;
 use crate::input::{InputFault, read_input};

@@ -13,6 +13,7 @@ ghost use Rattle.radacctd.specs.Line.{HasMoment, Spells, IsBad, AreWordsOf, AreS
 ghost use Rattle.radacctd.specs.Line.{AreBalance, AreTopUp, AreSession};
 ghost use Rattle.radacctd.specs.declared.line_fault.LineFault.TheVariants.{Bad as bad};
 
+use crate::clock::LAST_MOMENT;
 use crate::line_fault::LineFault;
 use crate::number::{number_of, number_up_to};
 use crate::octet_words::{octets_of, octets_shown};
@@ -20,9 +21,6 @@ use crate::words::{cut_word, four_words, one_word, three_words, two_words};
 use acct_book::Key;
 use acct_model::{Octets, Text, TopUp, address_of};
 use std::alloc::Global;
-
-/// The last moment, in seconds since 1970.
-const LAST_MOMENT: u64 = (1 << 53) - 1;
 
 /// What a line asks for.
 #[derive(Debug, Drop)]

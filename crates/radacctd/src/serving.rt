@@ -1,10 +1,10 @@
 //! `serve`: access servers and callers of the desk, answered over a book.
-ghost use Rattle.std.specs.Prelude.{◌≡◌, ◌≢◌, ◌<◌, ◌^◌, IfOk};
+ghost use Rattle.std.specs.Prelude.{◌≡◌, ◌<◌, ◌^◌, IfOk};
 
 use crate::counts::{Counts, Drops};
 use crate::fault::Fault;
 use crate::job::Listening;
-use crate::sockets::{BindError, Sockets};
+use crate::sockets::Sockets;
 use crate::status::Status;
 use acct_book::Book;
 use acct_files::Config;
@@ -12,7 +12,7 @@ use acct_model::address_of;
 use acct_service::{Served, serve};
 use std::alloc::Global;
 use std::io;
-use std::io::Write;
+use std::io::{ErrorKind, Write};
 use std::net::Net;
 use std::time::Clock;
 
@@ -60,8 +60,8 @@ fn bound<'r, R: Net + Clock>(
     let (radius, desk) = (listening.radius_port, listening.desk_port);
     match Sockets::bind(runtime, alloc, address, radius, desk) {
         Ok(sockets) => Ok(sockets),
-        Err(BindError::CannotBind) => Err(Fault::CannotBind),
-        Err(BindError::NoMemory) => Err(Fault::NoMemory),
+        Err(error) if error.kind() == ErrorKind::OutOfMemory => Err(Fault::NoMemory),
+        Err(_) => Err(Fault::CannotBind),
     }
 }
 

@@ -11,40 +11,16 @@ use crate::clock::moment_of;
 use acct_desk::read_request;
 use acct_model::Octets;
 use acct_service::{Event, Exchange, Fault, What};
-use std::alloc::{AllocError, Global};
+use std::alloc::Global;
 use std::io;
 use std::io::ErrorKind;
 use std::net::{Ipv4Addr, Net, OpenListener, SocketAddr, TcpListener, UdpSocket};
 use std::time::{Clock, Duration};
-use thiserror::Error;
 
 /// The most octets of a datagram.
 const LONGEST_DATAGRAM: usize = 65_535;
 /// How many milliseconds a turn waits for a datagram.
 const PATIENCE: u64 = 20;
-
-/// Why a server has no sockets.
-#[derive(Debug, Drop, Error)]
-pub enum BindError {
-    /// A socket could not be bound.
-    #[error("socket: cannot bind")]
-    CannotBind,
-    /// Memory was refused.
-    #[error("out of memory")]
-    NoMemory,
-}
-
-impl From<io::Error> for BindError {
-    fn from(_error: io::Error) -> BindError {
-        BindError::CannotBind
-    }
-}
-
-impl From<AllocError> for BindError {
-    fn from(_error: AllocError) -> BindError {
-        BindError::NoMemory
-    }
-}
 
 /// The two sockets of a server, with the caller that is connected.
 #[derive(Drop)]
@@ -65,15 +41,15 @@ impl<'r, R: Net + Clock> Sockets<'r, R> {
     ///
     /// # Errors
     ///
-    /// `CannotBind` where a port is taken, needs a right that the program hasn't, or the machine
-    /// hasn't the address.
+    /// Those of the system: a port is taken or needs a right that the program hasn't, or the machine
+    /// hasn't the address. `OutOfMemory` where there is no room for a datagram.
     pub fn bind(
         runtime: &'r R,
         alloc: Global,
         address: [u8; 4],
         radius: u16,
         desk: u16,
-    ) -> Result<Sockets<'r, R>, BindError>
+    ) -> io::Result<Sockets<'r, R>>
         ensures fresh { IfOk result (λ s. (s.turns ≡ 0) × (s.failures ≡ 0)) }
     {
         let address = Ipv4Addr::from(address);
