@@ -1,5 +1,6 @@
 -- A datagram that asks for an entry, and the reply to its request.
-use Rattle.std.proofs.Common.{◌≡◌, ℕ, ◌+◌, true, false, cond, List, length, take, drop, refl, ◌∙◌, ap, subst}
+use Rattle.std.proofs.Common.{◌≡◌, ℕ, ◌+◌, true, false, cond, List, length, take, drop, refl, ◌∙◌}
+use Rattle.std.proofs.Common.{ap, subst}
 use Rattle.std.specs.Prelude.{Option, Some, None, is_none}
 use Rattle.radius_codec.specs.Attributes.{value_of, spellings}
 use Rattle.radius_codec.specs.Packet.{proxy_states}
@@ -25,12 +26,22 @@ spelled_by_status : (name : List ℕ) (attributes : Attributes) (moment : ℕ) (
     → (e : Entry) × IsEntryOf name attributes moment e
 spelled_by_status name attributes moment None is none = absurd (no_fault UnknownStatus none)
 spelled_by_status name attributes moment (Some status) is none =
-    elim (is_restart status) as (λ b. is_restart status ≡ b → cond b None (cond (is_none (kind_of status)) (Some UnknownStatus) (report_fault attributes)) ≡ None → (e : Entry) × IsEntryOf name attributes moment e) [
-      | true ↦ λ restarts h. (entry.Restart (record { client = name }), (status, is, restarts, refl))
+    elim (is_restart status) as (λ b. is_restart status ≡ b
+    → cond b None (cond (is_none (kind_of status)) (Some UnknownStatus)
+    (report_fault attributes)) ≡ None → (e : Entry) × IsEntryOf name attributes moment e) [
+      | true ↦ λ restarts h. (
+        entry.Restart (record { client = name }),
+        (status, is, restarts, refl),
+      )
       | false ↦ λ other h.
-          elim (kind_of status) as (λ k. kind_of status ≡ k → cond (is_none k) (Some UnknownStatus) (report_fault attributes) ≡ None → (e : Entry) × IsEntryOf name attributes moment e) [
+          elim (kind_of status) as (λ k. kind_of status ≡ k
+          → cond (is_none k) (Some UnknownStatus) (report_fault attributes) ≡ None → (e : Entry)
+          × IsEntryOf name attributes moment e) [
             | None ↦ λ kind g. absurd (no_fault UnknownStatus g)
-            | Some k ↦ λ kind g. (entry.Report (report_of name attributes moment k), (status, k, is, kind, refl))
+            | Some k ↦ λ kind g. (
+              entry.Report (report_of name attributes moment k),
+              (status, k, is, kind, refl),
+            )
           ] refl h
     ] refl none
 
@@ -38,7 +49,9 @@ spelled_by_status name attributes moment (Some status) is none =
 spelled_some : (name : List ℕ) (attributes : Attributes) (moment : ℕ) → refusal_of attributes ≡ None
     → (e : Entry) × IsEntryOf name attributes moment e
 spelled_some name attributes moment none =
-    elim (is_none (value_of 40 attributes)) as (λ b. cond b (Some NoStatus) (status_fault attributes (status_of attributes)) ≡ None → (e : Entry) × IsEntryOf name attributes moment e) [
+    elim (is_none (value_of 40 attributes)) as
+    (λ b. cond b (Some NoStatus) (status_fault attributes (status_of attributes)) ≡ None
+    → (e : Entry) × IsEntryOf name attributes moment e) [
       | true ↦ λ h. absurd (no_fault NoStatus h)
       | false ↦ λ h. spelled_by_status name attributes moment (status_of attributes) refl h
     ] none
@@ -75,17 +88,22 @@ pub reply_for : (config : Config) (source bytes : List ℕ) (moment : ℕ) (aske
     → IsReplyFor config source bytes moment asked (take size after)
 reply_for config source bytes moment asked before after size asks w =
     let spelled = spelled_some w.client.name w.attributes moment w.faultless in
-    let other : Asks config.clients source bytes moment w.client w.identifier w.authenticator w.attributes spelled.0 =
+    let other : Asks config.clients source bytes moment w.client w.identifier w.authenticator
+    w.attributes spelled.0 =
     record { known = w.known; request = w.request; faultless = w.faultless; spelled = spelled.1 } in
-    let same = one_entry config.clients source bytes moment w.client asks.client w.identifier asks.identifier w.authenticator asks.authenticator
+    let same =
+    one_entry config.clients source bytes moment w.client asks.client w.identifier
+    asks.identifier w.authenticator asks.authenticator
     w.attributes asks.attributes spelled.0 asked other asks.asks in
     record {
       client = w.client;
       identifier = w.identifier;
       authenticator = w.authenticator;
       attributes = w.attributes;
-      asks = subst (λ e. Asks config.clients source bytes moment w.client w.identifier w.authenticator w.attributes e) same.4 other;
+      asks = subst (λ e. Asks config.clients source bytes moment w.client w.identifier
+          w.authenticator w.attributes e) same.4 other;
       reply = ap (λ n. take n after) w.counted
           ∙ ap (take (20 + length (spellings (proxy_states w.attributes)))) w.octets
-          ∙ take-sealed 5 w.identifier w.authenticator (spellings (proxy_states w.attributes)) w.client.secret (drop size before);
+          ∙ take-sealed 5 w.identifier w.authenticator (spellings (proxy_states w.attributes))
+          w.client.secret (drop size before);
     }

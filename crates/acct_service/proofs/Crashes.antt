@@ -27,7 +27,8 @@ use Rattle.acct_files.specs.declared.config.Config.{Config}
 use Rattle.acct_service.specs.declared.event.What.{What}
 use Rattle.acct_service.specs.declared.event.What.TheVariants.{Datagram, Desk}
 use Rattle.acct_service.specs.Machine.{Answer, replied, dropped, mute, Effect, failed}
-use Rattle.acct_service.specs.Machine.{passed, after_effect, effect_of, Answers, AnswersAsk, AsksFor}
+use Rattle.acct_service.specs.Machine.{passed, after_effect, effect_of, Answers, AnswersAsk}
+use Rattle.acct_service.specs.Machine.{AsksFor}
 use Rattle.acct_service.specs.Machine.{IsAnswered, TakesStep}
 use Rattle.acct_service.proofs.Asking.{asked_one}
 
@@ -62,8 +63,10 @@ told_or_failed : (recorded : Result Recorded RecordError)
     ⊎ ((topup : TopUpFacts) → effect_of topup recorded ≡ failed (entry.TopUp topup))
 told_or_failed (Ok New) = inl added-unavailable
 told_or_failed (Ok Repeat) = inl (result-unavailable (codes "repeat"))
-told_or_failed (Err (refused.VoucherDiffers kept)) = inl (conflict-unavailable (codes "voucher differs"))
-told_or_failed (Err (refused.BalanceLimit balance)) = inl (content-unavailable (codes "balance limit"))
+told_or_failed (Err (refused.VoucherDiffers kept)) =
+    inl (conflict-unavailable (codes "voucher differs"))
+told_or_failed (Err (refused.BalanceLimit balance)) =
+    inl (content-unavailable (codes "balance limit"))
 told_or_failed (Err refused.Unavailable) = inr (λ topup. refl)
 
 -- ---- what an answer tells of the entry that was asked for
@@ -85,7 +88,17 @@ broken : (config : Config) (source bytes : List ℕ) (moment port : ℕ) (reason
     → MayFail config moment (Datagram source port bytes) effect
 broken config source bytes moment port reason effect breaks asked asks =
     let a = asks.asks in
-    absurd (asking config.clients source bytes reason (asks.client, a.known, (asks.identifier, asks.authenticator, asks.attributes, a.request, a.faultless)) breaks)
+    absurd (asking config.clients source bytes reason (
+      asks.client,
+      a.known,
+      (
+        asks.identifier,
+        asks.authenticator,
+        asks.attributes,
+        a.request,
+        a.faultless,
+      ),
+    ) breaks)
 
 stays : (history : List Entry) (effect : Effect) → effect ≡ passed
     → after_effect history effect ≡ history
@@ -96,10 +109,15 @@ says_datagram : (config : Config) (history : List Entry) (source bytes : List �
     → Answers config history moment (Datagram source port bytes) answer effect
     → Says config history moment (Datagram source port bytes) answer effect
 says_datagram config history source bytes moment port (replied octets) effect says = inl tt
-says_datagram config history source bytes moment port (dropped why.BalanceLimit) effect says = inl refl
+says_datagram config history source bytes moment port (dropped why.BalanceLimit) effect says =
+    inl refl
 says_datagram config history source bytes moment port (dropped why.Unavailable) effect says =
     let (tried, asks_it, is) = says in
-    inr (ap (after_effect history) is, λ asked asks. is ∙ ap failed (asked_one config.clients source bytes moment tried asked asks_it asks))
+    inr (
+      ap (after_effect history) is,
+      λ asked asks. is
+          ∙ ap failed (asked_one config.clients source bytes moment tried asked asks_it asks),
+    )
 says_datagram config history source bytes moment port (dropped reason) effect says =
     inr (stays history effect says.1, broken config source bytes moment port reason effect says.0)
 says_datagram config history source bytes moment port mute effect says = absurd says
@@ -120,12 +138,29 @@ says_ask : (config : Config) (history : List Entry) (bytes : List ℕ) (moment :
     → AnswersAsk config.plans history ask octets effect
     → Says config history moment (Desk bytes) (replied octets) effect
 says_ask config history bytes moment (desk.refused refusal) octets effect asks says =
-    inr (stays history effect says.1, no_credit config bytes moment (desk.refused refusal) effect asks (λ topup e. cc))
+    inr (
+      stays history effect says.1,
+      no_credit config bytes moment (desk.refused refusal) effect
+          asks (λ topup e. cc),
+    )
 says_ask config history bytes moment (me page account) octets effect asks says =
-    inr (stays history effect says.1, no_credit config bytes moment (me page account) effect asks (λ topup e. cc))
+    inr (
+      stays history effect says.1,
+      no_credit config bytes moment (me page account) effect asks
+          (λ topup e. cc),
+    )
 says_ask config history bytes moment overruns octets effect asks says =
-    inr (stays history effect says.1, no_credit config bytes moment overruns effect asks (λ topup e. cc))
-says_ask config history bytes moment (credit topup) octets effect asks (recorded, tells, octets_are, is) =
+    inr (
+      stays history effect says.1,
+      no_credit config bytes moment overruns effect asks
+          (λ topup e. cc),
+    )
+says_ask config history bytes moment (credit topup) octets effect asks (
+  recorded,
+  tells,
+  octets_are,
+  is,
+) =
     elim (told_or_failed recorded) [
       | inl told ↦ inl (credit topup, asks, tt, λ e. told (sym octets_are ∙ e))
       | inr fails ↦
@@ -133,7 +168,9 @@ says_ask config history bytes moment (credit topup) octets effect asks (recorded
           inr (
             ap (after_effect history) failed_it,
             λ asked (other, asks_other, asked_is).
-                let same = credit_one topup other (one_ask config.keys bytes moment (credit topup) (credit other) asks asks_other) in
+                let same =
+                credit_one topup other (one_ask config.keys bytes moment (credit topup)
+                (credit other) asks asks_other) in
                 failed_it ∙ ap (λ t. failed (entry.TopUp t)) same ∙ ap failed (sym asked_is),
           )
     ]
@@ -161,9 +198,11 @@ module _ {B : Type 0} (content : B → Content) (is_sound is_open is_steady : B 
       → StoodFor config.plans content is_open new (after_effect history effect)
       → Says config history moment what answer effect → Leaves config.plans history effect
   leaves_by config moment what answer history effect t sound stood stands (inl answered) c may =
-      inl (subst (λ x. Stands config.plans x (after_effect history effect)) (sym (t.settled sound answered c may))
+      inl (subst (λ x. Stands config.plans x (after_effect history effect))
+      (sym (t.settled sound answered c may))
       (stands (t.answers sound answered)))
-  leaves_by config moment what answer history effect t sound stood stands (inr (same, fails)) c may =
+  leaves_by config moment what answer history effect t sound stood stands (inr (same, fails)) c may
+      =
       inr (
         same,
         elim (t.leaves sound history stood c may) [
@@ -190,12 +229,16 @@ module _ {B : Type 0} (content : B → Content) (is_sound is_open is_steady : B 
       → StoodFor config.plans content is_open old history
       → StoodFor config.plans content is_open new (after_effect history effect)
       → Answers config history moment what answer effect → Leaves config.plans history effect
-  leaves config moment (Datagram source port bytes) answer history effect t sound stood stands says =
-      leaves_by config moment (Datagram source port bytes) answer history effect t sound stood stands
+  leaves config moment (Datagram source port bytes) answer history effect t sound stood stands says
+      =
+      leaves_by config moment (Datagram source port bytes) answer history effect t sound stood
+      stands
       (says_datagram config history source bytes moment port answer effect says)
-  leaves config moment (Desk bytes) (replied octets) history effect t sound stood stands (ask, asks, says) =
+  leaves config moment (Desk bytes) (replied octets) history effect t sound stood stands
+      (ask, asks, says) =
       leaves_by config moment (Desk bytes) (replied octets) history effect t sound stood stands
       (says_ask config history bytes moment ask octets effect asks says)
-  leaves config moment (Desk bytes) (dropped reason) history effect t sound stood stands says = absurd says
+  leaves config moment (Desk bytes) (dropped reason) history effect t sound stood stands says =
+      absurd says
   leaves config moment (Desk bytes) mute history effect t sound stood stands says =
       mute_leaves config moment (Desk bytes) history effect t sound stood says

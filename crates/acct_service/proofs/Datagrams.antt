@@ -13,7 +13,8 @@ use Rattle.acct_wire.specs.Datagrams.{Breaks, AsksFor, IsAsking}
 use Rattle.acct_wire.specs.Outcomes as wire
 use Rattle.acct_files.specs.declared.config.Config.{Config}
 use Rattle.acct_service.specs.declared.event.What.TheVariants.{Datagram}
-use Rattle.acct_service.specs.Machine.{Answer, replied, dropped, mute, Effect, added, failed, passed}
+use Rattle.acct_service.specs.Machine.{Answer, replied, dropped, mute, Effect, added, failed}
+use Rattle.acct_service.specs.Machine.{passed}
 use Rattle.acct_service.specs.Machine.{after_effect, AnswersDatagram, TakesStep}
 use Rattle.acct_service.proofs.Asking.{asked_some, reply_for}
 
@@ -56,10 +57,15 @@ drops config history after source bytes moment why.BalanceLimit judged step =
     let (asked, asks, over) = step.1 refl in
     (passed, (asked, asks, over, refl), step.0)
 drops config history after source bytes moment why.Unavailable judged step =
-    let (asked, asks) = asked_some config.clients source bytes moment (asking_of config.clients source bytes judged) in
+    let (asked, asks) =
+    asked_some config.clients source bytes moment (asking_of config.clients source bytes
+    judged) in
     (failed asked, (asked, asks, refl), step.0)
-drops config history after source bytes moment reason judged step =
-    (passed, (not_of_book config.clients source bytes reason (λ e. cc) (λ e. cc) judged, refl), step.0)
+drops config history after source bytes moment reason judged step = (
+  passed,
+  (not_of_book config.clients source bytes reason (λ e. cc) (λ e. cc) judged, refl),
+  step.0,
+)
 
 module _ {B : Type 0} (content : B → Content) (is_sound is_open is_steady : B → Type 0)
     (left : B → Content → Type 0) (old new : B) where
@@ -74,22 +80,37 @@ module _ {B : Type 0} (content : B → Content) (is_sound is_open is_steady : B 
       → TakesStep config moment (Datagram source port bytes) content is_sound is_open is_steady left
       old new (answer_by outcome after)
   datagram_step config source bytes before after moment port (Reply size) judged written step =
-      IsStep-map config.plans content is_sound is_open is_steady left old new (Unit {0}) ⊥ (Unit {0}) ⊥
-      (λ history later. wire.Steps config.clients config.plans source bytes moment (Reply size) history later)
+      IsStep-map config.plans content is_sound is_open is_steady left old new (Unit {0}) ⊥
+      (Unit {0}) ⊥
+      (λ history later. wire.Steps config.clients config.plans source bytes moment (Reply size)
+      history later)
       (λ history later. Leads config history source bytes moment (replied (take size after)) later)
       (λ asked. AsksFor config.clients source bytes moment asked)
-      (λ asked. AsksFor config.clients source bytes moment asked × (replied (take size after) ≢ mute))
+      (λ asked. AsksFor config.clients source bytes moment asked
+      × (replied (take size after) ≢ mute))
       step (λ told. told) (λ none. none)
-      (λ history later (asked, asks, admissible, is).
-      (added asked, (asked, reply_for config source bytes moment asked before after size asks written, admissible, refl), is))
+      (λ history later (asked, asks, admissible, is). (
+        added asked,
+        (
+          asked,
+          reply_for config source bytes moment asked before after size asks
+              written,
+          admissible,
+          refl,
+        ),
+        is,
+      ))
       (λ asked asks. (asks, λ clash. cc))
   datagram_step config source bytes before after moment port (Drop reason) judged written step =
-      IsStep-map config.plans content is_sound is_open is_steady left old new (reason ≡ why.BalanceLimit) (Unit {0})
+      IsStep-map config.plans content is_sound is_open is_steady left old new (reason
+      ≡ why.BalanceLimit) (Unit {0})
       (reason ≡ why.BalanceLimit) (Unit {0})
-      (λ history later. wire.Steps config.clients config.plans source bytes moment (Drop reason) history later)
+      (λ history later. wire.Steps config.clients config.plans source bytes moment (Drop reason)
+      history later)
       (λ history later. Leads config history source bytes moment (dropped reason) later)
       (λ asked. AsksFor config.clients source bytes moment asked)
       (λ asked. AsksFor config.clients source bytes moment asked × (dropped reason ≢ mute))
       step (λ told. told) (λ none. none)
-      (λ history later step_of. drops config history later source bytes moment reason judged step_of)
+      (λ history later step_of. drops config history later source bytes moment reason judged
+      step_of)
       (λ asked asks. (asks, λ clash. cc))

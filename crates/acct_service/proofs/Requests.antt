@@ -20,7 +20,8 @@ use Rattle.acct_desk.specs.Responses.{added_response, unavailable_response}
 use Rattle.acct_desk.proofs.AskLemmas.{one_ask}
 use Rattle.acct_files.specs.declared.config.Config.{Config}
 use Rattle.acct_service.specs.declared.event.What.TheVariants.{Desk}
-use Rattle.acct_service.specs.Machine.{Answer, replied, dropped, mute, Effect, added, repeated, failed}
+use Rattle.acct_service.specs.Machine.{Answer, replied, dropped, mute, Effect, added, repeated}
+use Rattle.acct_service.specs.Machine.{failed}
 use Rattle.acct_service.specs.Machine.{passed, after_effect, effect_of, AnswersAsk, AnswersRequest}
 use Rattle.acct_service.specs.Machine.{TakesStep}
 use Rattle.acct_service.specs.Machine as machine
@@ -55,8 +56,17 @@ answers plans history after (desk.refused refusal) octets (is, same) = (passed, 
 answers plans history after (me page account) octets (is, same) = (passed, (is, refl), same)
 answers plans history after overruns octets (is, same) = (passed, (is, refl), same)
 answers plans history after (credit topup) octets (recorded, tells, is) =
-    let same = told plans history after topup recorded tells in
-    (effect_of topup recorded, (recorded, subst (Tells plans history (entry.TopUp topup) recorded) same tells, is, refl), same)
+    let same = told plans history after topup recorded tells in (
+      effect_of topup recorded,
+      (
+        recorded,
+        subst (Tells plans history (entry.TopUp topup) recorded)
+            same tells,
+        is,
+        refl,
+      ),
+      same,
+    )
 
 asked_for : (config : Config) (bytes : List ℕ) (moment : ℕ) (ask : Ask) (asked : Entry)
     → desk.Asks config.keys bytes moment ask → handling.IsAskedFor ask asked
@@ -80,7 +90,8 @@ module _ {B E : Type 0} (content : B → Content) (is_sound is_open is_steady : 
       handling.Handles plans ask content is_sound is_open is_steady left old new result
 
   -- without a response nothing was tried
-  pub muted : (config : Config) (bytes : List ℕ) (moment : ℕ) (ask : Ask) (error : E) (asked : Entry)
+  pub muted : (config : Config) (bytes : List ℕ) (moment : ℕ) (ask : Ask) (error : E)
+      (asked : Entry)
       → handling.IsSettled ask old new (Err error) → handling.IsAskedFor ask asked → new ≡ old
   muted config bytes moment (desk.refused refusal) error asked settled for = settled.0
   muted config bytes moment (me page account) error asked settled for = absurd for
@@ -113,17 +124,24 @@ module _ {B E : Type 0} (content : B → Content) (is_sound is_open is_steady : 
       → desk.Asks config.keys bytes moment ask → Handled config.plans ask result
       → TakesStep config moment (Desk bytes) content is_sound is_open is_steady left old new
       (answer_by result)
-  request_step config bytes moment ask (Err error) asks h = mute_step config bytes moment ask error asks h
+  request_step config bytes moment ask (Err error) asks h =
+      mute_step config bytes moment ask error asks h
   request_step config bytes moment ask (Ok octets) asks h =
       IsStep-map config.plans content is_sound is_open is_steady left old new
-      (handling.IsOfBook ask × (octets.items ≢ unavailable_response)) (octets.items ≢ added_response)
-      (machine.IsAnswered config moment (Desk bytes) (replied octets.items)) (octets.items ≢ added_response)
+      (handling.IsOfBook ask × (octets.items ≢ unavailable_response))
+      (octets.items ≢ added_response)
+      (machine.IsAnswered config moment (Desk bytes) (replied octets.items))
+      (octets.items ≢ added_response)
       (λ history after. handling.Steps config.plans history ask octets.items after)
       (λ history after. Leads config history bytes moment (replied octets.items) after)
       (λ asked. handling.IsAskedFor ask asked)
       (λ asked. machine.AsksFor config moment (Desk bytes) asked × (replied octets.items ≢ mute))
       h.step
-      (λ (other, asks_it, of_book, told_it). (same_ask config bytes moment ask other asks asks_it of_book, told_it))
+      (λ (other, asks_it, of_book, told_it). (
+        same_ask config bytes moment ask other asks asks_it
+            of_book,
+        told_it,
+      ))
       (λ not_added. not_added)
       (λ history after step.
       let (effect, answers_it, is) = answers config.plans history after ask octets.items step in

@@ -19,7 +19,8 @@ use Rattle.acct_service.specs.declared.server.Served.{Served}
 use Rattle.acct_service.specs.Machine.{Answer, Effect, failed, after_effect, Visit, Step, Run}
 use Rattle.acct_service.specs.Machine.{TakesStep}
 use Rattle.acct_service.specs.Told.{Told, Grows}
-use Rattle.acct_service.specs.Serving.{reply_of, is_replied, place_of, is_dropped_for, is_mute, Counts}
+use Rattle.acct_service.specs.Serving.{reply_of, is_replied, place_of, is_dropped_for, is_mute}
+use Rattle.acct_service.specs.Serving.{Counts}
 use Rattle.acct_service.specs.Serving.{HasFailed, MayLeave, Serves, Keeps, AtMost}
 use Rattle.acct_service.proofs.Crashes.{leaves}
 
@@ -77,20 +78,30 @@ counts_more : (visits : List Visit) (visit : Visit) (old new : Served) → Count
 counts_more visits visit old new counts one = record {
   events = omega (arith, counts.events, one.events, length-append visits (visit ∷ []));
   replies = omega (arith, counts.replies, one.replies, count_by-more is_replied visits visit);
-  dropped = λ reason. omega (arith, counts.dropped reason, one.dropped reason, count_by-more (is_dropped_for reason) visits visit);
+  dropped =
+      λ reason. omega (
+        arith,
+        counts.dropped reason,
+        one.dropped reason,
+        count_by-more
+            (is_dropped_for reason) visits visit,
+      );
   mute = omega (arith, counts.mute, one.mute, count_by-more is_mute visits visit);
 }
 
 more_failed : (visits : List Visit) (visit : Visit) (asked : Entry) → HasFailed visits asked
     → HasFailed (visits ++ visit ∷ []) asked
 more_failed visits visit asked has =
-    subst (λ es. Contains es (failed asked)) (sym (map-append (λ (v : Visit). v.effect) visits (visit ∷ [])))
-    (Contains-append_left (map (λ (v : Visit). v.effect) visits) (visit.effect ∷ []) (failed asked) has)
+    subst (λ es. Contains es (failed asked))
+    (sym (map-append (λ (v : Visit). v.effect) visits (visit ∷ [])))
+    (Contains-append_left (map (λ (v : Visit). v.effect) visits) (visit.effect ∷ []) (failed asked)
+    has)
 
 this_failed : (visits : List Visit) (visit : Visit) (asked : Entry) → visit.effect ≡ failed asked
     → HasFailed (visits ++ visit ∷ []) asked
 this_failed visits visit asked is =
-    subst (λ es. Contains es (failed asked)) (sym (map-append (λ (v : Visit). v.effect) visits (visit ∷ [])))
+    subst (λ es. Contains es (failed asked))
+    (sym (map-append (λ (v : Visit). v.effect) visits (visit ∷ [])))
     (subst (λ e. Contains (map (λ (v : Visit). v.effect) visits ++ visit.effect ∷ []) e) is
     (Contains-push (map (λ (v : Visit). v.effect) visits) visit.effect))
 
@@ -134,13 +145,18 @@ module _ {B : Type 0} (content : B → Content) (is_sound is_open is_steady : B 
     stands = s.stands;
     leaves = s.leaves;
     told =
-        let both = grows_twice told now later (map (λ (v : Visit). v.event) s.visits) [] (filter_map reply_of s.visits) [] s.told grows in
-        subst (λ rs. Grows told (map (λ (v : Visit). v.event) s.visits) rs later) (append-nil (filter_map reply_of s.visits))
-        (subst (λ es. Grows told es (filter_map reply_of s.visits ++ []) later) (append-nil (map (λ (v : Visit). v.event) s.visits)) both);
+        let both =
+        grows_twice told now later (map (λ (v : Visit). v.event) s.visits) []
+        (filter_map reply_of s.visits) [] s.told grows in
+        subst (λ rs. Grows told (map (λ (v : Visit). v.event) s.visits) rs later)
+        (append-nil (filter_map reply_of s.visits))
+        (subst (λ es. Grows told es (filter_map reply_of s.visits ++ []) later)
+        (append-nil (map (λ (v : Visit). v.event) s.visits)) both);
     counts = record {
       events = events ∙ s.counts.events;
       replies = replies ∙ s.counts.replies;
-      dropped = λ reason. ap (λ xs. slice_index xs (place_of reason)) dropped ∙ s.counts.dropped reason;
+      dropped =
+          λ reason. ap (λ xs. slice_index xs (place_of reason)) dropped ∙ s.counts.dropped reason;
       mute = mute ∙ s.counts.mute;
     };
   }
@@ -159,9 +175,14 @@ module _ {B : Type 0} (content : B → Content) (is_sound is_open is_steady : B 
   leaves_more before next visit book new so_far step only c may = elim (step c may) [
     | inl stands ↦ inl stands
     | inr (same, inl was) ↦
-        subst (λ h. MayLeave config.plans h (HasFailed (before ++ visit ∷ [])) c) (sym same) (elim (so_far only c was) [
+        subst (λ h. MayLeave config.plans h (HasFailed (before ++ visit ∷ [])) c) (sym same)
+        (elim (so_far only c was) [
           | inl stands ↦ inl stands
-          | inr (asked, failed_it, adds) ↦ inr (asked, more_failed before visit asked failed_it, adds)
+          | inr (asked, failed_it, adds) ↦ inr (
+            asked,
+            more_failed before visit asked failed_it,
+            adds,
+          )
         ])
     | inr (same, inr (asked, is, adds)) ↦
         subst (λ h. MayLeave config.plans h (HasFailed (before ++ visit ∷ [])) c) (sym same)
@@ -175,23 +196,39 @@ module _ {B : Type 0} (content : B → Content) (is_sound is_open is_steady : B 
       → is_sound new
       → TakesStep config event.moment event.what content is_sound is_open is_steady left book new
       answer
-      → ((effect : Effect) → let visit : Visit = record { event = event; answer = answer; effect = effect; is_taken = is_taken } in
+      → ((effect : Effect)
+      → let visit : Visit = record {
+        event = event;
+        answer = answer;
+        effect = effect;
+        is_taken =
+            is_taken;
+      } in
       Grows now (event ∷ []) (filter_map reply_of (visit ∷ [])) later × CountsOne visit was is)
       → Serves content is_open left config history start new told later is
   serves_more book new now later was is event answer is_taken s sound t shows =
       let (after, (effect, says, same), stands) = t.step sound s.after s.stands in
-      let visit : Visit = record { event = event; answer = answer; effect = effect; is_taken = is_taken } in
+      let visit : Visit =
+      record { event = event; answer = answer; effect = effect; is_taken = is_taken } in
       let stood = subst (λ h. StoodFor config.plans content is_open new h) same stands in
       record {
         visits = s.visits ++ visit ∷ [];
         after = after_effect s.after effect;
-        run = run_more config history s.after (after_effect s.after effect) s.visits visit s.run (says, refl);
+        run = run_more config history s.after (after_effect s.after effect) s.visits visit s.run
+            (says, refl);
         stands = stood;
         leaves = leaves_more s.visits s.after visit book new s.leaves
-            (leaves content is_sound is_open is_steady left book new config event.moment event.what answer s.after effect t sound s.stands stood says);
+            (leaves content is_sound is_open is_steady left book new config event.moment event.what
+            answer s.after effect t sound s.stands stood says);
         told =
-            let both = grows_twice told now later (map (λ (v : Visit). v.event) s.visits) (event ∷ []) (filter_map reply_of s.visits) (filter_map reply_of (visit ∷ [])) s.told (shows effect).0 in
-            subst (λ rs. Grows told (map (λ (v : Visit). v.event) (s.visits ++ visit ∷ [])) rs later) (sym (filter_map-append reply_of s.visits (visit ∷ [])))
-            (subst (λ es. Grows told es (filter_map reply_of s.visits ++ filter_map reply_of (visit ∷ [])) later) (sym (map-append (λ (v : Visit). v.event) s.visits (visit ∷ []))) both);
+            let both =
+            grows_twice told now later (map (λ (v : Visit). v.event) s.visits) (event ∷ [])
+            (filter_map reply_of s.visits) (filter_map reply_of (visit ∷ [])) s.told
+            (shows effect).0 in
+            subst (λ rs. Grows told (map (λ (v : Visit). v.event) (s.visits ++ visit ∷ [])) rs
+            later) (sym (filter_map-append reply_of s.visits (visit ∷ [])))
+            (subst (λ es. Grows told es (filter_map reply_of s.visits ++ filter_map reply_of
+            (visit ∷ [])) later)
+            (sym (map-append (λ (v : Visit). v.event) s.visits (visit ∷ []))) both);
         counts = counts_more s.visits visit was is s.counts (shows effect).1;
       }

@@ -109,8 +109,8 @@ pub record Keeps {B : Type 0} (is_sound is_open is_steady : B → Type 0) (old n
 
 -- ---- the headline
 
--- From a history to the one after it: there is a list of visits, each an event with its answer,
--- and it is a run of the machine.
+-- From a history to the one after it: there is a list of visits, each an event with its answer, and
+-- it is a run of the machine.
 pub record Serves {B : Type 0} (content : B → Content) (is_open : B → Type 0)
     (left : B → Content → Type 0) (config : Config) (history : List Entry) (old new : B)
     (old_told new_told : Option Told) (served : Served) : Type 0 where

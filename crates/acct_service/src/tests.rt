@@ -299,6 +299,44 @@ fn a_refused_call_changes_nothing(rt: HostRuntime) -> Result<(), Fail> {
     Ok(())
 }
 
+// The same event, whose reply is not taken.
+fn lost(sent: Sent) -> Sent {
+    match sent {
+        Sent::Packet(identifier, octets) => Sent::LostPacket(identifier, octets),
+        Sent::Desk(octets) => Sent::LostDesk(octets),
+        other => other,
+    }
+}
+
+// Whether the balances are those that the replies tell, and the faults, where one turn fails, or
+// its reply is lost.
+fn with_fault(alloc: Global, place: usize, is_lost: bool) -> Result<(bool, u64), Fail> {
+    let mut turns = BUSY;
+    let Some(turn) = turns.get_mut(place) else {
+        return Err(Fail::from("no such turn"));
+    };
+    *turn = if is_lost { lost(*turn) } else { Sent::Fails };
+    let mut site = Site::over(alloc, MemBook::new(alloc))?;
+    let (served, exchange) = site.serve(&turns)?;
+    let kept = (site.balance(b"al"), site.balance(b"bo"));
+    Ok((kept == told_balances(&exchange), served.faults))
+}
+
+#[test]
+fn a_fault_at_any_turn_loses_nothing(rt: HostRuntime) -> Result<(), Fail> {
+    for place in 0..BUSY.len() {
+        assert!(rt;
+            with_fault(rt.alloc(), place, false)? == (true, 1),
+            "turn {place}"
+        );
+        assert!(rt;
+            with_fault(rt.alloc(), place, true)? == (true, 1),
+            "reply {place}"
+        );
+    }
+    Ok(())
+}
+
 // Memory may be refused at any place of this test. What was told then is kept; an exchange that is
 // refused memory counts a fault, and tells no more.
 #[test]
