@@ -21,4 +21,5 @@ mod WalkLemmas
 mod ListLemmas
 mod IdLemmas
 mod LookLemmas
+mod NumberLemmas
 mod PlanLemmas

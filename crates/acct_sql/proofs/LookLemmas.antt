@@ -108,3 +108,10 @@ pub has_after : (a b : State) → OnlyLooks a b → HasSchema a → (HasCleanDis
     → HasSchema b
 has_after a b look has o clean = ap (λ (d : Database). d.schema) (look.same clean (o clean))
     ∙ has (omega (arith, look.survives.clean, clean))
+
+-- ---- why a call was refused
+
+pub blamed : {T E : Type 0} {P Q : E → Type 0} (r : Result T E) → ((e : E) → P e → Q e) → IfErr r P
+    → IfErr r Q
+blamed (Ok x) f h = tt
+blamed (Err e) f h = f e h

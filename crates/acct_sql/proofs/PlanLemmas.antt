@@ -1,15 +1,9 @@
--- What the queries for the schema number and the plans show.
-use Rattle.std.proofs.Common.{◌≡◌, inl, ℕ, ℤ, List, [], ◌∷◌, codes, true, false, Option, Some}
-use Rattle.std.proofs.Common.{IsTrue, length, get_or, ◌≤◌, refl, sym, ap, subst, ◌∙◌, arith}
-use Rattle.std.proofs.lemmas.Bool.{and_parts}
-use Rattle.std.specs.List.{AllByRecursion}
-use Rattle.sqlite.specs.declared.types.Value.{Value}
-use Rattle.sqlite.specs.declared.types.Value.TheVariants.{Null, Int, Text}
-use Rattle.sqlite.specs.Collation.TheVariants.{Binary}
-use Rattle.sqlite_sql.specs.declared.ops.BinaryOp.TheVariants.{Compare}
-use Rattle.sqlite_sql.specs.declared.ops.CompareOp.TheVariants.{Eq}
-use Rattle.sqlite.specs.Order.{Row, column}
-use Rattle.sqlite.specs.Term.{Term, lit, col, op2, eval_all}
+-- What the query for the plans shows.
+use Rattle.std.proofs.Common.{◌≡◌, ℕ, List, [], ◌∷◌, codes, true, false, IsTrue, length, get_or}
+use Rattle.std.proofs.Common.{◌≤◌, refl, sym, ap, subst, ◌∙◌, arith}
+use Rattle.sqlite.specs.declared.types.Value.TheVariants.{Null}
+use Rattle.sqlite.specs.Order.{Row}
+use Rattle.sqlite.specs.Term.{Term, col, eval_all}
 use Rattle.sqlite.specs.Query.{IsAnswerAs}
 use Rattle.sqlite.specs.Command.TheVariants.{Select}
 use Rattle.sqlite.specs.Program.{overlay}
@@ -20,37 +14,12 @@ use Rattle.sqlite.specs.Held.{Held, state}
 use Rattle.sqlite.specs.State.{State, HasCleanDisk, IsRolledBack, Survives, Shown}
 use Rattle.sqlite.proofs.StateLemmas.{survives_then}
 use Rattle.sqlite.proofs.Callers.{IsPlain, command_of, reads_as, survives_begin}
-use Rattle.sqlite_rules.proofs.ListLemmas.{all_has}
+use Rattle.sqlite_rules.proofs.ListLemmas.{all_has, all_from}
 use Rattle.acct_model.specs.declared.plan.Plan.{Plan}
 use Rattle.acct_sql.specs.Tables.{book_schema}
-use Rattle.acct_sql.specs.Book.{first_row}
-use Rattle.acct_sql.specs.Make.{HasNumber, KeepsPlans, IsPlanRow}
-use Rattle.acct_sql.specs.Look.{ShowsPlan, IsShownIn, IsPlanIn, IsIdle, OnlyLooks}
+use Rattle.acct_sql.specs.Make.{KeepsPlans, IsPlanRow}
+use Rattle.acct_sql.specs.Look.{ShowsPlan, IsShownIn, IsPlanIn, AreShown, IsIdle, OnlyLooks}
 use Rattle.acct_sql.proofs.QueryLemmas.{over_table, all_rows, shown_has, has_shown, seen_bare}
-use Rattle.acct_sql.proofs.ValueLemmas.{equal_text}
-
-abbrev pub schema_text : List ℕ
-schema_text = codes "SELECT value FROM meta WHERE name = 'schema'"
-
-abbrev schema_filter : List Term
-schema_filter = op2 (Compare Eq Binary) (col 1 1) (lit (Text (codes "schema"))) ∷ []
-
-abbrev value_shown : List Term
-value_shown = col 1 2 ∷ []
-
-schema_is : command_of (understood book_schema schema_text)
-    ≡ Select (record { lets = []; body = over_table 0 schema_filter value_shown [] all_rows })
-    (codes "value" ∷ [])
-unfolding understood everything
-schema_is = refl
-
-schema_unlisted : reads_listing book_schema schema_text ≡ false
-unfolding understood everything
-schema_unlisted = refl
-
-pub schema_plain : IsPlain (understood book_schema schema_text)
-unfolding understood everything
-schema_plain = (refl, refl)
 
 abbrev pub plans_text : List ℕ
 plans_text = codes "SELECT class, block, unit FROM price_plan"
@@ -72,55 +41,47 @@ pub plans_plain : IsPlain (understood book_schema plans_text)
 unfolding understood everything
 plans_plain = (refl, refl)
 
-some_is : (v w : Value) → ◌≡◌ {A = Option Value} (Some v) (Some w) → v ≡ w
-some_is v w e = cc
+module _ (old new : State) (rows : List Row) (plans : List Plan) (has : old.now.schema ≡ book_schema)
+    (h : Shown plans_text [] old new rows) where
+  answer : IsAnswerAs Null (over_table 2 [] plan_shown [] all_rows) old.now.trees [] rows
+  answer = seen_bare 2 [] plan_shown [] all_rows Null (overlay old.now.trees []) old.now.trees []
+      rows refl
+      ((reads_as plans_text [] old new book_schema has _ plans_is plans_plain plans_unlisted rows
+      h).answer Null)
 
-pub number_shown : (old new : State) (rows : List Row) (n : ℤ) → old.now.schema ≡ book_schema
-    → Shown schema_text [] old new rows → first_row (λ row. column row 0) rows ≡ Some (Int n)
-    → HasNumber n old.now.trees
-number_shown old new rows n has h first =
-    go rows (seen_bare 0 schema_filter value_shown [] all_rows Null (overlay old.now.trees [])
-    old.now.trees [] rows refl
-    ((reads_as schema_text [] old new book_schema has _ schema_is schema_plain schema_unlisted
-    rows h).answer Null)) first
-  where
-    go : (shown : List Row) → IsAnswerAs Null (over_table 0 schema_filter value_shown [] all_rows)
-        old.now.trees [] shown → first_row (λ row. column row 0) shown ≡ Some (Int n)
-        → HasNumber n old.now.trees
-    go [] a none = absurd cc
-    go (row ∷ more) a is =
-        let r = shown_has 0 schema_filter value_shown [] Null old.now.trees [] (row ∷ more) a row
-        (inl refl) in (
-          r.0,
-          r.1,
-          equal_text (column r.0 1) (codes "schema") (and_parts _ _ r.2).0,
-          sym (ap (λ s. column s 0) r.3) ∙ some_is _ _ is,
-        )
+  says : (plan : Plan) (r : Row) → ShowsPlan plan (eval_all plan_shown ([] ∷ r ∷ []))
+      → IsPlanRow plan r
+  says plan r shows = record { class = shows.class; block = shows.block; unit = shows.unit }
 
-pub plans_shown : (old new : State) (rows : List Row) (plans : List Plan) → old.now.schema
-    ≡ book_schema → Shown plans_text [] old new rows
-    → AllByRecursion (IsShownIn rows) plans → AllByRecursion (IsPlanIn plans) rows
-    → KeepsPlans plans old.now.trees
-plans_shown old new rows plans has h each only = record {
-  each = λ plan there.
-      let row = all_has (IsShownIn rows) plans plan each there in
-      let r = shown_has 2 [] plan_shown [] Null old.now.trees [] rows answer row.0 row.1 in
-      (r.0, r.1, says plan r.0 (subst (ShowsPlan plan) r.3 row.2));
-  only = λ r there.
-      let plan = all_has (IsPlanIn plans) rows (eval_all plan_shown ([] ∷ r ∷ [])) only
-      (has_shown 2 [] plan_shown [] Null old.now.trees [] rows answer r there refl) in
-      (plan.0, plan.1, says plan.0 r plan.2);
-}
-  where
-    answer : IsAnswerAs Null (over_table 2 [] plan_shown [] all_rows) old.now.trees [] rows
-    answer = seen_bare 2 [] plan_shown [] all_rows Null (overlay old.now.trees []) old.now.trees []
-        rows refl
-        ((reads_as plans_text [] old new book_schema has _ plans_is plans_plain plans_unlisted rows
-        h).answer Null)
+  is_said : (plan : Plan) (r : Row) → IsPlanRow plan r
+      → ShowsPlan plan (eval_all plan_shown ([] ∷ r ∷ []))
+  is_said plan r says = record { class = says.class; block = says.block; unit = says.unit }
 
-    says : (plan : Plan) (r : Row) → ShowsPlan plan (eval_all plan_shown ([] ∷ r ∷ []))
-        → IsPlanRow plan r
-    says plan r shows = record { class = shows.class; block = shows.block; unit = shows.unit }
+  pub plans_shown : AreShown plans rows → KeepsPlans plans old.now.trees
+  plans_shown shown = record {
+    each = λ plan there.
+        let row = all_has (IsShownIn rows) plans plan shown.0 there in
+        let r = shown_has 2 [] plan_shown [] Null old.now.trees [] rows answer row.0 row.1 in
+        (r.0, r.1, says plan r.0 (subst (ShowsPlan plan) r.3 row.2));
+    only = λ r there.
+        let plan = all_has (IsPlanIn plans) rows (eval_all plan_shown ([] ∷ r ∷ [])) shown.1
+        (has_shown 2 [] plan_shown [] Null old.now.trees [] rows answer r there refl) in
+        (plan.0, plan.1, says plan.0 r plan.2);
+  }
+
+  pub shown_plans : KeepsPlans plans old.now.trees → AreShown plans rows
+  shown_plans kept = (
+    all_from (IsShownIn rows) plans (λ plan there.
+        let r = kept.each plan there in (
+          eval_all plan_shown ([] ∷ r.0 ∷ []),
+          has_shown 2 [] plan_shown [] Null old.now.trees [] rows answer r.0 r.1 refl,
+          is_said plan r.0 r.2,
+        )),
+    all_from (IsPlanIn plans) rows (λ row there.
+        let r = shown_has 2 [] plan_shown [] Null old.now.trees [] rows answer row there in
+        let plan = kept.only r.0 r.1 in
+        (plan.0, plan.1, subst (ShowsPlan plan.0) (sym r.3) (is_said plan.0 r.0 plan.2))),
+  )
 
 -- ---- a list of one
 

@@ -1,5 +1,6 @@
 //! Whether a database is a book, by queries that change nothing.
-ghost use Rattle.std.specs.Prelude.{◌≡◌, pos, Some, [], IsTrue, IfOk, IfSome, OnOk, map};
+ghost use Rattle.std.specs.Prelude.{◌≡◌, ◌≢◌, ◌↔◌, ℤ, pos, [], IsTrue, IfOk, IfErr, OnOk, map};
+ghost use Rattle.std.specs.Prelude.{List, MatchOption, MatchResult};
 ghost use Rattle.std.specs.Ordering.{int_cmp};
 ghost use Rattle.std.specs.declared.cmp.Ordering.TheVariants.{Less};
 ghost use Rattle.std.specs.List.{AllByRecursion};
@@ -10,12 +11,16 @@ ghost use Rattle.sqlite.specs.Given.{IsPlain};
 ghost use Rattle.sqlite.specs.Listing.{understood};
 ghost use Rattle.sqlite.specs.Edit.{id_in};
 ghost use Rattle.sqlite_value.specs.Order.{column};
+ghost use Rattle.sqlite_value.specs.Value.{owned};
 ghost use Rattle.sqlite_value.specs.declared.value.Value.TheVariants.{Int, Blob};
 ghost use Rattle.acct_sql.specs.Tables.{book_schema};
 ghost use Rattle.acct_sql.specs.Tidy.{IsTidy};
-ghost use Rattle.acct_sql.specs.Book.{IsBook, first_row};
-ghost use Rattle.acct_sql.specs.Make.{HasNumber, KeepsPlans};
+ghost use Rattle.acct_model.specs.declared.plan.Plan.{Plan};
+ghost use Rattle.acct_sql.specs.Book.{IsBook, HasShown};
+ghost use Rattle.acct_sql.specs.Make.{KeepsPlans};
 ghost use Rattle.acct_sql.specs.Look.{IsIdle, OnlyLooks, HasSchema, ShowsPlan, IsShownIn, IsPlanIn};
+ghost use Rattle.acct_sql.specs.Look.{AreShown, IsNumber, IsNumberFault, IsPlanFault, IsRefusedAs};
+ghost use Rattle.acct_sql.specs.Look.{HasNumberAlone, is_failure};
 
 use crate::book_schema::is_book_schema;
 use crate::sql_book_error::SqlBookError;
@@ -44,6 +49,7 @@ fn peek<S: Alter>(conn: &mut Connection<S>, sql: &str) -> Result<Vec<sqlite::Row
     ensures shown { HasCleanDisk (state S.Store conn.new)
         → IfOk result (λ rows. Shown sql.now [] (state S.Store conn.old) (state S.Store conn.new)
         rows.items) }
+    ensures fault { IfErr result (λ e. e ≡ SqlBookError.Unavailable) }
 {
     match conn.query_all(sql, &[]) {
         Ok(rows) => Ok(rows),
@@ -64,6 +70,7 @@ pub(crate) fn check_rowids<S: Alter>(conn: &mut Connection<S>) -> Result<(), Sql
         → OnOk result (IsTidy ((state S.Store conn.old).now.trees 6)) }
     ensures sessions { HasCleanDisk (state S.Store conn.new)
         → OnOk result (IsTidy ((state S.Store conn.old).now.trees 8)) }
+    ensures fault { IfErr result (λ e. e ≡ SqlBookError.Unavailable) }
 {
     check_accounts(conn)?;
     check_vouchers(conn)?;
@@ -78,6 +85,7 @@ fn check_accounts<S: Alter>(conn: &mut Connection<S>) -> Result<(), SqlBookError
         → OnOk result (IsTrue (state S.Store conn.new).is_open) }
     ensures tidy { HasCleanDisk (state S.Store conn.new)
         → OnOk result (IsTidy ((state S.Store conn.old).now.trees 4)) }
+    ensures fault { IfErr result (λ e. e ≡ SqlBookError.Unavailable) }
 {
     let rows = peek(conn, ACCOUNT_IDS)?;
     if are_ids(&rows) && ids_ascend(&rows) {
@@ -95,6 +103,7 @@ fn check_vouchers<S: Alter>(conn: &mut Connection<S>) -> Result<(), SqlBookError
         → OnOk result (IsTrue (state S.Store conn.new).is_open) }
     ensures tidy { HasCleanDisk (state S.Store conn.new)
         → OnOk result (IsTidy ((state S.Store conn.old).now.trees 6)) }
+    ensures fault { IfErr result (λ e. e ≡ SqlBookError.Unavailable) }
 {
     let rows = peek(conn, VOUCHER_IDS)?;
     if are_ids(&rows) && ids_ascend(&rows) {
@@ -112,6 +121,7 @@ fn check_sessions<S: Alter>(conn: &mut Connection<S>) -> Result<(), SqlBookError
         → OnOk result (IsTrue (state S.Store conn.new).is_open) }
     ensures tidy { HasCleanDisk (state S.Store conn.new)
         → OnOk result (IsTidy ((state S.Store conn.old).now.trees 8)) }
+    ensures fault { IfErr result (λ e. e ≡ SqlBookError.Unavailable) }
 {
     let rows = peek(conn, SESSION_IDS)?;
     if are_ids(&rows) && ids_ascend(&rows) {
@@ -156,9 +166,23 @@ fn id_precedes(row: &sqlite::Row, next: &sqlite::Row) -> bool
 }
 
 fn id_of(row: &sqlite::Row) -> Option<i64>
-    ensures { IfSome result (λ id. column row.now 0 ≡ Int id) }
+    ensures { MatchOption result ((id : ℤ) → column row.now 0 ≢ Int id)
+        (λ id. column row.now 0 ≡ Int id) }
 {
-    row.get(0).ok()
+    match value_at(row, 0) {
+        ValueRef::Int(id) => Some(id),
+        _ => None,
+    }
+}
+
+// The value of a column, NULL past the last one.
+fn value_at(row: &sqlite::Row, at: usize) -> ValueRef<'_>
+    ensures { owned result ≡ column row.now at }
+{
+    match row.get_ref(at) {
+        Ok(value) => value,
+        Err(_) => ValueRef::Null,
+    }
 }
 
 /// Whether a database is the book of these plans, by the tests in their order.
@@ -170,9 +194,11 @@ pub(crate) fn examine<S: Alter>(conn: &mut Connection<S>, plans: &Plans) -> Resu
     ensures book { HasCleanDisk (state S.Store conn.new)
         → OnOk result (IsBook (state S.Store conn.new).now) }
     ensures number { HasCleanDisk (state S.Store conn.new)
-        → OnOk result (HasNumber (pos 1) (state S.Store conn.new).now.trees) }
+        → OnOk result (HasNumberAlone (pos 1) (state S.Store conn.new).now.trees) }
     ensures plans { HasCleanDisk (state S.Store conn.new)
         → OnOk result (KeepsPlans plans.now (state S.Store conn.new).now.trees) }
+    ensures refused { HasCleanDisk (state S.Store conn.new)
+        → IfErr result (IsRefusedAs plans.now (state S.Store conn.old).now) }
 {
     if is_book_schema(conn.schema()) {
         examine_book(conn, plans.list())
@@ -189,7 +215,7 @@ fn examine_book<S: Alter>(conn: &mut Connection<S>, plans: &[Plan]) -> Result<()
     ensures open { HasCleanDisk (state S.Store conn.new)
         → OnOk result (IsTrue (state S.Store conn.new).is_open) }
     ensures number { HasCleanDisk (state S.Store conn.new)
-        → OnOk result (HasNumber (pos 1) (state S.Store conn.old).now.trees) }
+        → OnOk result (HasNumberAlone (pos 1) (state S.Store conn.old).now.trees) }
     ensures plans { HasCleanDisk (state S.Store conn.new)
         → OnOk result (KeepsPlans plans.now (state S.Store conn.old).now.trees) }
     ensures accounts { HasCleanDisk (state S.Store conn.new)
@@ -198,6 +224,8 @@ fn examine_book<S: Alter>(conn: &mut Connection<S>, plans: &[Plan]) -> Result<()
         → OnOk result (IsTidy ((state S.Store conn.old).now.trees 6)) }
     ensures sessions { HasCleanDisk (state S.Store conn.new)
         → OnOk result (IsTidy ((state S.Store conn.old).now.trees 8)) }
+    ensures refused { HasCleanDisk (state S.Store conn.new)
+        → IfErr result (IsRefusedAs plans.now (state S.Store conn.old).now) }
 {
     check_number(conn)?;
     check_plans(conn, plans)?;
@@ -212,24 +240,37 @@ fn check_number<S: Alter>(conn: &mut Connection<S>) -> Result<(), SqlBookError>
     ensures open { HasCleanDisk (state S.Store conn.new)
         → OnOk result (IsTrue (state S.Store conn.new).is_open) }
     ensures number { HasCleanDisk (state S.Store conn.new)
-        → OnOk result (HasNumber (pos 1) (state S.Store conn.old).now.trees) }
+        → OnOk result (HasNumberAlone (pos 1) (state S.Store conn.old).now.trees) }
+    ensures refused { HasCleanDisk (state S.Store conn.new) → IfErr result
+        (λ e. (plans : List Plan) → IsRefusedAs plans (state S.Store conn.old).now e) }
 {
     let rows = peek(conn, NUMBER)?;
-    match first_number(&rows) {
+    judge_number(&rows)
+}
+
+// Judges the answer of the query for the schema number: one row, which has the number 1.
+fn judge_number(rows: &[sqlite::Row]) -> Result<(), SqlBookError>
+    ensures ok { OnOk result (IsNumber (pos 1) rows.now) }
+    ensures err { IfErr result (IsNumberFault rows.now) }
+{
+    let [row] = rows else {
+        return Err(fault_of_many(rows));
+    };
+    match id_of(row) {
         Some(1) => Ok(()),
         Some(number) => Err(SqlBookError::WrongSchema(number)),
         None => Err(SqlBookError::NotABook),
     }
 }
 
-// The number that a query shows first.
-fn first_number(rows: &[sqlite::Row]) -> Option<i64>
-    ensures { IfSome result
-        (λ number. first_row (λ row. column row 0) rows.now ≡ Some (Int number)) }
+// The same of an answer that isn't one row.
+fn fault_of_many(rows: &[sqlite::Row]) -> SqlBookError
+    ensures { IsNumberFault rows.now result }
 {
-    match rows.first() {
-        None => None,
-        Some(row) => id_of(row),
+    if rows.is_empty() {
+        SqlBookError::NotABook
+    } else {
+        SqlBookError::Unavailable
     }
 }
 
@@ -242,9 +283,11 @@ fn check_plans<S: Alter>(conn: &mut Connection<S>, plans: &[Plan]) -> Result<(),
         → OnOk result (IsTrue (state S.Store conn.new).is_open) }
     ensures plans { HasCleanDisk (state S.Store conn.new)
         → OnOk result (KeepsPlans plans.now (state S.Store conn.old).now.trees) }
+    ensures fault { HasCleanDisk (state S.Store conn.new)
+        → IfErr result (IsPlanFault plans.now (state S.Store conn.old).now.trees) }
 {
     let rows = peek(conn, PLANS)?;
-    if are_shown(plans, &rows) && are_plans(&rows, plans) {
+    if are_kept(plans, &rows) {
         Ok(())
     } else {
         Err(SqlBookError::PlansDiffer)
@@ -255,14 +298,15 @@ fn check_plans<S: Alter>(conn: &mut Connection<S>, plans: &[Plan]) -> Result<(),
 fn fault_of_other<S: Alter>(conn: &mut Connection<S>) -> SqlBookError
     requires { IsIdle (state S.Store conn.old) }
     ensures looks { OnlyLooks (state S.Store conn.old) (state S.Store conn.new) }
+    ensures refused { HasCleanDisk (state S.Store conn.new)
+        → (plans : List Plan) → IsRefusedAs plans (state S.Store conn.old).now result }
 {
     match glance(conn) {
         Err(error) if is_failure(&error) => SqlBookError::Unavailable,
         Err(_) => SqlBookError::NotABook,
-        Ok(rows) => match first_number(&rows) {
-            None => SqlBookError::NotABook,
-            Some(1) => SqlBookError::Unavailable,
-            Some(number) => SqlBookError::WrongSchema(number),
+        Ok(rows) => match judge_number(&rows) {
+            Ok(()) => SqlBookError::Unavailable,
+            Err(fault) => fault,
         },
     }
 }
@@ -270,14 +314,20 @@ fn fault_of_other<S: Alter>(conn: &mut Connection<S>) -> SqlBookError
 // What the query for the schema number shows under any tables. What it might do is undone.
 fn glance<S: Alter>(conn: &mut Connection<S>) -> Result<Vec<sqlite::Row>, Error>
     requires { IsIdle (state S.Store conn.old) }
-    ensures { OnlyLooks (state S.Store conn.old) (state S.Store conn.new) }
+    ensures looks { OnlyLooks (state S.Store conn.old) (state S.Store conn.new) }
+    ensures shown { HasCleanDisk (state S.Store conn.new)
+        → (state S.Store conn.old).now.schema ≡ book_schema
+        → MatchResult result (λ rows. HasShown S.Store conn.old NUMBER.now [] rows.items)
+        (λ e. IsTrue (is_failure e)) }
 {
     let mut tx = conn.transaction();
     tx.query_all(NUMBER, &[])
 }
 
 // The store or memory failed, or the limit on steps was met.
-fn is_failure(error: &Error) -> bool {
+fn is_failure(error: &Error) -> bool
+    ensures { result ≡ is_failure error.now }
+{
     matches!(
         error,
         Error::SqliteFailure(
@@ -292,9 +342,16 @@ fn is_failure(error: &Error) -> bool {
     )
 }
 
+// The rows show these plans and nothing else.
+fn are_kept(plans: &[Plan], rows: &[sqlite::Row]) -> bool
+    ensures { IsTrue result ↔ AreShown plans.now rows.now }
+{
+    are_shown(plans, rows) && are_plans(rows, plans)
+}
+
 // Each plan is shown by a row.
 fn are_shown(plans: &[Plan], rows: &[sqlite::Row]) -> bool
-    ensures { IsTrue result → AllByRecursion (IsShownIn rows.now) plans.now }
+    ensures { IsTrue result ↔ AllByRecursion (IsShownIn rows.now) plans.now }
 {
     for plan in plans {
         if !is_shown(plan, rows) {
@@ -305,7 +362,7 @@ fn are_shown(plans: &[Plan], rows: &[sqlite::Row]) -> bool
 }
 
 fn is_shown(plan: &Plan, rows: &[sqlite::Row]) -> bool
-    ensures { IsTrue result → IsShownIn rows.now plan.now }
+    ensures { IsTrue result ↔ IsShownIn rows.now plan.now }
 {
     for row in rows {
         if shows_plan(row, plan) {
@@ -317,7 +374,7 @@ fn is_shown(plan: &Plan, rows: &[sqlite::Row]) -> bool
 
 // Each row shows a plan.
 fn are_plans(rows: &[sqlite::Row], plans: &[Plan]) -> bool
-    ensures { IsTrue result → AllByRecursion (IsPlanIn plans.now) rows.now }
+    ensures { IsTrue result ↔ AllByRecursion (IsPlanIn plans.now) rows.now }
 {
     for row in rows {
         if !is_plan(row, plans) {
@@ -328,7 +385,7 @@ fn are_plans(rows: &[sqlite::Row], plans: &[Plan]) -> bool
 }
 
 fn is_plan(row: &sqlite::Row, plans: &[Plan]) -> bool
-    ensures { IsTrue result → IsPlanIn plans.now row.now }
+    ensures { IsTrue result ↔ IsPlanIn plans.now row.now }
 {
     for plan in plans {
         if shows_plan(row, plan) {
@@ -339,7 +396,7 @@ fn is_plan(row: &sqlite::Row, plans: &[Plan]) -> bool
 }
 
 fn shows_plan(row: &sqlite::Row, plan: &Plan) -> bool
-    ensures { IsTrue result → ShowsPlan plan.now row.now }
+    ensures { IsTrue result ↔ ShowsPlan plan.now row.now }
 {
     has_blob(row, plan.class.as_slice())
         && has_count(row, 1, plan.block)
@@ -347,19 +404,19 @@ fn shows_plan(row: &sqlite::Row, plan: &Plan) -> bool
 }
 
 fn has_blob(row: &sqlite::Row, octets: &[u8]) -> bool
-    ensures { IsTrue result → column row.now 0 ≡ Blob octets.now }
+    ensures { IsTrue result ↔ (column row.now 0 ≡ Blob octets.now) }
 {
-    match row.get_ref(0) {
-        Ok(ValueRef::Blob(blob)) => blob == octets,
+    match value_at(row, 0) {
+        ValueRef::Blob(blob) => blob == octets,
         _ => false,
     }
 }
 
 fn has_count(row: &sqlite::Row, at: usize, count: u64) -> bool
-    ensures { IsTrue result → column row.now at ≡ Int (pos count) }
+    ensures { IsTrue result ↔ (column row.now at ≡ Int (pos count)) }
 {
-    match row.get::<u64>(at) {
-        Ok(kept) => kept == count,
-        Err(_) => false,
+    match value_at(row, at) {
+        ValueRef::Int(kept) => kept >= 0 && kept as u64 == count,
+        _ => false,
     }
 }

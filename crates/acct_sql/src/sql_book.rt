@@ -40,8 +40,8 @@ impl<S: Alter> SqlBook<S> {
     ghost use Rattle.std.specs.Prelude.{IsErrAnd};
     ghost use Rattle.sqlite.specs.State.{HasCleanDisk, Survives};
     ghost use Rattle.acct_sql.specs.Tables.{no_schema};
-    ghost use Rattle.acct_sql.specs.Make.{IsNew, HasNumber, KeepsPlans};
-    ghost use Rattle.acct_sql.specs.Look.{OnlyLooks};
+    ghost use Rattle.acct_sql.specs.Make.{IsNew, KeepsPlans};
+    ghost use Rattle.acct_sql.specs.Look.{OnlyLooks, HasNumberAlone, IsRefusedAs};
     ghost use Rattle.acct_sql.specs.Book.{IsSettled, IsBookOver};
 
     /// Makes an empty database an empty book that is kept by these plans: the five tables, their
@@ -93,7 +93,7 @@ impl<S: Alter> SqlBook<S> {
     /// `NotABook` where no schema number can be read, `WrongSchema` where it is not 1, and
     /// `PlansDiffer` where the book was made with other plans, in this order. `Unavailable` where
     /// the store or memory refused, where the tables are not exactly those of a book, or where two
-    /// rows have one rowid.
+    /// rows have one rowid or both the schema number.
     pub fn adopt(
         alloc: Global,
         mut conn: Connection<S>,
@@ -103,12 +103,14 @@ impl<S: Alter> SqlBook<S> {
         ensures adopted { IfOk result (λ book. HasCleanDisk (state S.Store book)
             → IsSettled (state S.Store book)) }
         ensures number { IfOk result (λ book. HasCleanDisk (state S.Store book)
-            → HasNumber (pos 1) (state S.Store book).now.trees) }
+            → HasNumberAlone (pos 1) (state S.Store book).now.trees) }
         ensures plans { IfOk result (λ book. HasCleanDisk (state S.Store book)
             → KeepsPlans plans.now (state S.Store book).now.trees) }
         ensures tables { IfOk result (IsBookOver S.Store ⟦<SqlBook<S> as Book>⟧.content
             ⟦<SqlBook<S> as Book>⟧.is_sound ⟦<SqlBook<S> as Book>⟧.is_open
             ⟦<SqlBook<S> as Book>⟧.left) }
+        ensures refused { IfErr result (λ e. HasCleanDisk (state S.Store e.1)
+            → IsRefusedAs plans.now (state S.Store conn).now e.0) }
         ensures looks { IfOk result (λ book. OnlyLooks (state S.Store conn) (state S.Store book)) }
         ensures looks_err { IfErr result (λ e. OnlyLooks (state S.Store conn) (state S.Store e.1)) }
     {
