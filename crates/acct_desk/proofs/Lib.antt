@@ -7,3 +7,5 @@ pub mod PageLemmas
 pub mod HandleLemmas
 pub mod MemberLemmas
 pub mod PartLemmas
+pub mod HeadEndLemmas
+pub mod ReadingLemmas

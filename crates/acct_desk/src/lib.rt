@@ -23,3 +23,9 @@ pub use reading::{ReadFault, read_request};
 mod sample_desk;
 #[cfg(test)]
 mod tests;
+#[cfg(test)]
+mod tests_limits;
+#[cfg(test)]
+mod tests_pages;
+#[cfg(test)]
+mod tests_refusals;

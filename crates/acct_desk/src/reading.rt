@@ -1,12 +1,16 @@
 //! Reading a request.
 //!
 //! The octets are parsed again only where that may end the reading, so that a request that comes
-//! octet by octet costs a few parses and
-//! not one for each octet.
-ghost use Rattle.std.specs.Prelude.{◌≡◌, ◌≤◌, ◌<◌, false, IfOk, OnOk, IfNone, vec_len, length, All};
-ghost use Rattle.httparse.specs.Spans.{IsHeaderWithin};
+//! octet by octet costs a few parses and not one for each octet.
+ghost use Rattle.std.specs.Prelude.{◌≡◌, ◌≢◌, ◌≤◌, ◌<◌, ◌+◌, ℕ, true, false, List, [], ◌∷◌, ◌++◌};
+ghost use Rattle.std.specs.Prelude.{Some, IfOk, OnOk, IfNone, IfSome, vec_len, length, All, map};
+ghost use Rattle.std.specs.Prelude.{codes, option_map};
 ghost use Rattle.std.specs.Io.KnownBytes.{Consumes, IsAtEnd};
-ghost use Rattle.acct_desk.specs.Reading.{IsSettled, Ends, Adds};
+ghost use Rattle.httparse.specs.Grammar.{LineEnd, print_end};
+ghost use Rattle.httparse.specs.Spans.{IsHeaderWithin, header_bytes};
+ghost use Rattle.acct_desk.specs.Request.{body_length, values_of};
+ghost use Rattle.acct_desk.specs.Reading.{IsSettled, Ends, GoesNoFurther, Adds, EndsInEmptyLine};
+ghost use Rattle.acct_desk.specs.Reading.{NoHeadEnds, StaysOpen};
 
 use crate::framing::{HEAD_LIMIT, Reach, declared_length, extent};
 use crate::head::FIELD_LIMIT;
@@ -36,10 +40,13 @@ pub enum ReadFault {
     Memory = 3,
 }
 
-/// The octets of one request: at most 12,288 of the reader's, by at most 16,384 reads. Reading ends
-/// where `extent` isn't `More`, where
-/// nothing that follows can make a request of them, at 12,288 octets, or at the reader's end. A
-/// read that was interrupted is tried again.
+/// The octets of one request: at most 12,288 of the reader's, by at most 16,384 reads of at most
+/// 1,024. Reading ends at the first read after which `extent` isn't `More`, where nothing that
+/// follows can make a request of them, at 12,288 octets, or at the reader's end. A read that was
+/// interrupted is tried again.
+///
+/// That nothing can make a request of them is seen after the first read, and from there on each
+/// time the octets have doubled.
 ///
 /// # Errors
 ///
@@ -50,6 +57,7 @@ pub fn read_request<R: Read>(alloc: Global, reader: &mut R) -> Result<Vec<u8>, R
         Consumes (R.remaining reader.old) (R.remaining reader.new) bytes.items) }
     ensures limit { IfOk result (λ bytes. vec_len bytes ≤ 12288) }
     ensures ends { IfOk result (λ bytes. Ends bytes.items (R.remaining reader.new)) }
+    ensures stops { IfOk result (λ bytes. GoesNoFurther bytes.items) }
 {
     let mut bytes = Vec::new(alloc);
     let mut watch = Watch {
@@ -102,16 +110,19 @@ struct Watch {
 }
 
 impl Watch {
-    fn is_due(self, bytes: &[u8], before: usize) -> bool {
+    fn is_due(self, bytes: &[u8], before: usize) -> bool
+        ensures short { result ≡ false → length bytes.now < self.next }
+        ensures quiet { result ≡ false → self.ends ≡ true → NoHeadEnds before bytes.now }
+    {
         bytes.len() >= self.next || (self.ends && has_head_end(bytes, before))
     }
 }
 
 // None where no further octets are wanted, else when to look again. Without a head that is at twice
-// the octets, so that what can be no
-// request is given up soon, at little cost.
+// the octets, so that what can be no request is given up soon, at little cost.
 fn look(bytes: &[u8]) -> Option<Watch>
-    ensures { IfNone result (IsSettled bytes.now) }
+    ensures settled { IfNone result (IsSettled bytes.now) }
+    ensures open { IfSome result (λ watch. StaysOpen watch bytes.now) }
 {
     let Reach::More = extent(bytes) else {
         return None;
@@ -137,6 +148,9 @@ fn look(bytes: &[u8]) -> Option<Watch>
 // How many octets the request has that begins with a head of this length.
 fn end_of(bytes: &[u8], headers: &[HeaderSpan], head: usize) -> usize
     requires { All (IsHeaderWithin (length bytes.now)) headers.now }
+    ensures { (body : ℕ) → body_length
+        (values_of (codes "content-length") (map (header_bytes bytes.now) headers.now)) ≡ Some body
+        → result ≤ head + body }
 {
     match declared_length(bytes, headers) {
         Some(body) => head.saturating_add(usize::try_from(body).unwrap_or(usize::MAX)),
@@ -145,7 +159,9 @@ fn end_of(bytes: &[u8], headers: &[HeaderSpan], head: usize) -> usize
 }
 
 // Whether a head ends in the octets past the first ones.
-fn has_head_end(bytes: &[u8], before: usize) -> bool {
+fn has_head_end(bytes: &[u8], before: usize) -> bool
+    ensures { result ≡ false → NoHeadEnds before bytes.now }
+{
     for end in before..bytes.len() {
         if ends_head(&bytes[..end + 1]) {
             return true;
@@ -154,19 +170,27 @@ fn has_head_end(bytes: &[u8], before: usize) -> bool {
     false
 }
 
-// Whether octets end with an empty line after one that isn't empty.
-fn ends_head(bytes: &[u8]) -> bool {
-    let lines = match bytes {
-        [lines @ .., b'\n', b'\n'] => lines,
-        [lines @ .., b'\n', b'\r', b'\n'] => lines,
-        _ => return false,
+// Whether octets end with an empty line after one that isn't empty. Empty lines may stand before a
+// head, and say nothing of its end.
+fn ends_head(bytes: &[u8]) -> bool
+    ensures { EndsInEmptyLine bytes.now → result ≡ true }
+{
+    let Some(lines) = without_line_end(bytes) else {
+        return false;
     };
-    let line = match lines {
-        [line @ .., b'\r'] => line,
-        _ => lines,
+    let Some(line) = without_line_end(lines) else {
+        return false;
     };
-    match line {
-        [.., last] => *last != b'\n',
-        [] => false,
+    !line.is_empty() && !line.ends_with(b"\n")
+}
+
+// The octets before the line end at their end.
+fn without_line_end(bytes: &[u8]) -> Option<&[u8]>
+    ensures { (line : List ℕ) (end : LineEnd) → bytes.now ≡ line ++ print_end end
+        → ((front : List ℕ) → line ≢ front ++ 13 ∷ []) → option_map (λ l. l.now) result ≡ Some line }
+{
+    match bytes.strip_suffix(b"\r\n") {
+        Some(line) => Some(line),
+        None => bytes.strip_suffix(b"\n"),
     }
 }

@@ -1,27 +1,47 @@
 //! A desk to test with: the sample site's keys and plans over a book in memory.
 use crate::{DeskKey, Keys, KeysError, Role, handle};
-use acct_book::{MemBook, record};
-use acct_model::{Entry, Octets, Plan, Plans, Report, ReportKind, Text};
+use acct_book::{Book, MemBook, record};
+use acct_model::{Entry, NoMemory, Octets, Plan, Plans, Report, ReportKind, Text};
 use std::alloc::Global;
 use std::io;
 use std::io::{ErrorKind, Read};
 use std::test::Fail;
 
-// Its requests come at the moment 1000.
+// A desk over a book of any kind. Its requests come at the moment 1000.
 #[derive(Drop)]
-pub(crate) struct Desk {
+pub(crate) struct Desk<B> {
+    pub(crate) book: B,
     keys: Keys,
     plans: Plans,
-    book: MemBook,
 }
 
-impl Desk {
-    pub(crate) fn new(alloc: Global) -> Result<Desk, Fail> {
+impl Desk<MemBook> {
+    // The desk over an empty book.
+    pub(crate) fn new(alloc: Global) -> Result<Desk<MemBook>, Fail> {
+        Desk::over(alloc, MemBook::new(alloc))
+    }
+}
+
+impl<B: Book + Drop> Desk<B> {
+    // The desk over a book.
+    pub(crate) fn over(alloc: Global, book: B) -> Result<Desk<B>, Fail> {
         Ok(Desk {
+            book,
             keys: keys(alloc, "cash-key-00000001")??,
             plans: plans(alloc)?,
-            book: MemBook::new(alloc),
         })
+    }
+
+    // What a request is answered, if there is memory for the answer.
+    pub(crate) fn answer(&mut self, alloc: Global, request: &[u8]) -> Result<Vec<u8>, NoMemory> {
+        handle(
+            alloc,
+            &self.keys,
+            &self.plans,
+            &mut self.book,
+            request,
+            1000,
+        )
     }
 
     // Whether a request is answered so.
@@ -31,15 +51,7 @@ impl Desk {
         request: &[u8],
         want: &[u8],
     ) -> Result<bool, Fail> {
-        let response = handle(
-            alloc,
-            &self.keys,
-            &self.plans,
-            &mut self.book,
-            request,
-            1000,
-        )?;
-        Ok(response.as_slice() == want)
+        Ok(self.answer(alloc, request)?.as_slice() == want)
     }
 
     // Whether requests are answered so, one after the other.
@@ -97,7 +109,7 @@ fn gold(alloc: Global, user: &[u8]) -> Result<Report, Fail> {
 }
 
 // A cashier's POST of a body.
-fn post_of(alloc: Global, body: &[u8]) -> Result<Vec<u8>, Fail> {
+pub(crate) fn post_of(alloc: Global, body: &[u8]) -> Result<Vec<u8>, Fail> {
     let mut request =
         b"POST /topups HTTP/1.1\r\nDesk-Key: cash-key-00000001\r\nContent-Length: ".to_vec(alloc)?;
     request.extend_from_slice(body.len().to_string(alloc)?.as_bytes())?;

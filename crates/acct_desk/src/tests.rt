@@ -1,29 +1,31 @@
 //! Requests and their responses, octet for octet: worked by hand, or as `curl` writes them.
 use crate::sample_desk::{Desk, Slow, one_by_one};
 use crate::{Keys, KeysError, Reach, ReadFault, extent, read_request};
+use std::alloc::Global;
 use std::test::Fail;
 
 // A request for the balance of `al`, of 57 octets.
-const BALANCE: &[u8] = b"GET /me/balance HTTP/1.1\r\nDesk-Key: al-key-0000000001\r\n\r\n";
+pub(crate) const BALANCE: &[u8] =
+    b"GET /me/balance HTTP/1.1\r\nDesk-Key: al-key-0000000001\r\n\r\n";
 
 // The same as `curl -H 'Desk-Key: al-key-0000000001' http://127.0.0.1:8066/me/balance?account=bo` writes it (curl 7.88).
 const CURL_BALANCE: &[u8] =
     b"GET /me/balance?account=bo HTTP/1.1\r\nHost: 127.0.0.1:8066\r\nUser-Agent: curl/7.88.1\r\nAccept: */*\r\nDesk-Key: al-key-0000000001\r\n\r\n";
 
 // A voucher of 500 for `al`, as `curl -H 'Desk-Key: ..' -d '..' http://127.0.0.1:8066/topups` writes it.
-const CURL_TOP_UP: &[u8] =
+pub(crate) const CURL_TOP_UP: &[u8] =
     b"POST /topups HTTP/1.1\r\nHost: 127.0.0.1:8066\r\nUser-Agent: curl/7.88.1\r\nAccept: */*\r\nDesk-Key: cash-key-00000001\r\nContent-Length: 42\r\nContent-Type: application/x-www-form-urlencoded\r\n\r\n{\"account\":\"al\",\"sum\":500,\"voucher\":\"V-1\"}";
 
-const OTHER_SUM: &[u8] =
+pub(crate) const OTHER_SUM: &[u8] =
     b"POST /topups HTTP/1.1\r\nDesk-Key: cash-key-00000001\r\nContent-Length: 42\r\n\r\n{\"account\":\"al\",\"sum\":501,\"voucher\":\"V-1\"}";
 
-const NO_BALANCE: &[u8] =
+pub(crate) const NO_BALANCE: &[u8] =
     b"HTTP/1.1 200 OK\r\nContent-Type: application/json\r\nContent-Length: 40\r\nConnection: close\r\n\r\n{\"account\":\"al\",\"balance\":0,\"overrun\":0}";
 
-const BAD_REQUEST: &[u8] =
+pub(crate) const BAD_REQUEST: &[u8] =
     b"HTTP/1.1 400 Bad Request\r\nContent-Type: application/json\r\nContent-Length: 23\r\nConnection: close\r\n\r\n{\"error\":\"bad request\"}";
 
-const TOO_LARGE: &[u8] =
+pub(crate) const TOO_LARGE: &[u8] =
     b"HTTP/1.1 413 Payload Too Large\r\nContent-Type: application/json\r\nContent-Length: 21\r\nConnection: close\r\n\r\n{\"error\":\"too large\"}";
 
 const NO_PATH: &[u8] =
@@ -41,25 +43,25 @@ const NO_KEY: &[u8] =
 const NOT_ALLOWED: &[u8] =
     b"HTTP/1.1 403 Forbidden\r\nContent-Type: application/json\r\nContent-Length: 23\r\nConnection: close\r\n\r\n{\"error\":\"not allowed\"}";
 
-const BAD_TOP_UP: &[u8] =
+pub(crate) const BAD_TOP_UP: &[u8] =
     b"HTTP/1.1 422 Unprocessable Entity\r\nContent-Type: application/json\r\nContent-Length: 21\r\nConnection: close\r\n\r\n{\"error\":\"bad topup\"}";
 
-const ADDED: &[u8] =
+pub(crate) const ADDED: &[u8] =
     b"HTTP/1.1 201 Created\r\nContent-Type: application/json\r\nContent-Length: 16\r\nConnection: close\r\n\r\n{\"result\":\"new\"}";
 
-const REPEATED: &[u8] =
+pub(crate) const REPEATED: &[u8] =
     b"HTTP/1.1 200 OK\r\nContent-Type: application/json\r\nContent-Length: 19\r\nConnection: close\r\n\r\n{\"result\":\"repeat\"}";
 
-const DIFFERS: &[u8] =
+pub(crate) const DIFFERS: &[u8] =
     b"HTTP/1.1 409 Conflict\r\nContent-Type: application/json\r\nContent-Length: 27\r\nConnection: close\r\n\r\n{\"error\":\"voucher differs\"}";
 
 const CREDITED: &[u8] =
     b"HTTP/1.1 200 OK\r\nContent-Type: application/json\r\nContent-Length: 42\r\nConnection: close\r\n\r\n{\"account\":\"al\",\"balance\":500,\"overrun\":0}";
 
-const MY_TOP_UPS: &[u8] =
+pub(crate) const MY_TOP_UPS: &[u8] =
     b"HTTP/1.1 200 OK\r\nContent-Type: application/json\r\nContent-Length: 67\r\nConnection: close\r\n\r\n{\"account\":\"al\",\"topups\":[{\"sum\":500,\"voucher\":\"V-1\",\"when\":1000}]}";
 
-const ONE_SESSION: &[u8] =
+pub(crate) const ONE_SESSION: &[u8] =
     b"HTTP/1.1 200 OK\r\nContent-Type: application/json\r\nContent-Length: 221\r\nConnection: close\r\n\r\n{\"account\":\"al\",\"sessions\":[{\"calling\":\"\",\"cause\":0,\"charged\":\"20\",\"class\":\"gold\",\"client\":\"ap1\",\"first\":2000,\"framed\":\"\",\"input\":1048577,\"last\":2000,\"output\":0,\"seconds\":0,\"session\":\"s2\",\"state\":\"open\",\"total\":1048577}]}";
 
 const NO_SESSIONS: &[u8] =
@@ -68,14 +70,17 @@ const NO_SESSIONS: &[u8] =
 const ONE_OVER: &[u8] =
     b"HTTP/1.1 200 OK\r\nContent-Type: application/json\r\nContent-Length: 44\r\nConnection: close\r\n\r\n{\"overruns\":[{\"account\":\"al\",\"overrun\":20}]}";
 
-const MY_SESSIONS: &[u8] = b"GET /me/sessions HTTP/1.1\r\nDesk-Key: al-key-0000000001\r\n\r\n";
+pub(crate) const MY_SESSIONS: &[u8] =
+    b"GET /me/sessions HTTP/1.1\r\nDesk-Key: al-key-0000000001\r\n\r\n";
 
-const MY_VOUCHERS: &[u8] = b"GET /me/topups HTTP/1.1\r\nDesk-Key: al-key-0000000001\r\n\r\n";
+pub(crate) const MY_VOUCHERS: &[u8] =
+    b"GET /me/topups HTTP/1.1\r\nDesk-Key: al-key-0000000001\r\n\r\n";
 
-const WHO_IS_OVER: &[u8] = b"GET /overruns HTTP/1.1\r\nDesk-Key: cash-key-00000001\r\n\r\n";
+pub(crate) const WHO_IS_OVER: &[u8] =
+    b"GET /overruns HTTP/1.1\r\nDesk-Key: cash-key-00000001\r\n\r\n";
 
 // Requests that the desk settles without the book: each case, and each pair of neighbouring cases by a request that would match both.
-static SETTLED: [(&[u8], &[u8]); 27] = [
+static SETTLED: [(&[u8], &[u8]); 28] = [
     (b"", BAD_REQUEST),
     (b"GET /me/balance HTTP/1.1\r\n", BAD_REQUEST),
     (b"HELLO\r\n\r\n", BAD_REQUEST),
@@ -130,6 +135,7 @@ static SETTLED: [(&[u8], &[u8]); 27] = [
     ),
     (b"HEAD /me/topups?x HTTP/1.0\r\n\r\n", GET_ONLY),
     (b"GET /me/balance HTTP/1.1\r\n\r\n", NO_KEY),
+    (b"GET /me/sessions HTTP/1.1\r\n\r\n", NO_KEY),
     (
         b"GET /overruns HTTP/1.1\r\nDesk-Key: al-key-000000000\r\n\r\n",
         NO_KEY,
@@ -263,12 +269,26 @@ fn bodies_are_told_apart(rt: HostRuntime) -> Result<(), Fail> {
     Ok(())
 }
 
+// Requests for the balance of `al`: with line feeds alone, of HTTP/1.0 after empty lines, with the
+// key's name and value spelled otherwise, and with another account in the query.
+static BALANCES: [(&[u8], &[u8]); 4] = [
+    (BALANCE, NO_BALANCE),
+    (CURL_BALANCE, NO_BALANCE),
+    (
+        b"GET /me/balance HTTP/1.1\nDesk-Key: al-key-0000000001\n\n",
+        NO_BALANCE,
+    ),
+    (
+        b"\n\r\nGET /me/balance HTTP/1.0\r\nDESK-key:\tal-key-0000000001 \t\n\r\n",
+        NO_BALANCE,
+    ),
+];
+
 // What is left is told to the key's account, whatever the query names.
 #[test]
 fn balances_are_told(rt: HostRuntime) -> Result<(), Fail> {
     let mut desk = Desk::new(rt.alloc())?;
-    assert!(rt; desk.answers(rt.alloc(), BALANCE, NO_BALANCE)?);
-    assert!(rt; desk.answers(rt.alloc(), CURL_BALANCE, NO_BALANCE)?);
+    assert!(rt; desk.answers_all(rt.alloc(), &BALANCES)?);
     Ok(())
 }
 
@@ -307,17 +327,29 @@ fn other_sessions_are_not_told(rt: HostRuntime) -> Result<(), Fail> {
     Ok(())
 }
 
-// A request that comes octet by octet is read by as many reads.
+// Requests, and how many of their octets are read where they come octet by octet and fail after
+// those: all of a whole one, and of what can't become one as many as there are when they have
+// doubled.
+static SLOW: [(&[u8], usize); 4] = [
+    (BALANCE, 57),
+    (CURL_TOP_UP, 225),
+    (b"\n\nGET / HTTP/1.0\nA:\n\n", 21),
+    (b"GET / HTTP/2.0\r\n\r\n", 16),
+];
+
 #[test]
 fn slow_requests_are_read(rt: HostRuntime) -> Result<(), Fail> {
-    let mut reader = one_by_one(BALANCE, 57);
-    assert!(rt; reads_all(rt.alloc(), &mut reader, BALANCE)?);
-    assert_eq!(rt; reader.reads, 57);
+    for (request, count) in SLOW {
+        assert!(rt; reads_so_far(rt.alloc(), request, count)?);
+    }
     Ok(())
 }
 
-fn reads_all(alloc: std::alloc::Global, reader: &mut Slow<'_>, want: &[u8]) -> Result<bool, Fail> {
-    Ok(read_request(alloc, reader)?.as_slice() == want)
+// Whether just so many octets are read, by as many reads.
+fn reads_so_far(alloc: Global, request: &[u8], count: usize) -> Result<bool, Fail> {
+    let mut reader = one_by_one(request, count);
+    let octets = read_request(alloc, &mut reader)?;
+    Ok(octets.as_slice() == &request[..count.min(request.len())] && reader.reads == count)
 }
 
 // A reader that fails before the request is whole, and one that is interrupted for ever.
