@@ -11,3 +11,4 @@ pub mod ClientLemmas
 pub mod PlanLemmas
 pub mod KeyTableLemmas
 pub mod ConfigLemmas
+pub mod CutExports

@@ -1,5 +1,6 @@
 -- Why a line that was taken once is a repeat later.
-use Rattle.std.proofs.Common.{◌≡◌, ℕ, zero, suc, Bool, true, false, cond, List, [], ◌∷◌, ◌++◌, Option, Some, None, Result, Ok, Err, refl, sym, ◌∙◌, ap, subst}
+use Rattle.std.proofs.Common.{◌≡◌, ℕ, zero, suc, Bool, true, false, cond, List, [], ◌∷◌, ◌++◌}
+use Rattle.std.proofs.Common.{Option, Some, None, Result, Ok, Err, refl, sym, ◌∙◌, ap, subst}
 use Rattle.std.specs.Prelude.{if◌then◌else◌, not, slice_get, bytes_eq}
 use Rattle.std.specs.List.{filter}
 use Rattle.std.specs.Option.{option_or}
@@ -7,12 +8,15 @@ use Rattle.percent_encoding.specs.Percent.{percent_decode}
 use Rattle.acct_model.specs.declared.plan.Plan.{Plan}
 use Rattle.acct_model.specs.declared.entry.Entry.{Entry}
 use Rattle.acct_model.specs.declared.entry.Entry.TheVariants as entry
-use Rattle.acct_model.specs.Vouchers.{TopUpFacts, is_voucher_number, is_voucher_account, is_voucher_sum}
+use Rattle.acct_model.specs.Vouchers.{TopUpFacts, is_voucher_number, is_voucher_account}
+use Rattle.acct_model.specs.Vouchers.{is_voucher_sum}
 use Rattle.acct_model.specs.History.{first_of, all_topups, topup_of}
 use Rattle.acct_model.proofs.Same.{Decides-bytes_eq}
 use Rattle.acct_book.specs.Outcome.{IsRepeated}
 use Rattle.acct_files.specs.declared.import_report.Cause.{Cause}
-use Rattle.acct_files.specs.declared.import_report.Cause.TheVariants.{FieldCount, BadVoucher, BadAccount, BadSum, VoucherDiffers, BalanceLimit}
+use Rattle.acct_files.specs.declared.import_report.Cause.TheVariants.{FieldCount, BadVoucher}
+use Rattle.acct_files.specs.declared.import_report.Cause.TheVariants.{BadAccount, BadSum}
+use Rattle.acct_files.specs.declared.import_report.Cause.TheVariants.{VoucherDiffers, BalanceLimit}
 use Rattle.acct_files.specs.declared.import_report.Outcome.{Outcome}
 use Rattle.acct_files.specs.declared.import_report.Outcome.TheVariants.{Added, Repeated, Refused}
 use Rattle.acct_files.specs.Importing.{Becomes, Imported, IsRefused, is_refused}
@@ -25,23 +29,31 @@ Keeps history topup = IsRepeated history (entry.TopUp topup)
 
 -- ---- what is kept stays
 
-first_kept : (b : Bool) (t : TopUpFacts) (xs : List TopUpFacts) (k : TopUpFacts) → first_of xs ≡ Some k → first_of (cond b (t ∷ xs) xs) ≡ Some k
+first_kept : (b : Bool) (t : TopUpFacts) (xs : List TopUpFacts) (k : TopUpFacts)
+    → first_of xs ≡ Some k → first_of (cond b (t ∷ xs) xs) ≡ Some k
 first_kept true t xs k e = ap (λ o. option_or o (Some t)) e
 first_kept false t xs k e = e
 
-kept_longer : (e : Entry) (history : List Entry) (n : List ℕ) (k : TopUpFacts) → topup_of history n ≡ Some k → topup_of (e ∷ history) n ≡ Some k
+kept_longer : (e : Entry) (history : List Entry) (n : List ℕ) (k : TopUpFacts)
+    → topup_of history n ≡ Some k → topup_of (e ∷ history) n ≡ Some k
 kept_longer (entry.Report r) history n k h = h
 kept_longer (entry.Restart r) history n k h = h
-kept_longer (entry.TopUp t) history n k h = first_kept (bytes_eq n t.voucher) t (filter (λ x. bytes_eq n x.voucher) (all_topups history)) k h
+kept_longer (entry.TopUp t) history n k h =
+    first_kept (bytes_eq n t.voucher) t (filter (λ x. bytes_eq n x.voucher) (all_topups history)) k
+    h
 
-keeps_longer : (e : Entry) (history : List Entry) (t : TopUpFacts) → Keeps history t → Keeps (e ∷ history) t
-keeps_longer e history t (k, is, account, amount) = (k, kept_longer e history t.voucher k is, account, amount)
+keeps_longer : (e : Entry) (history : List Entry) (t : TopUpFacts) → Keeps history t
+    → Keeps (e ∷ history) t
+keeps_longer e history t (k, is, account, amount) =
+    (k, kept_longer e history t.voucher k is, account, amount)
 
-keeps_behind : (es history : List Entry) (t : TopUpFacts) → Keeps history t → Keeps (es ++ history) t
+keeps_behind : (es history : List Entry) (t : TopUpFacts) → Keeps history t
+    → Keeps (es ++ history) t
 keeps_behind [] history t h = h
 keeps_behind (e ∷ es) history t h = keeps_longer e (es ++ history) t (keeps_behind es history t h)
 
-refused_keeps : (plans : List Plan) (old new : List Entry) (topup : TopUpFacts) (cause : Cause) → IsRefused plans old topup cause new → new ≡ old
+refused_keeps : (plans : List Plan) (old new : List Entry) (topup : TopUpFacts) (cause : Cause)
+    → IsRefused plans old topup cause new → new ≡ old
 refused_keeps plans old new topup FieldCount h = absurd h
 refused_keeps plans old new topup BadVoucher h = absurd h
 refused_keeps plans old new topup BadAccount h = absurd h
@@ -49,49 +61,77 @@ refused_keeps plans old new topup BadSum h = absurd h
 refused_keeps plans old new topup VoucherDiffers h = h.1.1
 refused_keeps plans old new topup BalanceLimit h = h.1.1
 
-record_keeps : (plans : List Plan) (old new : List Entry) (wanted : Result TopUpFacts Cause) (outcome : Outcome) (t : TopUpFacts) → Keeps old t → Becomes plans old wanted outcome new → Keeps new t
-record_keeps plans old new (Ok topup) Added t h b = subst (λ x. Keeps x t) (sym b.2) (keeps_longer (entry.TopUp topup) old t h)
+record_keeps : (plans : List Plan) (old new : List Entry) (wanted : Result TopUpFacts Cause)
+    (outcome : Outcome) (t : TopUpFacts) → Keeps old t → Becomes plans old wanted outcome new
+    → Keeps new t
+record_keeps plans old new (Ok topup) Added t h b =
+    subst (λ x. Keeps x t) (sym b.2) (keeps_longer (entry.TopUp topup) old t h)
 record_keeps plans old new (Ok topup) Repeated t h b = subst (λ x. Keeps x t) (sym b.1) h
-record_keeps plans old new (Ok topup) (Refused cause) t h b = subst (λ x. Keeps x t) (sym (refused_keeps plans old new topup cause b)) h
+record_keeps plans old new (Ok topup) (Refused cause) t h b =
+    subst (λ x. Keeps x t) (sym (refused_keeps plans old new topup cause b)) h
 record_keeps plans old new (Err cause) Added t h b = absurd b
 record_keeps plans old new (Err cause) Repeated t h b = absurd b
 record_keeps plans old new (Err cause) (Refused told) t h b = subst (λ x. Keeps x t) (sym b.1) h
 
-run_keeps : (plans : List Plan) (moment : ℕ) (old new : List Entry) (rows : List Fields) (outcomes : List Outcome) (t : TopUpFacts) → Keeps old t → Imported plans moment old rows outcomes new → Keeps new t
+run_keeps : (plans : List Plan) (moment : ℕ) (old new : List Entry) (rows : List Fields)
+    (outcomes : List Outcome) (t : TopUpFacts) → Keeps old t
+    → Imported plans moment old rows outcomes new → Keeps new t
 run_keeps plans moment old new [] [] t h run = subst (λ x. Keeps x t) (sym run) h
 run_keeps plans moment old new (line ∷ rows) (outcome ∷ outcomes) t h (mid, here, rest) =
-    run_keeps plans moment mid new rows outcomes t (record_keeps plans old mid (asked_by moment line) outcome t h here) rest
+    run_keeps plans moment mid new rows outcomes t
+    (record_keeps plans old mid (asked_by moment line) outcome t h here) rest
 run_keeps plans moment old new [] (outcome ∷ outcomes) t h run = absurd run
 run_keeps plans moment old new (line ∷ rows) [] t h run = absurd run
 
 -- ---- what was taken is kept
 
-newest : (b : Bool) (t : TopUpFacts) (xs : List TopUpFacts) → b ≡ true → first_of xs ≡ None → first_of (cond b (t ∷ xs) xs) ≡ Some t
+newest : (b : Bool) (t : TopUpFacts) (xs : List TopUpFacts) → b ≡ true → first_of xs ≡ None
+    → first_of (cond b (t ∷ xs) xs) ≡ Some t
 newest true t xs e none = ap (λ o. option_or o (Some t)) none
 newest false t xs e none = absurd (cc e)
 
-taken_keeps : (plans : List Plan) (old new : List Entry) (wanted : Result TopUpFacts Cause) (outcome : Outcome) → is_refused outcome ≡ false → Becomes plans old wanted outcome new
+taken_keeps : (plans : List Plan) (old new : List Entry) (wanted : Result TopUpFacts Cause)
+    (outcome : Outcome) → is_refused outcome ≡ false → Becomes plans old wanted outcome new
     → (t : TopUpFacts) × (wanted ≡ Ok t) × Keeps new t
-taken_keeps plans old new (Ok t) Added r b =
-    (t, refl, subst (λ x. Keeps x t) (sym b.2) (t, newest (bytes_eq t.voucher t.voucher) t (filter (λ x. bytes_eq t.voucher x.voucher) (all_topups old)) ((Decides-bytes_eq t.voucher t.voucher).1 refl) b.1, refl, refl))
+taken_keeps plans old new (Ok t) Added r b = (
+  t,
+  refl,
+  subst (λ x. Keeps x t) (sym b.2) (
+    t,
+    newest (bytes_eq t.voucher t.voucher) t
+        (filter (λ x. bytes_eq t.voucher x.voucher) (all_topups old))
+        ((Decides-bytes_eq t.voucher t.voucher).1 refl) b.1,
+    refl,
+    refl,
+  ),
+)
 taken_keeps plans old new (Ok t) Repeated r b = (t, refl, subst (λ x. Keeps x t) (sym b.1) b.0)
 taken_keeps plans old new (Ok t) (Refused cause) r b = absurd (cc r)
 taken_keeps plans old new (Err cause) Added r b = absurd b
 taken_keeps plans old new (Err cause) Repeated r b = absurd b
 taken_keeps plans old new (Err cause) (Refused told) r b = absurd (cc r)
 
-taken_at : (plans : List Plan) (moment : ℕ) (old new : List Entry) (rows : List Fields) (outcomes : List Outcome) (i : ℕ) (line : Fields) (outcome : Outcome)
-    → Imported plans moment old rows outcomes new → slice_get rows i ≡ Some line → slice_get outcomes i ≡ Some outcome → is_refused outcome ≡ false
+taken_at : (plans : List Plan) (moment : ℕ) (old new : List Entry) (rows : List Fields)
+    (outcomes : List Outcome) (i : ℕ) (line : Fields) (outcome : Outcome)
+    → Imported plans moment old rows outcomes new → slice_get rows i ≡ Some line
+    → slice_get outcomes i ≡ Some outcome → is_refused outcome ≡ false
     → (t : TopUpFacts) × (asked_by moment line ≡ Ok t) × Keeps new t
 taken_at plans moment old new [] [] i line outcome run at out r = absurd (cc at)
 taken_at plans moment old new [] (o ∷ outcomes) i line outcome run at out r = absurd run
 taken_at plans moment old new (x ∷ rows) [] i line outcome run at out r = absurd run
-taken_at plans moment old new (x ∷ rows) (o ∷ outcomes) zero line outcome (mid, here, rest) at out r =
+taken_at plans moment old new (x ∷ rows) (o ∷ outcomes) zero line outcome (mid, here, rest) at out
+    r =
     let same_line : x ≡ line = cc at in
     let same_out : o ≡ outcome = cc out in
-    let (t, is, keeps) = taken_keeps plans old mid (asked_by moment x) o (ap is_refused same_out ∙ r) here in
-    (t, sym (ap (asked_by moment) same_line) ∙ is, run_keeps plans moment mid new rows outcomes t keeps rest)
-taken_at plans moment old new (x ∷ rows) (o ∷ outcomes) (suc i) line outcome (mid, here, rest) at out r =
+    let (t, is, keeps) = taken_keeps plans old mid (asked_by moment x) o
+    (ap is_refused same_out ∙ r) here in (
+      t,
+      sym (ap (asked_by moment) same_line)
+          ∙ is,
+      run_keeps plans moment mid new rows outcomes t keeps rest,
+    )
+taken_at plans moment old new (x ∷ rows) (o ∷ outcomes) (suc i) line outcome (mid, here, rest) at
+    out r =
     taken_at plans moment mid new rows outcomes i line outcome rest at out r
 
 -- ---- what is kept is repeated
@@ -99,8 +139,12 @@ taken_at plans moment old new (x ∷ rows) (o ∷ outcomes) (suc i) line outcome
 moved_to : TopUpFacts → ℕ → TopUpFacts
 moved_to t when = record { voucher = t.voucher; account = t.account; sum = t.sum; when = when }
 
-told_again : (plans : List Plan) (old new : List Entry) (t s : TopUpFacts) (told : Outcome) → s.voucher ≡ t.voucher → s.account ≡ t.account → s.sum ≡ t.sum → Keeps old t → Becomes plans old (Ok s) told new → told ≡ Repeated
-told_again plans old new t s Added v a m (k, is, account, amount) b = let fresh : topup_of old t.voucher ≡ None = sym (ap (topup_of old) v) ∙ b.1 in absurd (cc (is, fresh))
+told_again : (plans : List Plan) (old new : List Entry) (t s : TopUpFacts) (told : Outcome)
+    → s.voucher ≡ t.voucher → s.account ≡ t.account → s.sum ≡ t.sum → Keeps old t
+    → Becomes plans old (Ok s) told new → told ≡ Repeated
+told_again plans old new t s Added v a m (k, is, account, amount) b =
+    let fresh : topup_of old t.voucher ≡ None = sym (ap (topup_of old) v)
+    ∙ b.1 in absurd (cc (is, fresh))
 told_again plans old new t s Repeated v a m keeps b = refl
 told_again plans old new t s (Refused FieldCount) v a m keeps b = absurd b
 told_again plans old new t s (Refused BadVoucher) v a m keeps b = absurd b
@@ -109,48 +153,76 @@ told_again plans old new t s (Refused BadSum) v a m keeps b = absurd b
 told_again plans old new t s (Refused VoucherDiffers) v a m (k, is, account, amount) (other, told) =
     let there : topup_of old t.voucher ≡ Some other = sym (ap (topup_of old) v) ∙ told.0.0 in
     let one : k ≡ other = cc (is, there) in
-    let other_account : other.account ≡ s.account = sym (ap (λ (x : TopUpFacts). x.account) one) ∙ account ∙ sym a in
+    let other_account : other.account ≡ s.account = sym (ap (λ (x : TopUpFacts). x.account) one)
+    ∙ account ∙ sym a in
     let other_sum : other.sum ≡ s.sum = sym (ap (λ (x : TopUpFacts). x.sum) one) ∙ amount ∙ sym m in
     absurd (told.0.1 other_account other_sum)
 told_again plans old new t s (Refused BalanceLimit) v a m (k, is, account, amount) (balance, told) =
-    let fresh : topup_of old t.voucher ≡ None = sym (ap (topup_of old) v) ∙ told.0.fresh in absurd (cc (is, fresh))
+    let fresh : topup_of old t.voucher ≡ None = sym (ap (topup_of old) v)
+    ∙ told.0.fresh in absurd (cc (is, fresh))
 
 -- ---- the same line at another moment
 
 chosen : (a b c : Bool) (n x : List ℕ) (m when later : ℕ) (t : TopUpFacts)
-    → (if not a then Err BadVoucher else if not b then Err BadAccount else if not c then Err BadSum else Ok (record { voucher = n; account = x; sum = m; when = when })) ≡ Ok t
-    → (s : TopUpFacts) × ((if not a then Err BadVoucher else if not b then Err BadAccount else if not c then Err BadSum else Ok (record { voucher = n; account = x; sum = m; when = later })) ≡ Ok s)
+    → (if not a then Err BadVoucher else if not b then Err BadAccount else if not c then Err BadSum
+    else Ok (record { voucher = n; account = x; sum = m; when = when })) ≡ Ok t
+    → (s : TopUpFacts) × ((if not a then Err BadVoucher else if not b then Err BadAccount else if
+    not c then Err BadSum else Ok (record { voucher = n; account = x; sum = m; when = later }))
+    ≡ Ok s)
     × (s.voucher ≡ t.voucher) × (s.account ≡ t.account) × (s.sum ≡ t.sum)
 chosen true true true n x m when later t e =
     let first : TopUpFacts = record { voucher = n; account = x; sum = m; when = when } in
-    let same : first ≡ t = cc e in
-    (record { voucher = n; account = x; sum = m; when = later }, refl, ap (λ (y : TopUpFacts). y.voucher) same, ap (λ (y : TopUpFacts). y.account) same, ap (λ (y : TopUpFacts). y.sum) same)
+    let same : first ≡ t = cc e in (
+      record { voucher = n; account = x; sum = m; when = later },
+      refl,
+      ap
+          (λ (y : TopUpFacts). y.voucher) same,
+      ap (λ (y : TopUpFacts). y.account) same,
+      ap
+          (λ (y : TopUpFacts). y.sum) same,
+    )
 chosen true true false n x m when later t e = absurd (cc e)
 chosen true false c n x m when later t e = absurd (cc e)
 chosen false b c n x m when later t e = absurd (cc e)
 
-asked_later : (o : Option (List ℕ × List ℕ × List ℕ)) (line : Fields) (when later : ℕ) (t : TopUpFacts) → three_of line ≡ o → asked_by when line ≡ Ok t
-    → (s : TopUpFacts) × (asked_by later line ≡ Ok s) × (s.voucher ≡ t.voucher) × (s.account ≡ t.account) × (s.sum ≡ t.sum)
-asked_later None line when later t three e = let bad : Err FieldCount ≡ Ok t = rw three at e in absurd (cc bad)
+asked_later : (o : Option (List ℕ × List ℕ × List ℕ)) (line : Fields) (when later : ℕ)
+    (t : TopUpFacts) → three_of line ≡ o → asked_by when line ≡ Ok t
+    → (s : TopUpFacts) × (asked_by later line ≡ Ok s) × (s.voucher ≡ t.voucher)
+    × (s.account ≡ t.account) × (s.sum ≡ t.sum)
+asked_later None line when later t three e =
+    let bad : Err FieldCount ≡ Ok t = rw three at e in absurd (cc bad)
 asked_later (Some f) line when later t three e =
-    rw three (chosen (is_voucher_number f.0) (is_voucher_account (percent_decode f.1)) (is_voucher_sum (sum_of f.2)) f.0 (percent_decode f.1) (sum_of f.2) when later t (rw three at e))
+    rw three (chosen (is_voucher_number f.0) (is_voucher_account (percent_decode f.1))
+    (is_voucher_sum (sum_of f.2)) f.0 (percent_decode f.1) (sum_of f.2) when later t
+    (rw three at e))
 
-told_at : (plans : List Plan) (moment : ℕ) (old new : List Entry) (rows : List Fields) (outcomes : List Outcome) (j : ℕ) (line : Fields) (told : Outcome) (t s : TopUpFacts)
-    → Imported plans moment old rows outcomes new → slice_get rows j ≡ Some line → slice_get outcomes j ≡ Some told
-    → asked_by moment line ≡ Ok s → s.voucher ≡ t.voucher → s.account ≡ t.account → s.sum ≡ t.sum → Keeps old t → told ≡ Repeated
+told_at : (plans : List Plan) (moment : ℕ) (old new : List Entry) (rows : List Fields)
+    (outcomes : List Outcome) (j : ℕ) (line : Fields) (told : Outcome) (t s : TopUpFacts)
+    → Imported plans moment old rows outcomes new → slice_get rows j ≡ Some line
+    → slice_get outcomes j ≡ Some told
+    → asked_by moment line ≡ Ok s → s.voucher ≡ t.voucher → s.account ≡ t.account → s.sum ≡ t.sum
+    → Keeps old t → told ≡ Repeated
 told_at plans moment old new [] [] j line told t s run at out is v a m keeps = absurd (cc at)
-told_at plans moment old new [] (o ∷ outcomes) j line told t s run at out is v a m keeps = absurd run
+told_at plans moment old new [] (o ∷ outcomes) j line told t s run at out is v a m keeps =
+    absurd run
 told_at plans moment old new (x ∷ rows) [] j line told t s run at out is v a m keeps = absurd run
-told_at plans moment old new (x ∷ rows) (o ∷ outcomes) zero line told t s (mid, here, rest) at out is v a m keeps =
+told_at plans moment old new (x ∷ rows) (o ∷ outcomes) zero line told t s (mid, here, rest) at out
+    is v a m keeps =
     let same_line : x ≡ line = cc at in
     let same_out : o ≡ told = cc out in
     let wanted : asked_by moment x ≡ Ok s = ap (asked_by moment) same_line ∙ is in
-    sym same_out ∙ told_again plans old mid t s o v a m keeps (subst (λ w. Becomes plans old w o mid) wanted here)
-told_at plans moment old new (x ∷ rows) (o ∷ outcomes) (suc j) line told t s (mid, here, rest) at out is v a m keeps =
-    told_at plans moment mid new rows outcomes j line told t s rest at out is v a m (record_keeps plans old mid (asked_by moment x) o t keeps here)
+    sym same_out ∙ told_again plans old mid t s o v a m keeps
+    (subst (λ w. Becomes plans old w o mid) wanted here)
+told_at plans moment old new (x ∷ rows) (o ∷ outcomes) (suc j) line told t s (mid, here, rest) at
+    out is v a m keeps =
+    told_at plans moment mid new rows outcomes j line told t s rest at out is v a m
+    (record_keeps plans old mid (asked_by moment x) o t keeps here)
 
 pub repeats-later : RepeatsLater
-repeats-later plans later_plans moment later old mid between new rows later_rows outcomes later_outcomes first second i j line outcome told at out taken again said =
-    let (t, is, keeps) = taken_at plans moment old mid rows outcomes i line outcome first at out taken in
+repeats-later plans later_plans moment later old mid between new rows later_rows outcomes
+    later_outcomes first second i j line outcome told at out taken again said =
+    let (t, is, keeps) = taken_at plans moment old mid rows outcomes i line outcome first at out
+    taken in
     let (s, wanted, v, a, m) = asked_later (three_of line) line moment later t refl is in
-    told_at later_plans later (between ++ mid) new later_rows later_outcomes j line told t s second again said wanted v a m (keeps_behind between mid t keeps)
+    told_at later_plans later (between ++ mid) new later_rows later_outcomes j line told t s second
+    again said wanted v a m (keeps_behind between mid t keeps)

@@ -1,5 +1,6 @@
 -- A walk by the calls that give the next member, and the text that is written on the way.
-use Rattle.std.proofs.Common.{◌≡◌, ℕ, List, [], ◌∷◌, ◌++◌, Option, Some, None, Result, Ok, Err, refl, sym, ◌∙◌, ap, subst, append_assoc}
+use Rattle.std.proofs.Common.{◌≡◌, ℕ, List, [], ◌∷◌, ◌++◌, Option, Some, None, Result, Ok, Err}
+use Rattle.std.proofs.Common.{refl, sym, ◌∙◌, ap, subst, append_assoc}
 use Rattle.std.specs.Prelude.{flat_map, OnOk, IfOk}
 use Rattle.std.specs.Io.KnownBytes.{Appends, Keeps}
 use Rattle.std.specs.declared.cmp.Ordering.{Ordering}
@@ -17,26 +18,34 @@ module _ {K X : Type 0} (cmp : K → K → Ordering) (at : K → Option X) where
   -- from a start these are the next members, one after the other, and the walk now stands here
   abbrev pub Walked : Option K → List (K × X) → Option K → Type 0
   Walked after [] now = now ≡ after
-  Walked after ((key, member) ∷ rest) now = IsNext cmp at after (Some (key, member)) × Walked (Some key) rest now
+  Walked after ((key, member) ∷ rest) now =
+      IsNext cmp at after (Some (key, member)) × Walked (Some key) rest now
 
-  pub walked_more : (after : Option K) (entries : List (K × X)) (now : Option K) (key : K) (member : X) → Walked after entries now → IsNext cmp at now (Some (key, member))
+  pub walked_more : (after : Option K) (entries : List (K × X)) (now : Option K) (key : K)
+      (member : X) → Walked after entries now → IsNext cmp at now (Some (key, member))
       → Walked after (entries ++ (key, member) ∷ []) (Some key)
-  walked_more after [] now key member walked next = (subst (λ a. IsNext cmp at a (Some (key, member))) walked next, refl)
-  walked_more after ((j, y) ∷ rest) now key member walked next = (walked.0, walked_more (Some j) rest now key member walked.1 next)
+  walked_more after [] now key member walked next =
+      (subst (λ a. IsNext cmp at a (Some (key, member))) walked next, refl)
+  walked_more after ((j, y) ∷ rest) now key member walked next =
+      (walked.0, walked_more (Some j) rest now key member walked.1 next)
 
-  pub walked_all : (after : Option K) (entries : List (K × X)) (now : Option K) → Walked after entries now → IsNext cmp at now None → IsWalk cmp at after entries
+  pub walked_all : (after : Option K) (entries : List (K × X)) (now : Option K)
+      → Walked after entries now → IsNext cmp at now None → IsWalk cmp at after entries
   walked_all after [] now walked next = subst (λ a. IsNext cmp at a None) walked next
-  walked_all after ((j, y) ∷ rest) now walked next = (walked.0, walked_all (Some j) rest now walked.1 next)
+  walked_all after ((j, y) ∷ rest) now walked next =
+      (walked.0, walked_all (Some j) rest now walked.1 next)
 
 -- ---- text
 
-pub appends_then : (a b c : Option (List ℕ)) (x y : List ℕ) → Appends a b x → Appends b c y → Appends a c (x ++ y)
+pub appends_then : (a b c : Option (List ℕ)) (x y : List ℕ) → Appends a b x → Appends b c y
+    → Appends a c (x ++ y)
 appends_then None b c x y g h = tt
 appends_then (Some a) None c x y g h = absurd g
 appends_then (Some a) (Some b) None x y g h = absurd h
 appends_then (Some a) (Some b) (Some c) x y g h = h ∙ ap (λ t. t ++ y) g ∙ append_assoc a x y
 
-pub appends_kept : (a b c : Option (List ℕ)) (x : List ℕ) → Appends a b x → Keeps b c → Appends a c x
+pub appends_kept : (a b c : Option (List ℕ)) (x : List ℕ) → Appends a b x → Keeps b c
+    → Appends a c x
 appends_kept None b c x g h = tt
 appends_kept (Some a) None c x g h = absurd g
 appends_kept (Some a) (Some b) None x g h = absurd h
@@ -46,31 +55,45 @@ pub appends_nothing : (a : Option (List ℕ)) → Appends a a []
 appends_nothing None = tt
 appends_nothing (Some a) = sym (append-nil a)
 
-pub export_none : {E : Type 0} (header : Fields) (text : E → List ℕ) → export_text header text [] ≡ line header
+pub export_none : {E : Type 0} (header : Fields) (text : E → List ℕ)
+    → export_text header text [] ≡ line header
 export_none header text = append-nil (line header)
 
-pub export_more : {E : Type 0} (header : Fields) (text : E → List ℕ) (entries : List E) (e : E) → export_text header text entries ++ text e ≡ export_text header text (entries ++ e ∷ [])
+pub export_more : {E : Type 0} (header : Fields) (text : E → List ℕ) (entries : List E) (e : E)
+    → export_text header text entries ++ text e ≡ export_text header text (entries ++ e ∷ [])
 export_more header text entries e =
     append_assoc (line header) (flat_map text entries) (text e)
-    ∙ ap (λ t. line header ++ t) (ap (λ t. flat_map text entries ++ t) (sym (append-nil (text e))) ∙ sym (flat_map-append text entries (e ∷ [])))
+    ∙ ap (λ t. line header ++ t)
+    (ap (λ t. flat_map text entries ++ t) (sym (append-nil (text e)))
+    ∙ sym (flat_map-append text entries (e ∷ [])))
 
 -- one entry more was written
-pub grown : {E : Type 0} (header : Fields) (text : E → List ℕ) (entries : List E) (e : E) (a b c : Option (List ℕ)) → Appends a b (export_text header text entries) → Appends b c (text e)
+pub grown : {E : Type 0} (header : Fields) (text : E → List ℕ) (entries : List E) (e : E)
+    (a b c : Option (List ℕ)) → Appends a b (export_text header text entries) → Appends b c (text e)
     → Appends a c (export_text header text (entries ++ e ∷ []))
-grown header text entries e a b c before here = subst (λ t. Appends a c t) (export_more header text entries e) (appends_then a b c (export_text header text entries) (text e) before here)
+grown header text entries e a b c before here =
+    subst (λ t. Appends a c t) (export_more header text entries e)
+    (appends_then a b c (export_text header text entries) (text e) before here)
 
-pub if_ok : {T E : Type 0} (r : Result T E) (P Q : T → Type 0) → ((x : T) → P x → Q x) → IfOk r P → IfOk r Q
+pub if_ok : {T E : Type 0} (r : Result T E) (P Q : T → Type 0) → ((x : T) → P x → Q x) → IfOk r P
+    → IfOk r Q
 if_ok (Ok x) P Q f h = f x h
 if_ok (Err e) P Q f h = tt
 
 -- ---- the book
 
 -- what is next of the content at the start
-pub next_here : {B K X : Type 0} (content : B → Content) (is_open : B → Type 0) (cmp : K → K → Ordering) (side : Content → K → Option X) (start now new : B) (after : Option K) (entry : Option (K × X))
-    → (is_open now → content now ≡ content start) → (is_open new → is_open now) → (is_open new → IsNext cmp (side (content now)) after entry) → is_open new → IsNext cmp (side (content start)) after entry
-next_here content is_open cmp side start now new after entry same was found opens = subst (λ x. IsNext cmp (side x) after entry) (same (was opens)) (found opens)
+pub next_here : {B K X : Type 0} (content : B → Content) (is_open : B → Type 0)
+    (cmp : K → K → Ordering) (side : Content → K → Option X) (start now new : B) (after : Option K)
+    (entry : Option (K × X))
+    → (is_open now → content now ≡ content start) → (is_open new → is_open now)
+    → (is_open new → IsNext cmp (side (content now)) after entry) → is_open new
+    → IsNext cmp (side (content start)) after entry
+next_here content is_open cmp side start now new after entry same was found opens =
+    subst (λ x. IsNext cmp (side x) after entry) (same (was opens)) (found opens)
 
-module _ {B : Type 0} (content : B → Content) (is_sound is_open is_steady : B → Type 0) (left : B → Content → Type 0) where
+module _ {B : Type 0} (content : B → Content) (is_sound is_open is_steady : B → Type 0)
+    (left : B → Content → Type 0) where
   -- calls that read, whatever they answered
   pub record Quiet (old new : B) : Type 0 where
     pub was_sound : is_sound new → is_sound old
@@ -80,9 +103,17 @@ module _ {B : Type 0} (content : B → Content) (is_sound is_open is_steady : B 
     pub adds_none : is_sound new → (c : Content) → left new c → left old c
 
   pub quiet_at_first : (book : B) → Quiet book book
-  quiet_at_first book = record { was_sound = λ s. s; was_open = λ o. o; keeps_steady = λ s. s; same = λ o. refl; adds_none = λ s c l. l }
+  quiet_at_first book =
+      record {
+        was_sound = λ s. s;
+        was_open = λ o. o;
+        keeps_steady = λ s. s;
+        same = λ o. refl;
+        adds_none = λ s c l. l;
+      }
 
-  pub quiet_more : {T E : Type 0} (a b c : B) (result : Result T E) → Quiet a b → Reads content is_sound is_open is_steady left b c result → Quiet a c
+  pub quiet_more : {T E : Type 0} (a b c : B) (result : Result T E) → Quiet a b
+      → Reads content is_sound is_open is_steady left b c result → Quiet a c
   quiet_more a b c result quiet reads = record {
     was_sound = λ s. quiet.was_sound (reads.was_sound s);
     was_open = λ o. quiet.was_open (reads.was_open o);
@@ -92,8 +123,10 @@ module _ {B : Type 0} (content : B → Content) (is_sound is_open is_steady : B 
   }
 
   -- a call after them answers for all
-  pub reads_after : {T E T' E' : Type 0} (a b c : B) (result : Result T E) (told : Result T' E') → Quiet a b → Reads content is_sound is_open is_steady left b c result
-      → (is_sound c → OnOk result (is_open c) → OnOk told (is_open c)) → Reads content is_sound is_open is_steady left a c told
+  pub reads_after : {T E T' E' : Type 0} (a b c : B) (result : Result T E) (told : Result T' E')
+      → Quiet a b → Reads content is_sound is_open is_steady left b c result
+      → (is_sound c → OnOk result (is_open c) → OnOk told (is_open c))
+      → Reads content is_sound is_open is_steady left a c told
   reads_after a b c result told quiet reads answers = record {
     was_sound = λ s. quiet.was_sound (reads.was_sound s);
     was_open = λ o. quiet.was_open (reads.was_open o);

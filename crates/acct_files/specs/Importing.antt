@@ -1,11 +1,11 @@
 -- What an import does: the records of a text, what became of each, and what the book then stands
 -- for.
 use Rattle.std.specs.Prelude.{◌≡◌, ◌≢◌, ◌⊎◌, ◌+◌, ◌≤◌, ⊤, ℕ, ℤ, Bool, true, false, List, [], ◌∷◌}
-use Rattle.std.specs.Prelude.{◌++◌, length, count_by, Option, Some, None, IfSome}
+use Rattle.std.specs.Prelude.{◌++◌, length, count_by, Option, Some, None, IfSome, option_map}
 use Rattle.std.specs.Prelude.{Result, Ok, Err}
 use Rattle.std.specs.Option.{option_map_or}
 use Rattle.csv.specs.Machine.{next_record}
-use Rattle.csv.specs.Reading.{AreRecords, Reached, default_config}
+use Rattle.csv.specs.Reading.{AreRecords, Reached, default_config, strip_bom}
 use Rattle.csv.specs.declared.parser.State.{State}
 use Rattle.csv.specs.declared.parser.State.TheVariants as st
 use Rattle.acct_model.specs.declared.plan.Plan.{Plan}
@@ -99,6 +99,10 @@ pub record Counts (outcomes : List Outcome) (report : ImportReport) : Type 0 whe
   pub refused : report.refused ≡ refused_from 2 outcomes
 
 -- ---- how far a text was read
+
+-- a text without the byte order mark that may begin it
+abbrev pub unmarked : Option (List ℕ) → Option (List ℕ)
+unmarked = option_map strip_bom
 
 -- the header and these records begin a text
 abbrev pub Begin : List ℕ → List Fields → Type 0

@@ -1,5 +1,6 @@
 pub mod Vouchers
 pub mod Importing
+pub mod Reports
 pub mod Reading
 pub mod Exporting
 pub mod Laws

@@ -38,7 +38,8 @@ pub fn export_balances<B: Book, W: Write + Drop>(
     book: &mut B,
     writer: W,
 ) -> Result<W, ExportError>
-    ensures reads { Reads B.content B.is_sound B.is_open B.is_steady B.left book.old book.new result }
+    ensures reads { Reads B.content B.is_sound B.is_open B.is_steady B.left
+        book.old book.new result }
     ensures text { IfOk result (λ w. (entries : List (List ℕ × ℤ))
         × Appends (W.contents writer) (W.contents w)
         (export_text (account_header AccountExport.Balances)
@@ -49,8 +50,7 @@ pub fn export_balances<B: Book, W: Write + Drop>(
 }
 
 /// Writes `account,overrun` and a line for each account whose balance is below 0, in the order of
-/// the accounts. It holds one account
-/// at a time.
+/// the accounts. It holds one account at a time.
 ///
 /// # Errors
 ///
@@ -61,7 +61,8 @@ pub fn export_overruns<B: Book, W: Write + Drop>(
     book: &mut B,
     writer: W,
 ) -> Result<W, ExportError>
-    ensures reads { Reads B.content B.is_sound B.is_open B.is_steady B.left book.old book.new result }
+    ensures reads { Reads B.content B.is_sound B.is_open B.is_steady B.left
+        book.old book.new result }
     ensures text { IfOk result (λ w. (entries : List (List ℕ × ℤ))
         × Appends (W.contents writer) (W.contents w)
         (export_text (account_header AccountExport.Overruns)
@@ -77,7 +78,8 @@ fn export_accounts<B: Book, W: Write + Drop>(
     writer: W,
     what: AccountExport,
 ) -> Result<W, ExportError>
-    ensures reads { Reads B.content B.is_sound B.is_open B.is_steady B.left book.old book.new result }
+    ensures reads { Reads B.content B.is_sound B.is_open B.is_steady B.left
+        book.old book.new result }
     ensures text { IfOk result (λ w. (entries : List (List ℕ × ℤ))
         × Appends (W.contents writer) (W.contents w)
         (export_text (account_header what) (λ e. account_line what e.0 e.1) entries)
@@ -118,7 +120,8 @@ fn next_account<B: Book>(
     ensures found { B.is_open book.new
         → IfOk result (λ kept. IsNextBalance (B.content book.old)
         (option_map (λ a. a.items) after.now) (option_map (λ k. (k.0.items, k.1)) kept)) }
-    ensures reads { Reads B.content B.is_sound B.is_open B.is_steady B.left book.old book.new result }
+    ensures reads { Reads B.content B.is_sound B.is_open B.is_steady B.left
+        book.old book.new result }
 {
     let next = match after {
         None => book.next_account(None),

@@ -83,7 +83,7 @@ static REFUSED: [Refused; 39] = [
     (
         "client = [{name='a', address='1.2.3.4', secret='s'},
 {name='b', address='1.2.3.5', secret='s'},
-{name='c', address='1.2.3.4', secret='t'}]\nplan = [1]",
+{name='c', address='1.2.3.4', secret='t'}]\nplan = [{class='', block=1, unit=1}]",
         "TwiceClient in Client 2",
     ),
     // All clients are tested before the first plan.
@@ -136,7 +136,7 @@ static REFUSED: [Refused; 39] = [
     ),
     // That none is `default` is told before any key.
     (
-        "key = [1]\nplan = [{class='Default', block=1, unit=0}]",
+        "key = [{token='', account='al'}]\nplan = [{class='Default', block=1, unit=0}]",
         "NoDefault in Top 0",
     ),
 ];
@@ -262,7 +262,7 @@ fn the_array_of_keys_has_a_limit(rt: HostRuntime) -> Result<(), Fail> {
 }
 
 // The site of the samples, as an operator writes it.
-const SITE: &str = "# A site.
+pub(crate) const SITE: &str = "# A site.
 [[client]]
 name = \"ap1\"
 address = \"10.0.0.1\"
@@ -332,7 +332,7 @@ fn is_key(key: &DeskKey, token: &str, account: Option<&[u8]>) -> bool {
     key.token.as_str() == token && owner == account
 }
 
-fn are_sample_prices(config: &Config) -> bool {
+pub(crate) fn are_sample_prices(config: &Config) -> bool {
     match (config.clients.list(), config.plans.list()) {
         ([ap1], [gold, other]) => {
             is_client(ap1, "ap1", [10, 0, 0, 1], b"xyzzy5461")
@@ -343,7 +343,7 @@ fn are_sample_prices(config: &Config) -> bool {
     }
 }
 
-fn are_sample_keys(config: &Config) -> bool {
+pub(crate) fn are_sample_keys(config: &Config) -> bool {
     match config.keys.list() {
         [al, bo, cash] => {
             is_key(al, "al-key-0000000001", Some(b"al"))
@@ -358,6 +358,23 @@ fn are_sample_keys(config: &Config) -> bool {
 fn the_sample_site_is_read(rt: HostRuntime) -> Result<(), Fail> {
     let config = config_of(rt.alloc(), SITE)?;
     assert!(rt; are_sample_prices(&config) && are_sample_keys(&config));
+    Ok(())
+}
+
+// Texts that come after the sample site.
+static REFUSED_ENDS: [Refused; 2] = [
+    ("[[plans]]", "BadShape in Top 0"),
+    (
+        "[[key]]\ntoken = 'al-key-0000000001'\naccount = 'al'",
+        "TwiceKeyed in Key 3",
+    ),
+];
+
+#[test]
+fn faults_after_the_sample_site_are_told(rt: HostRuntime) -> Result<(), Fail> {
+    for refused in &REFUSED_ENDS {
+        assert!(rt; is_refused(rt.alloc(), SITE, *refused)?);
+    }
     Ok(())
 }
 

@@ -1,8 +1,9 @@
 //! What an import reports.
 ghost use Rattle.std.specs.Prelude.{◌≡◌, ◌+◌, ◌≤◌, ◌<◌, ◌-◌, ◌^◌, ℕ, [], ◌∷◌, ◌++◌, length, List};
-ghost use Rattle.std.specs.Prelude.{OnOk, OnErr, IfErr, IsTrue, None, Ok};
+ghost use Rattle.std.specs.Prelude.{OnOk, OnErr, IfErr, IsTrue, None, Ok, Some};
 ghost use Rattle.acct_files.specs.Importing.{Counts, added_by};
 ghost use Rattle.acct_files.specs.Importing as spec;
+ghost use Rattle.acct_files.specs.Reports.{cause_text, stop_text};
 ghost use Rattle.acct_files.specs.declared.import_report.Outcome.{Outcome};
 
 use crate::refused_list::RefusedList;
@@ -27,6 +28,8 @@ pub enum Cause {
 }
 
 impl fmt::Display for Cause {
+    ghost output = { λ cause. Some (cause_text cause) };
+
     fn fmt<W: fmt::Write>(&self, f: &mut fmt::Formatter<W>) -> fmt::Result {
         f.write_str(match self {
             Cause::FieldCount => "FieldCount",
@@ -55,6 +58,8 @@ pub enum Stopped {
 }
 
 impl fmt::Display for Stopped {
+    ghost output = { λ stopped. Some (stop_text stopped) };
+
     fn fmt<W: fmt::Write>(&self, f: &mut fmt::Formatter<W>) -> fmt::Result {
         f.write_str(match self {
             Stopped::BadHeader => "BadHeader",

@@ -1,7 +1,7 @@
 //! Imports vouchers from CSV.
 ghost use Rattle.std.specs.Prelude.{◌≡◌, ◌^◌, ◌<◌, ⊤, List, [], Option, None, Some, IfSome, IfOk};
 ghost use Rattle.std.specs.Prelude.{IfErr, OnOk, option_map, Result, Ok, Err};
-ghost use Rattle.csv.specs.Reading.{ReadRecord, source_of, strip_bom, reader_state};
+ghost use Rattle.csv.specs.Reading.{ReadRecord, source_of, strip_bom, reader_state, reader_source};
 ghost use Rattle.csv.specs.Records.{fields_of};
 ghost use Rattle.csv.specs.declared.parser.State.TheVariants as st;
 ghost use Rattle.acct_model.specs.declared.entry.Entry.{Entry};
@@ -10,6 +10,7 @@ ghost use Rattle.acct_book.specs.Stands.{Stands};
 ghost use Rattle.acct_files.specs.Importing.{Keeps, Imports, Moves, Did, Counts, added_by};
 ghost use Rattle.acct_files.specs.Importing.{refused_by, stop_of, told_by};
 ghost use Rattle.acct_files.specs.Reading.{IsAtRecord, HasReadHeader, IsReadStop, IsHeaderStop};
+ghost use Rattle.acct_files.specs.Reading.{HasLimits};
 
 use crate::capped::Capped;
 use crate::import_report::{Cause, ImportReport, Outcome, Stopped};
@@ -28,8 +29,8 @@ const MOST_OCTETS: u64 = 67_108_864;
 const MOST_READS: u64 = 134_217_728;
 
 /// Records the vouchers of a text in a book, at a moment in seconds since 1970: a header, and then
-/// a voucher a record. The text is read
-/// as a stream. What was recorded before the import stopped stays.
+/// a voucher a record. The text is read as a stream. What was recorded before the import stopped
+/// stays.
 pub fn import<R: Read + Drop, B: Book>(
     alloc: Global,
     reader: R,
@@ -47,15 +48,26 @@ pub fn import<R: Read + Drop, B: Book>(
         book.new }
 {
     let mut report = ImportReport::new(alloc);
-    let capped = Capped::new(reader, MOST_OCTETS, MOST_READS);
-    let mut rows = ReaderBuilder::new()
-        .has_headers(false)
-        .flexible(true)
-        .from_reader(alloc, capped);
+    let mut rows = rows_of(alloc, reader);
     let mut row = ByteRecord::new(alloc);
     let run = import_rows(alloc, &mut rows, &mut row, plans, book, moment, &mut report);
     report.stopped = run.err();
     report
+}
+
+// The records of a text, which is read within the limits of octets and reads.
+fn rows_of<R: Read + Drop>(alloc: Global, text: R) -> Reader<Capped<R>>
+    ensures rows { IsAtRecord result }
+    ensures start { reader_state result ≡ st.StartRecord }
+    ensures text { source_of ⟦<Capped<R> as Read>⟧.remaining result
+        ≡ option_map strip_bom (R.remaining text) }
+    ensures limits { HasLimits (reader_source result) }
+{
+    let capped = Capped::new(text, MOST_OCTETS, MOST_READS);
+    ReaderBuilder::new()
+        .has_headers(false)
+        .flexible(true)
+        .from_reader(alloc, capped)
 }
 
 // The records of a text, from its start on.

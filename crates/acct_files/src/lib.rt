@@ -23,6 +23,8 @@ mod import_report;
 mod importing;
 mod key_tables;
 pub mod laws;
+#[cfg(test)]
+mod memory_tests;
 mod plan_tables;
 mod refused_list;
 mod session_lines;

@@ -37,7 +37,8 @@ pub fn export_sessions<B: Book, W: Write + Drop>(
     plans: &Plans,
     writer: W,
 ) -> Result<W, ExportError>
-    ensures reads { Reads B.content B.is_sound B.is_open B.is_steady B.left book.old book.new result }
+    ensures reads { Reads B.content B.is_sound B.is_open B.is_steady B.left
+        book.old book.new result }
     ensures text { IfOk result (λ w. (entries : List (Key × RowFacts))
         × Appends (W.contents writer) (W.contents w)
         (export_text session_header (λ e. line (session_fields plans.now e.1)) entries)
@@ -77,7 +78,8 @@ fn begin_sessions<W: Write + Drop>(writer: W) -> Result<Writer<W>, ExportError>
 fn next_session<B: Book>(book: &mut B, after: &Option<Key>) -> Result<Option<Row>, ExportError>
     ensures found { B.is_open book.new
         → IfOk result (λ row. IsNextRow (B.content book.old) after.now row) }
-    ensures reads { Reads B.content B.is_sound B.is_open B.is_steady B.left book.old book.new result }
+    ensures reads { Reads B.content B.is_sound B.is_open B.is_steady B.left
+        book.old book.new result }
 {
     match book.next_session(after.as_ref()) {
         Ok(row) => Ok(row),

@@ -28,9 +28,9 @@ fn whole(text: &'static [u8], counts: (u64, u64), refused: &'static [(u64, Cause
     }
 }
 
-const VOUCHERS: &[u8] = b"voucher,account,sum\nV-1,al,500\nV-2,bo,300\nV-1,al,501\n";
+pub(crate) const VOUCHERS: &[u8] = b"voucher,account,sum\nV-1,al,500\nV-2,bo,300\nV-1,al,501\n";
 
-fn plans(alloc: Global) -> Result<Plans, Fail> {
+pub(crate) fn plans(alloc: Global) -> Result<Plans, Fail> {
     let mut plans = Vec::new(alloc);
     plans.push(Plan {
         class: Octets::from_slice(alloc, b"gold")?,
@@ -79,7 +79,8 @@ static UPLOADS: [Upload; 9] = [
     // A mark of the order of bytes, a quoted header, line ends of all kinds, blank lines, a quoted
     // field with a comma, a quote and a line end, and a last record without a line end.
     Upload {
-        text: b"\xEF\xBB\xBF\"voucher\",account,sum\r\n\r\n\"V-3\",\"a,\"\"b\nc\",7\rV-4,a%2Cb,0000000000008",
+        text: b"\xEF\xBB\xBF\"voucher\",account,sum\r\n\r\n\"V-3\",\"a,\"\"b
+c\",7\rV-4,a%2Cb,0000000000008",
         counts: (2, 0),
         refused: &[],
         stopped: None,
@@ -97,7 +98,8 @@ static UPLOADS: [Upload; 9] = [
     },
     // Fourteen digits, the greatest sum, one above it, a sign and a space.
     Upload {
-        text: b"voucher,account,sum\nA,al,00000000000001\nB,al,1000000000000\nC,al,1000000000001\nD,al,+1\nE,al, 1\n",
+        text: b"voucher,account,sum\nA,al,00000000000001\nB,al,1000000000000
+C,al,1000000000001\nD,al,+1\nE,al, 1\n",
         counts: (1, 0),
         refused: &[
             (2, Cause::BadSum),
@@ -202,16 +204,21 @@ fn full_row(alloc: Global) -> Result<Row, Fail> {
     })
 }
 
-const SESSIONS: &[u8] =
+pub(crate) const SESSIONS: &[u8] =
     b"client,session,account,class,input,output,total,charged,seconds,first,last,state,cause,calling,framed
 ap1,s%0A1,\"a,b\",%FF,5,7,12,5,9,2001,2003,stopped,2,\"00\"\"11\",10.0.0.8
 ap1,s2,al,gold,1048577,0,1048577,20,0,2000,2000,open,0,,
 ";
 
-fn downloads(alloc: Global) -> Result<bool, Fail> {
-    let mut book = MemBook::new(alloc);
+pub(crate) fn put_sessions(alloc: Global, book: &mut MemBook) -> Result<(), Fail> {
     book.put_session(&first_row(alloc)?, -20)?;
     book.put_session(&full_row(alloc)?, 5)?;
+    Ok(())
+}
+
+fn downloads(alloc: Global) -> Result<bool, Fail> {
+    let mut book = MemBook::new(alloc);
+    put_sessions(alloc, &mut book)?;
     let sessions = export_sessions(alloc, &mut book, &plans(alloc)?, Vec::new(alloc))?;
     let balances = export_balances(alloc, &mut book, Vec::new(alloc))?;
     let overruns = export_overruns(alloc, &mut book, Vec::new(alloc))?;
@@ -327,7 +334,7 @@ impl Write for FailingWriter {
     }
 }
 
-const TOPUPS: &[u8] = b"voucher,account,sum,when\nV-1,al,500,3000\nV-2,bo,300,3000\n";
+pub(crate) const TOPUPS: &[u8] = b"voucher,account,sum,when\nV-1,al,500,3000\nV-2,bo,300,3000\n";
 
 // The least writes with which the top-ups are written. Fewer are a fault of the writer.
 fn least_writes(alloc: Global) -> Result<u64, Fail> {
@@ -362,8 +369,7 @@ fn first_call_past(alloc: Global) -> Result<u64, Fail> {
             book: MemBook::new(alloc),
             calls_left: 0,
         };
-        book.put_session(&first_row(alloc)?, -20)?;
-        book.put_session(&full_row(alloc)?, 5)?;
+        put_sessions(alloc, &mut book.book)?;
         book.calls_left = calls_left;
         match export_sessions(alloc, &mut book, &plans(alloc)?, Vec::new(alloc)) {
             Ok(text) if text.as_slice() == SESSIONS => return Ok(calls_left),

@@ -31,7 +31,8 @@ pub fn export_topups<B: Book, W: Write + Drop>(
     book: &mut B,
     writer: W,
 ) -> Result<W, ExportError>
-    ensures reads { Reads B.content B.is_sound B.is_open B.is_steady B.left book.old book.new result }
+    ensures reads { Reads B.content B.is_sound B.is_open B.is_steady B.left
+        book.old book.new result }
     ensures text { IfOk result (λ w. (entries : List (List ℕ × TopUpFacts))
         × Appends (W.contents writer) (W.contents w)
         (export_text topup_header (λ e. line (topup_fields e.1)) entries)
@@ -66,7 +67,8 @@ fn begin_topups<W: Write + Drop>(writer: W) -> Result<Writer<W>, ExportError>
 fn next_topup<B: Book>(book: &mut B, after: &Option<Text>) -> Result<Option<TopUp>, ExportError>
     ensures found { B.is_open book.new
         → IfOk result (λ topup. IsNextTopUp (B.content book.old) after.now topup) }
-    ensures reads { Reads B.content B.is_sound B.is_open B.is_steady B.left book.old book.new result }
+    ensures reads { Reads B.content B.is_sound B.is_open B.is_steady B.left
+        book.old book.new result }
 {
     let next = match after {
         None => book.next_topup(None),

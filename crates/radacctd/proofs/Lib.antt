@@ -10,5 +10,7 @@ pub mod Signing
 pub mod WordLemmas
 -- the words of a packet's line
 pub mod PacketWords
+-- the lines of the drops, one reason more
+pub mod DropLines
 -- the size of a reply
 pub mod Replies

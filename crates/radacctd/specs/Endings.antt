@@ -1,9 +1,11 @@
--- What ends a command before its time.
-use Rattle.std.specs.Prelude.{ℕ, List, Option, None, Some, codes}
+-- What ends a command before its time, and how the command then ends.
+use Rattle.std.specs.Prelude.{ℕ, List, Option, None, Some, codes, Result, Ok, Err}
 use Rattle.acct_sql.specs.declared.sql_book_error.SqlBookError.{SqlBookError}
 use Rattle.acct_sql.specs.declared.sql_book_error.SqlBookError.TheVariants as error
 use Rattle.radacctd.specs.declared.fault.Fault.{Fault}
 use Rattle.radacctd.specs.declared.fault.Fault.TheVariants as fault
+use Rattle.radacctd.specs.declared.status.Status.{Status}
+use Rattle.radacctd.specs.declared.status.Status.TheVariants as status
 
 -- the text of what is wrong with a book
 abbrev pub store_fault_text : SqlBookError → List ℕ
@@ -22,3 +24,19 @@ fault_text fault.StoreMemory = Some (codes "db: Memory")
 fault_text fault.CannotBind = Some (codes "socket: cannot bind")
 fault_text fault.CannotWrite = Some (codes "cannot write")
 fault_text fault.NoMemory = Some (codes "out of memory")
+
+-- how a command ends that a fault ends
+abbrev pub fault_status : Fault → Status
+fault_status fault.CannotRead = status.Refused
+fault_status (fault.Config error) = status.Refused
+fault_status fault.CannotOpen = status.Unavailable
+fault_status (fault.Store why) = status.Unavailable
+fault_status fault.StoreMemory = status.Unavailable
+fault_status fault.CannotBind = status.Socket
+fault_status fault.CannotWrite = status.Refused
+fault_status fault.NoMemory = status.Unavailable
+
+-- how a command ends
+abbrev pub ended_status : Result Status Fault → Status
+ended_status (Ok ended) = ended
+ended_status (Err why) = fault_status why

@@ -5,8 +5,11 @@ pub mod Endings
 pub mod Faults
 pub mod Feed
 pub mod Line
+pub mod Exports
+pub mod Imports
 pub mod Lines
 pub mod Numbers
 pub mod Octets
 pub mod SampleSite
+pub mod Serving
 pub mod Words

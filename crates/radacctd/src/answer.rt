@@ -23,8 +23,7 @@ const HEADER: usize = 20;
 #[derive(Debug, Drop)]
 pub enum Answer {
     /// A reply to a request that was signed: its code, identifier and length, and its attributes,
-    /// in
-    /// hexadecimal digits.
+    /// in hexadecimal digits.
     Parted {
         /// Code, identifier and length.
         front: Text,

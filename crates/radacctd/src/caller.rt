@@ -39,8 +39,8 @@ impl<'r, R: Net + Clock> Caller<'r, R> {
     }
 
     /// Writes the response and closes the connection's sending side. What else the caller sent is
-    /// read away, since a connection that is closed over unread octets is reset, and the caller
-    /// may then lose the response.
+    /// read away, since a connection that is closed over unread octets is reset, and the caller may
+    /// then lose the response.
     ///
     /// # Errors
     ///

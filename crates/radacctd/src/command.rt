@@ -131,7 +131,7 @@ fn export<W: Write + Drop>(
     let alloc = runtime.alloc();
     let config = read_config(runtime, alloc, &paths.config)?;
     let mut book = adopted(runtime, &paths.database, &config.plans)?;
-    let status = run_export(alloc, what, &config.plans, &mut book, output)?;
+    run_export(alloc, what, &config.plans, &mut book, output)?;
     close(book)?;
-    Ok(status)
+    Ok(Status::Done)
 }

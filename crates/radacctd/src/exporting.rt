@@ -1,9 +1,10 @@
 //! `export`: the book as CSV.
-ghost use Rattle.std.specs.Prelude.{◌≡◌, IfOk};
+ghost use Rattle.std.specs.Prelude.{IfOk};
+ghost use Rattle.acct_book.specs.Book.{Reads};
+ghost use Rattle.radacctd.specs.Exports.{Exports};
 
 use crate::fault::Fault;
 use crate::job::Export;
-use crate::status::Status;
 use acct_book::Book;
 use acct_files::{ExportError, export_balances, export_overruns, export_sessions, export_topups};
 use acct_model::Plans;
@@ -11,7 +12,7 @@ use acct_sql::SqlBookError;
 use std::alloc::Global;
 use std::io::Write;
 
-/// Writes one of the exports, and flushes the writer.
+/// Writes one of the exports, and gives back the writer, flushed.
 ///
 /// # Errors
 ///
@@ -22,8 +23,10 @@ pub fn run_export<B: Book, W: Write + Drop>(
     plans: &Plans,
     book: &mut B,
     output: W,
-) -> Result<Status, Fault>
-    ensures { IfOk result (λ status. status ≡ Status.Done) }
+) -> Result<W, Fault>
+    ensures reads { Reads B.content B.is_sound B.is_open B.is_steady B.left book.old book.new result }
+    ensures exports { IfOk result (λ writer. Exports plans.now (B.content book.old)
+        (B.is_open book.new) (W.contents output) (W.contents writer) what) }
 {
     let written = match what {
         Export::Sessions => export_sessions(alloc, book, plans, output),
@@ -34,7 +37,7 @@ pub fn run_export<B: Book, W: Write + Drop>(
     match written {
         Ok(mut writer) => {
             writer.flush()?;
-            Ok(Status::Done)
+            Ok(writer)
         }
         Err(ExportError::Unavailable) => Err(Fault::Store(SqlBookError::Unavailable)),
         Err(ExportError::WriteFault) => Err(Fault::CannotWrite),

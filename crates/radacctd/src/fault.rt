@@ -1,6 +1,6 @@
 //! What ends a command before its time.
 ghost use Rattle.std.specs.Prelude.{◌≡◌, ◌≢◌, IfOk};
-ghost use Rattle.radacctd.specs.Endings.{fault_text, store_fault_text};
+ghost use Rattle.radacctd.specs.Endings.{fault_text, store_fault_text, fault_status, ended_status};
 
 use crate::status::Status;
 use acct_files::ConfigError;
@@ -62,7 +62,8 @@ fn store_text(error: SqlBookError) -> &'static str
 impl Fault {
     /// How a command ends that this ends.
     pub fn status(self) -> Status
-        ensures { result ≢ Status.WrongWords }
+        ensures status { result ≡ fault_status self }
+        ensures other { result ≢ Status.WrongWords }
     {
         match self {
             Fault::CannotRead | Fault::Config(_) | Fault::CannotWrite => Status::Refused,
@@ -100,7 +101,8 @@ impl From<AllocError> for Fault {
 /// is told.
 pub fn end<E: Write>(faults: &mut E, ended: Result<Status, Fault>) -> Status
     requires { IfOk ended (λ status. status ≢ Status.WrongWords) }
-    ensures { result ≢ Status.WrongWords }
+    ensures status { result ≡ ended_status ended }
+    ensures other { result ≢ Status.WrongWords }
 {
     match ended {
         Ok(status) => status,

@@ -32,9 +32,9 @@ use std::alloc::Global;
 use std::io::{Read, Write};
 use std::str;
 
-/// Answers the lines of the reader over an empty book, whose tables are kept in memory, and says how
-/// it ended: `Refused` after a bad line, an input that is too long or cannot be read, or a writer
-/// that fails.
+/// Answers the lines of the reader over an empty book, whose tables are kept in memory, and says
+/// how it ended: `Refused` after a bad line, an input that is too long or cannot be read, or a
+/// writer that fails.
 pub fn run_feed<R: Read + Drop, W: Write + Drop>(
     alloc: Global,
     config: Config,

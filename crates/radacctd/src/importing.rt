@@ -1,5 +1,7 @@
 //! `import`: credits the vouchers of a CSV text.
-ghost use Rattle.std.specs.Prelude.{◌<◌, ◌^◌, ◌≢◌, IfOk};
+ghost use Rattle.std.specs.Prelude.{◌≡◌, ◌≢◌, ◌++◌, ◌<◌, ◌^◌, IfOk, OnOk, flat_map};
+ghost use Rattle.std.specs.Io.KnownBytes.{Appends};
+ghost use Rattle.radacctd.specs.Imports.{Runs, report_status, report_text, refused_line};
 
 use crate::fault::Fault;
 use crate::status::Status;
@@ -26,7 +28,10 @@ pub fn run_import<B: Book, I: Read + Drop, W: Write>(
     output: &mut W,
 ) -> Result<Status, Fault>
     requires { moment < 2 ^ 53 }
-    ensures { IfOk result (λ status. status ≢ Status.WrongWords) }
+    ensures runs { Runs B.content B.is_sound B.is_open B.is_steady B.left plans.now moment
+        (I.remaining input) book.old book.new (W.contents output.old) (W.contents output.new)
+        result }
+    ensures other { IfOk result (λ status. status ≢ Status.WrongWords) }
 {
     let report = import(alloc, input, plans, book, moment);
     write_report(output, &report)?;
@@ -34,8 +39,10 @@ pub fn run_import<B: Book, I: Read + Drop, W: Write>(
     Ok(status_of(&report))
 }
 
+// How an import ends.
 fn status_of(report: &ImportReport) -> Status
-    ensures { result ≢ Status.WrongWords }
+    ensures status { result ≡ report_status report.now }
+    ensures other { result ≢ Status.WrongWords }
 {
     match report.stopped {
         Some(Stopped::Unavailable) => Status::Unavailable,
@@ -45,7 +52,10 @@ fn status_of(report: &ImportReport) -> Status
     }
 }
 
-fn write_report<W: Write>(output: &mut W, report: &ImportReport) -> io::Result<()> {
+fn write_report<W: Write>(output: &mut W, report: &ImportReport) -> io::Result<()>
+    ensures { OnOk result (Appends (W.contents output.old) (W.contents output.new)
+        (report_text report.now)) }
+{
     let (added, repeated) = (report.added, report.repeated);
     let refused = report.refused.as_slice();
     let count = refused.len();
@@ -53,16 +63,27 @@ fn write_report<W: Write>(output: &mut W, report: &ImportReport) -> io::Result<(
         output,
         "added {added}, repeated {repeated}, refused {count}"
     )?;
-    for record in refused {
-        write_refused(output, record)?;
-    }
+    write_all_refused(output, refused)?;
     match report.stopped {
         Some(stopped) => writeln!(output, "stopped: {stopped}"),
         None => Ok(()),
     }
 }
 
-fn write_refused<W: Write>(output: &mut W, record: &Refused) -> io::Result<()> {
-    let (number, cause) = (record.number, record.cause);
+fn write_all_refused<W: Write>(output: &mut W, records: &[Refused]) -> io::Result<()>
+    ensures { OnOk result (Appends (W.contents output.old) (W.contents output.new)
+        (flat_map refused_line records.now)) }
+{
+    for record in records {
+        write_refused(output, record)?;
+    }
+    Ok(())
+}
+
+fn write_refused<W: Write>(output: &mut W, refused: &Refused) -> io::Result<()>
+    ensures { OnOk result (Appends (W.contents output.old) (W.contents output.new)
+        (refused_line refused.now)) }
+{
+    let (number, cause) = (refused.number, refused.cause);
     writeln!(output, "{number}: {cause}")
 }

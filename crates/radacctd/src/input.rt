@@ -43,8 +43,7 @@ impl From<AllocError> for InputFault {
 /// # Errors
 ///
 /// `TooLong` as soon as more than `MOST_OCTETS` octets came, `CannotRead` where a read fails or the
-/// end isn't met in
-/// `MOST_READS` reads, `NoMemory` where the octets can't be kept.
+/// end isn't met in `MOST_READS` reads, `NoMemory` where the octets can't be kept.
 pub fn read_input<R: Read>(alloc: Global, reader: &mut R) -> Result<Vec<u8>, InputFault>
     ensures whole { IfOk result (λ octets.
         IfSome (R.remaining reader.old) (λ all. octets.items ≡ all)) }

@@ -2,8 +2,7 @@
 //!
 //! One space each separates the words of a line. A number is 1 to 20 decimal digits, octets are
 //! hexadecimal digits or `-`, and an account or a session id is shown as `acct_model::show` shows
-//! it,
-//! `-` where it is empty.
+//! it, `-` where it is empty.
 ghost use Rattle.std.specs.Prelude.{◌≡◌, ℕ, List, [], ◌∷◌, codes, IfOk, IfErr, IfSome};
 ghost use Rattle.std.specs.Prelude.{MatchOption};
 ghost use Rattle.acct_model.specs.Vouchers.{TopUpFacts};

@@ -1,7 +1,7 @@
 //! radacctd: a RADIUS accounting server (RFC 2866) with prepaid data allowances.
 //!
-//! `radacctd serve` answers access servers and callers of the desk over a book in a file, which `init`
-//! makes; `import` credits vouchers and `export` writes the book as CSV; `check` reads a
+//! `radacctd serve` answers access servers and callers of the desk over a book in a file, which
+//! `init` makes; `import` credits vouchers and `export` writes the book as CSV; `check` reads a
 //! configuration; `feed` answers a script.
 #![tactic(auto)]
 

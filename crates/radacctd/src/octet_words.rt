@@ -1,5 +1,5 @@
-//! Octets as words of a line: in hexadecimal digits, or shown as `acct_model::show` shows them.
-//! `-` stands for none.
+//! Octets as words of a line: in hexadecimal digits, or shown as `acct_model::show` shows them. `-`
+//! stands for none.
 ghost use Rattle.std.specs.Prelude.{◌≡◌, None, Some, IfOk, IfErr};
 ghost use Rattle.hex.specs.Hex.{encode_lower};
 ghost use Rattle.radacctd.specs.Octets.{octets_in_hex, octets_shown as octets_in, shown_word};

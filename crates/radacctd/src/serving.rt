@@ -1,5 +1,9 @@
 //! `serve`: access servers and callers of the desk, answered over a book.
-ghost use Rattle.std.specs.Prelude.{◌≡◌, ◌<◌, ◌^◌, IfOk};
+ghost use Rattle.std.specs.Prelude.{◌≡◌, ◌<◌, ◌^◌, ◌++◌, List, IfOk, OnOk, codes};
+ghost use Rattle.std.specs.Io.KnownBytes.{Appends};
+ghost use Rattle.acct_model.specs.declared.entry.Entry.{Entry};
+ghost use Rattle.acct_book.specs.Step.{StoodFor};
+ghost use Rattle.radacctd.specs.Serving.{Serves, drops_line, drops_lines, served_text};
 
 use crate::counts::{Counts, Drops};
 use crate::fault::Fault;
@@ -15,9 +19,6 @@ use std::io;
 use std::io::{ErrorKind, Write};
 use std::net::Net;
 use std::time::Clock;
-
-/// The greatest number of a reason.
-const LAST_REASON: u8 = 13;
 
 /// Serves a configuration over a book for this many turns. It says so once both sockets are bound,
 /// and what came at the end.
@@ -35,7 +36,11 @@ pub fn run_serve<R: Net + Clock, B: Book, W: Write>(
     output: &mut W,
 ) -> Result<Status, Fault>
     requires { turns < 2 ^ 63 }
-    ensures { IfOk result (λ status. status ≡ Status.Done) }
+    ensures done { IfOk result (λ status. status ≡ Status.Done) }
+    ensures serves { B.is_sound book.new → (history : List Entry)
+        → StoodFor config.now.plans B.content B.is_open book.old history
+        → OnOk result (Serves B.content B.is_open B.left config.now history book.old book.new
+        (W.contents output.old) (W.contents output.new)) }
 {
     let mut sockets = bound(runtime, alloc, listening)?;
     writeln!(output, "serving")?;
@@ -66,7 +71,10 @@ fn bound<'r, R: Net + Clock>(
 }
 
 // Writes what a server counted: all that came, and the drops for each reason that had some.
-fn write_counts<W: Write>(output: &mut W, served: &Served) -> io::Result<()> {
+fn write_counts<W: Write>(output: &mut W, served: &Served) -> io::Result<()>
+    ensures { OnOk result (Appends (W.contents output.old) (W.contents output.new)
+        (served_text served.now)) }
+{
     let counts = Counts {
         events: served.events,
         replies: served.replies,
@@ -74,12 +82,31 @@ fn write_counts<W: Write>(output: &mut W, served: &Served) -> io::Result<()> {
         faults: served.faults,
     };
     writeln!(output, "{counts}")?;
-    for reason in 1..=LAST_REASON {
-        let count = served.dropped[usize::from(reason) - 1];
-        if count > 0 {
-            let drops = Drops { reason, count };
-            writeln!(output, "{drops}")?;
-        }
+    write_drops(output, &served.dropped)
+}
+
+// Writes the drops for each reason that had some. Reasons are numbered from 1 on.
+fn write_drops<W: Write>(output: &mut W, dropped: &[u64; 13]) -> io::Result<()>
+    ensures { OnOk result (Appends (W.contents output.old) (W.contents output.new)
+        (drops_lines 1 dropped.now)) }
+{
+    for (place, count) in dropped.iter().enumerate() {
+        let drops = Drops {
+            reason: place as u8 + 1,
+            count: *count,
+        };
+        write_some(output, &drops)?;
     }
     Ok(())
+}
+
+// Writes the drops for a reason, if it had some.
+fn write_some<W: Write>(output: &mut W, drops: &Drops) -> io::Result<()>
+    ensures { OnOk result (Appends (W.contents output.old) (W.contents output.new)
+        (drops_line drops.now)) }
+{
+    if drops.count == 0 {
+        return Ok(());
+    }
+    writeln!(output, "{drops}")
 }

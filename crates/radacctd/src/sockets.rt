@@ -2,8 +2,10 @@
 //!
 //! 1. A turn first gives up the caller that is still connected. Then it waits 20 milliseconds for a
 //!    datagram, and where none came it takes one caller that waits already.
-//! 2. A timeout with no caller is a turn without an event. Every other fault is counted.
-//! 3. Room for a datagram is made once, and not for each turn.
+//! 2. Datagrams that come without a pause would keep callers waiting for ever. So the first turn,
+//!    and each a second after the last caller was let go or none was found, looks for one first.
+//! 3. A timeout with no caller is a turn without an event. Every other fault is counted.
+//! 4. Room for a datagram is made once, and not for each turn.
 ghost use Rattle.std.specs.Prelude.{◌≡◌, None, IfOk};
 
 use crate::caller::Caller;
@@ -15,12 +17,14 @@ use std::alloc::Global;
 use std::io;
 use std::io::ErrorKind;
 use std::net::{Ipv4Addr, Net, OpenListener, SocketAddr, TcpListener, UdpSocket};
-use std::time::{Clock, Duration};
+use std::time::{Clock, Duration, Instant};
 
 /// The most octets of a datagram.
 const LONGEST_DATAGRAM: usize = 65_535;
 /// How many milliseconds a turn waits for a datagram.
 const PATIENCE: u64 = 20;
+/// How many seconds datagrams go before callers, from when one was last looked for.
+const DATAGRAMS_FIRST: u64 = 1;
 
 /// The two sockets of a server, with the caller that is connected.
 #[derive(Drop)]
@@ -30,6 +34,7 @@ pub struct Sockets<'r, R: Net> {
     radius: UdpSocket,
     desk: R::Listener,
     caller: Option<Caller<'r, R>>,
+    callers_first_at: Option<Instant>,
     room: Vec<u8>,
     turns: u64,
     failures: u64,
@@ -41,8 +46,8 @@ impl<'r, R: Net + Clock> Sockets<'r, R> {
     ///
     /// # Errors
     ///
-    /// Those of the system: a port is taken or needs a right that the program hasn't, or the machine
-    /// hasn't the address. `OutOfMemory` where there is no room for a datagram.
+    /// Those of the system: a port is taken or needs a right that the program hasn't, or the
+    /// machine hasn't the address. `OutOfMemory` where there is no room for a datagram.
     pub fn bind(
         runtime: &'r R,
         alloc: Global,
@@ -63,6 +68,7 @@ impl<'r, R: Net + Clock> Sockets<'r, R> {
             radius,
             desk,
             caller: None,
+            callers_first_at: None,
             room: vec![in alloc; 0; LONGEST_DATAGRAM]?,
             turns: 0,
             failures: 0,
@@ -82,6 +88,39 @@ impl<'r, R: Net + Clock> Sockets<'r, R> {
     }
 
     // What comes in a turn.
+    fn come(&mut self) -> Result<Option<Event>, Fault>
+        ensures turns { self.new.turns ≡ self.old.turns }
+        ensures failures { self.new.failures ≡ self.old.failures }
+    {
+        if self.are_callers_first() {
+            if let Some(event) = self.accept()? {
+                return Ok(Some(event));
+            }
+        }
+        self.receive()
+    }
+
+    // Whether a turn looks for a caller before it waits for a datagram: the first turn does.
+    fn are_callers_first(&self) -> bool {
+        match (self.callers_first_at, Instant::now(self.runtime)) {
+            (Some(moment), Ok(now)) => moment <= now,
+            (None, Ok(_)) => true,
+            _ => false,
+        }
+    }
+
+    // Lets datagrams go first for a while, since a caller was looked for.
+    fn put_datagrams_first(&mut self)
+        ensures turns { self.new.turns ≡ self.old.turns }
+        ensures failures { self.new.failures ≡ self.old.failures }
+    {
+        self.callers_first_at = match Instant::now(self.runtime) {
+            Ok(now) => now.checked_add(Duration::from_secs(DATAGRAMS_FIRST)),
+            Err(_) => None,
+        };
+    }
+
+    // The datagram that comes within a turn's patience, or else a caller.
     fn receive(&mut self) -> Result<Option<Event>, Fault>
         ensures turns { self.new.turns ≡ self.old.turns }
         ensures failures { self.new.failures ≡ self.old.failures }
@@ -113,11 +152,13 @@ impl<'r, R: Net + Clock> Sockets<'r, R> {
         ensures turns { self.new.turns ≡ self.old.turns }
         ensures failures { self.new.failures ≡ self.old.failures }
     {
-        match self.desk.accept() {
+        let accepted = match self.desk.accept() {
             Ok((stream, _)) => self.listen_to(stream),
             Err(error) if nothing_came(&error) => Ok(None),
             Err(_) => Err(Fault),
-        }
+        };
+        self.put_datagrams_first();
+        accepted
     }
 
     // What a caller asks.
@@ -153,8 +194,9 @@ impl<'r, R: Net + Clock> Sockets<'r, R> {
             }
             What::Desk { .. } => {
                 let mut caller = self.caller.take().ok_or(Fault)?;
-                let room = self.room.as_mut_slice();
-                caller.answer(bytes, room).map_err(|_| Fault)
+                let answered = caller.answer(bytes, self.room.as_mut_slice());
+                self.put_datagrams_first();
+                answered.map_err(|_| Fault)
             }
         }
     }
@@ -170,7 +212,7 @@ impl<'r, R: Net + Clock> Exchange for Sockets<'r, R> {
     fn next(&mut self) -> Result<Option<Event>, Fault> {
         self.turns += 1;
         self.caller = None;
-        let came = self.receive();
+        let came = self.come();
         if came.is_err() {
             self.failures += 1;
         }

@@ -334,8 +334,8 @@ const BOOK: [Row; 8] = [
         Done,
     ),
     // No two fields alike and none 0: status, session, account, Class, octets and gigawords each
-    // way,
-    // seconds, cause, delay, calling station, address, and Proxy-States of 1, 253 and 253 octets.
+    // way, seconds, cause, delay, calling station, address, and Proxy-States of 1, 253 and 253
+    // octets.
     (
         "signed 5000 ap1 200 2806000000022c0473310104616c1906676f6c642a06001000012b0600200003\
          3406000000013506000000022e0600000e113106000000042906000000071f0a30302d34312d30330806\

@@ -10,10 +10,13 @@ use Rattle.acct_files.proofs.account_lines.export_accounts.Given as goal
 abbrev pub invariant-loop-turn : goal.invariant-loop-turn
 invariant-loop-turn g l = record {
   between : IsBetweenLines l.lines;
-  quiet : Quiet g.B.Book.content g.B.Book.is_sound g.B.Book.is_open g.B.Book.is_steady g.B.Book.left l.fn.book l.book;
+  quiet : Quiet g.B.Book.content g.B.Book.is_sound g.B.Book.is_open g.B.Book.is_steady g.B.Book.left
+      l.fn.book l.book;
   walk : (entries : List (List ℕ × ℤ))
       × Appends (g.W.Write.contents l.fn.writer) (text_written g.W.Write.contents l.lines)
-      (export_text (account_header l.what) (λ (e : List ℕ × ℤ). account_line l.what e.0 e.1) entries)
+      (export_text (account_header l.what) (λ (e : List ℕ × ℤ). account_line l.what e.0 e.1)
+      entries)
       × (g.B.Book.is_open l.book
-      → Walked octets_cmp (g.B.Book.content l.fn.book).balances None entries (option_map (λ a. a.items) l.after));
+      → Walked octets_cmp (g.B.Book.content l.fn.book).balances None entries
+      (option_map (λ a. a.items) l.after));
 }

@@ -1,4 +1,4 @@
-use Rattle.std.proofs.Common.{◌≡◌, Result, Ok, Err, sym, ◌∙◌, refl, ap}
+use Rattle.std.proofs.Common.{◌≡◌, Result, Ok, Err, sym, ◌∙◌, refl}
 use Rattle.std.specs.Prelude.{option_map}
 use Rattle.std.specs.Result.{result_err}
 use Rattle.csv.specs.Reading.{strip_bom}
@@ -13,7 +13,9 @@ err_same (Err e) = refl
 
 pub returns-clause-imports : goal.returns-clause-imports
 returns-clause-imports g c sound history stood =
-    recounted g.B.Book.content g.B.Book.is_open g.B.Book.left c.args.plans.now c.args.moment _ (option_map strip_bom (g.R.Read.remaining c.args.reader)) history
-    (stop_of c.import_rows-run.result) c.err-report.result c.import_rows-run.new.report _ c.args.book.now c.import_rows-run.new.book
-    (c.from_reader-rows.ensures.source ∙ ap (λ o. option_map strip_bom o) c.new-capped.ensures) (err_same c.import_rows-run.result ∙ sym c.err-report.ensures.value) refl refl refl
+    recounted g.B.Book.content g.B.Book.is_open g.B.Book.left c.args.plans.now c.args.moment _
+    (option_map strip_bom (g.R.Read.remaining c.args.reader)) history
+    (stop_of c.import_rows-run.result) c.err-report.result c.import_rows-run.new.report _
+    c.args.book.now c.import_rows-run.new.book
+    c.rows_of-rows.ensures.text (err_same c.import_rows-run.result ∙ sym c.err-report.ensures.value) refl refl refl
     (c.import_rows-run.ensures.imports sound history stood)

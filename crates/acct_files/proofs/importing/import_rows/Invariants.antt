@@ -13,7 +13,10 @@ invariant-loop-number g l = record {
   added : l.report.added + 2 ≤ l.number;
   repeated : l.report.repeated + 2 ≤ l.number;
   number : l.number ≤ 1000002;
-  keeps : Keeps g.B.Book.content g.B.Book.is_sound g.B.Book.is_open g.B.Book.is_steady None l.report.added l.fn.book l.book;
-  halfway : g.B.Book.is_sound l.book → (history : List Entry) → (g.B.Book.is_open l.fn.book → Stands l.plans (g.B.Book.content l.fn.book) history)
-      → Halfway g.B.Book.content g.B.Book.is_open g.B.Book.left g.R.Read.remaining l.plans l.moment (source_of g.R.Read.remaining l.fn.rows) history l.rows l.number l.report l.fn.book l.book;
+  keeps : Keeps g.B.Book.content g.B.Book.is_sound g.B.Book.is_open g.B.Book.is_steady None
+      l.report.added l.fn.book l.book;
+  halfway : g.B.Book.is_sound l.book → (history : List Entry)
+      → (g.B.Book.is_open l.fn.book → Stands l.plans (g.B.Book.content l.fn.book) history)
+      → Halfway g.B.Book.content g.B.Book.is_open g.B.Book.left g.R.Read.remaining l.plans l.moment
+      (source_of g.R.Read.remaining l.fn.rows) history l.rows l.number l.report l.fn.book l.book;
 }
