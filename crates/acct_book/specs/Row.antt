@@ -1,6 +1,7 @@
 -- What a row says of a session.
-use Rattle.std.specs.Prelude.{ℕ, ◌+◌, ◌<◌, ◌^◌, List, Option}
+use Rattle.std.specs.Prelude.{ℕ, ◌+◌, ◌<◌, ◌^◌, List, Option, codes}
 use Rattle.acct_book.specs.declared.row.SessionState.{SessionState}
+use Rattle.acct_book.specs.declared.row.SessionState.TheVariants.{Live, Closed, Stopped}
 
 -- a row: whose session it is, who pays and by which plan, and what its reports said
 pub record RowFacts : Type 0 where
@@ -17,6 +18,12 @@ pub record RowFacts : Type 0 where
   pub cause : ℕ
   pub calling : List ℕ
   pub framed : Option (List ℕ)
+
+-- the word for a session's state, wherever one is shown
+abbrev pub state_text : SessionState → List ℕ
+state_text Live = codes "open"
+state_text Closed = codes "closed"
+state_text Stopped = codes "stopped"
 
 -- what each row keeps: its octets are below 2^63 together, and its moments are below 2^53
 pub record IsRow (input output first last : ℕ) : Type 0 where

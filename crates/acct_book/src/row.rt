@@ -1,5 +1,6 @@
 //! What a book keeps of a session.
-ghost use Rattle.std.specs.Prelude.{◌≡◌, ◌+◌, ◌^◌, ◌<◌, IfOk};
+ghost use Rattle.std.specs.Prelude.{◌≡◌, ◌+◌, ◌^◌, ◌<◌, Some, IfOk};
+ghost use Rattle.acct_book.specs.Row.{state_text};
 
 use crate::key::Key;
 use acct_model::{Octets, Text};
@@ -7,8 +8,7 @@ use std::alloc::{AllocError, Global};
 use std::fmt;
 use std::marker::Model;
 
-/// Whether a session goes on. An ended one never opens again. It is shown as `open`, `closed` or
-/// `stopped`.
+/// Whether a session goes on. An ended one never opens again.
 #[derive(Clone, Copy, PartialEq, Eq, Debug)]
 pub enum SessionState {
     /// Neither a Stop of it nor a restart of its client was accepted.
@@ -19,13 +19,24 @@ pub enum SessionState {
     Stopped,
 }
 
-impl fmt::Display for SessionState {
-    fn fmt<W: fmt::Write>(&self, f: &mut fmt::Formatter<W>) -> fmt::Result {
-        f.write_str(match self {
+impl SessionState {
+    /// The word that is shown for it: `open`, `closed` or `stopped`.
+    pub fn word(self) -> &'static str
+        ensures { result.now ≡ state_text self }
+    {
+        match self {
             SessionState::Live => "open",
             SessionState::Closed => "closed",
             SessionState::Stopped => "stopped",
-        })
+        }
+    }
+}
+
+impl fmt::Display for SessionState {
+    ghost output = { λ state. Some (state_text state) };
+
+    fn fmt<W: fmt::Write>(&self, f: &mut fmt::Formatter<W>) -> fmt::Result {
+        f.write_str(self.word())
     }
 }
 

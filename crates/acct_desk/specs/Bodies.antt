@@ -8,20 +8,13 @@ use Rattle.serde_json.specs.Find.{of_integer}
 use Rattle.acct_model.specs.declared.plan.Plan.{Plan}
 use Rattle.acct_model.specs.Shown.{shown, shown_address}
 use Rattle.acct_model.specs.Vouchers.{TopUpFacts}
-use Rattle.acct_book.specs.declared.row.SessionState.{SessionState}
-use Rattle.acct_book.specs.declared.row.SessionState.TheVariants.{Live, Closed, Stopped}
-use Rattle.acct_book.specs.Row.{RowFacts}
+use Rattle.acct_book.specs.Row.{RowFacts, state_text}
 use Rattle.acct_book.specs.Charge.{charge_of_row}
 
 -- how far a balance is below 0
 abbrev pub overrun_of : ℤ → ℕ
 overrun_of (pos n) = 0
 overrun_of (negsuc n) = suc n
-
-abbrev pub shown_state : SessionState → List ℕ
-shown_state Live = codes "open"
-shown_state Closed = codes "closed"
-shown_state Stopped = codes "stopped"
 
 -- an account's balance
 abbrev pub balance_body : List ℕ → ℤ → Data
@@ -45,7 +38,7 @@ session_item plans row =
     (member (codes "output") (number (unsigned row.output))
     (member (codes "seconds") (number (unsigned row.seconds))
     (member (codes "session") (string (shown row.session))
-    (member (codes "state") (string (shown_state row.state))
+    (member (codes "state") (string (state_text row.state))
     (member (codes "total") (number (unsigned (row.input + row.output))) no_members))))))))))))))
 
 -- the sessions that an account owns

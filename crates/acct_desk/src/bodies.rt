@@ -5,10 +5,11 @@ ghost use Rattle.serde_json.specs.Data.{put, string, number, unsigned};
 ghost use Rattle.serde_json.specs.View.{view, members_view};
 ghost use Rattle.acct_model.specs.Shown.{shown, shown_address};
 ghost use Rattle.acct_book.specs.Charge.{charge_of_row};
-ghost use Rattle.acct_desk.specs.Bodies.{overrun_of, shown_state, balance_body, session_item};
+ghost use Rattle.acct_book.specs.Row.{state_text};
+ghost use Rattle.acct_desk.specs.Bodies.{overrun_of, balance_body, session_item};
 ghost use Rattle.acct_desk.specs.Bodies.{sessions_body, topup_item, topups_body, overrun_item};
 
-use acct_book::{Row, SessionState, Unavailable, charge};
+use acct_book::{Row, Unavailable, charge};
 use acct_model::{NoMemory, Plans, TopUp, show, show_address};
 use serde_json::{Map, Value, json};
 use std::alloc::{AllocError, Global};
@@ -156,7 +157,7 @@ fn put_state(
     row: &Row,
 ) -> Result<(), PageError>
     ensures { OnOk result (members_view members.new.entries
-        ≡ put (codes "state") (string (shown_state row.now.state))
+        ≡ put (codes "state") (string (state_text row.now.state))
         (put (codes "framed") (string (shown_address row.now.framed))
         (put (codes "charged") (string (decimal (charge_of_row plans.now row.now)))
         (put (codes "cause") (number (unsigned row.now.cause))
@@ -167,7 +168,7 @@ fn put_state(
     put_text(members, alloc, "charged", charged)?;
     let framed = show_address(alloc, row.framed)?;
     put_text(members, alloc, "framed", framed)?;
-    let state = String::from_str(alloc, state_text(row.state))?;
+    let state = String::from_str(alloc, row.state.word())?;
     put_text(members, alloc, "state", state)?;
     Ok(())
 }
@@ -194,16 +195,6 @@ fn put_number(
         ≡ put name.now (number (unsigned value)) (members_view members.old.entries)) }
 {
     serde_json::put(members, alloc, name, Value::from(value))
-}
-
-fn state_text(state: SessionState) -> &'static str
-    ensures { result.now ≡ shown_state state }
-{
-    match state {
-        SessionState::Live => "open",
-        SessionState::Closed => "closed",
-        SessionState::Stopped => "stopped",
-    }
 }
 
 // The body of `/me/topups`.

@@ -7,9 +7,7 @@ use Rattle.csv.specs.declared.writer.Writer.{Writer}
 use Rattle.acct_model.specs.declared.plan.Plan.{Plan}
 use Rattle.acct_model.specs.Shown.{shown, shown_address}
 use Rattle.acct_model.specs.Vouchers.{TopUpFacts}
-use Rattle.acct_book.specs.declared.row.SessionState.{SessionState}
-use Rattle.acct_book.specs.declared.row.SessionState.TheVariants.{Live, Closed, Stopped}
-use Rattle.acct_book.specs.Row.{RowFacts}
+use Rattle.acct_book.specs.Row.{RowFacts, state_text}
 use Rattle.acct_book.specs.Charge.{charge_of_row}
 use Rattle.acct_files.specs.declared.account_lines.AccountExport.{AccountExport}
 use Rattle.acct_files.specs.declared.account_lines.AccountExport.TheVariants.{Balances, Overruns}
@@ -27,11 +25,6 @@ session_header =
     "output" ∷ codes "total" ∷ codes "charged"
     ∷ codes "seconds" ∷ codes "first" ∷ codes "last" ∷ codes "state" ∷ codes "cause" ∷ codes
     "calling" ∷ codes "framed" ∷ []
-
-abbrev pub state_text : SessionState → List ℕ
-state_text Live = codes "open"
-state_text Closed = codes "closed"
-state_text Stopped = codes "stopped"
 
 -- client, session, account and class
 abbrev pub session_name : RowFacts → Fields

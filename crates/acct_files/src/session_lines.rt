@@ -10,11 +10,11 @@ ghost use Rattle.acct_book.specs.Maps.{key_cmp};
 ghost use Rattle.acct_book.specs.Row.{RowFacts};
 ghost use Rattle.acct_book.specs.Walk.{AreAllPast, IsNextRow};
 ghost use Rattle.acct_files.specs.Exporting.{IsBetweenLines, line, session_header, session_fields};
-ghost use Rattle.acct_files.specs.Exporting.{session_name, session_counts, session_end, state_text};
+ghost use Rattle.acct_files.specs.Exporting.{session_name, session_counts, session_end};
 ghost use Rattle.acct_files.specs.Exporting.{export_text};
 
 use crate::csv_lines::{ExportError, begin, finish, push, push_number, push_shown, write_line};
-use acct_book::{Book, Key, Row, SessionState, Unavailable, charge};
+use acct_book::{Book, Key, Row, Unavailable, charge};
 use acct_model::{NoMemory, Plans, show_address};
 use csv::{ByteRecord, Writer};
 use std::alloc::Global;
@@ -142,22 +142,12 @@ fn push_end(alloc: Global, fields: &mut ByteRecord, row: &Row) -> Result<(), Exp
         ≡ fields_of fields.old ++ session_end row.now) }
     ensures partial { OnOk result (partial_of fields.new ≡ []) }
 {
-    push(fields, state_name(row.state))?;
+    push(fields, row.state.word().as_bytes())?;
     push_number(fields, row.cause)?;
     push_shown(alloc, fields, row.calling.as_slice())?;
     match show_address(alloc, row.framed) {
         Ok(text) => push(fields, text.as_bytes()),
         Err(NoMemory) => Err(ExportError::Memory),
-    }
-}
-
-fn state_name(state: SessionState) -> &'static [u8]
-    ensures { result.now ≡ state_text state }
-{
-    match state {
-        SessionState::Live => b"open",
-        SessionState::Closed => b"closed",
-        SessionState::Stopped => b"stopped",
     }
 }
 

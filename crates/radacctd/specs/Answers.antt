@@ -5,14 +5,12 @@ use Rattle.std.specs.Fmt.{signed_decimal}
 use Rattle.hex.specs.Hex.{encode_lower}
 use Rattle.acct_model.specs.declared.plan.Plan.{Plan}
 use Rattle.acct_book.specs.Charge.{charge_of_row}
-use Rattle.acct_book.specs.Row.{RowFacts}
+use Rattle.acct_book.specs.Row.{RowFacts, state_text}
 use Rattle.acct_book.specs.declared.book.Unavailable.{Unavailable as Refusal}
 use Rattle.acct_book.specs.declared.recording.Recorded.{Recorded}
 use Rattle.acct_book.specs.declared.recording.Recorded.TheVariants as recorded
 use Rattle.acct_book.specs.declared.recording.RecordError.{RecordError}
 use Rattle.acct_book.specs.declared.recording.RecordError.TheVariants as error
-use Rattle.acct_book.specs.declared.row.SessionState.{SessionState}
-use Rattle.acct_book.specs.declared.row.SessionState.TheVariants.{Live, Closed, Stopped}
 use Rattle.acct_wire.specs.declared.answering.Outcome.{Outcome}
 use Rattle.acct_wire.specs.declared.answering.Outcome.TheVariants as outcome
 use Rattle.acct_wire.specs.declared.reason.Reason.{Reason}
@@ -39,12 +37,6 @@ reason_number reason.BadField = 10
 reason_number reason.TotalTooLarge = 11
 reason_number reason.BalanceLimit = 12
 reason_number reason.Unavailable = 13
-
--- the word for a session's state
-abbrev pub state_text : SessionState → List ℕ
-state_text Live = codes "open"
-state_text Closed = codes "closed"
-state_text Stopped = codes "stopped"
 
 -- the word for what became of a voucher
 abbrev pub credit_text : Credit → List ℕ

@@ -1,8 +1,7 @@
 //! A session's row, as it is shown.
 ghost use Rattle.std.specs.Prelude.{◌≡◌, Some, IfOk};
 ghost use Rattle.std.specs.Fmt.{DisplaysOnOk};
-ghost use Rattle.radacctd.specs.Answers.{row_text, names_text, octets_text, end_text, state_text};
-ghost use Rattle.radacctd.specs.Answers.{shown_row};
+ghost use Rattle.radacctd.specs.Answers.{row_text, names_text, octets_text, end_text, shown_row};
 
 use crate::octet_words::word_of;
 use acct_book::{Row, SessionState, charge};
@@ -85,17 +84,6 @@ fn write_octets<W: fmt::Write>(row: &ShownRow, f: &mut fmt::Formatter<W>) -> fmt
 fn write_end<W: fmt::Write>(row: &ShownRow, f: &mut fmt::Formatter<W>) -> fmt::Result
     ensures { DisplaysOnOk W.write_str_gives f.old result (Some (end_text row.now)) f.new }
 {
-    let (state, cause) = (state_word(row.state), row.cause);
+    let (state, cause) = (row.state, row.cause);
     write!(f, "{state} {cause}")
-}
-
-// The word for a session's state.
-fn state_word(state: SessionState) -> &'static str
-    ensures { result.now ≡ state_text state }
-{
-    match state {
-        SessionState::Live => "open",
-        SessionState::Closed => "closed",
-        SessionState::Stopped => "stopped",
-    }
 }
