@@ -19,6 +19,8 @@ mod config_error;
 #[cfg(test)]
 mod config_tests;
 mod csv_lines;
+#[cfg(test)]
+mod export_tests;
 mod import_report;
 mod importing;
 mod key_tables;

@@ -3,11 +3,9 @@
 //! Each call gives the answer that it gives with ample memory, or tells the refusal. What it is
 //! asked of stays as it was: the same call, asked again, gives the whole answer.
 use crate::config_tests::{SITE, are_sample_keys, are_sample_prices};
-use crate::tests::{SESSIONS, TOPUPS, VOUCHERS, plans, put_sessions};
-use crate::{
-    ConfigKind, ExportError, Stopped, config_of, export_balances, export_overruns, export_sessions,
-    export_topups, import,
-};
+use crate::export_tests::{DOWNLOADS, Download, sold};
+use crate::tests::{VOUCHERS, plans};
+use crate::{ConfigKind, ExportError, Stopped, config_of, import};
 use acct_book::{Book, MemBook};
 use acct_model::Plans;
 use std::alloc::Global;
@@ -114,54 +112,23 @@ fn are_whole(first: Result<Comparing, ExportError>, again: Result<Comparing, Exp
     }
 }
 
-// A book with two vouchers and two sessions.
-fn full_book(alloc: Global) -> Result<MemBook, Fail> {
-    let mut book = MemBook::new(alloc);
-    match upload(alloc, &plans(alloc)?, &mut book) {
-        (2, 0, 1, None) => {}
-        _ => return Err("no vouchers".into()),
-    }
-    put_sessions(alloc, &mut book)?;
-    Ok(book)
-}
-
-const BALANCES: &[u8] = b"account,balance,overrun\n\"a,b\",5,0\nal,-20,20\nbo,300,0\n";
-
-const OVERRUNS: &[u8] = b"account,overrun\nal,20\n";
-
-fn are_sessions(alloc: Global) -> Result<bool, Fail> {
-    let mut book = full_book(alloc)?;
+fn is_exported(alloc: Global, download: &Download) -> Result<bool, Fail> {
     let plans = plans(alloc)?;
-    let first = export_sessions(alloc, &mut book, &plans, Comparing { left: SESSIONS });
-    let again = export_sessions(alloc, &mut book, &plans, Comparing { left: SESSIONS });
-    Ok(are_whole(first, again))
-}
-
-fn are_topups(alloc: Global) -> Result<bool, Fail> {
-    let mut book = full_book(alloc)?;
-    let first = export_topups(alloc, &mut book, Comparing { left: TOPUPS });
-    let again = export_topups(alloc, &mut book, Comparing { left: TOPUPS });
-    Ok(are_whole(first, again))
-}
-
-fn are_balances(alloc: Global) -> Result<bool, Fail> {
-    let mut book = full_book(alloc)?;
-    let first = export_balances(alloc, &mut book, Comparing { left: BALANCES });
-    let again = export_balances(alloc, &mut book, Comparing { left: BALANCES });
-    Ok(are_whole(first, again))
-}
-
-fn are_overruns(alloc: Global) -> Result<bool, Fail> {
-    let mut book = full_book(alloc)?;
-    let first = export_overruns(alloc, &mut book, Comparing { left: OVERRUNS });
-    let again = export_overruns(alloc, &mut book, Comparing { left: OVERRUNS });
+    let mut book = sold(alloc, &plans)?;
+    let left = download.text;
+    let first = download
+        .export
+        .write(alloc, &plans, &mut book, Comparing { left });
+    let again = download
+        .export
+        .write(alloc, &plans, &mut book, Comparing { left });
     Ok(are_whole(first, again))
 }
 
 #[test]
 fn exports_are_whole_or_refused(rt: HostRuntime) -> Result<(), Fail> {
-    let alloc = rt.alloc();
-    assert!(rt; are_sessions(alloc)? && are_topups(alloc)?);
-    assert!(rt; are_balances(alloc)? && are_overruns(alloc)?);
+    for download in DOWNLOADS {
+        assert!(rt; is_exported(rt.alloc(), &download)?);
+    }
     Ok(())
 }

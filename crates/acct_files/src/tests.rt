@@ -1,13 +1,11 @@
-use crate::{
-    Cause, ExportError, Stopped, export_balances, export_overruns, export_sessions, export_topups,
-    import,
-};
+use crate::export_tests::TOPUPS;
+use crate::{Cause, Stopped, export_balances, export_topups, import};
 use acct_book::fakes::FailingBook;
-use acct_book::{Book, MemBook, Row, SessionState};
-use acct_model::{Octets, Plan, Plans, Text, TopUp};
+use acct_book::{Book, MemBook};
+use acct_model::{Octets, Plan, Plans, TopUp};
 use std::alloc::Global;
 use std::io;
-use std::io::{ErrorKind, Read, Write};
+use std::io::{ErrorKind, Read};
 use std::test::Fail;
 
 // A text and what its import says: added, repeated, the refused records and why it stopped.
@@ -156,8 +154,7 @@ fn twice_is_once(alloc: Global) -> Result<bool, Fail> {
     let topups = export_topups(alloc, &mut book, Vec::new(alloc))?;
     Ok(
         both && balances.as_slice() == b"account,balance,overrun\nal,500,0\nbo,300,0\n".as_slice()
-            && topups.as_slice()
-                == b"voucher,account,sum,when\nV-1,al,500,3000\nV-2,bo,300,3000\n".as_slice(),
+            && topups.as_slice() == TOPUPS,
     )
 }
 
@@ -167,77 +164,7 @@ fn a_second_upload_credits_nothing(rt: HostRuntime) -> Result<(), Fail> {
     Ok(())
 }
 
-fn first_row(alloc: Global) -> Result<Row, Fail> {
-    Ok(Row {
-        client: Text::from_str(alloc, "ap1")?,
-        session: Octets::from_slice(alloc, b"s2")?,
-        account: Octets::from_slice(alloc, b"al")?,
-        class: Octets::from_slice(alloc, b"gold")?,
-        input: 1_048_577,
-        output: 0,
-        seconds: 0,
-        first: 2000,
-        last: 2000,
-        state: SessionState::Live,
-        cause: 0,
-        calling: Octets::from_slice(alloc, b"")?,
-        framed: None,
-    })
-}
-
-// Every field differs from each other, and what can be escaped or quoted is.
-fn full_row(alloc: Global) -> Result<Row, Fail> {
-    Ok(Row {
-        client: Text::from_str(alloc, "ap1")?,
-        session: Octets::from_slice(alloc, b"s\n1")?,
-        account: Octets::from_slice(alloc, b"a,b")?,
-        class: Octets::from_slice(alloc, b"\xFF")?,
-        input: 5,
-        output: 7,
-        seconds: 9,
-        first: 2001,
-        last: 2003,
-        state: SessionState::Stopped,
-        cause: 2,
-        calling: Octets::from_slice(alloc, b"00\"11")?,
-        framed: Some([10, 0, 0, 8]),
-    })
-}
-
-pub(crate) const SESSIONS: &[u8] =
-    b"client,session,account,class,input,output,total,charged,seconds,first,last,state,cause,calling,framed
-ap1,s%0A1,\"a,b\",%FF,5,7,12,5,9,2001,2003,stopped,2,\"00\"\"11\",10.0.0.8
-ap1,s2,al,gold,1048577,0,1048577,20,0,2000,2000,open,0,,
-";
-
-pub(crate) fn put_sessions(alloc: Global, book: &mut MemBook) -> Result<(), Fail> {
-    book.put_session(&first_row(alloc)?, -20)?;
-    book.put_session(&full_row(alloc)?, 5)?;
-    Ok(())
-}
-
-fn downloads(alloc: Global) -> Result<bool, Fail> {
-    let mut book = MemBook::new(alloc);
-    put_sessions(alloc, &mut book)?;
-    let sessions = export_sessions(alloc, &mut book, &plans(alloc)?, Vec::new(alloc))?;
-    let balances = export_balances(alloc, &mut book, Vec::new(alloc))?;
-    let overruns = export_overruns(alloc, &mut book, Vec::new(alloc))?;
-    Ok(
-        sessions.as_slice() == SESSIONS
-            && balances.as_slice()
-                == b"account,balance,overrun\n\"a,b\",5,0\nal,-20,20\n".as_slice()
-            && overruns.as_slice() == b"account,overrun\nal,20\n".as_slice(),
-    )
-}
-
-#[test]
-fn sessions_and_overruns_are_downloaded(rt: HostRuntime) -> Result<(), Fail> {
-    assert!(rt; downloads(rt.alloc())?);
-    Ok(())
-}
-
-// Whether a book that refuses its call of this number stops the import behind so many vouchers, and
-// an export of its accounts at its first call.
+// Whether a book that refuses its call of this number stops the import after so many vouchers.
 fn stops(alloc: Global, calls_left: u64, added: u64) -> Result<bool, Fail> {
     let mut book = FailingBook {
         book: MemBook::new(alloc),
@@ -249,10 +176,7 @@ fn stops(alloc: Global, calls_left: u64, added: u64) -> Result<bool, Fail> {
         refused: &[],
         stopped: Some(Stopped::Unavailable),
     };
-    let stopped = says(alloc, &mut book, &upload)?;
-    book.calls_left = 1;
-    let refused = export_balances(alloc, &mut book, Vec::new(alloc));
-    Ok(stopped && refused.err() == Some(ExportError::Unavailable))
+    says(alloc, &mut book, &upload)
 }
 
 #[test]
@@ -306,84 +230,6 @@ fn failed_reads_stop(rt: HostRuntime) -> Result<(), Fail> {
     }
     assert!(rt; read_until(rt.alloc(), 53)? == (2, 1, Some(Stopped::Unreadable)));
     assert!(rt; read_until(rt.alloc(), 54)? == (2, 1, None));
-    Ok(())
-}
-
-// Takes 16 octets a write at most, and fails once it has been written to so often.
-#[derive(Drop)]
-struct FailingWriter {
-    taken: Vec<u8>,
-    writes_left: u64,
-}
-
-impl Write for FailingWriter {
-    fn write(&mut self, buf: &[u8]) -> io::Result<usize> {
-        if self.writes_left == 0 {
-            return Err(io::Error::from(ErrorKind::StorageFull));
-        }
-        self.writes_left -= 1;
-        let count = buf.len().min(16);
-        match self.taken.extend_from_slice(&buf[..count]) {
-            Ok(()) => Ok(count),
-            Err(_) => Err(io::Error::from(ErrorKind::OutOfMemory)),
-        }
-    }
-
-    fn flush(&mut self) -> io::Result<()> {
-        Ok(())
-    }
-}
-
-pub(crate) const TOPUPS: &[u8] = b"voucher,account,sum,when\nV-1,al,500,3000\nV-2,bo,300,3000\n";
-
-// The least writes with which the top-ups are written. Fewer are a fault of the writer.
-fn least_writes(alloc: Global) -> Result<u64, Fail> {
-    let mut book = MemBook::new(alloc);
-    import(alloc, VOUCHERS, &plans(alloc)?, &mut book, 3000);
-    for writes_left in 0..100 {
-        let writer = FailingWriter {
-            taken: Vec::new(alloc),
-            writes_left,
-        };
-        match export_topups(alloc, &mut book, writer) {
-            Ok(writer) if writer.taken.as_slice() == TOPUPS => return Ok(writes_left),
-            Err(ExportError::WriteFault) => {}
-            _ => return Err("told otherwise".into()),
-        }
-    }
-    Err("never written".into())
-}
-
-// The 57 octets of the top-ups are 4 times at most 16.
-#[test]
-fn failed_writes_are_told(rt: HostRuntime) -> Result<(), Fail> {
-    assert!(rt; least_writes(rt.alloc())? == 4);
-    Ok(())
-}
-
-// The call of an export of two sessions with which the book can't refuse it any more. Each earlier
-// one is told.
-fn first_call_past(alloc: Global) -> Result<u64, Fail> {
-    for calls_left in 1..100 {
-        let mut book = FailingBook {
-            book: MemBook::new(alloc),
-            calls_left: 0,
-        };
-        put_sessions(alloc, &mut book.book)?;
-        book.calls_left = calls_left;
-        match export_sessions(alloc, &mut book, &plans(alloc)?, Vec::new(alloc)) {
-            Ok(text) if text.as_slice() == SESSIONS => return Ok(calls_left),
-            Err(ExportError::Unavailable) => {}
-            _ => return Err("told otherwise".into()),
-        }
-    }
-    Err("never exported".into())
-}
-
-// Three calls: one for each session, and one that finds no further one.
-#[test]
-fn refused_calls_end_an_export(rt: HostRuntime) -> Result<(), Fail> {
-    assert!(rt; first_call_past(rt.alloc())? == 4);
     Ok(())
 }
 
