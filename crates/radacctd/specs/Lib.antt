@@ -1,4 +1,5 @@
 pub mod Answers
+pub mod Checks
 pub mod CommandLine
 pub mod Counts
 pub mod Endings

@@ -1,12 +1,16 @@
 //! `check`: reads a configuration, and says how much it has.
-ghost use Rattle.std.specs.Prelude.{◌≡◌, IfOk};
+ghost use Rattle.std.specs.Prelude.{◌≡◌, IfOk, OnOk};
+ghost use Rattle.std.specs.Io.KnownBytes.{Appends};
+ghost use Rattle.radacctd.specs.Checks.{Counts, counts_text};
 
 use crate::config_file::read_config;
 use crate::fault::Fault;
 use crate::status::Status;
+use acct_files::Config;
 use acct_model::Text;
 use std::alloc::Global;
 use std::fs::Files;
+use std::io;
 use std::io::Write;
 
 /// Says how many clients, plans and keys the configuration in a file has.
@@ -20,13 +24,21 @@ pub fn run_check<R: Files, W: Write>(
     file: &Text,
     output: &mut W,
 ) -> Result<Status, Fault>
-    ensures { IfOk result (λ status. status ≡ Status.Done) }
+    ensures done { IfOk result (λ status. status ≡ Status.Done) }
+    ensures counts { IfOk result (λ _. Counts (W.contents output.old) (W.contents output.new)) }
 {
     let config = read_config(runtime, alloc, file)?;
+    write_counts(output, &config)?;
+    output.flush()?;
+    Ok(Status::Done)
+}
+
+fn write_counts<W: Write>(output: &mut W, config: &Config) -> io::Result<()>
+    ensures { OnOk result (Appends (W.contents output.old) (W.contents output.new)
+        (counts_text config.now)) }
+{
     let clients = config.clients.list().len();
     let plans = config.plans.list().len();
     let keys = config.keys.list().len();
-    writeln!(output, "ok: {clients} clients, {plans} plans, {keys} keys")?;
-    output.flush()?;
-    Ok(Status::Done)
+    writeln!(output, "ok: {clients} clients, {plans} plans, {keys} keys")
 }

@@ -24,7 +24,8 @@ pub fn run_export<B: Book, W: Write + Drop>(
     book: &mut B,
     output: W,
 ) -> Result<W, Fault>
-    ensures reads { Reads B.content B.is_sound B.is_open B.is_steady B.left book.old book.new result }
+    ensures reads { Reads B.content B.is_sound B.is_open B.is_steady B.left
+        book.old book.new result }
     ensures exports { IfOk result (λ writer. Exports plans.now (B.content book.old)
         (B.is_open book.new) (W.contents output) (W.contents writer) what) }
 {

@@ -47,10 +47,10 @@ impl<B: Book> Server<B> {
         ensures written { Writes self.old.config.clients datagram.now.source datagram.now.bytes.now
             self.old.reply self.new.reply result }
         ensures fits { ReplyFits result }
-        ensures step { IsStep self.old.config.plans B.content B.is_sound B.is_open B.is_steady B.left
-            self.old.book self.new.book (IsTold result) (IsDrop result)
-            (λ history after. Steps self.old.config.clients self.old.config.plans datagram.now.source
-            datagram.now.bytes.now datagram.now.moment result history after)
+        ensures step { IsStep self.old.config.plans B.content B.is_sound B.is_open B.is_steady
+            B.left self.old.book self.new.book (IsTold result) (IsDrop result)
+            (λ history after. Steps self.old.config.clients self.old.config.plans
+            datagram.now.source datagram.now.bytes.now datagram.now.moment result history after)
             (λ asked. AsksFor self.old.config.clients datagram.now.source datagram.now.bytes.now
             datagram.now.moment asked) }
         ensures same_config { self.new.config ≡ self.old.config }

@@ -72,7 +72,8 @@ const ANSWER: &[u8] = b"\x05\x07\x00\x14\x70\x85\xea\xed\x1f\x37\x21\x38\x92\xe8
 const REQUEST: &[u8] = b"GET /me/balance HTTP/1.1\r\nDesk-Key: al-key-0000000001\r\n\r\n";
 
 const RESPONSE: &[u8] = b"HTTP/1.1 200 OK\r\nContent-Type: application/json\r\n\
-    Content-Length: 40\r\nConnection: close\r\n\r\n{\"account\":\"al\",\"balance\":0,\"overrun\":0}";
+    Content-Length: 40\r\nConnection: close\r\n\r\n\
+    {\"account\":\"al\",\"balance\":0,\"overrun\":0}";
 
 // A datagram and a request that wait already are answered, and nothing else comes.
 fn serves_both(rt: &HostRuntime) -> Result<bool, Fail> {
