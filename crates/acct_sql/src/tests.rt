@@ -146,23 +146,23 @@ fn walks_meet_each_key_in_order(rt: HostRuntime) -> Result<(), Fail> {
 fn keep_rows<B: Book>(alloc: Global, book: &mut B) -> Result<(), Fail> {
     book.put_session(&row(alloc, &("ap1", b"s1"), b"al")?, -20)?;
     book.put_session(&row(alloc, &("ap1", b"s2"), b"bo")?, 7)?;
-    Ok(book.put_session(&later_row(alloc)?, -30)?)
+    Ok(book.put_session(&later_row(alloc)?, -(1 << 62))?)
 }
 
-// The first row, later: live, with more octets, and without an address.
+// The first row, later: live, with the greatest counters and moments, and without an address.
 fn later_row(alloc: Global) -> Result<Row, Fail> {
     Ok(Row {
         client: Text::from_str(alloc, "ap1")?,
         session: Octets::from_slice(alloc, b"s1")?,
         account: Octets::from_slice(alloc, b"al")?,
         class: Octets::from_slice(alloc, b"gold")?,
-        input: 101,
-        output: 909,
-        seconds: 304,
-        first: 404,
-        last: 506,
+        input: (1 << 62) + 1,
+        output: (1 << 62) - 2,
+        seconds: u32::MAX,
+        first: (1 << 53) - 2,
+        last: (1 << 53) - 1,
         state: SessionState::Live,
-        cause: 7,
+        cause: u32::MAX - 1,
         calling: Octets::from_slice(alloc, b"00-12")?,
         framed: None,
     })
@@ -184,7 +184,7 @@ fn keep_topup<B: Book>(
 fn keep_topups<B: Book>(alloc: Global, book: &mut B) -> Result<(), Fail> {
     keep_topup(alloc, book, "V-2", 500, 1000, 470)?;
     keep_topup(alloc, book, "V-1", 60, 2000, 530)?;
-    keep_topup(alloc, book, "V-1", 61, 3000, 531)
+    keep_topup(alloc, book, "V-1", 1_000_000_000_000, u32::MAX, 1 << 62)
 }
 
 // What it tells of rows.
