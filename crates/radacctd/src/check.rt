@@ -1,7 +1,7 @@
 //! `check`: reads a configuration, and says how much it has.
 ghost use Rattle.std.specs.Prelude.{◌≡◌, IfOk, OnOk};
 ghost use Rattle.std.specs.Io.KnownBytes.{Appends};
-ghost use Rattle.radacctd.specs.Checks.{Counts, counts_text};
+ghost use Rattle.radacctd.specs.Checks.{TellsSizes, sizes_line};
 
 use crate::config_file::read_config;
 use crate::fault::Fault;
@@ -25,17 +25,17 @@ pub fn run_check<R: Files, W: Write>(
     output: &mut W,
 ) -> Result<Status, Fault>
     ensures done { IfOk result (λ status. status ≡ Status.Done) }
-    ensures counts { IfOk result (λ _. Counts (W.contents output.old) (W.contents output.new)) }
+    ensures sizes { IfOk result (λ _. TellsSizes (W.contents output.old) (W.contents output.new)) }
 {
     let config = read_config(runtime, alloc, file)?;
-    write_counts(output, &config)?;
+    write_sizes(output, &config)?;
     output.flush()?;
     Ok(Status::Done)
 }
 
-fn write_counts<W: Write>(output: &mut W, config: &Config) -> io::Result<()>
+fn write_sizes<W: Write>(output: &mut W, config: &Config) -> io::Result<()>
     ensures { OnOk result (Appends (W.contents output.old) (W.contents output.new)
-        (counts_text config.now)) }
+        (sizes_line config.now)) }
 {
     let clients = config.clients.list().len();
     let plans = config.plans.list().len();
