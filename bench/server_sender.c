@@ -1,13 +1,14 @@
-/* Sends datagrams over loopback and waits for their replies, keeping a number of them on their way; or answers each
- * datagram by itself, as the plain echo that a server is held against.
+/* Sends datagrams over loopback and waits for their replies, keeping a number of them on their way;
+ * or answers each datagram by itself, as the plain echo that a server is held against.
  *
  *   server_sender echo PORT
  *   server_sender send PORT WINDOW FILE
  *
- * FILE holds datagrams, each after its size as two octets, the high one first. The second octet of a datagram is its
- * identifier, the number of the datagram modulo 256; a reply has it at the same place. What no reply came for within
- * a second counts as lost and is not sent again. It prints how many were answered and lost, the seconds from the first
- * sending to the last reply, and the median and the 99th percentile of the time to a reply, in microseconds. */
+ * FILE holds datagrams, each after its size as two octets, the high one first. The second octet of
+ * a datagram is its identifier, the number of the datagram modulo 256; a reply has it at the same
+ * place. What no reply came for within a second counts as lost and is not sent again. It prints how
+ * many were answered and lost, the seconds from the first sending to the last reply, and the median
+ * and the 99th percentile of the time to a reply, in microseconds. */
 #include <arpa/inet.h>
 #include <stdint.h>
 #include <stdio.h>
@@ -28,7 +29,8 @@ static int64_t now(void) {
 }
 
 static int bound(int port) {
-    struct sockaddr_in at = {.sin_family = AF_INET, .sin_port = htons(port), .sin_addr.s_addr = htonl(INADDR_LOOPBACK)};
+    struct sockaddr_in at = {
+        .sin_family = AF_INET, .sin_port = htons(port), .sin_addr.s_addr = htonl(INADDR_LOOPBACK)};
     int s = socket(AF_INET, SOCK_DGRAM, 0);
     if (bind(s, (struct sockaddr *)&at, sizeof at) != 0) {
         perror("bind");
@@ -101,7 +103,8 @@ static int send_all(int port, long window, const char *path) {
         perror(path);
         return 1;
     }
-    struct sockaddr_in to = {.sin_family = AF_INET, .sin_port = htons(port), .sin_addr.s_addr = htonl(INADDR_LOOPBACK)};
+    struct sockaddr_in to = {
+        .sin_family = AF_INET, .sin_port = htons(port), .sin_addr.s_addr = htonl(INADDR_LOOPBACK)};
     int s = bound(0);
     struct timeval patience = {.tv_sec = 0, .tv_usec = 200000};
     setsockopt(s, SOL_SOCKET, SO_RCVTIMEO, &patience, sizeof patience);
@@ -128,8 +131,10 @@ static int send_all(int port, long window, const char *path) {
         out -= settle(s, &answered, &lost, &last);
     }
     qsort(took, (size_t)answered, sizeof took[0], by_size);
-    int64_t median = answered ? took[answered / 2] : 0, late = answered ? took[answered * 99 / 100] : 0;
-    printf("%ld %ld %.6f %.1f %.1f\n", answered, lost, (last - first) / 1e9, median / 1e3, late / 1e3);
+    int64_t median = answered ? took[answered / 2] : 0;
+    int64_t late = answered ? took[answered * 99 / 100] : 0;
+    double seconds = (last - first) / 1e9;
+    printf("%ld %ld %.6f %.1f %.1f\n", answered, lost, seconds, median / 1e3, late / 1e3);
     return 0;
 }
 
