@@ -1,5 +1,5 @@
 //! What is to be sent.
-ghost use Rattle.std.specs.Prelude.{◌≡◌, ◌≤◌, ◌<◌, ◌^◌, ℕ};
+ghost use Rattle.std.specs.Prelude.{◌≡◌, ◌≤◌, ◌<◌, ◌^◌, [], ℕ};
 ghost use Rattle.acct_service.specs.declared.event.What.TheVariants as what;
 ghost use Rattle.acct_service.specs.Machine.{TakesStep, answer_of};
 
@@ -33,7 +33,9 @@ impl Model for Outbox {
 
 impl Outbox {
     /// An outbox with nothing in it. It takes no memory.
-    pub fn new() -> Outbox {
+    pub fn new() -> Outbox
+        ensures { result ≡ [] }
+    {
         Outbox {
             reply: [0; 4096],
             size: 0,
