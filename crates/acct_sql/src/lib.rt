@@ -17,6 +17,8 @@ mod book_schema;
 mod columns;
 mod listing;
 mod making;
+#[cfg(test)]
+mod memory_tests;
 mod reading;
 mod refused;
 mod sql_book;

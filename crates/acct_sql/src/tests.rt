@@ -40,14 +40,14 @@ fn push_plan(
     Ok(())
 }
 
-fn plans(alloc: Global, gold: u64) -> Result<Plans, Fail> {
+pub(crate) fn plans(alloc: Global, gold: u64) -> Result<Plans, Fail> {
     let mut plans = Vec::new(alloc);
     push_plan(alloc, &mut plans, b"gold", 1_048_576, gold)?;
     push_plan(alloc, &mut plans, b"default", 1_000_000, 5)?;
     Ok(Plans::new(plans)?)
 }
 
-fn made(alloc: Global) -> Result<SqlBook<MemStore>, Fail> {
+pub(crate) fn made(alloc: Global) -> Result<SqlBook<MemStore>, Fail> {
     let conn = Connection::open_in_memory(alloc)?;
     match SqlBook::create(alloc, conn, &plans(alloc, 10)?) {
         Ok(book) => Ok(book),
@@ -55,14 +55,14 @@ fn made(alloc: Global) -> Result<SqlBook<MemStore>, Fail> {
     }
 }
 
-fn key(alloc: Global, name: &Name<'_>) -> Result<Key, Fail> {
+pub(crate) fn key(alloc: Global, name: &Name<'_>) -> Result<Key, Fail> {
     let client = Text::from_str(alloc, name.0)?;
     let session = Octets::from_slice(alloc, name.1)?;
     Ok(Key { client, session })
 }
 
 // No two fields are alike, and none is 0.
-fn row(alloc: Global, name: &Name<'_>, account: &[u8]) -> Result<Row, Fail> {
+pub(crate) fn row(alloc: Global, name: &Name<'_>, account: &[u8]) -> Result<Row, Fail> {
     Ok(Row {
         client: Text::from_str(alloc, name.0)?,
         session: Octets::from_slice(alloc, name.1)?,
