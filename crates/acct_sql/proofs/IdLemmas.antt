@@ -20,12 +20,16 @@ use Rattle.sqlite.specs.Command.TheVariants.{Select}
 use Rattle.sqlite.specs.Program.{overlay}
 use Rattle.sqlite_tied.specs.Compute.{everything}
 use Rattle.sqlite.specs.Listing.{understood, reads_listing}
-use Rattle.sqlite.specs.State.{State, Shown}
+use Rattle.sqlite.specs.Store.{Ghosts}
+use Rattle.sqlite.specs.Effect.{Database}
+use Rattle.sqlite.specs.Held.{Held, state}
+use Rattle.sqlite.specs.State.{State, IsUnchanged, Shown}
 use Rattle.sqlite.proofs.Callers.{IsPlain, command_of, reads_as}
 use Rattle.sqlite_rules.specs.Lists.{Has}
 use Rattle.sqlite_rules.proofs.ListLemmas.{all_has}
 use Rattle.acct_sql.specs.Tables.{book_schema}
 use Rattle.acct_sql.specs.Tidy.{IsTidy}
+use Rattle.acct_sql.specs.Rising.{ShowsRising, shown_id}
 use Rattle.acct_sql.proofs.QueryLemmas.{over_table, all_rows, has_shown, seen_bare}
 use Rattle.acct_sql.proofs.NextLemmas.{rising}
 
@@ -34,10 +38,6 @@ ids_shown = col 1 0 ∷ []
 
 abbrev pub by_rowid : List (Term × Direction)
 by_rowid = (col 1 0, rising) ∷ []
-
--- the id that a row of the answer shows
-abbrev pub shown_id : Row → ℤ
-shown_id row = id_in (column row 0)
 
 module _ {X K : Type 0} (e : K → K → Bool) (flips : (x y : K) → e x y ≡ e y x) (key : X → K) where
   apart : (x : X) (xs : List X) (y : X) → AllByRecursion (λ k. e (key x) k ≡ false) (map key xs)
@@ -195,20 +195,43 @@ session_ids_plain = (refl, refl)
 module _ (old new : State) (rows : List Row) (has : old.now.schema ≡ book_schema)
     (ints : AllByRecursion (λ row. column row 0 ≡ Int (shown_id row)) rows)
     (sorted : IsStrictlySortedBy int_cmp (map shown_id rows)) where
-  pub accounts_tidy : Shown account_ids [] old new rows → IsTidy (old.now.trees 4)
+  accounts_tidy : Shown account_ids [] old new rows → IsTidy (old.now.trees 4)
   accounts_tidy h = ids_tidy 4 old.now.trees rows (seen_bare 4 [] ids_shown by_rowid all_rows Null
       (overlay old.now.trees []) old.now.trees [] rows refl
       ((reads_as account_ids [] old new book_schema has _ account_ids_is account_ids_plain
       account_ids_unlisted rows h).answer Null)) ints sorted
 
-  pub vouchers_tidy : Shown voucher_ids [] old new rows → IsTidy (old.now.trees 6)
+  vouchers_tidy : Shown voucher_ids [] old new rows → IsTidy (old.now.trees 6)
   vouchers_tidy h = ids_tidy 6 old.now.trees rows (seen_bare 6 [] ids_shown by_rowid all_rows Null
       (overlay old.now.trees []) old.now.trees [] rows refl
       ((reads_as voucher_ids [] old new book_schema has _ voucher_ids_is voucher_ids_plain
       voucher_ids_unlisted rows h).answer Null)) ints sorted
 
-  pub sessions_tidy : Shown session_ids [] old new rows → IsTidy (old.now.trees 8)
+  sessions_tidy : Shown session_ids [] old new rows → IsTidy (old.now.trees 8)
   sessions_tidy h = ids_tidy 8 old.now.trees rows (seen_bare 8 [] ids_shown by_rowid all_rows Null
       (overlay old.now.trees []) old.now.trees [] rows refl
       ((reads_as session_ids [] old new book_schema has _ session_ids_is session_ids_plain
       session_ids_unlisted rows h).answer Null)) ints sorted
+
+-- ---- rows that are read one at a time
+
+module _ {S : Type 0} (g : Ghosts S) (old new : Held S)
+    (has : (state g old).now.schema ≡ book_schema) where
+  has_then : (mid : Held S) → IsUnchanged (state g old) (state g mid)
+      → (state g mid).now.schema ≡ book_schema
+  has_then mid same = ap (λ (d : Database). d.schema) same.0.now_is ∙ has
+
+  pub accounts_rise : ShowsRising g account_ids old new → IsTidy ((state g old).now.trees 4)
+  accounts_rise h = subst (λ (d : Database). IsTidy (d.trees 4)) h.same.0.now_is
+      (accounts_tidy (state g h.before) (state g new) h.rows (has_then h.before h.same) h.rising.ids
+      h.rising.sorted h.shown)
+
+  pub vouchers_rise : ShowsRising g voucher_ids old new → IsTidy ((state g old).now.trees 6)
+  vouchers_rise h = subst (λ (d : Database). IsTidy (d.trees 6)) h.same.0.now_is
+      (vouchers_tidy (state g h.before) (state g new) h.rows (has_then h.before h.same) h.rising.ids
+      h.rising.sorted h.shown)
+
+  pub sessions_rise : ShowsRising g session_ids old new → IsTidy ((state g old).now.trees 8)
+  sessions_rise h = subst (λ (d : Database). IsTidy (d.trees 8)) h.same.0.now_is
+      (sessions_tidy (state g h.before) (state g new) h.rows (has_then h.before h.same) h.rising.ids
+      h.rising.sorted h.shown)

@@ -20,6 +20,7 @@ mod KeyedLemmas
 mod WalkLemmas
 mod ListLemmas
 mod IdLemmas
+mod RisingLemmas
 mod LookLemmas
 mod NumberLemmas
 mod PlanLemmas

@@ -22,36 +22,20 @@ runs_quiet old new sql c params e None h = inl h.3
 runs_quiet old new sql c params e (Some what) (inl refused) = inl refused.1
 runs_quiet old new sql c params e (Some what) (inr failed) = inr failed.3
 
-query_quiet : (sql : List ℕ) (params : Row) (old new : State) (e : Error)
+pub query_quiet : (sql : List ℕ) (params : Row) (old new : State) (e : Error)
     → FailsToQuery sql params old new e → IsUnchanged old new ⊎ IsRolledBack old new
 unfolding FailsToQuery IsNotRun
 query_quiet sql params old new e (inl (inl refused)) = inl refused.1
 query_quiet sql params old new e (inl (inr failed)) = inr failed.3
 query_quiet sql params old new e (inr h) = runs_quiet old new sql h.0 _ e h.0.returning h.2
 
-module _ (sql : List ℕ) (params : Row) (old new : State) {V : Type 0} (items : V → List Row)
-    (r : Result V Error) (idle : IsIdle old) (has : HasSchema old)
-    (plain : IsPlain (understood book_schema sql))
-    (ok : HasCleanDisk new → IfOk r (λ rows. Shown sql params old new (items rows)))
-    (err : HasCleanDisk new → IfErr r (FailsToQuery sql params old new))
+-- what was done to the database is nothing, or it was undone
+module _ (old new : State) (idle : IsIdle old)
+    (quiet : HasCleanDisk new → IsUnchanged old new ⊎ IsRolledBack old new)
     (mode : old.in_transaction ≡ false → new.in_transaction ≡ false)
-    (survives : Survives old new (CommitsShowing sql params old)) where
+    (survives : Survives old new (λ _. ⊥)) where
   early : HasCleanDisk new → HasCleanDisk old
   early clean = omega (arith, survives.clean, clean)
-
-  plain_here : HasCleanDisk new → IsPlain (understood old.now.schema sql)
-  plain_here clean = subst (λ schema. IsPlain (understood schema sql)) (sym (has (early clean)))
-      plain
-
-  quiet_by : HasCleanDisk new → (q : Result V Error) → IfOk q
-      (λ rows. Shown sql params old new (items rows)) → IfErr q (FailsToQuery sql params old new)
-      → IsUnchanged old new ⊎ IsRolledBack old new
-  quiet_by clean (Ok rows) shown failed = inl (shown_same sql params old new (items rows)
-      (plain_here clean) shown)
-  quiet_by clean (Err e) shown failed = query_quiet sql params old new e failed
-
-  quiet : HasCleanDisk new → IsUnchanged old new ⊎ IsRolledBack old new
-  quiet clean = quiet_by clean r (ok clean) (err clean)
 
   opened : IsTrue new.is_open → IsUnchanged old new ⊎ IsRolledBack old new → IsTrue old.is_open
   opened o (inl same) = same.0.was_open
@@ -69,23 +53,51 @@ module _ (sql : List ℕ) (params : Row) (old new : State) {V : Type 0} (items :
   same_by clean o (inr rolled) = (rolled.undone o).0 ∙ sym
       (idle.settled (early clean) (rolled.was_open o))
 
-  pub peeked : OnlyLooks old new
-  peeked = record {
+  pub looks : OnlyLooks old new
+  looks = record {
     idle = record {
       autocommit = mode idle.autocommit;
-      settled = λ clean o. settled_by clean o
-          (quiet clean);
+      settled = λ clean o. settled_by clean o (quiet clean);
     };
     was_open = λ clean o. opened o (quiet clean);
     same = λ clean o. same_by clean o (quiet clean);
-    survives = survives_weaker old new (CommitsShowing sql params old) (λ _. ⊥)
-        (λ clean db commits. never_commits sql params old db (plain_here clean) commits) survives;
+    survives = survives;
   }
+
+-- a query with no RETURNING commits nothing
+module _ (sql : List ℕ) (params : Row) (old new : State) (has : HasSchema old)
+    (plain : IsPlain (understood book_schema sql))
+    (survives : Survives old new (CommitsShowing sql params old)) where
+  pub plain_here : HasCleanDisk new → IsPlain (understood old.now.schema sql)
+  plain_here clean = subst (λ schema. IsPlain (understood schema sql))
+      (sym (has (omega (arith, survives.clean, clean)))) plain
+
+  pub commits_nothing : Survives old new (λ _. ⊥)
+  commits_nothing = survives_weaker old new (CommitsShowing sql params old) (λ _. ⊥)
+      (λ clean db commits. never_commits sql params old db (plain_here clean) commits) survives
+
+module _ (sql : List ℕ) (params : Row) (old new : State) {V : Type 0} (items : V → List Row)
+    (r : Result V Error) (idle : IsIdle old) (has : HasSchema old)
+    (plain : IsPlain (understood book_schema sql))
+    (ok : HasCleanDisk new → IfOk r (λ rows. Shown sql params old new (items rows)))
+    (err : HasCleanDisk new → IfErr r (FailsToQuery sql params old new))
+    (mode : old.in_transaction ≡ false → new.in_transaction ≡ false)
+    (survives : Survives old new (CommitsShowing sql params old)) where
+  quiet_by : HasCleanDisk new → (q : Result V Error) → IfOk q
+      (λ rows. Shown sql params old new (items rows)) → IfErr q (FailsToQuery sql params old new)
+      → IsUnchanged old new ⊎ IsRolledBack old new
+  quiet_by clean (Ok rows) shown failed = inl (shown_same sql params old new (items rows)
+      (plain_here sql params old new has plain survives clean) shown)
+  quiet_by clean (Err e) shown failed = query_quiet sql params old new e failed
+
+  pub peeked : OnlyLooks old new
+  peeked = looks old new idle (λ clean. quiet_by clean r (ok clean) (err clean)) mode
+      (commits_nothing sql params old new has plain survives)
 
   open_by : HasCleanDisk new → (q : Result V Error) → IfOk q
       (λ rows. Shown sql params old new (items rows)) → OnOk q (IsTrue new.is_open)
-  open_by clean (Ok rows) shown = (shown_same sql params old new (items rows) (plain_here clean)
-      shown).0.is_open
+  open_by clean (Ok rows) shown = (shown_same sql params old new (items rows)
+      (plain_here sql params old new has plain survives clean) shown).0.is_open
   open_by clean (Err e) shown = tt
 
   pub peeked_open : HasCleanDisk new → OnOk r (IsTrue new.is_open)

@@ -4,6 +4,7 @@ pub mod Columns
 pub mod Content
 pub mod Book
 pub mod Next
+pub mod Rising
 pub mod Make
 pub mod Look
 pub mod Laws

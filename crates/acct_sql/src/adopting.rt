@@ -1,15 +1,11 @@
 //! Whether a database is a book, by queries that change nothing.
-ghost use Rattle.std.specs.Prelude.{◌≡◌, ◌≢◌, ◌↔◌, ℤ, pos, [], IsTrue, IfOk, IfErr, OnOk, map};
+ghost use Rattle.std.specs.Prelude.{◌≡◌, ◌≢◌, ◌↔◌, ℤ, pos, [], IsTrue, IfOk, IfErr, OnOk};
 ghost use Rattle.std.specs.Prelude.{List, MatchOption, MatchResult};
-ghost use Rattle.std.specs.Ordering.{int_cmp};
-ghost use Rattle.std.specs.declared.cmp.Ordering.TheVariants.{Less};
 ghost use Rattle.std.specs.List.{AllByRecursion};
-ghost use Rattle.std.specs.List.Sorted.{IsStrictlySortedBy};
 ghost use Rattle.sqlite.specs.State.{HasCleanDisk, Shown};
 ghost use Rattle.sqlite.specs.Held.{state};
 ghost use Rattle.sqlite.specs.Given.{IsPlain};
 ghost use Rattle.sqlite.specs.Listing.{understood};
-ghost use Rattle.sqlite.specs.Edit.{id_in};
 ghost use Rattle.sqlite_value.specs.Order.{column};
 ghost use Rattle.sqlite_value.specs.Value.{owned};
 ghost use Rattle.sqlite_value.specs.declared.value.Value.TheVariants.{Int, Blob};
@@ -23,6 +19,7 @@ ghost use Rattle.acct_sql.specs.Look.{AreShown, IsNumber, IsNumberFault, IsPlanF
 ghost use Rattle.acct_sql.specs.Look.{HasNumberAlone, is_failure};
 
 use crate::book_schema::is_book_schema;
+use crate::rowids::check_rowids;
 use crate::sql_book_error::SqlBookError;
 use acct_model::{Plan, Plans};
 use sqlite::types::ValueRef;
@@ -31,12 +28,6 @@ use sqlite::{Alter, Connection, Error, ErrorCode};
 const NUMBER: &str = "SELECT value FROM meta WHERE name = 'schema'";
 
 const PLANS: &str = "SELECT class, block, unit FROM price_plan";
-
-const ACCOUNT_IDS: &str = "SELECT rowid FROM account ORDER BY rowid";
-
-const VOUCHER_IDS: &str = "SELECT rowid FROM voucher ORDER BY rowid";
-
-const SESSION_IDS: &str = "SELECT rowid FROM session ORDER BY rowid";
 
 // What a query shows of the tables of a book.
 fn peek<S: Alter>(conn: &mut Connection<S>, sql: &str) -> Result<Vec<sqlite::Row>, SqlBookError>
@@ -57,115 +48,8 @@ fn peek<S: Alter>(conn: &mut Connection<S>, sql: &str) -> Result<Vec<sqlite::Row
     }
 }
 
-// Refuses tables in which two rows have one rowid. It reads each rowid once.
-pub(crate) fn check_rowids<S: Alter>(conn: &mut Connection<S>) -> Result<(), SqlBookError>
-    requires idle { IsIdle (state S.Store conn.old) }
-    requires has { HasSchema (state S.Store conn.old) }
-    ensures looks { OnlyLooks (state S.Store conn.old) (state S.Store conn.new) }
-    ensures open { HasCleanDisk (state S.Store conn.new)
-        → OnOk result (IsTrue (state S.Store conn.new).is_open) }
-    ensures accounts { HasCleanDisk (state S.Store conn.new)
-        → OnOk result (IsTidy ((state S.Store conn.old).now.trees 4)) }
-    ensures vouchers { HasCleanDisk (state S.Store conn.new)
-        → OnOk result (IsTidy ((state S.Store conn.old).now.trees 6)) }
-    ensures sessions { HasCleanDisk (state S.Store conn.new)
-        → OnOk result (IsTidy ((state S.Store conn.old).now.trees 8)) }
-    ensures fault { IfErr result (λ e. e ≡ SqlBookError.Unavailable) }
-{
-    check_accounts(conn)?;
-    check_vouchers(conn)?;
-    check_sessions(conn)
-}
-
-fn check_accounts<S: Alter>(conn: &mut Connection<S>) -> Result<(), SqlBookError>
-    requires idle { IsIdle (state S.Store conn.old) }
-    requires has { HasSchema (state S.Store conn.old) }
-    ensures looks { OnlyLooks (state S.Store conn.old) (state S.Store conn.new) }
-    ensures open { HasCleanDisk (state S.Store conn.new)
-        → OnOk result (IsTrue (state S.Store conn.new).is_open) }
-    ensures tidy { HasCleanDisk (state S.Store conn.new)
-        → OnOk result (IsTidy ((state S.Store conn.old).now.trees 4)) }
-    ensures fault { IfErr result (λ e. e ≡ SqlBookError.Unavailable) }
-{
-    let rows = peek(conn, ACCOUNT_IDS)?;
-    if are_ids(&rows) && ids_ascend(&rows) {
-        Ok(())
-    } else {
-        Err(SqlBookError::Unavailable)
-    }
-}
-
-fn check_vouchers<S: Alter>(conn: &mut Connection<S>) -> Result<(), SqlBookError>
-    requires idle { IsIdle (state S.Store conn.old) }
-    requires has { HasSchema (state S.Store conn.old) }
-    ensures looks { OnlyLooks (state S.Store conn.old) (state S.Store conn.new) }
-    ensures open { HasCleanDisk (state S.Store conn.new)
-        → OnOk result (IsTrue (state S.Store conn.new).is_open) }
-    ensures tidy { HasCleanDisk (state S.Store conn.new)
-        → OnOk result (IsTidy ((state S.Store conn.old).now.trees 6)) }
-    ensures fault { IfErr result (λ e. e ≡ SqlBookError.Unavailable) }
-{
-    let rows = peek(conn, VOUCHER_IDS)?;
-    if are_ids(&rows) && ids_ascend(&rows) {
-        Ok(())
-    } else {
-        Err(SqlBookError::Unavailable)
-    }
-}
-
-fn check_sessions<S: Alter>(conn: &mut Connection<S>) -> Result<(), SqlBookError>
-    requires idle { IsIdle (state S.Store conn.old) }
-    requires has { HasSchema (state S.Store conn.old) }
-    ensures looks { OnlyLooks (state S.Store conn.old) (state S.Store conn.new) }
-    ensures open { HasCleanDisk (state S.Store conn.new)
-        → OnOk result (IsTrue (state S.Store conn.new).is_open) }
-    ensures tidy { HasCleanDisk (state S.Store conn.new)
-        → OnOk result (IsTidy ((state S.Store conn.old).now.trees 8)) }
-    ensures fault { IfErr result (λ e. e ≡ SqlBookError.Unavailable) }
-{
-    let rows = peek(conn, SESSION_IDS)?;
-    if are_ids(&rows) && ids_ascend(&rows) {
-        Ok(())
-    } else {
-        Err(SqlBookError::Unavailable)
-    }
-}
-
-fn are_ids(rows: &[sqlite::Row]) -> bool
-    ensures { IsTrue result → AllByRecursion (λ row. column row 0 ≡ Int (id_in (column row 0)))
-        rows.now }
-{
-    for row in rows {
-        if id_of(row).is_none() {
-            return false;
-        }
-    }
-    true
-}
-
-fn ids_ascend(rows: &[sqlite::Row]) -> bool
-    ensures { IsTrue result → IsStrictlySortedBy int_cmp
-        (map (λ row. id_in (column row 0)) rows.now) }
-{
-    for at in 1..rows.len() {
-        if !id_precedes(&rows[at - 1], &rows[at]) {
-            return false;
-        }
-    }
-    true
-}
-
-fn id_precedes(row: &sqlite::Row, next: &sqlite::Row) -> bool
-    ensures { IsTrue result → int_cmp (id_in (column row.now 0)) (id_in (column next.now 0))
-        ≡ Less }
-{
-    match (id_of(row), id_of(next)) {
-        (Some(id), Some(next)) => id < next,
-        _ => false,
-    }
-}
-
-fn id_of(row: &sqlite::Row) -> Option<i64>
+/// The integer in the first column of a row, if it is one.
+pub(crate) fn id_of(row: &sqlite::Row) -> Option<i64>
     ensures { MatchOption result ((id : ℤ) → column row.now 0 ≢ Int id)
         (λ id. column row.now 0 ≡ Int id) }
 {

@@ -21,6 +21,7 @@ mod making;
 mod memory_tests;
 mod reading;
 mod refused;
+mod rowids;
 mod sql_book;
 mod sql_book_error;
 #[cfg(test)]
