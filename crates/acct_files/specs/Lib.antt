@@ -10,3 +10,4 @@ pub mod ClientTables
 pub mod PlanTables
 pub mod KeyTables
 pub mod Config
+pub mod ErrorText

@@ -1,4 +1,7 @@
 //! Why a text is no configuration.
+ghost use Rattle.std.specs.Prelude.{Some};
+ghost use Rattle.acct_files.specs.ErrorText.{kind_text, table_text, error_text};
+
 use acct_model::NoMemory;
 use std::alloc::AllocError;
 use std::fmt;
@@ -52,6 +55,8 @@ impl From<NoMemory> for ConfigKind {
 }
 
 impl fmt::Display for ConfigKind {
+    ghost output = { λ kind. Some (kind_text kind) };
+
     fn fmt<W: fmt::Write>(&self, f: &mut fmt::Formatter<W>) -> fmt::Result {
         f.write_str(match self {
             ConfigKind::NotToml => "NotToml",
@@ -82,6 +87,8 @@ pub enum ConfigTable {
 }
 
 impl fmt::Display for ConfigTable {
+    ghost output = { λ table. Some (table_text table) };
+
     fn fmt<W: fmt::Write>(&self, f: &mut fmt::Formatter<W>) -> fmt::Result {
         f.write_str(match self {
             ConfigTable::Top => "Top",
@@ -94,7 +101,6 @@ impl fmt::Display for ConfigTable {
 
 /// What is wrong with a text, and where. It is shown as `KIND in TABLE INDEX`.
 #[derive(Clone, Copy, PartialEq, Eq, Debug, Error)]
-#[error("{kind} in {table} {index}")]
 pub struct ConfigError {
     /// What is wrong.
     pub kind: ConfigKind,
@@ -102,6 +108,14 @@ pub struct ConfigError {
     pub table: ConfigTable,
     /// The place of the table in its array, from 0. It is 0 for the text as a whole.
     pub index: usize,
+}
+
+impl fmt::Display for ConfigError {
+    ghost output = { λ error. Some (error_text error) };
+
+    fn fmt<W: fmt::Write>(&self, f: &mut fmt::Formatter<W>) -> fmt::Result {
+        write!(f, "{} in {} {}", self.kind, self.table, self.index)
+    }
 }
 
 impl ConfigError {
