@@ -1,5 +1,6 @@
 -- What ends a command before its time, and how the command then ends.
-use Rattle.std.specs.Prelude.{ℕ, List, Option, None, Some, codes, Result, Ok, Err}
+use Rattle.std.specs.Prelude.{ℕ, List, ◌++◌, codes, Result, Ok, Err}
+use Rattle.acct_files.specs.ErrorText.{error_text}
 use Rattle.acct_sql.specs.declared.sql_book_error.SqlBookError.{SqlBookError}
 use Rattle.acct_sql.specs.declared.sql_book_error.SqlBookError.TheVariants as error
 use Rattle.radacctd.specs.declared.fault.Fault.{Fault}
@@ -14,16 +15,16 @@ store_fault_text error.PlansDiffer = codes "db: PlansDiffer"
 store_fault_text (error.WrongSchema number) = codes "db: WrongSchema"
 store_fault_text error.Unavailable = codes "db: Unavailable"
 
--- the text of a fault; that of a configuration is said by its own error
-abbrev pub fault_text : Fault → Option (List ℕ)
-fault_text fault.CannotRead = Some (codes "file: cannot read")
-fault_text (fault.Config error) = None
-fault_text fault.CannotOpen = Some (codes "db: cannot open")
-fault_text (fault.Store why) = Some (store_fault_text why)
-fault_text fault.StoreMemory = Some (codes "db: Memory")
-fault_text fault.CannotBind = Some (codes "socket: cannot bind")
-fault_text fault.CannotWrite = Some (codes "cannot write")
-fault_text fault.NoMemory = Some (codes "out of memory")
+-- the text of a fault
+abbrev pub fault_text : Fault → List ℕ
+fault_text fault.CannotRead = codes "file: cannot read"
+fault_text (fault.Config error) = codes "config: " ++ error_text error
+fault_text fault.CannotOpen = codes "db: cannot open"
+fault_text (fault.Store why) = store_fault_text why
+fault_text fault.StoreMemory = codes "db: Memory"
+fault_text fault.CannotBind = codes "socket: cannot bind"
+fault_text fault.CannotWrite = codes "cannot write"
+fault_text fault.NoMemory = codes "out of memory"
 
 -- how a command ends that a fault ends
 abbrev pub fault_status : Fault → Status

@@ -1,5 +1,5 @@
 //! What ends a command before its time.
-ghost use Rattle.std.specs.Prelude.{◌≡◌, ◌≢◌, IfOk};
+ghost use Rattle.std.specs.Prelude.{◌≡◌, ◌≢◌, Some, IfOk};
 ghost use Rattle.radacctd.specs.Endings.{fault_text, store_fault_text, fault_status, ended_status};
 
 use crate::status::Status;
@@ -31,7 +31,7 @@ pub enum Fault {
 }
 
 impl fmt::Display for Fault {
-    ghost output = { fault_text };
+    ghost output = { λ fault. Some (fault_text fault) };
 
     fn fmt<W: fmt::Write>(&self, f: &mut fmt::Formatter<W>) -> fmt::Result {
         match self {
