@@ -8,6 +8,7 @@ pub mod Numbers
 pub mod Signing
 -- how the words of a text are cut
 pub mod WordLemmas
+mod Runs
 -- the words of a packet's line
 pub mod PacketWords
 -- the lines of the drops, one reason more

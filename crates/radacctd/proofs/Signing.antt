@@ -1,5 +1,5 @@
 -- A signed request stands at the front of the array that it was written into.
-use Rattle.std.proofs.Common.{◌≡◌, ℕ, ◌≤◌, ◌+◌, ◌++◌, List, length, take, drop, arith, ap, ◌∙◌, sym}
+use Rattle.std.proofs.Common.{◌≡◌, ℕ, ◌≤◌, ◌+◌, ◌++◌, List, length, take, drop, arith, ap, ◌∙◌}
 use Rattle.std.proofs.lemmas.List.{length-append, take_at}
 use Rattle.radius_codec.specs.Packet.{request_octets, request_place}
 use Rattle.radius_codec.proofs.Sealing.{length-sealed}

@@ -1,5 +1,5 @@
 -- What lines are answered by, and the text of each answer.
-use Rattle.std.specs.Prelude.{◌≤◌, ℕ, ℤ, List, [], ◌∷◌, ◌++◌, ◌-◌, Option, Some, None, Result, Ok}
+use Rattle.std.specs.Prelude.{◌≤◌, ℕ, ℤ, List, [], ◌++◌, ◌-◌, Option, Some, None, Result, Ok}
 use Rattle.std.specs.Prelude.{Err, codes, take, drop, length, ◌==◌, decimal, if◌then◌else◌}
 use Rattle.std.specs.Fmt.{signed_decimal}
 use Rattle.hex.specs.Hex.{encode_lower}

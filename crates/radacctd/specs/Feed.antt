@@ -1,9 +1,9 @@
 -- What a line is answered by, over a book.
 use Rattle.std.specs.Str.{IsUtf8}
-use Rattle.std.specs.Io.KnownBytes.{Appends, Keeps}
-use Rattle.std.specs.Prelude.{◌≡◌, ◌<◌, ℕ, ℤ, ◌⊎◌, List, Option, Result, IfOk, MatchOption}
-use Rattle.std.specs.Prelude.{length, [], ◌∷◌}
-use Rattle.std.specs.Prelude.{◌++◌}
+use Rattle.std.specs.Io.KnownBytes.{Appends}
+use Rattle.std.specs.List.{list_all}
+use Rattle.std.specs.Prelude.{◌≡◌, ◌<◌, ℕ, ℤ, ◌⊎◌, List, Option, None, Some, Result, IfOk}
+use Rattle.std.specs.Prelude.{MatchOption, length, [], ◌∷◌, ◌++◌, Bool, true, false, flat_map}
 use Rattle.radius_codec.specs.Packet.{request_octets}
 use Rattle.acct_model.specs.declared.plan.Plan.{Plan}
 use Rattle.acct_model.specs.declared.entry.Entry.TheVariants as entry
@@ -13,7 +13,7 @@ use Rattle.acct_book.specs.declared.book.Unavailable.{Unavailable as Refusal}
 use Rattle.acct_book.specs.declared.recording.Recorded.{Recorded}
 use Rattle.acct_book.specs.declared.recording.RecordError.{RecordError}
 use Rattle.acct_book.specs.Book.{Reads}
-use Rattle.acct_book.specs.Content.{Content, kept_balance}
+use Rattle.acct_book.specs.Content.{Content, empty_content, kept_balance}
 use Rattle.acct_book.specs.Outcome.{Records}
 use Rattle.acct_book.specs.Row.{RowFacts}
 use Rattle.acct_book.specs.Step.{IsStep}
@@ -26,6 +26,7 @@ use Rattle.radacctd.specs.Answers.{answer_text, packet_answer, signed_answer, ba
 use Rattle.radacctd.specs.Answers.{credit_of}
 use Rattle.radacctd.specs.Answers.{session_answer}
 use Rattle.radacctd.specs.Line.{IsBad, Spells}
+use Rattle.radacctd.specs.Lines.{AreCut}
 use Rattle.radacctd.specs.declared.answer.Answer.{Answer}
 use Rattle.radacctd.specs.declared.answer.Answer.TheVariants as form
 use Rattle.radacctd.specs.declared.line.Line.{Line}
@@ -68,24 +69,28 @@ module _ {B : Type 0} (content : B → Content) (is_sound is_open is_steady : B 
     pub reads : Reads content is_sound is_open is_steady left old new told
     pub shown : answer ≡ session_answer plans told
 
+  -- the line is bad, and nothing is asked of the book
+  abbrev pub IsBadLine : Answer → Type 0
+  IsBadLine answer = (answer ≡ form.BadLine) × (new ≡ old)
+
   -- The row of a session was asked for: a bad line where no client has the name.
   abbrev pub AnswersSession : Key → Answer → Type 0
   AnswersSession key answer =
-      MatchOption (client_named key.client clients) (answer ≡ form.BadLine)
+      MatchOption (client_named key.client clients) (IsBadLine answer)
       (λ client. AnswersKnown key answer)
 
   -- Attributes are sent from a client's address, signed by its secret: a bad line where they do not
   -- fit a request.
   abbrev pub AnswersRequest : ℕ → Client → ℕ → List ℕ → Answer → Type 0
   AnswersRequest moment client identifier octets answer =
-      ((4076 < length octets) × (answer ≡ form.BadLine))
+      ((4076 < length octets) × IsBadLine answer)
       ⊎ AnswersDatagram client.address (request_octets identifier octets client.secret) moment
       signed_answer answer
 
   -- the same, a bad line where no client has the name
   abbrev pub AnswersSigned : ℕ → List ℕ → ℕ → List ℕ → Answer → Type 0
   AnswersSigned moment name identifier octets answer =
-      MatchOption (client_named name clients) (answer ≡ form.BadLine)
+      MatchOption (client_named name clients) (IsBadLine answer)
       (λ client. AnswersRequest moment client identifier octets answer)
 
   -- what a line is answered by
@@ -102,12 +107,58 @@ module _ {B : Type 0} (content : B → Content) (is_sound is_open is_steady : B 
   -- else as their line is.
   abbrev pub AnswersOctets : List ℕ → Answer → Type 0
   AnswersOctets octets answer =
-      ((answer ≡ form.BadLine) × (IsUtf8 octets → IsBad octets))
+      (IsBadLine answer × (IsUtf8 octets → IsBad octets))
       ⊎ ((line : Line) × Spells octets line × Answers line answer)
 
-  -- A line prints nothing where it is empty, else the text of its answer and a line end.
-  abbrev pub Prints : List ℕ → Option (List ℕ) → Option (List ℕ) → Type 0
-  Prints octets before after =
-      ((octets ≡ []) × Keeps before after)
-      ⊎ ((answer : Answer) × AnswersOctets octets answer
-      × Appends before after (answer_text answer ++ 10 ∷ []))
+  -- What a line is answered by: nothing where it is empty.
+  abbrev pub AnswersLine : List ℕ → Option Answer → Type 0
+  AnswersLine octets None = (octets ≡ []) × (new ≡ old)
+  AnswersLine octets (Some answer) = AnswersOctets octets answer
+
+-- what is printed of a line's answer: its text and a line end
+abbrev pub printed_text : Option Answer → List ℕ
+printed_text None = []
+printed_text (Some answer) = answer_text answer ++ 10 ∷ []
+
+-- the line was not bad
+abbrev pub is_good : Option Answer → Bool
+is_good (Some form.BadLine) = false
+is_good _ = true
+
+module _ {B : Type 0} (content : B → Content) (is_sound is_open is_steady : B → Type 0)
+    (left : B → Content → Type 0) (clients : List Client) (plans : List Plan) where
+  -- A line was answered, its answer was printed, and it is told whether it was good.
+  pub record Prints (old new : B) (octets : List ℕ) (good : Bool) (before after : Option (List ℕ))
+      : Type 0 where
+    pub answer : Option Answer
+    pub answered : AnswersLine content is_sound is_open is_steady left clients plans old new octets
+        answer
+    pub printed : Appends before after (printed_text answer)
+    pub good_is : good ≡ is_good answer
+
+  -- Each line was answered over the book as the line before it left it.
+  abbrev pub AnswersAll : List (List ℕ) → List (Option Answer) → B → B → Type 0
+  AnswersAll [] [] old new = new ≡ old
+  AnswersAll [] (answer ∷ answers) old new = ⊥
+  AnswersAll (line ∷ lines) [] old new = ⊥
+  AnswersAll (line ∷ lines) (answer ∷ answers) old new = (next : B)
+      × AnswersLine content is_sound is_open is_steady left clients plans old next line answer
+      × AnswersAll lines answers next new
+
+  -- The first lines of an input were answered in their order and their answers were printed, and
+  -- it is told whether all were good.
+  pub record Ran (old new : B) (input rest : List ℕ) (good : Bool)
+      (before after : Option (List ℕ)) : Type 0 where
+    pub lines : List (List ℕ)
+    pub answers : List (Option Answer)
+    pub cut : AreCut input lines rest
+    pub answered : AnswersAll lines answers old new
+    pub printed : Appends before after (flat_map printed_text answers)
+    pub good_is : good ≡ list_all is_good answers
+
+  -- All lines of an input were good, and were answered over a book that was empty before.
+  pub record RanAfresh (input : List ℕ) (before after : Option (List ℕ)) : Type 0 where
+    pub first : B
+    pub is_new : is_open first × (content first ≡ empty_content)
+    pub last : B
+    pub ran : Ran first last input [] true before after

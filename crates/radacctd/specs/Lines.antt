@@ -11,4 +11,10 @@ pub record IsCut (octets line rest : List ℕ) : Type 0 where
 -- the next line of octets, if some are left, and the octets that are left then
 abbrev pub GivesLine : List ℕ → Option (Bor (List ℕ)) → List ℕ → Type 0
 GivesLine octets None rest = (octets ≡ []) × (rest ≡ [])
-GivesLine octets (Some line) rest = IsCut octets line.now rest
+GivesLine octets (Some line) rest = (octets ≢ []) × IsCut octets line.now rest
+
+-- these are the first lines of octets, and what comes after them
+abbrev pub AreCut : List ℕ → List (List ℕ) → List ℕ → Type 0
+AreCut octets [] rest = octets ≡ rest
+AreCut octets (line ∷ lines) rest = (octets ≢ []) × (next : List ℕ) × IsCut octets line next
+    × AreCut next lines rest

@@ -67,7 +67,7 @@ fn feed<I: Read + Drop, W: Write + Drop>(
             }
         },
     };
-    Ok(run_feed(alloc, config, input, output))
+    Ok(run_feed(alloc, config, input, &mut output))
 }
 
 // `init`: an empty book.

@@ -5,9 +5,10 @@
 //! 3. A line that isn't UTF-8 or that no line spells is a bad line. It is answered so, and the run
 //!    goes on.
 //! 4. A run ends early where memory is refused or a writer fails.
-ghost use Rattle.std.specs.Prelude.{◌≡◌, ◌≢◌, ◌^◌, ◌<◌, [], IfOk, OnOk, MatchOption, length};
+ghost use Rattle.std.specs.Prelude.{◌≡◌, ◌≢◌, ◌^◌, ◌<◌, [], true, IfOk, IfSome, MatchOption, length};
 ghost use Rattle.radius_codec.specs.Packet.{request_octets};
-ghost use Rattle.radacctd.specs.Feed.{Prints, Answers, AnswersOctets, AnswersDatagram};
+ghost use Rattle.acct_book.specs.Content.{empty_content};
+ghost use Rattle.radacctd.specs.Feed.{Prints, Ran, RanAfresh, Answers, AnswersLine, AnswersDatagram};
 ghost use Rattle.radacctd.specs.Feed.{AnswersSigned};
 ghost use Rattle.radacctd.specs.Feed.{AnswersBalance, AnswersTopUp, AnswersSession};
 ghost use Rattle.radacctd.specs.Answers.{packet_answer};
@@ -35,17 +36,22 @@ use std::str;
 /// Answers the lines of the reader over an empty book, whose tables are kept in memory, and says
 /// how it ended: `Refused` after a bad line, an input that is too long or cannot be read, or a
 /// writer that fails.
-pub fn run_feed<R: Read + Drop, W: Write + Drop>(
+pub fn run_feed<R: Read + Drop, W: Write>(
     alloc: Global,
     config: Config,
     mut reader: R,
-    mut writer: W,
+    writer: &mut W,
 ) -> Status
-    ensures { result ≢ Status.WrongWords }
+    ensures words { result ≢ Status.WrongWords }
+    ensures ran { result ≡ Status.Done → IfSome (R.remaining reader) (λ input.
+        RanAfresh ⟦<SqlBook<MemStore> as Book>⟧.content ⟦<SqlBook<MemStore> as Book>⟧.is_sound
+        ⟦<SqlBook<MemStore> as Book>⟧.is_open ⟦<SqlBook<MemStore> as Book>⟧.is_steady
+        ⟦<SqlBook<MemStore> as Book>⟧.left config.clients config.plans input
+        (W.contents writer.old) (W.contents writer.new)) }
 {
     let status = match empty_book(alloc, &config.plans) {
-        Ok(book) => answer_reader(alloc, config, book, &mut reader, &mut writer),
-        Err(_) => end(&mut writer, "unavailable", Status::Unavailable),
+        Ok(book) => answer_reader(alloc, config, book, &mut reader, writer),
+        Err(_) => end(writer, "unavailable", Status::Unavailable),
     };
     match writer.flush() {
         Ok(()) => status,
@@ -54,7 +60,10 @@ pub fn run_feed<R: Read + Drop, W: Write + Drop>(
 }
 
 // An empty book in tables that are kept in memory.
-fn empty_book(alloc: Global, plans: &Plans) -> Result<SqlBook<MemStore>, Unavailable> {
+fn empty_book(alloc: Global, plans: &Plans) -> Result<SqlBook<MemStore>, Unavailable>
+    ensures { IfOk result (λ book. ⟦<SqlBook<MemStore> as Book>⟧.is_open book
+        × (⟦<SqlBook<MemStore> as Book>⟧.content book ≡ empty_content)) }
+{
     let connection = Connection::open_in_memory(alloc)?;
     match SqlBook::create(alloc, connection, plans) {
         Ok(book) => Ok(book),
@@ -70,7 +79,10 @@ fn answer_reader<B: Book + Drop, R: Read, W: Write>(
     reader: &mut R,
     writer: &mut W,
 ) -> Status
-    ensures { result ≢ Status.WrongWords }
+    ensures words { result ≢ Status.WrongWords }
+    ensures ran { result ≡ Status.Done → IfSome (R.remaining reader.old) (λ input. (new : B)
+        × Ran B.content B.is_sound B.is_open B.is_steady B.left config.clients config.plans
+        book new input [] true (W.contents writer.old) (W.contents writer.new)) }
 {
     match read_input(alloc, reader) {
         Ok(input) => answer_input(alloc, config, book, &input, writer),
@@ -88,7 +100,10 @@ pub fn answer_input<B: Book + Drop, W: Write>(
     input: &[u8],
     writer: &mut W,
 ) -> Status
-    ensures { result ≢ Status.WrongWords }
+    ensures words { result ≢ Status.WrongWords }
+    ensures ran { result ≡ Status.Done → (new : B)
+        × Ran B.content B.is_sound B.is_open B.is_steady B.left config.clients config.plans
+        book new input.now [] true (W.contents writer.old) (W.contents writer.new) }
 {
     match Feed::new(alloc, config, book).answer_lines(input, writer) {
         Ok(true) => Status::Done,
@@ -99,8 +114,10 @@ pub fn answer_input<B: Book + Drop, W: Write>(
 
 // The last answer of a run that ends early, and how it ends.
 fn end<W: Write>(writer: &mut W, text: &str, status: Status) -> Status
-    requires { status ≢ Status.WrongWords }
-    ensures { result ≢ Status.WrongWords }
+    requires words { status ≢ Status.WrongWords }
+    requires done { status ≢ Status.Done }
+    ensures words { result ≢ Status.WrongWords }
+    ensures done { result ≢ Status.Done }
 {
     match writeln!(writer, "{text}") {
         Ok(()) => status,
@@ -127,8 +144,18 @@ impl<B: Book> Feed<B> {
         }
     }
 
-    // Answers the lines, and says whether each was good.
-    fn answer_lines<W: Write>(&mut self, input: &[u8], writer: &mut W) -> Result<bool, Stop> {
+    /// Answers the lines of an input in their order, each over the book as the one before left it,
+    /// and says whether all were good.
+    ///
+    /// # Errors
+    ///
+    /// `CannotWrite`, and `NoMemory`. The lines before are answered then, and perhaps this one.
+    pub fn answer_lines<W: Write>(&mut self, input: &[u8], writer: &mut W) -> Result<bool, Stop>
+        ensures ran { IfOk result (λ good. Ran B.content B.is_sound B.is_open B.is_steady B.left
+            self.old.server.config.clients self.old.server.config.plans
+            self.old.server.book self.new.server.book input.now [] good
+            (W.contents writer.old) (W.contents writer.new)) }
+    {
         let mut are_good = true;
         for line in Lines::new(input) {
             let is_good = self.answer_line(line, writer)?;
@@ -139,10 +166,11 @@ impl<B: Book> Feed<B> {
 
     // Answers a line, and says whether it was good.
     fn answer_line<W: Write>(&mut self, octets: &[u8], writer: &mut W) -> Result<bool, Stop>
-        ensures printed { OnOk result (Prints B.content B.is_sound B.is_open B.is_steady B.left
-            self.old.server.config.clients self.old.server.config.plans
-            self.old.server.book self.new.server.book octets.now
+        ensures printed { IfOk result (λ good. Prints B.content B.is_sound B.is_open B.is_steady
+            B.left self.old.server.config.clients self.old.server.config.plans
+            self.old.server.book self.new.server.book octets.now good
             (W.contents writer.old) (W.contents writer.new)) }
+        ensures same_config { self.new.server.config ≡ self.old.server.config }
     {
         let Some(answer) = self.answer_to(octets)? else {
             return Ok(true);
@@ -153,10 +181,10 @@ impl<B: Book> Feed<B> {
 
     // What the octets of a line are answered by. An empty line has no answer.
     fn answer_to(&mut self, octets: &[u8]) -> Result<Option<Answer>, Stop>
-        ensures answers { IfOk result (λ answer. MatchOption answer (octets.now ≡ [])
-            (AnswersOctets B.content B.is_sound B.is_open B.is_steady B.left
+        ensures answers { IfOk result (AnswersLine B.content B.is_sound B.is_open B.is_steady B.left
             self.old.server.config.clients self.old.server.config.plans
-            self.old.server.book self.new.server.book octets.now)) }
+            self.old.server.book self.new.server.book octets.now) }
+        ensures same_config { self.new.server.config ≡ self.old.server.config }
     {
         let Ok(text) = str::from_utf8(octets) else {
             return Ok(Some(Answer::BadLine));
@@ -179,6 +207,7 @@ impl<B: Book> Feed<B> {
         ensures answers { IfOk result (Answers B.content B.is_sound B.is_open B.is_steady B.left
             self.old.server.config.clients self.old.server.config.plans
             self.old.server.book self.new.server.book line) }
+        ensures same_config { self.new.server.config ≡ self.old.server.config }
     {
         match line {
             Line::Signed {
@@ -218,6 +247,7 @@ impl<B: Book> Feed<B> {
             B.left
             self.old.server.config.clients self.old.server.config.plans
             self.old.server.book self.new.server.book moment client.now identifier octets.now) }
+        ensures same_config { self.new.server.config ≡ self.old.server.config }
     {
         let Some(client) = self.server.config.clients.named(client) else {
             return Ok(Answer::BadLine);
@@ -242,6 +272,7 @@ impl<B: Book> Feed<B> {
             self.old.server.config.clients self.old.server.config.plans
             self.old.server.book self.new.server.book datagram.now.source datagram.now.bytes.now
             datagram.now.moment packet_answer) }
+        ensures same_config { self.new.server.config ≡ self.old.server.config }
     {
         let outcome = self.server.answer(datagram);
         let answer = Answer::of_packet(self.server.alloc, outcome, &self.server.reply)?;
@@ -253,6 +284,7 @@ impl<B: Book> Feed<B> {
             B.left
             self.old.server.config.clients self.old.server.config.plans
             self.old.server.book self.new.server.book account.now) }
+        ensures same_config { self.new.server.config ≡ self.old.server.config }
     {
         let told = self.server.book.balance(account);
         let answer = Answer::of_balance(self.server.alloc, account, told)?;
@@ -264,6 +296,7 @@ impl<B: Book> Feed<B> {
         ensures answers { AnswersTopUp B.content B.is_sound B.is_open B.is_steady B.left
             self.old.server.config.clients self.old.server.config.plans
             self.old.server.book self.new.server.book topup result }
+        ensures same_config { self.new.server.config ≡ self.old.server.config }
     {
         let entry = Entry::TopUp(topup);
         let server = &mut self.server;
@@ -276,6 +309,7 @@ impl<B: Book> Feed<B> {
             B.left
             self.old.server.config.clients self.old.server.config.plans
             self.old.server.book self.new.server.book key.now) }
+        ensures same_config { self.new.server.config ≡ self.old.server.config }
     {
         if self
             .server

@@ -381,9 +381,9 @@ fn failing(alloc: Global, rows: &[Row]) -> Option<&'static str> {
 }
 
 // Runs `feed` at the sample site.
-fn feed<R: Read + Drop, W: Write + Drop>(alloc: Global, reader: R, writer: W) -> Status {
+fn feed<R: Read + Drop, W: Write + Drop>(alloc: Global, reader: R, mut writer: W) -> Status {
     match sample_config(alloc) {
-        Ok(config) => run_feed(alloc, config, reader, writer),
+        Ok(config) => run_feed(alloc, config, reader, &mut writer),
         Err(_) => Status::Unavailable,
     }
 }

@@ -1,4 +1,4 @@
-use Rattle.std.proofs.Common.{arith, rules}
+use Rattle.std.proofs.Common.{arith}
 use Rattle.radacctd.proofs.Signing.{fits, front}
 use Rattle.radacctd.proofs.feed.signed_request.Goals as goal
 

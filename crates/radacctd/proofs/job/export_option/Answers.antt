@@ -1,4 +1,4 @@
-use Rattle.std.proofs.Common.{◌≡◌, ◌∙◌, ap, sym, Option, None, Some, IfSome, codes}
+use Rattle.std.proofs.Common.{◌∙◌, ap, sym, Option, None, Some, IfSome, codes}
 use Rattle.clap.specs.Words.{found_of}
 use Rattle.clap.proofs.WalkLemmas.{first_value-rows}
 use Rattle.radacctd.specs.declared.job.Export.{Export}

@@ -14,4 +14,5 @@ returns g c =
         step = rw c.in-Some-signed_request.ensures at c.answer-outcome.ensures.step;
         shown = search rules;
       }));
+      same_config = c.answer-outcome.ensures.same_config;
     }

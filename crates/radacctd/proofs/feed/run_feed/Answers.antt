@@ -1,0 +1,12 @@
+use Rattle.std.proofs.Common.{◌∙◌, sym}
+use Rattle.radacctd.proofs.Runs.{ran_afresh}
+use Rattle.radacctd.proofs.feed.run_feed.Goals as goal
+use Rattle.radacctd.proofs.feed.run_feed.Goals.{in-Ok, in-Err}
+
+pub returns-in-Ok-flush-clause-ran : goal.returns-in-Ok-flush-clause-ran
+returns-in-Ok-flush-clause-ran g c done = elim c.match-empty_book.branch [
+  | in-Ok w ↦ ran_afresh _ _ _ _ _ _ _ w.in-Ok.book _ _ _ _ w.in-Ok.ensures
+      (w.answer_reader-status.ensures.ran (sym w.status-is ∙ done))
+      (rw w.writer-is at c.flush.ensures.bytes)
+  | in-Err w ↦ absurd (w.end-status.ensures.done (sym w.status-is ∙ done))
+]
