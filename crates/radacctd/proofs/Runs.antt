@@ -1,6 +1,6 @@
 -- A run of lines, one line more.
-use Rattle.std.proofs.Common.{◌≡◌, ◌≢◌, ℕ, List, [], ◌∷◌, ◌++◌, Option, Some, None, Bool, true, false}
-use Rattle.std.proofs.Common.{refl, sym}
+use Rattle.std.proofs.Common.{◌≡◌, ◌≢◌, ℕ, List, [], ◌∷◌, ◌++◌, Option, Some, None, Bool, true}
+use Rattle.std.proofs.Common.{false, refl, sym}
 use Rattle.std.proofs.Common.{ap, subst, subst₂, ◌∙◌}
 use Rattle.std.specs.Prelude.{◌&&◌, flat_map, IfSome}
 use Rattle.std.specs.List.{list_all}
@@ -94,7 +94,8 @@ module _ {B : Type 0} (content : B → Content) (is_sound is_open is_steady : B 
             ∙ sym (good_more ran.answers one.answer);
       }
 
-  ran_kept : (old new : B) (input rest : List ℕ) (good : Bool) (before between after : Option (List ℕ))
+  ran_kept : (old new : B) (input rest : List ℕ) (good : Bool)
+      (before between after : Option (List ℕ))
       → Ran content is_sound is_open is_steady left clients plans old new input rest good before
       between → Keeps between after
       → Ran content is_sound is_open is_steady left clients plans old new input rest good before

@@ -2,8 +2,13 @@
 use Rattle.std.specs.Prelude.{ℕ, List, [], ◌∷◌, ◌++◌, ◌+◌, ◌==◌, if◌then◌else◌, codes}
 use Rattle.std.specs.Prelude.{Option, None}
 use Rattle.std.specs.Io.KnownBytes.{Appends}
+use Rattle.sqlite_wal.specs.Recovery.{Image}
+use Rattle.sqlite_trees.specs.Tree.{Trees}
+use Rattle.sqlite.specs.Files.{HoldsDatabase}
 use Rattle.acct_model.specs.declared.entry.Entry.{Entry}
 use Rattle.acct_book.specs.Content.{Content}
+use Rattle.acct_book.specs.Stands.{Stands}
+use Rattle.acct_sql.specs.Content.{content_of}
 use Rattle.acct_files.specs.declared.config.Config.{Config}
 use Rattle.acct_service.specs.Serving as machine
 use Rattle.acct_service.specs.declared.server.Served.{Served}
@@ -44,3 +49,13 @@ module _ {B : Type 0} (content : B → Content) (is_open : B → Type 0)
     pub served : Served
     pub run : machine.Serves content is_open left config history old new None None served
     pub printed : Appends before after (codes "serving" ++ 10 ∷ [] ++ served_text served)
+
+  -- A run over the book of a file, from each history that the tables in the file stood for.
+  pub record ServesFile (is_sound : B → Type 0) (image : Image) (before after : Option (List ℕ))
+      : Type 0 where
+    pub config : Config
+    pub first : B
+    pub last : B
+    pub serves : is_sound last → (db : Trees) (history : List Entry) → HoldsDatabase image db
+        → Stands config.plans (content_of db) history
+        → Serves config history first last before after

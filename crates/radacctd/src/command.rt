@@ -2,8 +2,10 @@
 //!
 //! A command takes its configuration, then its book, then its sockets, and then standard input. The
 //! first fault ends it. A command that kept a book closes it at its end.
-ghost use Rattle.std.specs.Prelude.{◌≢◌, ◌≡◌, ◌<◌, ◌^◌, IfOk};
+ghost use Rattle.std.specs.Prelude.{◌≢◌, ◌≡◌, ◌<◌, ◌^◌, IfOk, OnOk};
+ghost use Rattle.sqlite_wal.specs.Files.{image_at};
 ghost use Rattle.radacctd.specs.CommandLine.{HasTurns};
+ghost use Rattle.radacctd.specs.Serving.{ServesFile};
 
 use crate::check::run_check;
 use crate::clock::moment_of;
@@ -17,7 +19,10 @@ use crate::job::{Export, Job, Listening, Paths};
 use crate::sample_site::sample_config;
 use crate::serving::run_serve;
 use crate::status::Status;
+use acct_book::Book;
 use acct_model::Text;
+use acct_sql::SqlBook;
+use sqlite::{FileFrom, FileStore, Start, Wary};
 use std::io::{Read, Write};
 
 /// Does a job over these streams, and says how it ended. What ended it early is told to `faults`.
@@ -39,7 +44,7 @@ pub fn run<I: Read + Drop, W: Write + Drop, E: Write>(
             paths,
             listening,
             turns,
-        } => serve(runtime, paths, listening, *turns, &mut output),
+        } => serve(runtime, paths, listening, *turns, &mut output, Wary),
         Job::Import { paths } => import(runtime, paths, input, &mut output),
         Job::Export { paths, what } => export(runtime, paths, *what, output),
     };
@@ -75,27 +80,33 @@ fn init<W: Write>(runtime: &HostRuntime, paths: &Paths, output: &mut W) -> Resul
     ensures { IfOk result (λ status. status ≡ Status.Done) }
 {
     let config = read_config(runtime, runtime.alloc(), &paths.config)?;
-    let book = made(runtime, &paths.database, &config.plans)?;
+    let book = made(runtime, &paths.database, &config.plans, Wary)?;
     close(book)?;
     writeln!(output, "book made")?;
     output.flush()?;
     Ok(Status::Done)
 }
 
-// `serve` over the book of a file.
-fn serve<W: Write>(
+// `serve` over the book of a file that held what `S` says.
+fn serve<S: Start, W: Write>(
     runtime: &HostRuntime,
     paths: &Paths,
     listening: &Listening,
     turns: u64,
     output: &mut W,
+    start: S,
 ) -> Result<Status, Fault>
     requires { turns < 2 ^ 63 }
-    ensures { IfOk result (λ status. status ≡ Status.Done) }
+    ensures done { IfOk result (λ status. status ≡ Status.Done) }
+    ensures serves { OnOk result (ServesFile ⟦<SqlBook<FileStore<FileFrom<S>>> as Book>⟧.content
+        ⟦<SqlBook<FileStore<FileFrom<S>>> as Book>⟧.is_open
+        ⟦<SqlBook<FileStore<FileFrom<S>>> as Book>⟧.left
+        ⟦<SqlBook<FileStore<FileFrom<S>>> as Book>⟧.is_sound (image_at S.Start)
+        (W.contents output.old) (W.contents output.new)) }
 {
     let alloc = runtime.alloc();
     let config = read_config(runtime, alloc, &paths.config)?;
-    let mut book = adopted(runtime, &paths.database, &config.plans)?;
+    let mut book = adopted(runtime, &paths.database, &config.plans, start)?;
     let status = run_serve(runtime, alloc, &config, &mut book, listening, turns, output)?;
     close(book)?;
     Ok(status)
@@ -112,7 +123,7 @@ fn import<I: Read + Drop, W: Write>(
 {
     let alloc = runtime.alloc();
     let config = read_config(runtime, alloc, &paths.config)?;
-    let mut book = adopted(runtime, &paths.database, &config.plans)?;
+    let mut book = adopted(runtime, &paths.database, &config.plans, Wary)?;
     let moment = moment_of(runtime);
     let status = run_import(alloc, &config.plans, &mut book, moment, input, output)?;
     close(book)?;
@@ -130,7 +141,7 @@ fn export<W: Write + Drop>(
 {
     let alloc = runtime.alloc();
     let config = read_config(runtime, alloc, &paths.config)?;
-    let mut book = adopted(runtime, &paths.database, &config.plans)?;
+    let mut book = adopted(runtime, &paths.database, &config.plans, Wary)?;
     run_export(alloc, what, &config.plans, &mut book, output)?;
     close(book)?;
     Ok(Status::Done)

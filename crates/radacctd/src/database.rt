@@ -1,40 +1,68 @@
 //! The book in a file.
-ghost use Rattle.std.specs.Prelude.{IfOk};
+ghost use Rattle.std.specs.Prelude.{◌≡◌, IfOk};
+ghost use Rattle.sqlite_trees.specs.Tree.{Trees};
+ghost use Rattle.sqlite_wal.specs.Files.{image_at};
+ghost use Rattle.sqlite.specs.State.{HasCleanDisk};
 ghost use Rattle.sqlite.specs.Held.{IsNew};
+ghost use Rattle.sqlite.specs.Start.{FindsIn};
+ghost use Rattle.sqlite.specs.Files.{file_state, IsOpened, HoldsDatabase};
+ghost use Rattle.acct_book.specs.Content.{empty_content};
+ghost use Rattle.acct_sql.specs.Content.{content_of};
 
 use crate::fault::Fault;
+use acct_book::Book;
 use acct_model::{Plans, Text};
 use acct_sql::{SqlBook, SqlBookError};
-use sqlite::{Connection, FileFrom, FileStore, Wary};
+use sqlite::{Connection, FileFrom, FileStore, Start};
 use std::fs::File;
 
-/// A book in a file. It supposes nothing of what a write leaves that a crash tore.
-pub type FileBook = SqlBook<FileStore<FileFrom<Wary>>>;
+/// A book in a file that held what `S` says.
+pub type FileBook<S> = SqlBook<FileStore<FileFrom<S>>>;
 
-/// Makes a book in a file, and the file too where it isn't there.
+/// Makes an empty book in a file, and the file too where it isn't there.
 ///
 /// # Errors
 ///
 /// `CannotOpen` where the file cannot be opened, else that of `SqlBook::create`.
-pub fn made(runtime: &HostRuntime, file: &Text, plans: &Plans) -> Result<FileBook, Fault> {
-    let connection = opened(runtime, file)?;
+pub fn made<S: Start>(
+    runtime: &HostRuntime,
+    file: &Text,
+    plans: &Plans,
+    start: S,
+) -> Result<FileBook<S>, Fault>
+    ensures { IfOk result (λ book. ⟦<SqlBook<FileStore<FileFrom<S>>> as Book>⟧.is_sound book
+        → ⟦<SqlBook<FileStore<FileFrom<S>>> as Book>⟧.is_open book
+        × (⟦<SqlBook<FileStore<FileFrom<S>>> as Book>⟧.content book ≡ empty_content)) }
+{
+    let connection = opened(runtime, file, start)?;
     match SqlBook::create(runtime.alloc(), connection, plans) {
         Ok(book) => Ok(book),
         Err((error, _)) => Err(Fault::Store(error)),
     }
 }
 
-/// The book in a file that is there.
+/// The book in a file that is there: it tells what the tables in the file held.
 ///
 /// # Errors
 ///
 /// `CannotOpen` where the file isn't there or cannot be opened, else that of `SqlBook::adopt`.
-pub fn adopted(runtime: &HostRuntime, file: &Text, plans: &Plans) -> Result<FileBook, Fault> {
+pub fn adopted<S: Start>(
+    runtime: &HostRuntime,
+    file: &Text,
+    plans: &Plans,
+    start: S,
+) -> Result<FileBook<S>, Fault>
+    ensures open { IfOk result (λ book. ⟦<SqlBook<FileStore<FileFrom<S>>> as Book>⟧.is_sound book
+        → ⟦<SqlBook<FileStore<FileFrom<S>>> as Book>⟧.is_open book) }
+    ensures kept { IfOk result (λ book. ⟦<SqlBook<FileStore<FileFrom<S>>> as Book>⟧.is_sound book
+        → (db : Trees) → HoldsDatabase (image_at S.Start) db
+        → ⟦<SqlBook<FileStore<FileFrom<S>>> as Book>⟧.content book ≡ content_of db) }
+{
     // An open makes a file that isn't there, and a slip in a name is to make none.
     if File::open(runtime, file.as_str()).is_err() {
         return Err(Fault::CannotOpen);
     }
-    let connection = opened(runtime, file)?;
+    let connection = opened(runtime, file, start)?;
     match SqlBook::adopt(runtime.alloc(), connection, plans) {
         Ok(book) => Ok(book),
         Err((error, _)) => Err(Fault::Store(error)),
@@ -46,20 +74,24 @@ pub fn adopted(runtime: &HostRuntime, file: &Text, plans: &Plans) -> Result<File
 /// # Errors
 ///
 /// `Unavailable` where that fails. File and log together still hold all that was accepted.
-pub fn close(book: FileBook) -> Result<(), Fault> {
+pub fn close<S: Start>(book: FileBook<S>) -> Result<(), Fault> {
     match book.into_connection().close() {
         Ok(()) => Ok(()),
         Err(_) => Err(Fault::Store(SqlBookError::Unavailable)),
     }
 }
 
-fn opened(
+fn opened<S: Start>(
     runtime: &HostRuntime,
     file: &Text,
-) -> Result<Connection<FileStore<FileFrom<Wary>>>, Fault>
-    ensures { IfOk result IsNew }
+    start: S,
+) -> Result<Connection<FileStore<FileFrom<S>>>, Fault>
+    ensures opened { IfOk result (λ c. HasCleanDisk (file_state c) → IsOpened c) }
+    ensures found { IfOk result (λ c. HasCleanDisk (file_state c)
+        → FindsIn (image_at S.Start) (file_state c)) }
+    ensures fresh { IfOk result IsNew }
 {
-    match Connection::open_from(runtime, file.as_str(), false, Wary) {
+    match Connection::open_from(runtime, file.as_str(), false, start) {
         Ok(connection) => Ok(connection),
         Err(_) => Err(Fault::CannotOpen),
     }

@@ -5,11 +5,12 @@
 //! 3. A line that isn't UTF-8 or that no line spells is a bad line. It is answered so, and the run
 //!    goes on.
 //! 4. A run ends early where memory is refused or a writer fails.
-ghost use Rattle.std.specs.Prelude.{◌≡◌, ◌≢◌, ◌^◌, ◌<◌, [], true, IfOk, IfSome, MatchOption, length};
+ghost use Rattle.std.specs.Prelude.{◌≡◌, ◌≢◌, ◌^◌, ◌<◌, [], true, IfOk, IfSome, MatchOption};
+ghost use Rattle.std.specs.Prelude.{length};
 ghost use Rattle.radius_codec.specs.Packet.{request_octets};
 ghost use Rattle.acct_book.specs.Content.{empty_content};
-ghost use Rattle.radacctd.specs.Feed.{Prints, Ran, RanAfresh, Answers, AnswersLine, AnswersDatagram};
-ghost use Rattle.radacctd.specs.Feed.{AnswersSigned};
+ghost use Rattle.radacctd.specs.Feed.{Prints, Ran, RanAfresh, Answers, AnswersLine};
+ghost use Rattle.radacctd.specs.Feed.{AnswersDatagram, AnswersSigned};
 ghost use Rattle.radacctd.specs.Feed.{AnswersBalance, AnswersTopUp, AnswersSession};
 ghost use Rattle.radacctd.specs.Answers.{packet_answer};
 ghost use Rattle.radacctd.specs.Line.{HasMoment};
