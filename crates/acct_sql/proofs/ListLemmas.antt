@@ -248,8 +248,8 @@ module _ {K : Type 0} (cmp : K → K → Ordering) (total : IsTotalOrder cmp) wh
   below_more x [] last next h less = (h.0, (total.trans x last next h.0 less, tt))
   below_more x (y ∷ xs) last next h less = (h.0, below_more x xs last next h.1 less)
 
-  pub ascends : (xs : List K) (last next : K) → IsStrictlySortedBy cmp (xs ++ last ∷ []) → cmp last next
-      ≡ Less → IsStrictlySortedBy cmp ((xs ++ last ∷ []) ++ next ∷ [])
+  pub ascends : (xs : List K) (last next : K) → IsStrictlySortedBy cmp (xs ++ last ∷ [])
+      → cmp last next ≡ Less → IsStrictlySortedBy cmp ((xs ++ last ∷ []) ++ next ∷ [])
   unfolding IsStrictlySortedBy
   ascends [] last next h less = ((less, tt), (tt, tt))
   ascends (x ∷ xs) last next h less = (

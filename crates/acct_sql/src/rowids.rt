@@ -103,6 +103,7 @@ fn check_ids<S: Alter>(conn: &mut Connection<S>, sql: &str) -> Result<(), Refuse
 {
     let mut rows = conn.query(sql, &[])?;
     let mut last: Option<i64> = None;
+    // A loop over rows has a bound, and no table has so many.
     'rows: for _ in 0..u64::MAX {
         let Some(row) = rows.next()? else {
             return Ok(());
