@@ -8,6 +8,7 @@ pub mod Numbers
 pub mod Signing
 -- how the words of a text are cut
 pub mod WordLemmas
+-- a run of lines, one line more
 mod Runs
 -- the words of a packet's line
 pub mod PacketWords

@@ -1,8 +1,8 @@
 -- A run of lines, one line more.
-use Rattle.std.proofs.Common.{◌≡◌, ◌≢◌, ℕ, List, [], ◌∷◌, ◌++◌, Option, Some, None, Bool, true}
+use Rattle.std.proofs.Common.{◌≡◌, ◌≢◌, ℕ, List, [], ◌∷◌, ◌++◌, Option, Bool, true}
 use Rattle.std.proofs.Common.{false, refl, sym}
 use Rattle.std.proofs.Common.{ap, subst, subst₂, ◌∙◌}
-use Rattle.std.specs.Prelude.{◌&&◌, flat_map, IfSome}
+use Rattle.std.specs.Prelude.{◌&&◌, flat_map}
 use Rattle.std.specs.List.{list_all}
 use Rattle.std.specs.Io.KnownBytes.{Appends, Keeps}
 use Rattle.std.proofs.lemmas.List.Folds.{list_all-append}
@@ -109,17 +109,15 @@ module _ {B : Type 0} (content : B → Content) (is_sound is_open is_steady : B 
     good_is = ran.good_is;
   }
 
-  -- What a reader had left was answered over a new book, and the writer was flushed.
-  pub ran_afresh : (first : B) (left_over before between after : Option (List ℕ))
+  -- What was answered over a new book is so after the writer was flushed.
+  pub ran_afresh : (first last : B) (input : List ℕ) (before between after : Option (List ℕ))
       → is_open first × (content first ≡ empty_content)
-      → IfSome left_over (λ input. (last : B) × Ran content is_sound is_open is_steady left clients
-      plans first last input [] true before between) → Keeps between after
-      → IfSome left_over (λ input. RanAfresh content is_sound is_open is_steady left clients plans
-      input before after)
-  ran_afresh first None before between after is_new ran keeps = tt
-  ran_afresh first (Some input) before between after is_new ran keeps = record {
+      → Ran content is_sound is_open is_steady left clients plans first last input [] true before
+      between → Keeps between after
+      → RanAfresh content is_sound is_open is_steady left clients plans input before after
+  ran_afresh first last input before between after is_new ran keeps = record {
     first = first;
     is_new = is_new;
-    last = ran.0;
-    ran = ran_kept first ran.0 input [] true before between after ran.1 keeps;
+    last = last;
+    ran = ran_kept first last input [] true before between after ran keeps;
   }

@@ -1,8 +1,8 @@
--- What a line is answered by, over a book.
+-- What a line is answered by over a book, and what a run over lines prints.
 use Rattle.std.specs.Str.{IsUtf8}
 use Rattle.std.specs.Io.KnownBytes.{Appends}
 use Rattle.std.specs.List.{list_all}
-use Rattle.std.specs.Prelude.{◌≡◌, ◌<◌, ℕ, ℤ, ◌⊎◌, List, Option, None, Some, Result, IfOk}
+use Rattle.std.specs.Prelude.{◌≡◌, ◌<◌, ◌≤◌, ℕ, ℤ, ◌⊎◌, List, Option, None, Some, Result, IfOk}
 use Rattle.std.specs.Prelude.{MatchOption, length, [], ◌∷◌, ◌++◌, Bool, true, false, flat_map}
 use Rattle.radius_codec.specs.Packet.{request_octets}
 use Rattle.acct_model.specs.declared.plan.Plan.{Plan}
@@ -69,7 +69,7 @@ module _ {B : Type 0} (content : B → Content) (is_sound is_open is_steady : B 
     pub reads : Reads content is_sound is_open is_steady left old new told
     pub shown : answer ≡ session_answer plans told
 
-  -- the line is bad, and nothing is asked of the book
+  -- the answer is a bad line, and the book is as it was
   abbrev pub IsBadLine : Answer → Type 0
   IsBadLine answer = (answer ≡ form.BadLine) × (new ≡ old)
 
@@ -84,8 +84,8 @@ module _ {B : Type 0} (content : B → Content) (is_sound is_open is_steady : B 
   abbrev pub AnswersRequest : ℕ → Client → ℕ → List ℕ → Answer → Type 0
   AnswersRequest moment client identifier octets answer =
       ((4076 < length octets) × IsBadLine answer)
-      ⊎ AnswersDatagram client.address (request_octets identifier octets client.secret) moment
-      signed_answer answer
+      ⊎ ((length octets ≤ 4076) × AnswersDatagram client.address
+      (request_octets identifier octets client.secret) moment signed_answer answer)
 
   -- the same, a bad line where no client has the name
   abbrev pub AnswersSigned : ℕ → List ℕ → ℕ → List ℕ → Answer → Type 0
@@ -108,7 +108,7 @@ module _ {B : Type 0} (content : B → Content) (is_sound is_open is_steady : B 
   abbrev pub AnswersOctets : List ℕ → Answer → Type 0
   AnswersOctets octets answer =
       (IsBadLine answer × (IsUtf8 octets → IsBad octets))
-      ⊎ ((line : Line) × Spells octets line × Answers line answer)
+      ⊎ (IsUtf8 octets × (line : Line) × Spells octets line × Answers line answer)
 
   -- What a line is answered by: nothing where it is empty.
   abbrev pub AnswersLine : List ℕ → Option Answer → Type 0
@@ -145,8 +145,8 @@ module _ {B : Type 0} (content : B → Content) (is_sound is_open is_steady : B 
       × AnswersLine content is_sound is_open is_steady left clients plans old next line answer
       × AnswersAll lines answers next new
 
-  -- The first lines of an input were answered in their order and their answers were printed, and
-  -- it is told whether all were good.
+  -- The first lines of an input, up to the rest, were answered in their order, their answers were
+  -- printed, and it is told whether all were good.
   pub record Ran (old new : B) (input rest : List ℕ) (good : Bool)
       (before after : Option (List ℕ)) : Type 0 where
     pub lines : List (List ℕ)
@@ -156,7 +156,8 @@ module _ {B : Type 0} (content : B → Content) (is_sound is_open is_steady : B 
     pub printed : Appends before after (flat_map printed_text answers)
     pub good_is : good ≡ list_all is_good answers
 
-  -- All lines of an input were good, and were answered over a book that was empty before.
+  -- All lines of an input were good and were answered over a book that was empty before, and their
+  -- answers were printed.
   pub record RanAfresh (input : List ℕ) (before after : Option (List ℕ)) : Type 0 where
     pub first : B
     pub is_new : is_open first × (content first ≡ empty_content)

@@ -1,6 +1,6 @@
--- What `serve` prints.
-use Rattle.std.specs.Prelude.{ℕ, List, [], ◌∷◌, ◌++◌, ◌+◌, ◌==◌, if◌then◌else◌, codes}
-use Rattle.std.specs.Prelude.{Option, None}
+-- What `serve` prints, and over which book it runs.
+use Rattle.std.specs.Prelude.{◌≡◌, ℕ, List, [], ◌∷◌, ◌++◌, ◌+◌, ◌==◌, if◌then◌else◌}
+use Rattle.std.specs.Prelude.{Option, None, codes}
 use Rattle.std.specs.Io.KnownBytes.{Appends}
 use Rattle.sqlite_wal.specs.Recovery.{Image}
 use Rattle.sqlite_trees.specs.Tree.{Trees}
@@ -50,12 +50,13 @@ module _ {B : Type 0} (content : B → Content) (is_open : B → Type 0)
     pub run : machine.Serves content is_open left config history old new None None served
     pub printed : Appends before after (codes "serving" ++ 10 ∷ [] ++ served_text served)
 
-  -- A run over the book of a file, from each history that the tables in the file stood for.
-  pub record ServesFile (is_sound : B → Type 0) (image : Image) (before after : Option (List ℕ))
-      : Type 0 where
+  -- A run over the book of a file, whose content the tables in the file held, up to this book.
+  pub record ServesFile (is_sound : B → Type 0) (image : Image) (last : B)
+      (before after : Option (List ℕ)) : Type 0 where
     pub config : Config
     pub first : B
-    pub last : B
+    pub opened : is_sound first → is_open first
+        × ((db : Trees) → HoldsDatabase image db → content first ≡ content_of db)
     pub serves : is_sound last → (db : Trees) (history : List Entry) → HoldsDatabase image db
         → Stands config.plans (content_of db) history
         → Serves config history first last before after

@@ -2,7 +2,7 @@
 //!
 //! A command takes its configuration, then its book, then its sockets, and then standard input. The
 //! first fault ends it. A command that kept a book closes it at its end.
-ghost use Rattle.std.specs.Prelude.{◌≢◌, ◌≡◌, ◌<◌, ◌^◌, IfOk, OnOk};
+ghost use Rattle.std.specs.Prelude.{◌≢◌, ◌≡◌, ◌<◌, ◌^◌, IfOk};
 ghost use Rattle.sqlite_wal.specs.Files.{image_at};
 ghost use Rattle.radacctd.specs.CommandLine.{HasTurns};
 ghost use Rattle.radacctd.specs.Serving.{ServesFile};
@@ -10,7 +10,7 @@ ghost use Rattle.radacctd.specs.Serving.{ServesFile};
 use crate::check::run_check;
 use crate::clock::moment_of;
 use crate::config_file::read_config;
-use crate::database::{adopted, close, made};
+use crate::database::{FileBook, adopted, close, made};
 use crate::exporting::run_export;
 use crate::fault::{Fault, end};
 use crate::feed::run_feed;
@@ -44,7 +44,7 @@ pub fn run<I: Read + Drop, W: Write + Drop, E: Write>(
             paths,
             listening,
             turns,
-        } => serve(runtime, paths, listening, *turns, &mut output, Wary),
+        } => serve(runtime, paths, listening, *turns, &mut output),
         Job::Import { paths } => import(runtime, paths, input, &mut output),
         Job::Export { paths, what } => export(runtime, paths, *what, output),
     };
@@ -87,29 +87,43 @@ fn init<W: Write>(runtime: &HostRuntime, paths: &Paths, output: &mut W) -> Resul
     Ok(Status::Done)
 }
 
-// `serve` over the book of a file that held what `S` says.
-fn serve<S: Start, W: Write>(
+// `serve` over the book of a file.
+fn serve<W: Write>(
+    runtime: &HostRuntime,
+    paths: &Paths,
+    listening: &Listening,
+    turns: u64,
+    output: &mut W,
+) -> Result<Status, Fault>
+    requires { turns < 2 ^ 63 }
+    ensures { IfOk result (λ status. status ≡ Status.Done) }
+{
+    let book = served(runtime, paths, listening, turns, output, Wary)?;
+    close(book)?;
+    Ok(Status::Done)
+}
+
+// The book of a file that held what `S` says, after a run of `serve` over it.
+fn served<S: Start, W: Write>(
     runtime: &HostRuntime,
     paths: &Paths,
     listening: &Listening,
     turns: u64,
     output: &mut W,
     start: S,
-) -> Result<Status, Fault>
+) -> Result<FileBook<S>, Fault>
     requires { turns < 2 ^ 63 }
-    ensures done { IfOk result (λ status. status ≡ Status.Done) }
-    ensures serves { OnOk result (ServesFile ⟦<SqlBook<FileStore<FileFrom<S>>> as Book>⟧.content
+    ensures { IfOk result (λ book. ServesFile ⟦<SqlBook<FileStore<FileFrom<S>>> as Book>⟧.content
         ⟦<SqlBook<FileStore<FileFrom<S>>> as Book>⟧.is_open
         ⟦<SqlBook<FileStore<FileFrom<S>>> as Book>⟧.left
-        ⟦<SqlBook<FileStore<FileFrom<S>>> as Book>⟧.is_sound (image_at S.Start)
+        ⟦<SqlBook<FileStore<FileFrom<S>>> as Book>⟧.is_sound (image_at S.Start) book
         (W.contents output.old) (W.contents output.new)) }
 {
     let alloc = runtime.alloc();
     let config = read_config(runtime, alloc, &paths.config)?;
     let mut book = adopted(runtime, &paths.database, &config.plans, start)?;
-    let status = run_serve(runtime, alloc, &config, &mut book, listening, turns, output)?;
-    close(book)?;
-    Ok(status)
+    run_serve(runtime, alloc, &config, &mut book, listening, turns, output)?;
+    Ok(book)
 }
 
 // `import` into the book of a file.

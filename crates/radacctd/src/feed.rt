@@ -5,8 +5,8 @@
 //! 3. A line that isn't UTF-8 or that no line spells is a bad line. It is answered so, and the run
 //!    goes on.
 //! 4. A run ends early where memory is refused or a writer fails.
-ghost use Rattle.std.specs.Prelude.{◌≡◌, ◌≢◌, ◌^◌, ◌<◌, [], true, IfOk, IfSome, MatchOption};
-ghost use Rattle.std.specs.Prelude.{length};
+ghost use Rattle.std.specs.Prelude.{◌≡◌, ◌≢◌, ◌^◌, ◌<◌, ◌≤◌, [], true, IfOk, IfSome};
+ghost use Rattle.std.specs.Prelude.{List, ℕ, MatchOption, length};
 ghost use Rattle.radius_codec.specs.Packet.{request_octets};
 ghost use Rattle.acct_book.specs.Content.{empty_content};
 ghost use Rattle.radacctd.specs.Feed.{Prints, Ran, RanAfresh, Answers, AnswersLine};
@@ -44,11 +44,12 @@ pub fn run_feed<R: Read + Drop, W: Write>(
     writer: &mut W,
 ) -> Status
     ensures words { result ≢ Status.WrongWords }
-    ensures ran { result ≡ Status.Done → IfSome (R.remaining reader) (λ input.
-        RanAfresh ⟦<SqlBook<MemStore> as Book>⟧.content ⟦<SqlBook<MemStore> as Book>⟧.is_sound
+    ensures ran { result ≡ Status.Done → (input : List ℕ)
+        × IfSome (R.remaining reader) (λ all. input ≡ all)
+        × RanAfresh ⟦<SqlBook<MemStore> as Book>⟧.content ⟦<SqlBook<MemStore> as Book>⟧.is_sound
         ⟦<SqlBook<MemStore> as Book>⟧.is_open ⟦<SqlBook<MemStore> as Book>⟧.is_steady
         ⟦<SqlBook<MemStore> as Book>⟧.left config.clients config.plans input
-        (W.contents writer.old) (W.contents writer.new)) }
+        (W.contents writer.old) (W.contents writer.new) }
 {
     let status = match empty_book(alloc, &config.plans) {
         Ok(book) => answer_reader(alloc, config, book, &mut reader, writer),
@@ -81,9 +82,10 @@ fn answer_reader<B: Book + Drop, R: Read, W: Write>(
     writer: &mut W,
 ) -> Status
     ensures words { result ≢ Status.WrongWords }
-    ensures ran { result ≡ Status.Done → IfSome (R.remaining reader.old) (λ input. (new : B)
+    ensures ran { result ≡ Status.Done → (input : List ℕ)
+        × IfSome (R.remaining reader.old) (λ all. input ≡ all) × (new : B)
         × Ran B.content B.is_sound B.is_open B.is_steady B.left config.clients config.plans
-        book new input [] true (W.contents writer.old) (W.contents writer.new)) }
+        book new input [] true (W.contents writer.old) (W.contents writer.new) }
 {
     match read_input(alloc, reader) {
         Ok(input) => answer_input(alloc, config, book, &input, writer),
@@ -93,7 +95,9 @@ fn answer_reader<B: Book + Drop, R: Read, W: Write>(
     }
 }
 
-/// Answers the lines of an input over a book, and says how it ended.
+/// Answers the lines of an input over a book, and says how it ended. The book is dropped at the
+/// end, and the clause names any that it may have been: it says what it should of a store that is
+/// always sound, as one in memory is.
 pub fn answer_input<B: Book + Drop, W: Write>(
     alloc: Global,
     config: Config,
@@ -150,7 +154,8 @@ impl<B: Book> Feed<B> {
     ///
     /// # Errors
     ///
-    /// `CannotWrite`, and `NoMemory`. The lines before are answered then, and perhaps this one.
+    /// `CannotWrite`, and `NoMemory`: the line at which it ended may have changed the book. No
+    /// clause says what was answered then.
     pub fn answer_lines<W: Write>(&mut self, input: &[u8], writer: &mut W) -> Result<bool, Stop>
         ensures ran { IfOk result (λ good. Ran B.content B.is_sound B.is_open B.is_steady B.left
             self.old.server.config.clients self.old.server.config.plans
@@ -334,8 +339,8 @@ fn signed_request<'a>(
     octets: &[u8],
     room: &'a mut [u8; LONGEST_PACKET],
 ) -> Option<&'a [u8]>
-    ensures { MatchOption result (4076 < length octets.now)
-        (λ request. request.now ≡ request_octets identifier octets.now client.now.secret) }
+    ensures { MatchOption result (4076 < length octets.now) (λ request. (length octets.now ≤ 4076)
+        × (request.now ≡ request_octets identifier octets.now client.now.secret)) }
 {
     match sign_request(identifier, octets, client.secret.as_slice(), room) {
         Ok(size) => Some(&room[..size]),
