@@ -1,7 +1,8 @@
 //! The commands of the program.
 //!
 //! A command takes its configuration, then its book, then its sockets, and then standard input. The
-//! first fault ends it. A command that kept a book closes it at its end.
+//! first fault ends it. A command that kept a book closes it at its end. Each opens its file as
+//! `Wary`, which supposes nothing of what a write leaves that a crash tore: a commit syncs twice.
 ghost use Rattle.std.specs.Prelude.{◌≢◌, ◌≡◌, ◌<◌, ◌^◌, IfOk};
 ghost use Rattle.sqlite_wal.specs.Files.{image_at};
 ghost use Rattle.radacctd.specs.CommandLine.{HasTurns};
