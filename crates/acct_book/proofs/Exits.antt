@@ -1,8 +1,11 @@
 -- What `record` says at its exits, put together from what the calls of the book say.
 use Rattle.std.proofs.Common.{◌≡◌, ◌≢◌, ◌⊎◌, List, ◌∷◌, refl, sym, ap, ◌∙◌, subst, inl, inr, ⊎_elim}
-use Rattle.std.specs.Prelude.{Result, Ok, Err, OnOk, IsErrAnd}
+use Rattle.std.specs.Prelude.{Result, Ok, Err, IsErrAnd}
 use Rattle.acct_model.specs.declared.plan.Plan.{Plan}
 use Rattle.acct_model.specs.declared.entry.Entry.{Entry}
+use Rattle.acct_model.specs.declared.entry.Entry.TheVariants as entry
+use Rattle.acct_model.specs.Vouchers.{TopUpFacts}
+use Rattle.acct_book.specs.declared.book.Book.{Ghosts}
 use Rattle.acct_book.specs.declared.recording.Recorded.{Recorded}
 use Rattle.acct_book.specs.declared.recording.Recorded.TheVariants.{New, Repeat}
 use Rattle.acct_book.specs.declared.recording.RecordError.{RecordError}
@@ -10,10 +13,11 @@ use Rattle.acct_book.specs.declared.recording.RecordError.TheVariants.{VoucherDi
 use Rattle.acct_book.specs.declared.recording.RecordError.TheVariants.{Unavailable}
 use Rattle.acct_book.specs.Content.{Content}
 use Rattle.acct_book.specs.Stands.{Stands}
-use Rattle.acct_book.specs.Book.{Only, Reads, Writes}
-use Rattle.acct_book.specs.Step.{StoodFor}
-use Rattle.acct_book.specs.Outcome.{Adds, Refuses, Tells, Records}
-use Rattle.acct_book.proofs.StepLemmas.{step_reads}
+use Rattle.acct_book.specs.Calls.{Adds, Refuses}
+use Rattle.acct_book.specs.Effect.{after_effect, Holds, IsTold, IsOwn, IsUnasked, effect_of, added}
+use Rattle.acct_book.specs.Effect.{failed}
+use Rattle.acct_book.specs.Step.{Looks, Puts, MayAdd, StoodFor, Does}
+use Rattle.acct_book.proofs.StepLemmas.{Settles, looked_by}
 
 -- an error that can be this one alone
 pub same_error : {T : Type 0} (r : Result T RecordError) (error : RecordError)
@@ -22,11 +26,9 @@ same_error (Ok x) error and = absurd and
 same_error (Err e) error and = ap Err and
 
 -- nothing was asked of the book yet
-pub reads_none : {B T E : Type 0} (content : B → Content) (is_sound is_open is_steady : B → Type 0)
-    (left : B → Content → Type 0)
-    (book : B) (error : E) → Reads {B = B} {T = T} {E = E} content is_sound is_open is_steady left
-    book book (Err error)
-reads_none content is_sound is_open is_steady left book error = record {
+pub reads_none : {B T E : Type 0} (b : Ghosts B) (book : B) (error : E)
+    → Looks {B = B} {T = T} {E = E} b book book (Err error)
+reads_none b book error = record {
   was_sound = λ sound. sound;
   was_open = λ still. still;
   keeps_steady = λ steady. steady;
@@ -35,146 +37,128 @@ reads_none content is_sound is_open is_steady left book error = record {
   adds_none = λ sound c may. may;
 }
 
--- nothing was written
-pub refused : {B T E : Type 0} (plans : List Plan) (next : Entry) (content : B → Content)
-    (is_sound is_open is_steady : B → Type 0) (left : B → Content → Type 0) (old new : B)
-    (r : Result T E) (result : Result Recorded RecordError)
-    → Reads content is_sound is_open is_steady left old new r
-    → (is_sound new → result ≢ Err Unavailable → is_open new)
-    → (is_sound new → (history : List Entry) → StoodFor plans content is_open old history
-    → Tells plans history next result history)
-    → ((book : B) → is_open book → Only (content book) (left book))
-    → Records plans next content is_sound is_open is_steady left old new result
-refused plans next content is_sound is_open is_steady left old new r result reads answers tells
-    settled =
-    step_reads plans content is_sound is_open is_steady left old new (result ≢ Err Unavailable)
-    (result ≢ Ok New)
-    (λ history after. Tells plans history next result after)
-    (λ asked. asked ≡ next) r reads answers tells settled
+-- a refusal adds nothing
+stays : (history : List Entry) (next : Entry) (e : RecordError)
+    → after_effect history (effect_of next (Err e)) ≡ history
+stays history next (VoucherDiffers kept) = refl
+stays history next (BalanceLimit balance) = refl
+stays history next Unavailable = refl
 
 told_refusal : (plans : List Plan) (next : Entry) (c : Content) (e : RecordError) (now : Type 0)
     → (e ≢ Unavailable → now) → (now → Refuses plans next c e) → (history : List Entry)
-    → (now → Stands plans c history) → Tells plans history next (Err e) history
-told_refusal plans next c Unavailable now answers refuses history stood = refl
+    → (now → Stands plans c history) → Holds plans history (effect_of next (Err e))
+told_refusal plans next c Unavailable now answers refuses history stood = tt
 told_refusal plans next c (VoucherDiffers kept) now answers refuses history stood = let still
     = answers (λ is. cc) in refuses still history (stood still)
 told_refusal plans next c (BalanceLimit balance) now answers refuses history stood = let still
     = answers (λ is. cc) in refuses still history (stood still)
+
+told_open : (next : Entry) (e : RecordError) (now : Type 0) → (e ≢ Unavailable → now)
+    → IsTold (effect_of next (Err e)) → now
+told_open next (VoucherDiffers kept) now answers told = answers (λ is. cc)
+told_open next (BalanceLimit balance) now answers told = answers (λ is. cc)
+told_open next Unavailable now answers told = absurd told
+
+-- whatever recording a top-up told
+pub topup_own : (topup : TopUpFacts) (result : Result Recorded RecordError)
+    → IsOwn (effect_of (entry.TopUp topup) result)
+topup_own topup (Ok New) = tt
+topup_own topup (Ok Repeat) = tt
+topup_own topup (Err (VoucherDiffers kept)) = tt
+topup_own topup (Err (BalanceLimit balance)) = tt
+topup_own topup (Err Unavailable) = tt
+
+-- recording asks the book
+pub asked : (next : Entry) (result : Result Recorded RecordError)
+    → IsUnasked (effect_of next result) → ⊥
+asked next (Ok New) none = none
+asked next (Ok Repeat) none = none
+asked next (Err (VoucherDiffers kept)) none = none
+asked next (Err (BalanceLimit balance)) none = none
+asked next (Err Unavailable) none = none
 
 one_error : {T : Type 0} (r : Result T RecordError) (e f : RecordError) → r ≡ Err e → r ≡ Err f
     → e ≡ f
 one_error r e f is also = cc
 
 -- a refusal of the calls that looked is passed on
-pub passed_on : {B T : Type 0} (plans : List Plan) (next : Entry) (content : B → Content)
-    (is_sound is_open is_steady : B → Type 0) (left : B → Content → Type 0) (old new : B)
+pub passed_on : {B T : Type 0} (b : Ghosts B) (plans : List Plan) (next : Entry) (old new : B)
     (r : Result T RecordError) (e : RecordError) (result : Result Recorded RecordError)
-    → r ≡ Err e → IsErrAnd result (λ x. x ≡ e)
-    → Reads content is_sound is_open is_steady left old new r
-    → (is_sound new → r ≢ Err Unavailable → is_open new)
-    → (is_open new → Refuses plans next (content old) e)
-    → ((book : B) → is_open book → Only (content book) (left book))
-    → Records plans next content is_sound is_open is_steady left old new result
-passed_on plans next content is_sound is_open is_steady left old new r e result is passes reads
-    answers refuses settled =
+    → r ≡ Err e → IsErrAnd result (λ x. x ≡ e) → IsOwn (effect_of next (Err e))
+    → Looks b old new r
+    → (b.is_sound new → r ≢ Err Unavailable → b.is_open new)
+    → (b.is_open new → Refuses plans next (b.content old) e)
+    → Settles b
+    → Does b plans old new (effect_of next result)
+passed_on b plans next old new r e result is passes own reads answers refuses settled =
     let other : e ≢ Unavailable → r ≢ Err Unavailable = λ told clash. told
     (one_error r e Unavailable is clash) in
-    let now : is_sound new → e ≢ Unavailable → is_open new = λ sound told. answers sound
+    let now : b.is_sound new → e ≢ Unavailable → b.is_open new = λ sound told. answers sound
     (other told) in
-    subst (Records plans next content is_sound is_open is_steady left old new)
-    (sym (same_error result e passes))
-    (refused plans next content is_sound is_open is_steady left old new r (Err e) reads
-    (λ sound told. now sound (λ is_it. told (ap Err is_it)))
-    (λ sound history stood. told_refusal plans next (content old) e (is_open new)
+    subst (λ x. Does b plans old new (effect_of next x)) (sym (same_error result e passes))
+    (looked_by b plans old new (effect_of next (Err e)) r reads own (asked next (Err e))
+    (λ history. stays history next e)
+    (λ sound. told_open next e (b.is_open new) (now sound))
+    (λ sound history stood. told_refusal plans next (b.content old) e (b.is_open new)
     (now sound) refuses history (λ still. stood (reads.was_open still)))
     settled)
 
--- the whole effect was written, or nothing where the write failed, and then a crash may leave
--- either
-pub written : {B T E F G : Type 0} (plans : List Plan) (next : Entry) (content : B → Content)
-    (is_sound is_open is_steady : B → Type 0) (left : B → Content → Type 0) (old mid new : B)
-    (r : Result T E) (w : Result F G) (done : Content) (result : Result Recorded RecordError)
-    → Reads content is_sound is_open is_steady left old mid r
-    → Writes content is_sound is_open is_steady left mid new done w
-    → (is_open mid → Adds plans next (content old) done)
-    → (is_sound new → result ≢ Err Unavailable → is_open new)
-    → (is_open new → (result ≢ Ok New → content new ≡ content mid))
-    → (is_sound new → (history : List Entry) → StoodFor plans content is_open old history
-    → (after : List Entry) × Tells plans history next result after
-    × StoodFor plans content is_open new after)
-    → ((book : B) → is_open book → Only (content book) (left book))
-    → Records plans next content is_sound is_open is_steady left old new result
-written plans next content is_sound is_open is_steady left old mid new r w done result reads writes
-    adds answers unchanged step settled = record {
-      was_sound = λ sound. reads.was_sound (writes.was_sound sound);
-      was_open = λ still. reads.was_open (writes.was_open still);
-      keeps_steady = λ steady. writes.keeps_steady (reads.keeps_steady steady);
-      answers = answers;
-      unchanged = λ still other. unchanged still other ∙ reads.same (writes.was_open still);
-      step = step;
-      leaves = λ sound history stood c may.
-          ⊎_elim (λ before. inl (reads.adds_none (writes.was_sound sound) c before))
-          (λ (still, is). inr (
-            reads.was_open still,
-            let added = adds still history (stood (reads.was_open still)) in (
-              next,
-              refl,
-              (
-                added.0,
-                subst (λ x. Stands plans x (next ∷ history)) (sym is) added.2,
-              ),
-            ),
-          ))
-          (writes.adds_written sound c may);
-      settled = λ sound told. settled new (answers sound told);
-    }
+-- The whole effect was written, or nothing where the write failed: a crash may leave either.
+module _ {B T E F G : Type 0} (b : Ghosts B) (plans : List Plan) (next : Entry) (old mid new : B)
+    (r : Result T E) (w : Result F G) (done : Content) (reads : Looks b old mid r)
+    (writes : Puts b mid new done w) (adds : b.is_open mid → Adds plans next (b.content old) done)
+    (settled : Settles b) where
+  leaves : b.is_sound new → (history : List Entry) → StoodFor b plans old history
+      → (c : Content) → b.left new c
+      → b.left old c ⊎ (b.is_open old × MayAdd plans history next c)
+  leaves sound history stood c may =
+      ⊎_elim (λ before. inl (reads.adds_none (writes.was_sound sound) c before))
+      (λ (still, is).
+      let was = reads.was_open still in
+      let told = adds still history (stood was) in
+      inr (was, (told.0, subst (λ x. Stands plans x (next ∷ history)) (sym is) told.2)))
+      (writes.adds_written sound c may)
 
--- the entry was accepted
-pub added : {B T E F G : Type 0} (plans : List Plan) (next : Entry) (content : B → Content)
-    (is_sound is_open is_steady : B → Type 0) (left : B → Content → Type 0) (old mid new : B)
-    (r : Result T E) (w : Result F G) (done : Content)
-    → Reads content is_sound is_open is_steady left old mid r
-    → Writes content is_sound is_open is_steady left mid new done w
-    → (is_sound new → is_open new) → (is_open new → content new ≡ done)
-    → (is_open mid → Adds plans next (content old) done)
-    → ((book : B) → is_open book → Only (content book) (left book))
-    → Records plans next content is_sound is_open is_steady left old new (Ok New)
-added plans next content is_sound is_open is_steady left old mid new r w done reads writes now_open
-    put adds settled =
-    written plans next content is_sound is_open is_steady left old mid new r w done
-    (Ok New) reads writes adds
-    (λ sound _. now_open sound)
-    (λ still other. absurd (other refl))
-    (λ sound history stood.
-    let still = now_open sound in
-    let was = writes.was_open still in
-    let told = adds was history (stood (reads.was_open was)) in (
-      next ∷ history,
-      (told.0, told.1, refl),
-      λ open_now. subst (λ c. Stands plans c (next ∷ history)) (sym (put open_now)) told.2,
-    ))
-    settled
+  pub now_added : (b.is_sound new → b.is_open new) → (b.is_open new → b.content new ≡ done)
+      → Does b plans old new (added next)
+  now_added now_open put = record {
+    own = tt;
+    alone = λ none. absurd none;
+    was_sound = λ sound. reads.was_sound (writes.was_sound sound);
+    was_open = λ still. reads.was_open (writes.was_open still);
+    keeps_steady = λ steady. writes.keeps_steady (reads.keeps_steady steady);
+    answers = λ sound _. now_open sound;
+    settled = λ sound _. settled new (now_open sound);
+    unchanged = λ still none. absurd none;
+    holds = λ sound history stood.
+        let was = writes.was_open (now_open sound) in
+        let told = adds was history (stood (reads.was_open was)) in (told.0, told.1);
+    stands = λ sound history stood still.
+        let was = writes.was_open still in
+        subst (λ c. Stands plans c (next ∷ history)) (sym (put still))
+        (adds was history (stood (reads.was_open was))).2;
+    leaves = λ sound history stood c may.
+        ⊎_elim inl (λ (was, adds_it). inr (was, (next, refl, adds_it)))
+        (leaves sound history stood c may);
+  }
 
--- the write failed
-pub failed : {B T E F G : Type 0} (plans : List Plan) (next : Entry) (content : B → Content)
-    (is_sound is_open is_steady : B → Type 0) (left : B → Content → Type 0) (old mid new : B)
-    (r : Result T E) (w : Result F G) (done : Content)
-    → Reads content is_sound is_open is_steady left old mid r
-    → Writes content is_sound is_open is_steady left mid new done w
-    → (is_open new → content new ≡ content mid)
-    → (is_open mid → Adds plans next (content old) done)
-    → ((book : B) → is_open book → Only (content book) (left book))
-    → Records plans next content is_sound is_open is_steady left old new (Err Unavailable)
-failed plans next content is_sound is_open is_steady left old mid new r w done reads writes kept
-    adds settled =
-    written plans next content is_sound is_open is_steady left old mid new r w done
-    (Err Unavailable) reads writes adds
-    (λ sound told. absurd (told refl))
-    (λ still other. kept still)
-    (λ sound history stood. (
-      history,
-      refl,
-      λ still. subst (λ c. Stands plans c history) (sym (kept still
-          ∙ reads.same (writes.was_open still))) (stood (reads.was_open (writes.was_open still))),
-    ))
-    settled
+  pub write_failed : (b.is_open new → b.content new ≡ b.content mid)
+      → Does b plans old new (failed next)
+  write_failed kept = record {
+    own = tt;
+    alone = λ none. absurd none;
+    was_sound = λ sound. reads.was_sound (writes.was_sound sound);
+    was_open = λ still. reads.was_open (writes.was_open still);
+    keeps_steady = λ steady. writes.keeps_steady (reads.keeps_steady steady);
+    answers = λ sound none. absurd none;
+    settled = λ sound none. absurd none;
+    unchanged = λ still _. kept still ∙ reads.same (writes.was_open still);
+    holds = λ sound history stood. tt;
+    stands = λ sound history stood still.
+        subst (λ c. Stands plans c history)
+        (sym (kept still ∙ reads.same (writes.was_open still)))
+        (stood (reads.was_open (writes.was_open still)));
+    leaves = λ sound history stood c may.
+        ⊎_elim inl (λ (was, adds_it). inr (was, (next, refl, adds_it)))
+        (leaves sound history stood c may);
+  }

@@ -18,6 +18,8 @@ pub mod Calls
 pub mod StepLemmas
 -- what `record` says at its exits
 pub mod Exits
+-- what a crash may leave after a call, by its effect
+pub mod Crashes
 -- which rows there are, which report was the first to say something, and how a session ends
 pub mod Ends
 -- why a row says what it says of its session's reports

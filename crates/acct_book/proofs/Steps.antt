@@ -28,7 +28,8 @@ use Rattle.acct_book.specs.Rows.{row_from, row_of_reports, is_restarted, row_of}
 use Rattle.acct_book.specs.Charge.{charge_of_row}
 use Rattle.acct_book.specs.Next.{report_key, next_row, charge_before}
 use Rattle.acct_book.specs.Stands.{Stands}
-use Rattle.acct_book.specs.Outcome.{IsFresh, IsOverLimit, Adds}
+use Rattle.acct_book.specs.Calls.{Adds}
+use Rattle.acct_book.specs.Outcome.{IsFresh, IsOverLimit}
 use Rattle.acct_book.proofs.Keys.{octets_refl, octets_are, octets_sym, key_is}
 use Rattle.acct_book.proofs.Rows.{greatest-total, row_of-report, row_of-other, row_of-restart}
 

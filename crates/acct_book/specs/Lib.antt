@@ -6,9 +6,11 @@ pub mod Memory
 pub mod Book
 pub mod Walk
 pub mod Stands
+pub mod Effect
 pub mod Step
 pub mod Charge
 pub mod Outcome
+pub mod Calls
 pub mod Next
 pub mod Laws
 pub mod Part

@@ -1,11 +1,23 @@
--- What a call that may record an entry says of its book: a step from history to history.
-use Rattle.std.specs.Prelude.{◌≡◌, ◌⊎◌, List, ◌∷◌}
+-- What a call does to its book, by its effect: a step from history to history.
+use Rattle.std.specs.Prelude.{◌≡◌, ◌⊎◌, List, ◌∷◌, Result}
 use Rattle.acct_model.specs.declared.plan.Plan.{Plan}
 use Rattle.acct_model.specs.declared.entry.Entry.{Entry}
 use Rattle.acct_model.specs.History.{Admissible}
+use Rattle.acct_book.specs.declared.book.Book.{Ghosts}
+use Rattle.acct_book.specs.Book.{Only, Reads, Writes}
 use Rattle.acct_book.specs.Content.{Content}
 use Rattle.acct_book.specs.Stands.{Stands}
-use Rattle.acct_book.specs.Book.{Only}
+use Rattle.acct_book.specs.Effect.{Effect, after_effect, Holds, IsTold, IsNotAdded, Tries}
+use Rattle.acct_book.specs.Effect.{IsOwn, IsUnasked}
+
+-- a call of the book that reads, and one that writes this content
+abbrev pub Looks : {B T E : Type 0} → Ghosts B → B → B → Result T E → Type 0
+Looks b old new result =
+    Reads b.content b.is_sound b.is_open b.is_steady b.left old new result
+
+abbrev pub Puts : {B T E : Type 0} → Ghosts B → B → B → Content → Result T E → Type 0
+Puts b old new written result =
+    Writes b.content b.is_sound b.is_open b.is_steady b.left old new written result
 
 -- the entry may be accepted, and the content stands for the history with it
 abbrev pub MayAdd : List Plan → List Entry → Entry → Content → Type 0
@@ -13,30 +25,28 @@ MayAdd plans history next content =
     Admissible plans history next × Stands plans content (next ∷ history)
 
 -- The content stands for the history, unless the book was shut and tells none.
-abbrev pub StoodFor : {B : Type 0} → List Plan → (B → Content) → (B → Type 0) → B
-    → List Entry → Type 0
-StoodFor plans content is_open book history =
-    is_open book → Stands plans (content book) history
+abbrev pub StoodFor : {B : Type 0} → Ghosts B → List Plan → B → List Entry → Type 0
+StoodFor b plans book history = b.is_open book → Stands plans (b.content book) history
 
--- A call that asks the book to record an entry, or none. `answered` says that the book told
--- something, `refused` that nothing was added; `Tells` is what the call says of the history before
--- and after it, `Asks` of which entries it may have asked.
-pub record IsStep {B : Type 0} (plans : List Plan) (content : B → Content)
-    (is_sound is_open is_steady : B → Type 0) (left : B → Content → Type 0) (old new : B)
-    (answered refused : Type 0) (Tells : List Entry → List Entry → Type 0)
-    (Asks : Entry → Type 0) : Type 0 where
-  pub was_sound : is_sound new → is_sound old
-  pub was_open : is_open new → is_open old
-  pub keeps_steady : is_steady old → is_steady new
-  pub answers : is_sound new → answered → is_open new
-  pub unchanged : is_open new → refused → content new ≡ content old
-  -- from a history for which the content stood to one for which it stands
-  pub step : is_sound new → (history : List Entry)
-      → StoodFor plans content is_open old history
-      → (after : List Entry) × Tells history after × StoodFor plans content is_open new after
-  -- a crash leaves what it could before, or that with the whole effect of an entry
-  pub leaves : is_sound new → (history : List Entry)
-      → StoodFor plans content is_open old history
-      → (c : Content) → left new c
-      → left old c ⊎ (is_open old × ((asked : Entry) × Asks asked × MayAdd plans history asked c))
-  pub settled : is_sound new → answered → Only (content new) (left new)
+-- A call over a book with this effect, from whatever history the content stood for.
+pub record Does {B : Type 0} (b : Ghosts B) (plans : List Plan) (old new : B) (effect : Effect)
+    : Type 0 where
+  pub own : IsOwn effect
+  pub alone : IsUnasked effect → new ≡ old
+  pub was_sound : b.is_sound new → b.is_sound old
+  pub was_open : b.is_open new → b.is_open old
+  pub keeps_steady : b.is_steady old → b.is_steady new
+  -- who told something is open, and a crash leaves its content and nothing else
+  pub answers : b.is_sound new → IsTold effect → b.is_open new
+  pub settled : b.is_sound new → IsTold effect → Only (b.content new) (b.left new)
+  pub unchanged : b.is_open new → IsNotAdded effect → b.content new ≡ b.content old
+  -- the effect is true of the history, and the content stands for the history after it
+  pub holds : b.is_sound new → (history : List Entry) → StoodFor b plans old history
+      → Holds plans history effect
+  pub stands : b.is_sound new → (history : List Entry) → StoodFor b plans old history
+      → StoodFor b plans new (after_effect history effect)
+  -- a crash leaves what it could before, or that with the whole entry that was added or failed
+  pub leaves : b.is_sound new → (history : List Entry) → StoodFor b plans old history
+      → (c : Content) → b.left new c
+      → b.left old c
+      ⊎ (b.is_open old × ((asked : Entry) × Tries effect asked × MayAdd plans history asked c))

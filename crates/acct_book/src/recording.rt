@@ -16,10 +16,11 @@ ghost use Rattle.std.specs.Prelude.{◌≡◌, ◌≢◌, ◌+◌, ◌^◌, ◌<
 ghost use Rattle.std.specs.Prelude.{MatchOption, pos, ◌+ℤ◌, ◌-ℤ◌};
 ghost use Rattle.acct_model.specs.declared.entry.Entry.{Entry};
 ghost use Rattle.acct_model.specs.History.{InRange};
-ghost use Rattle.acct_book.specs.Book.{Reads};
 ghost use Rattle.acct_book.specs.Content.{with_session, with_topup};
+ghost use Rattle.acct_book.specs.Effect.{IsOwn, effect_of};
+ghost use Rattle.acct_book.specs.Step.{Looks, Does};
 ghost use Rattle.acct_book.specs.Next.{report_key, next_row, charge_before};
-ghost use Rattle.acct_book.specs.Outcome.{Adds, Repeats, Refuses, Records};
+ghost use Rattle.acct_book.specs.Calls.{Adds, Repeats, Refuses};
 
 use crate::book::{Book, Unavailable};
 use crate::charging::charge;
@@ -92,8 +93,7 @@ pub fn record<B: Book>(
     plans: &Plans,
     entry: &Entry,
 ) -> Result<Recorded, RecordError>
-    ensures { Records plans.now entry.now B.content B.is_sound B.is_open B.is_steady B.left
-        book.old book.new result }
+    ensures { Does B.Book plans.now book.old book.new (effect_of entry.now result) }
 {
     match entry {
         Entry::Report(report) => record_report(alloc, book, plans, report),
@@ -108,8 +108,7 @@ fn record_report<B: Book>(
     plans: &Plans,
     report: &Report,
 ) -> Result<Recorded, RecordError>
-    ensures { Records plans.now (Entry.Report report.now) B.content B.is_sound B.is_open
-        B.is_steady B.left book.old book.new result }
+    ensures { Does B.Book plans.now book.old book.new (effect_of (Entry.Report report.now) result) }
 {
     let (row, balance) = debited(alloc, book, plans, report)?;
     book.put_session(&row, balance)?;
@@ -121,8 +120,8 @@ fn record_restart<B: Book>(
     plans: &Plans,
     restart: &Restart,
 ) -> Result<Recorded, RecordError>
-    ensures { Records plans.now (Entry.Restart restart.now) B.content B.is_sound B.is_open
-        B.is_steady B.left book.old book.new result }
+    ensures { Does B.Book plans.now book.old book.new
+        (effect_of (Entry.Restart restart.now) result) }
 {
     book.close_client(restart.client.as_str())?;
     Ok(Recorded::New)
@@ -133,8 +132,7 @@ fn record_topup<B: Book>(
     plans: &Plans,
     topup: &TopUp,
 ) -> Result<Recorded, RecordError>
-    ensures { Records plans.now (Entry.TopUp topup.now) B.content B.is_sound B.is_open
-        B.is_steady B.left book.old book.new result }
+    ensures { Does B.Book plans.now book.old book.new (effect_of (Entry.TopUp topup.now) result) }
 {
     let Some(balance) = credited(book, plans, topup)? else {
         return Ok(Recorded::Repeat);
@@ -150,10 +148,10 @@ fn debited<B: Book>(
     plans: &Plans,
     report: &Report,
 ) -> Result<(Row, i64), RecordError>
-    ensures reads { Reads B.content B.is_sound B.is_open B.is_steady B.left
-        book.old book.new result }
+    ensures reads { Looks B.Book book.old book.new result }
     ensures answers { B.is_sound book.new → result ≢ Err RecordError.Unavailable
         → B.is_open book.new }
+    ensures own { IfErr result (λ error. IsOwn (effect_of (Entry.Report report.now) (Err error))) }
     ensures added { B.is_open book.new → IfOk result (λ next.
         Adds plans.now (Entry.Report report.now) (B.content book.old)
         (with_session (B.content book.old) next.0 next.1)) }
@@ -173,8 +171,7 @@ fn debited<B: Book>(
 
 // The balance of a top-up's account with the top-up, and none where it is kept already.
 fn credited<B: Book>(book: &mut B, plans: &Plans, topup: &TopUp) -> Result<Option<i64>, RecordError>
-    ensures reads { Reads B.content B.is_sound B.is_open B.is_steady B.left
-        book.old book.new result }
+    ensures reads { Looks B.Book book.old book.new result }
     ensures answers { B.is_sound book.new → result ≢ Err RecordError.Unavailable
         → B.is_open book.new }
     ensures added { B.is_open book.new → IfOk result (λ balance. MatchOption balance

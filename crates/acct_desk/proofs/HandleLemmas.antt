@@ -12,26 +12,26 @@ use Rattle.acct_model.specs.declared.plan.Plan.{Plan}
 use Rattle.acct_model.specs.declared.entry.Entry.{Entry}
 use Rattle.acct_model.specs.declared.entry.Entry.TheVariants as entry
 use Rattle.acct_model.specs.Vouchers.{TopUpFacts}
+use Rattle.acct_book.specs.declared.book.Book.{Ghosts}
 use Rattle.acct_book.specs.declared.recording.Recorded.{Recorded}
-use Rattle.acct_book.specs.declared.recording.Recorded.TheVariants.{New}
+use Rattle.acct_book.specs.declared.recording.Recorded.TheVariants.{New, Repeat}
 use Rattle.acct_book.specs.declared.recording.RecordError.{RecordError}
 use Rattle.acct_book.specs.declared.recording.RecordError.TheVariants as record_error
-use Rattle.acct_book.specs.Book.{Only}
-use Rattle.acct_book.specs.Content.{Content}
-use Rattle.acct_book.specs.Outcome.{Records}
-use Rattle.acct_book.specs.Stands.{Stands}
+use Rattle.acct_book.specs.Effect.{Effect, after_effect, Holds, IsTold, IsOwn, effect_of, looked}
+use Rattle.acct_book.specs.Effect.{IsUnasked, passed, unasked}
+use Rattle.acct_book.specs.Step.{StoodFor, Does}
+use Rattle.acct_book.proofs.StepLemmas.{Settles, unasked_by, only_looked_by}
 use Rattle.acct_desk.specs.declared.asking.Refusal.{Refusal}
 use Rattle.acct_desk.specs.declared.asking.Page.{Page}
 use Rattle.acct_desk.specs.declared.asking.Page.TheVariants.{Balance, Sessions, TopUps}
 use Rattle.acct_desk.specs.declared.bodies.PageError.{PageError}
 use Rattle.acct_desk.specs.declared.bodies.PageError.TheVariants.{Unavailable, Memory}
 use Rattle.acct_desk.specs.Asks.{Ask, refused, me, overruns, credit}
-use Rattle.acct_desk.specs.Handling.{IsBody, IsTold, Steps, StepsOrMute, IsSettled, IsOfBook}
-use Rattle.acct_desk.specs.Handling.{IsOfBalance, IsAskedFor, IsAnswered, IsNotAdded, Handles}
-use Rattle.acct_desk.specs.Handling.{OnlyReads}
+use Rattle.acct_desk.specs.Handling.{AnswersAsk, Answers, TellsAsk, Mutes, IsOfBalance}
+use Rattle.acct_desk.specs.Handling.{Handles}
 use Rattle.acct_desk.specs.Pages.{Shows, IsPageResponse}
 use Rattle.acct_desk.specs.Responses.{response_of, refusal_response, unavailable_response}
-use Rattle.acct_desk.specs.Responses.{added_response, recorded_response}
+use Rattle.acct_desk.specs.Responses.{recorded_response}
 
 apart : ◌≡◌ {A = ℕ} 50 53 → ⊥
 apart e = omega arith
@@ -48,64 +48,46 @@ for_ok P (Err e) h = λ y is. absurd (cc)
 
 -- ---- nothing was asked of the book
 
-mute_step : {E : Type 0} (plans : List Plan) (history : List Entry) (ask : Ask) (e : E)
-    → StepsOrMute plans history ask (Err e) history
-mute_step plans history ask e = refl
+mute_mutes : (ask : Ask) → Mutes ask unasked
+mute_mutes (refused refusal) = refl
+mute_mutes (me page account) = inl refl
+mute_mutes overruns = inl refl
+mute_mutes (credit topup) = refl
 
-mute_settled : {B E : Type 0} (ask : Ask) (book : B) (e : E) → IsSettled ask book book (Err e)
-mute_settled (refused refusal) book e = (refl, tt)
-mute_settled (me page account) book e = tt
-mute_settled overruns book e = tt
-mute_settled (credit topup) book e = refl
+refused_alone : {E : Type 0} (refusal : Refusal) (result : Result (Vec ℕ Global) E)
+    → IfOk result (λ octets. octets.items ≡ refusal_response refusal)
+    → Answers (refused refusal) result unasked
+refused_alone refusal (Ok octets) is = (is, refl)
+refused_alone refusal (Err e) is = refl
 
-module _ {B E : Type 0} (plans : List Plan) (content : B → Content) (is_sound is_open is_steady : B
-    → Type 0) (leaves : B → Content → Type 0) where
+-- what is not told is told of any history
+not_told : {E : Type 0} (plans : List Plan) (history : List Entry) (ask : Ask) (effect : Effect)
+    (result : Result (Vec ℕ Global) E) → (effect ≡ looked → ⊥)
+    → IfOk result (λ octets. TellsAsk plans history ask octets.items effect)
+not_told plans history ask effect (Ok octets) none = λ is. absurd (none is)
+not_told plans history ask effect (Err e) none = tt
+
+module _ {B E : Type 0} (b : Ghosts B) (plans : List Plan) where
   -- there was no memory to begin with
-  pub mute_handles : (ask : Ask) (book : B) (e : E)
-      → Handles plans ask content is_sound is_open is_steady leaves book book (Err e)
+  pub mute_handles : (ask : Ask) (book : B) (e : E) → Handles b plans ask book book (Err e)
   mute_handles ask book e = record {
-    alone = mute_settled ask book e;
+    effect = unasked;
+    answers = mute_mutes ask;
+    does = unasked_by b plans book;
+    tells = λ _ history _. tt;
     steady = λ _ _. tt;
-    step = record {
-      was_sound = λ h. h;
-      was_open = λ h. h;
-      keeps_steady = λ h. h;
-      answers = λ _ none. absurd none;
-      unchanged = λ _ _. refl;
-      step = λ _ history stood. (history, refl, stood);
-      leaves = λ _ _ _ c h. inl h;
-      settled = λ _ none. absurd none;
-    };
   }
-
-  refused_alone : (refusal : Refusal) (book : B) (result : Result (Vec ℕ Global) E)
-      → IfOk result (λ octets. octets.items ≡ refusal_response refusal)
-      → (history : List Entry) → StepsOrMute plans history (refused refusal) result history
-  refused_alone refusal book (Ok octets) is history = (is, refl)
-  refused_alone refusal book (Err e) is history = refl
-
-  refused_answered : (refusal : Refusal) (result : Result (Vec ℕ Global) E)
-      → IsAnswered (refused refusal) result → ⊥
-  refused_answered refusal (Ok octets) h = h.0
-  refused_answered refusal (Err e) h = h
 
   -- a request that is refused without the book
   pub refused_handles : (refusal : Refusal) (book : B) (result : Result (Vec ℕ Global) E)
       → IfOk result (λ octets. octets.items ≡ refusal_response refusal)
-      → Handles plans (refused refusal) content is_sound is_open is_steady leaves book book result
+      → Handles b plans (refused refusal) book book result
   refused_handles refusal book result is = record {
-    alone = (refl, is);
+    effect = unasked;
+    answers = refused_alone refusal result is;
+    does = unasked_by b plans book;
+    tells = λ _ history _. not_told plans history (refused refusal) unasked result (λ e. cc);
     steady = λ _ none. absurd none;
-    step = record {
-      was_sound = λ h. h;
-      was_open = λ h. h;
-      keeps_steady = λ h. h;
-      answers = λ _ h. absurd (refused_answered refusal result h);
-      unchanged = λ _ _. refl;
-      step = λ _ history stood. (history, refused_alone refusal book result is history, stood);
-      leaves = λ _ _ _ c h. inl h;
-      settled = λ _ h. absurd (refused_answered refusal result h);
-    };
   }
 
 -- ---- a page
@@ -117,47 +99,78 @@ IsOfPage (me page account) = Unit {0}
 IsOfPage overruns = Unit {0}
 IsOfPage (credit topup) = ⊥
 
-page_settled : {B E : Type 0} (ask : Ask) (old new : B) (result : Result (Vec ℕ Global) E)
-    → IsOfPage ask → IsSettled ask old new result
-page_settled (refused refusal) old new result none = absurd none
-page_settled (me page account) old new result h = tt
-page_settled overruns old new result h = tt
-page_settled (credit topup) old new result none = absurd none
+page_mutes : (ask : Ask) → IsOfPage ask → Mutes ask passed
+page_mutes (refused refusal) none = absurd none
+page_mutes (me page account) of = inr refl
+page_mutes overruns of = inr refl
+page_mutes (credit topup) none = absurd none
 
-page_step : (plans : List Plan) (history : List Entry) (ask : Ask) (octets : List ℕ) → IsOfPage ask
-    → IsTold plans history ask octets ⊎ (octets ≡ unavailable_response)
-    → Steps plans history ask octets history
-page_step plans history (refused refusal) octets none h = absurd none
-page_step plans history (me page account) octets of h = (h, refl)
-page_step plans history overruns octets of h = (h, refl)
-page_step plans history (credit topup) octets none h = absurd none
+page_answers : (ask : Ask) (octets : List ℕ) (effect : Effect) → IsOfPage ask
+    → (effect ≡ looked) ⊎ ((octets ≡ unavailable_response) × (effect ≡ passed))
+    → AnswersAsk ask octets effect
+page_answers (refused refusal) octets effect none h = absurd none
+page_answers (me page account) octets effect of h = h
+page_answers overruns octets effect of h = h
+page_answers (credit topup) octets effect none h = absurd none
 
-module _ {B E : Type 0} (plans : List Plan) (ask : Ask) (content : B
-    → Content) (is_sound is_open is_steady : B → Type 0) (leaves : B → Content
-    → Type 0) (old new : B)
-    (settles : (book : B) → is_open book → Only (content book) (leaves book)) where
+-- what a page did
+abbrev pub page_effect : {E : Type 0} → Result Value PageError → Result (Vec ℕ Global) E → Effect
+page_effect (Ok body) (Ok octets) = looked
+page_effect (Err error) (Ok octets) = passed
+page_effect page (Err e) = passed
+
+module _ {B E : Type 0} (b : Ghosts B) (plans : List Plan) (ask : Ask) (old new : B)
+    (settles : Settles b) where
+  page_own : (page : Result Value PageError) (result : Result (Vec ℕ Global) E)
+      → IsOwn (page_effect page result)
+  page_own (Ok body) (Ok octets) = tt
+  page_own (Err error) (Ok octets) = tt
+  page_own page (Err e) = tt
+
+  page_asked : (page : Result Value PageError) (result : Result (Vec ℕ Global) E)
+      → IsUnasked (page_effect page result) → ⊥
+  page_asked (Ok body) (Ok octets) none = none
+  page_asked (Err error) (Ok octets) none = none
+  page_asked page (Err e) none = none
+
+  page_stays : (page : Result Value PageError) (result : Result (Vec ℕ Global) E)
+      (history : List Entry) → after_effect history (page_effect page result) ≡ history
+  page_stays (Ok body) (Ok octets) history = refl
+  page_stays (Err error) (Ok octets) history = refl
+  page_stays page (Err e) history = refl
+
+  page_holds : (page : Result Value PageError) (result : Result (Vec ℕ Global) E)
+      (history : List Entry) → Holds plans history (page_effect page result)
+  page_holds (Ok body) (Ok octets) history = tt
+  page_holds (Err error) (Ok octets) history = tt
+  page_holds page (Err e) history = tt
+
   page_open : (page : Result Value PageError) (result : Result (Vec ℕ Global) E)
-      → Shows plans ask content is_sound is_open is_steady leaves old new page
-      → IfOk result (λ octets. IsPageResponse page octets.items)
-      → is_sound new → IsAnswered ask result → is_open new
-  page_open (Ok body) (Ok octets) shows is sound answered = shows.answers sound
-  page_open (Err Unavailable) (Ok octets) shows is sound answered = absurd (answered.1 is)
-  page_open (Err Memory) (Ok octets) shows is sound answered = absurd is
-  page_open page (Err e) shows is sound none = absurd none
+      → Shows plans ask b old new page
+      → b.is_sound new → IsTold (page_effect page result) → b.is_open new
+  page_open (Ok body) (Ok octets) shows sound told = shows.answers sound
+  page_open (Err error) (Ok octets) shows sound told = absurd told
+  page_open page (Err e) shows sound told = absurd told
 
   page_says : (page : Result Value PageError) (result : Result (Vec ℕ Global) E) → IsOfPage ask
-      → Shows plans ask content is_sound is_open is_steady leaves old new page
       → IfOk result (λ octets. IsPageResponse page octets.items)
-      → is_sound new → (history : List Entry) → (is_open old → Stands plans (content old) history)
-      → StepsOrMute plans history ask result history
-  page_says (Ok body) (Ok octets) of shows is sound history stood =
+      → Answers ask result (page_effect page result)
+  page_says (Ok body) (Ok octets) of is = page_answers ask octets.items looked of (inl refl)
+  page_says (Err Unavailable) (Ok octets) of is =
+      page_answers ask octets.items passed of (inr (is, refl))
+  page_says (Err Memory) (Ok octets) of is = absurd is
+  page_says page (Err e) of is = page_mutes ask of
+
+  page_tells : (page : Result Value PageError) (result : Result (Vec ℕ Global) E)
+      → Shows plans ask b old new page
+      → IfOk result (λ octets. IsPageResponse page octets.items)
+      → b.is_sound new → (history : List Entry) → StoodFor b plans old history
+      → IfOk result (λ octets. TellsAsk plans history ask octets.items (page_effect page result))
+  page_tells (Ok body) (Ok octets) shows is sound history stood =
       let opened = shows.answers sound in
-      page_step plans history ask octets.items of
-      (inl (view body, shows.told opened history (stood (shows.reads.was_open opened)), is))
-  page_says (Err Unavailable) (Ok octets) of shows is sound history stood =
-      page_step plans history ask octets.items of (inr is)
-  page_says (Err Memory) (Ok octets) of shows is sound history stood = absurd is
-  page_says page (Err e) of shows is sound history stood = refl
+      λ _. (view body, shows.told opened history (stood (shows.reads.was_open opened)), is)
+  page_tells (Err error) (Ok octets) shows is sound history stood = λ e. absurd (cc e)
+  page_tells page (Err e) shows is sound history stood = tt
 
   page_steady : (page : Result Value PageError) (result : Result (Vec ℕ Global) E)
       → page ≢ Err Unavailable → IfOk result (λ octets. IsPageResponse page octets.items)
@@ -169,56 +182,42 @@ module _ {B E : Type 0} (plans : List Plan) (ask : Ask) (content : B
 
   -- a request for a page
   pub page_handles : (page : Result Value PageError) (result : Result (Vec ℕ Global) E)
-      → IsOfPage ask → (is_steady old → IsOfBalance ask → page ≢ Err Unavailable)
-      → Shows plans ask content is_sound is_open is_steady leaves old new page
+      → IsOfPage ask → (b.is_steady old → IsOfBalance ask → page ≢ Err Unavailable)
+      → Shows plans ask b old new page
       → IfOk result (λ octets. IsPageResponse page octets.items)
-      → Handles plans ask content is_sound is_open is_steady leaves old new result
+      → Handles b plans ask old new result
   page_handles page result of steady shows is = record {
-    alone = page_settled ask old new result of;
+    effect = page_effect page result;
+    answers = page_says page result of is;
+    does = only_looked_by b plans old new (page_effect page result) shows.reads.was_sound
+        shows.reads.was_open shows.reads.keeps_steady shows.reads.same shows.reads.adds_none
+        (page_own page result) (page_asked page result) (page_stays page result) (page_open page result shows)
+        (λ _ history _. page_holds page result history) settles;
+    tells = page_tells page result shows is;
     steady = λ s balance. page_steady page result (steady s balance) is;
-    step = record {
-      was_sound = shows.reads.was_sound;
-      was_open = shows.reads.was_open;
-      keeps_steady = shows.reads.keeps_steady;
-      answers = page_open page result shows is;
-      unchanged = λ opened _. shows.reads.same opened;
-      step = λ sound history stood. (
-        history,
-        page_says page result of shows is sound history stood,
-        λ opened. subst (λ c. Stands plans c history) (sym (shows.reads.same opened))
-            (stood (shows.reads.was_open opened)),
-      );
-      leaves = λ sound _ _ c h. inl (shows.reads.adds_none sound c h);
-      settled = λ sound answered. settles new (page_open page result shows is sound answered);
-    };
   }
 
 -- ---- a top-up
 
+topup_tells : (plans : List Plan) (history : List Entry) (topup : TopUpFacts)
+    (recorded : Result Recorded RecordError) (octets : List ℕ)
+    → TellsAsk plans history (credit topup) octets (effect_of (entry.TopUp topup) recorded)
+topup_tells plans history topup (Ok New) octets e = absurd (cc e)
+topup_tells plans history topup (Ok Repeat) octets e = absurd (cc e)
+topup_tells plans history topup (Err (record_error.VoucherDiffers kept)) octets e = absurd (cc e)
+topup_tells plans history topup (Err (record_error.BalanceLimit balance)) octets e = absurd (cc e)
+topup_tells plans history topup (Err record_error.Unavailable) octets e = absurd (cc e)
+
 -- a top-up, by what recording told
-pub recorded_handles : {B E : Type 0} (plans : List Plan) (content : B
-    → Content) (is_sound is_open is_steady : B → Type 0) (leaves : B → Content
-    → Type 0) (old new : B) (topup : TopUpFacts)
-    (recorded : Result Recorded RecordError) (octets : Vec ℕ Global)
-    → Records plans (entry.TopUp topup) content is_sound is_open is_steady leaves old new
-    recorded
+pub recorded_handles : {B E : Type 0} (b : Ghosts B) (plans : List Plan) (old new : B)
+    (topup : TopUpFacts) (recorded : Result Recorded RecordError) (octets : Vec ℕ Global)
+    → Does b plans old new (effect_of (entry.TopUp topup) recorded)
     → octets.items ≡ recorded_response recorded
-    → Handles {E = E} plans (credit topup) content is_sound is_open is_steady leaves old new
-    (Ok octets)
-recorded_handles plans content is_sound is_open is_steady leaves old new topup recorded octets r is
-    = record {
-      alone = tt;
-      steady = λ _ none. absurd none;
-      step = record {
-        was_sound = r.was_sound;
-        was_open = r.was_open;
-        keeps_steady = r.keeps_steady;
-        answers = λ sound answered. r.answers sound (λ e. answered.1 (is ∙ ap recorded_response e));
-        unchanged = λ opened not_added. r.unchanged opened (λ e. not_added (is
-            ∙ ap recorded_response e));
-        step = λ sound history stood. let s = r.step sound history stood in
-            (s.0, (recorded, s.1, is), s.2);
-        leaves = r.leaves;
-        settled = λ sound answered. r.settled sound (λ e. answered.1 (is ∙ ap recorded_response e));
-      };
-    }
+    → Handles {E = E} b plans (credit topup) old new (Ok octets)
+recorded_handles b plans old new topup recorded octets does is = record {
+  effect = effect_of (entry.TopUp topup) recorded;
+  answers = (recorded, is, refl);
+  does = does;
+  tells = λ _ history _. topup_tells plans history topup recorded octets.items;
+  steady = λ _ none. absurd none;
+}

@@ -14,8 +14,9 @@ use Rattle.acct_model.specs.declared.plan.Plan.{Plan}
 use Rattle.acct_model.specs.declared.entry.Entry.{Entry}
 use Rattle.acct_model.specs.Vouchers.{TopUpFacts}
 use Rattle.acct_model.specs.History.{topup_of}
+use Rattle.acct_book.specs.declared.book.Book.{Ghosts}
 use Rattle.acct_book.specs.declared.key.Key.{Key}
-use Rattle.acct_book.specs.Book.{Reads}
+use Rattle.acct_book.specs.Step.{Looks}
 use Rattle.acct_book.specs.Content.{Content, kept_balance, key_of}
 use Rattle.acct_book.specs.Maps.{octets_cmp}
 use Rattle.acct_book.specs.Part.{part_of, own_row, own_topup, AreRowsIn, AreTopUpsIn}
@@ -94,12 +95,10 @@ overruns_plain es = rw (over_plain es) refl
 
 -- ---- a page that was read
 
-module _ {B : Type 0} (plans : List Plan) (ask : Ask) (content : B
-    → Content) (is_sound is_open is_steady : B → Type 0) (leaves : B → Content
-    → Type 0) (old new : B) where
+module _ {B : Type 0} (plans : List Plan) (ask : Ask) (b : Ghosts B) (old new : B) where
   pub only_reads : {T E : Type 0} (result : Result T E)
-      → Reads content is_sound is_open is_steady leaves old new result
-      → OnlyReads content is_sound is_open is_steady leaves old new
+      → Looks b old new result
+      → OnlyReads b old new
   only_reads result r = record {
     was_sound = r.was_sound;
     was_open = r.was_open;
@@ -109,8 +108,8 @@ module _ {B : Type 0} (plans : List Plan) (ask : Ask) (content : B
     adds_none = r.adds_none;
   }
 
-  pub shows_none : (error : PageError) → OnlyReads content is_sound is_open is_steady leaves old new
-      → Shows plans ask content is_sound is_open is_steady leaves old new (Err error)
+  pub shows_none : (error : PageError) → OnlyReads b old new
+      → Shows plans ask b old new (Err error)
   shows_none error reads = record {
     reads = reads;
     answers = λ _. tt;
@@ -120,11 +119,11 @@ module _ {B : Type 0} (plans : List Plan) (ask : Ask) (content : B
   }
 
   pub shows_body : (result : Result Value PageError) (body : Data)
-      → OnlyReads content is_sound is_open is_steady leaves old new → (is_sound new → is_open new)
+      → OnlyReads b old new → (b.is_sound new → b.is_open new)
       → IfOk result (λ v. view v ≡ body) → has_float body ≡ false
-      → (is_open new → (history : List Entry) → Stands plans (content old) history
+      → (b.is_open new → (history : List Entry) → Stands plans (b.content old) history
       → IsBody plans history ask body)
-      → Shows plans ask content is_sound is_open is_steady leaves old new result
+      → Shows plans ask b old new result
   shows_body (Ok v) body reads opened is plain told = record {
     reads = reads;
     answers = opened;
@@ -242,28 +241,26 @@ accounts_told plans c history es st w =
 
 -- ---- the balance of one account
 
-pub balance_shows : {B : Type 0} (plans : List Plan) (account : List ℕ) (content : B
-    → Content) (is_sound is_open is_steady : B → Type 0) (leaves : B → Content
-    → Type 0) (old new : B)
+pub balance_shows : {B : Type 0} (plans : List Plan) (account : List ℕ) (b : Ghosts B) (old new : B)
     (told : Result ℤ book.Unavailable) (result : Result Value PageError)
-    → Reads content is_sound is_open is_steady leaves old new told
-    → (is_open new → IfOk told (λ z. z ≡ kept_balance (content old) account))
+    → Looks b old new told
+    → (b.is_open new → IfOk told (λ z. z ≡ kept_balance (b.content old) account))
     → IfOk result (λ v. IfOk told (λ z. view v ≡ balance_body account z))
     → OnOk result (IsOk told)
-    → Shows plans (me Balance account) content is_sound is_open is_steady leaves old new result
-balance_shows plans account content is_sound is_open is_steady leaves old new (Ok z) (Ok v) reads
+    → Shows plans (me Balance account) b old new result
+balance_shows plans account b old new (Ok z) (Ok v) reads
     found is answers =
-    shows_body plans (me Balance account) content is_sound is_open is_steady leaves old new (Ok v)
+    shows_body plans (me Balance account) b old new (Ok v)
     (balance_body account z)
-    (only_reads plans (me Balance account) content is_sound is_open is_steady leaves old new (Ok z)
+    (only_reads plans (me Balance account) b old new (Ok z)
     reads) reads.answers is (balance_plain account z)
-    (λ o history st. balance_told plans (content old) history account z st (found o))
-balance_shows plans account content is_sound is_open is_steady leaves old new (Err e) (Ok v) reads
+    (λ o history st. balance_told plans (b.content old) history account z st (found o))
+balance_shows plans account b old new (Err e) (Ok v) reads
     found is answers = absurd (true≢false (sym answers))
-balance_shows plans account content is_sound is_open is_steady leaves old new told (Err e) reads
+balance_shows plans account b old new told (Err e) reads
     found is answers =
-    shows_none plans (me Balance account) content is_sound is_open is_steady leaves old new e
-    (only_reads plans (me Balance account) content is_sound is_open is_steady leaves old new
+    shows_none plans (me Balance account) b old new e
+    (only_reads plans (me Balance account) b old new
     told reads)
 
 pub not_both : {T E : Type 0} (r : Result T E) → IsOk r → IsErr r → ⊥
@@ -272,9 +269,8 @@ not_both (Err e) none is = true≢false (sym none)
 
 -- ---- calls that read, one after the other
 
-module _ {B : Type 0} (content : B → Content) (is_sound is_open is_steady : B → Type 0) (leaves : B
-    → Content → Type 0) where
-  pub reads_nothing : (book : B) → OnlyReads content is_sound is_open is_steady leaves book book
+module _ {B : Type 0} (b : Ghosts B) where
+  pub reads_nothing : (book : B) → OnlyReads b book book
   reads_nothing book = record {
     was_sound = λ h. h;
     was_open = λ h. h;
@@ -285,9 +281,9 @@ module _ {B : Type 0} (content : B → Content) (is_sound is_open is_steady : B 
   }
 
   pub reads_then : {T E : Type 0} (old mid new : B) (result : Result T E)
-      → OnlyReads content is_sound is_open is_steady leaves old mid
-      → Reads content is_sound is_open is_steady leaves mid new result
-      → OnlyReads content is_sound is_open is_steady leaves old new
+      → OnlyReads b old mid
+      → Looks b mid new result
+      → OnlyReads b old new
   reads_then old mid new result a b = record {
     was_sound = λ h. a.was_sound (b.was_sound h);
     was_open = λ h. a.was_open (b.was_open h);

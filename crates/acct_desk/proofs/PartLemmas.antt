@@ -4,14 +4,15 @@ use Rattle.serde_json.specs.Data.{Data}
 use Rattle.acct_model.specs.declared.plan.Plan.{Plan}
 use Rattle.acct_model.specs.declared.entry.Entry.{Entry}
 use Rattle.acct_book.specs.Content.{key_of}
+use Rattle.acct_book.specs.Effect.{Effect}
 use Rattle.acct_book.specs.Maps.{octets_cmp, key_cmp}
 use Rattle.acct_book.specs.Part.{Part, part_of}
 use Rattle.acct_desk.specs.declared.asking.Page.{Page}
 use Rattle.acct_desk.specs.declared.asking.Page.TheVariants.{Balance, Sessions, TopUps}
 use Rattle.acct_desk.specs.Asks.{Ask, me}
 use Rattle.acct_desk.specs.Bodies.{sessions_body, topups_body}
-use Rattle.acct_desk.specs.Handling.{IsPageBody, IsTold, Steps}
-use Rattle.acct_desk.specs.Laws.{MeFromPart, Answers}
+use Rattle.acct_desk.specs.Handling.{IsPageBody, IsTold, AnswersAsk, TellsAsk}
+use Rattle.acct_desk.specs.Laws.{MeFromPart}
 use Rattle.acct_desk.specs.Responses.{response_of, unavailable_response}
 use Rattle.acct_desk.proofs.AskLemmas.{one_ask}
 use Rattle.acct_desk.proofs.MemberLemmas.{key_total, octets_total, members_same}
@@ -28,21 +29,24 @@ one_body plans part account TopUps x y p q =
     part.topups (λ t. true) p.0 q.0 p.1 q.1) ∙ sym q.2
 
 -- what answers a request for a page
-told_page : (plans : List Plan) (history after : List Entry) (ask : Ask) (page : Page)
-    (account octets : List ℕ) → ask ≡ me page account → Steps plans history ask octets after
+told_page : (plans : List Plan) (history : List Entry) (ask : Ask) (page : Page)
+    (account octets : List ℕ) (effect : Effect) → ask ≡ me page account
+    → AnswersAsk ask octets effect × TellsAsk plans history ask octets effect
     → octets ≢ unavailable_response
     → IsTold plans history (me page account) octets
-told_page plans history after ask page account octets is step answered =
-    let of_page = subst (λ a. Steps plans history a octets after) is step in
-    elim of_page.0 [ inl told ↦ told | inr unavailable ↦ absurd (answered unavailable) ]
+told_page plans history ask page account octets effect is said answered =
+    let of_page : AnswersAsk (me page account) octets effect
+    × TellsAsk plans history (me page account) octets effect
+    = subst (λ a. AnswersAsk a octets effect × TellsAsk plans history a octets effect) is said in
+    elim of_page.0 [ inl told ↦ of_page.1 told | inr unavailable ↦ absurd (answered unavailable.0) ]
 
 pub me-from-part : MeFromPart
-me-from-part keys plans request moment page account one other after later octets others asks same x
+me-from-part keys plans request moment page account one other effect later octets others asks same x
     y answered also =
-    let first = told_page plans one after x.0 page account octets
-    (one_ask keys request moment x.0 (me page account) x.1 asks) x.2 answered in
-    let second = told_page plans other later y.0 page account others
-    (one_ask keys request moment y.0 (me page account) y.1 asks) y.2 also in
+    let first = told_page plans one x.0 page account octets effect
+    (one_ask keys request moment x.0 (me page account) x.1 asks) (x.2, x.3) answered in
+    let second = told_page plans other y.0 page account others later
+    (one_ask keys request moment y.0 (me page account) y.1 asks) (y.2, y.3) also in
     let body = one_body plans (part_of plans other account) account page first.0 second.0
     (subst (λ p. IsPageBody plans p account page first.0) same first.1) second.1 in
     first.2 ∙ ap (response_of 200 []) body ∙ sym second.2

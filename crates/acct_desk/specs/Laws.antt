@@ -2,18 +2,19 @@
 use Rattle.std.specs.Prelude.{◌≡◌, ◌≢◌, ℕ, List}
 use Rattle.acct_model.specs.declared.plan.Plan.{Plan}
 use Rattle.acct_model.specs.declared.entry.Entry.{Entry}
+use Rattle.acct_book.specs.Effect.{Effect}
 use Rattle.acct_book.specs.Part.{part_of}
 use Rattle.acct_desk.specs.declared.keys.DeskKey.{DeskKey}
 use Rattle.acct_desk.specs.declared.asking.Page.{Page}
 use Rattle.acct_desk.specs.Asks.{Ask, Asks, me}
-use Rattle.acct_desk.specs.Handling.{Steps}
+use Rattle.acct_desk.specs.Handling.{AnswersAsk, TellsAsk}
 use Rattle.acct_desk.specs.Responses.{unavailable_response}
 
--- the octets answer the request, from a history to one after it
-abbrev pub Answers : List DeskKey → List Plan → List ℕ → ℕ → List Entry → List ℕ → List Entry
-    → Type 0
-Answers keys plans request moment history octets after = (ask : Ask) × Asks keys request moment ask
-    × Steps plans history ask octets after
+-- the octets answer the request after this history, with this effect
+abbrev pub Answers : List DeskKey → List Plan → List ℕ → ℕ → List Entry → List ℕ → Effect → Type 0
+Answers keys plans request moment history octets effect = (ask : Ask)
+    × Asks keys request moment ask × AnswersAsk ask octets effect
+    × TellsAsk plans history ask octets effect
 
 -- no request asks two things
 abbrev pub OneThingIsAsked : Type 0
@@ -25,9 +26,9 @@ OneThingIsAsked = (keys : List DeskKey) (request : List ℕ) (moment : ℕ) (one
 -- octets, wherever the book answers at all.
 abbrev pub MeFromPart : Type 0
 MeFromPart = (keys : List DeskKey) (plans : List Plan) (request : List ℕ) (moment : ℕ) (page : Page)
-    (account : List ℕ) (one other after later : List Entry) (octets others : List ℕ)
+    (account : List ℕ) (one other : List Entry) (first second : Effect) (octets others : List ℕ)
     → Asks keys request moment (me page account)
     → part_of plans one account ≡ part_of plans other account
-    → Answers keys plans request moment one octets after
-    → Answers keys plans request moment other others later
+    → Answers keys plans request moment one octets first
+    → Answers keys plans request moment other others second
     → octets ≢ unavailable_response → others ≢ unavailable_response → octets ≡ others

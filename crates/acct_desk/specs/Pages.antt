@@ -5,7 +5,7 @@ use Rattle.serde_json.specs.Written.{has_float}
 use Rattle.serde_json.specs.declared.value.Value.{Value}
 use Rattle.acct_model.specs.declared.plan.Plan.{Plan}
 use Rattle.acct_model.specs.declared.entry.Entry.{Entry}
-use Rattle.acct_book.specs.Content.{Content}
+use Rattle.acct_book.specs.declared.book.Book.{Ghosts}
 use Rattle.acct_book.specs.Stands.{Stands}
 use Rattle.acct_desk.specs.declared.bodies.PageError.{PageError}
 use Rattle.acct_desk.specs.declared.bodies.PageError.TheVariants.{Unavailable, Memory}
@@ -15,13 +15,12 @@ use Rattle.acct_desk.specs.Responses.{response_of, unavailable_response}
 
 -- A page that was read: the book is only read, a page that is there says that it is open, and its
 -- body is told by the history.
-pub record Shows {B : Type 0} (plans : List Plan) (ask : Ask) (content : B
-    → Content) (is_sound is_open is_steady : B → Type 0) (leaves : B → Content
-    → Type 0) (old new : B) (result : Result Value PageError) : Type 0 where
-  pub reads : OnlyReads content is_sound is_open is_steady leaves old new
-  pub answers : is_sound new → OnOk result (is_open new)
+pub record Shows {B : Type 0} (plans : List Plan) (ask : Ask) (b : Ghosts B) (old new : B)
+    (result : Result Value PageError) : Type 0 where
+  pub reads : OnlyReads b old new
+  pub answers : b.is_sound new → OnOk result (b.is_open new)
   pub plain : IfOk result (λ v. has_float (view v) ≡ false)
-  pub told : is_open new → (history : List Entry) → Stands plans (content old) history
+  pub told : b.is_open new → (history : List Entry) → Stands plans (b.content old) history
       → IfOk result (λ v. IsBody plans history ask (view v))
 
 -- the response with a page

@@ -34,7 +34,7 @@ pub fn handle<B: Book>(
 ) -> Result<Vec<u8>, NoMemory>
     requires { moment < 2 ^ 53 }
     ensures { (ask : Asked) × Asks keys.now request.now moment ask
-        × Handles plans.now ask B.content B.is_sound B.is_open B.is_steady B.left book.old book.new
+        × Handles B.Book plans.now ask book.old book.new
         result }
 {
     let ask = match ask_of_octets(alloc, keys, request, moment) {
@@ -67,8 +67,7 @@ fn tell_page<B: Book>(
     page: Page,
     account: &[u8],
 ) -> Result<Vec<u8>, NoMemory>
-    ensures { Handles plans.now (me page account.now) B.content B.is_sound B.is_open B.is_steady
-        B.left book.old book.new result }
+    ensures { Handles B.Book plans.now (me page account.now) book.old book.new result }
 {
     match page {
         Page::Balance => page_octets(alloc, balance_page(alloc, book, account)),
@@ -79,8 +78,7 @@ fn tell_page<B: Book>(
 
 // Tells who is over.
 fn tell_overruns<B: Book>(alloc: Global, book: &mut B) -> Result<Vec<u8>, NoMemory>
-    ensures { (plans : List Plan) → Handles plans overruns B.content B.is_sound B.is_open
-        B.is_steady B.left book.old book.new result }
+    ensures { (plans : List Plan) → Handles B.Book plans overruns book.old book.new result }
 {
     page_octets(alloc, overruns_page(alloc, book))
 }
@@ -92,7 +90,7 @@ fn take_topup<B: Book>(
     book: &mut B,
     topup: TopUp,
 ) -> Result<Vec<u8>, NoMemory>
-    ensures { Handles plans.now (credit topup) B.content B.is_sound B.is_open B.is_steady B.left
+    ensures { Handles B.Book plans.now (credit topup)
         book.old book.new result }
 {
     let Ok(answers) = topup_answers(alloc) else {

@@ -33,8 +33,7 @@ pub(crate) fn balance_page<B: Book>(
     account: &[u8],
 ) -> Result<Value, PageError>
     ensures shows { (plans : List Plan)
-        → Shows plans (me page.Balance account.now) B.content B.is_sound B.is_open B.is_steady
-        B.left book.old book.new result }
+        → Shows plans (me page.Balance account.now) B.Book book.old book.new result }
     ensures steady { B.is_steady book.old → result ≢ Err PageError.Unavailable }
 {
     let told = book.balance(account);
@@ -65,8 +64,7 @@ pub(crate) fn sessions_page<B: Book>(
     book: &mut B,
     account: &[u8],
 ) -> Result<Value, PageError>
-    ensures { Shows plans.now (me page.Sessions account.now) B.content B.is_sound B.is_open
-        B.is_steady B.left book.old book.new result }
+    ensures { Shows plans.now (me page.Sessions account.now) B.Book book.old book.new result }
 {
     let rows = book.sessions_of(account)?;
     sessions_value(alloc, plans, account, &rows)
@@ -78,8 +76,8 @@ pub(crate) fn topups_page<B: Book>(
     book: &mut B,
     account: &[u8],
 ) -> Result<Value, PageError>
-    ensures { (plans : List Plan) → Shows plans (me page.TopUps account.now) B.content B.is_sound
-        B.is_open B.is_steady B.left book.old book.new result }
+    ensures { (plans : List Plan)
+        → Shows plans (me page.TopUps account.now) B.Book book.old book.new result }
 {
     let topups = book.topups_of(account)?;
     topups_value(alloc, account, &topups)
@@ -87,8 +85,7 @@ pub(crate) fn topups_page<B: Book>(
 
 // The body of `/overruns`. It holds one account of the book at a time, beside those that are over.
 pub(crate) fn overruns_page<B: Book>(alloc: Global, book: &mut B) -> Result<Value, PageError>
-    ensures { (plans : List Plan) → Shows plans overruns B.content B.is_sound B.is_open B.is_steady
-        B.left book.old book.new result }
+    ensures { (plans : List Plan) → Shows plans overruns B.Book book.old book.new result }
 {
     let mut over = Vec::new(alloc);
     let mut last = None;

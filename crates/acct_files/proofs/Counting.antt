@@ -1,10 +1,11 @@
 -- What a report says of one record more.
 use Rattle.std.proofs.Common.{◌≡◌, ◌+◌, ℕ, suc, cond, List, [], ◌∷◌, ◌++◌, length, refl, sym, ◌∙◌}
-use Rattle.std.proofs.Common.{ap, arith}
+use Rattle.std.proofs.Common.{ap, arith, subst}
 use Rattle.std.specs.Prelude.{count_by}
 use Rattle.std.proofs.lemmas.List.Sums.{sum_by-append}
 use Rattle.acct_model.specs.declared.plan.Plan.{Plan}
 use Rattle.acct_model.specs.declared.entry.Entry.{Entry}
+use Rattle.acct_book.specs.Effect.{Effect, after_effect, Holds}
 use Rattle.acct_files.specs.declared.import_report.ImportReport.{ImportReport}
 use Rattle.acct_files.specs.declared.import_report.Outcome.{Outcome}
 use Rattle.acct_files.specs.declared.import_report.Outcome.TheVariants.{Added, Repeated}
@@ -52,22 +53,28 @@ counts_more outcomes outcome n old new counts number added repeated refused = re
       ∙ sym (refused_more 2 outcomes n (outcome ∷ []) (omega arith));
 }
 
-pub run_more : (plans : List Plan) (moment : ℕ) (old mid new : List Entry) (rows : List Fields)
-    (outcomes : List Outcome) (fields : Fields) (outcome : Outcome)
+pub run_more : (plans : List Plan) (moment : ℕ) (old mid : List Entry) (rows : List Fields)
+    (outcomes : List Outcome) (fields : Fields) (outcome : Outcome) (effect : Effect)
     → Imported plans moment old rows outcomes mid
-    → Becomes plans mid (asked_by moment fields) outcome new
-    → Imported plans moment old (rows ++ fields ∷ []) (outcomes ++ outcome ∷ []) new
-run_more plans moment old mid new [] [] fields outcome r s = (new, rw (← r) s, refl)
-run_more plans moment old mid new (x ∷ rows) (y ∷ outcomes) fields outcome r s =
-    (r.0, r.1, run_more plans moment r.0 mid new rows outcomes fields outcome r.2 s)
-run_more plans moment old mid new [] (y ∷ outcomes) fields outcome r s = absurd r
-run_more plans moment old mid new (x ∷ rows) [] fields outcome r s = absurd r
+    → Becomes (asked_by moment fields) outcome effect → Holds plans mid effect
+    → Imported plans moment old (rows ++ fields ∷ []) (outcomes ++ outcome ∷ [])
+    (after_effect mid effect)
+run_more plans moment old mid [] [] fields outcome effect r s holds =
+    (effect, s, subst (λ h. Holds plans h effect) r holds, ap (λ h. after_effect h effect) r)
+run_more plans moment old mid (x ∷ rows) (y ∷ outcomes) fields outcome effect r s holds = (
+  r.0,
+  r.1,
+  r.2,
+  run_more plans moment (after_effect old r.0) mid rows outcomes fields outcome effect r.3 s holds,
+)
+run_more plans moment old mid [] (y ∷ outcomes) fields outcome effect r s holds = absurd r
+run_more plans moment old mid (x ∷ rows) [] fields outcome effect r s holds = absurd r
 
 pub run_length : (plans : List Plan) (moment : ℕ) (old new : List Entry) (rows : List Fields)
     (outcomes : List Outcome) → Imported plans moment old rows outcomes new
     → length outcomes ≡ length rows
 run_length plans moment old new [] [] r = refl
 run_length plans moment old new (x ∷ rows) (y ∷ outcomes) r =
-    ap (λ n. suc n) (run_length plans moment r.0 new rows outcomes r.2)
+    ap (λ n. suc n) (run_length plans moment (after_effect old r.0) new rows outcomes r.3)
 run_length plans moment old new [] (y ∷ outcomes) r = absurd r
 run_length plans moment old new (x ∷ rows) [] r = absurd r

@@ -1,5 +1,5 @@
 -- Why the first three columns of an export of top-ups are a text that an import takes.
-use Rattle.std.proofs.Common.{◌≡◌, ◌<◌, ◌≤◌, ◌^◌, ℕ, Bool, true, false, ◌&&◌, List, [], ◌∷◌, length}
+use Rattle.std.proofs.Common.{sym, ◌≡◌, ◌<◌, ◌≤◌, ◌^◌, ℕ, Bool, true, false, ◌&&◌, List, [], ◌∷◌, length}
 use Rattle.std.proofs.Common.{map, Some, None, Ok, cond, refl, subst, arith, rules}
 use Rattle.std.specs.Prelude.{⊤, bytes_eq, decimal, flat_map, nat_le, take}
 use Rattle.std.specs.Char.{is_ascii_digit}
@@ -19,6 +19,7 @@ use Rattle.acct_model.specs.declared.entry.Entry.TheVariants as entry
 use Rattle.acct_model.specs.History.{all_topups, first_of, topup_of}
 use Rattle.acct_model.specs.Vouchers.{TopUpFacts, is_voucher_sum}
 use Rattle.acct_model.proofs.Escapes.{decoded-shown}
+use Rattle.acct_book.specs.Effect.{Effect, after_effect, Holds}
 use Rattle.acct_files.specs.declared.import_report.Cause.{Cause}
 use Rattle.acct_files.specs.declared.import_report.Cause.TheVariants.{FieldCount, BadVoucher}
 use Rattle.acct_files.specs.declared.import_report.Cause.TheVariants.{BadAccount, BadSum}
@@ -127,20 +128,23 @@ fresh_after moment old t (u ∷ topups) (other, others) (none, fresh) = (
       old t topups others fresh,
 )
 
-module _ (plans : List Plan) (moment : ℕ) (old mid : List Entry) (t : TopUpFacts)
-    (fresh : topup_of old t.voucher ≡ None) where
-  not_repeated : Becomes plans old (Ok (moved_to moment t)) Repeated mid → ⊥
-  not_repeated ((k, is, account, amount), same) = absurd (cc (is, fresh))
+module _ (plans : List Plan) (moment : ℕ) (old : List Entry) (effect : Effect) (t : TopUpFacts)
+    (fresh : topup_of old t.voucher ≡ None) (holds : Holds plans old effect) where
+  not_repeated : Becomes (Ok (moved_to moment t)) Repeated effect → ⊥
+  not_repeated was =
+      let (k, is, account, amount) = subst (Holds plans old) was holds in absurd (cc (is, fresh))
 
-  only_limit : (cause : Cause) → Becomes plans old (Ok (moved_to moment t)) (Refused cause) mid
-      → (cause ≡ BalanceLimit) × (mid ≡ old)
-  only_limit FieldCount b = absurd b
-  only_limit BadVoucher b = absurd b
-  only_limit BadAccount b = absurd b
-  only_limit BadSum b = absurd b
-  only_limit VoucherDiffers (k, told) =
-      let there : topup_of old t.voucher ≡ Some k = told.0.0 in absurd (cc (there, fresh))
-  only_limit BalanceLimit (balance, told) = (refl, told.1)
+  only_limit : (cause : Cause) → Becomes (Ok (moved_to moment t)) (Refused cause) effect
+      → (cause ≡ BalanceLimit) × (after_effect old effect ≡ old)
+  only_limit FieldCount was = absurd was
+  only_limit BadVoucher was = absurd was
+  only_limit BadAccount was = absurd was
+  only_limit BadSum was = absurd was
+  only_limit VoucherDiffers (k, was) =
+      let there : topup_of old t.voucher ≡ Some k = (subst (Holds plans old) was holds).0 in
+      absurd (cc (there, fresh))
+  only_limit BalanceLimit (balance, was) =
+      (refl, subst (λ e. after_effect old e ≡ old) (sym was) refl)
 
 credits : (plans : List Plan) (moment : ℕ) (old : List Entry) (topups : List TopUpFacts)
     (outcomes : List Outcome) (new : List Entry) → AreKept topups → AreFresh old topups
@@ -151,19 +155,20 @@ credits plans moment old [] [] new kept fresh run = run
 credits plans moment old [] (outcome ∷ outcomes) new kept fresh run = absurd run
 credits plans moment old (t ∷ topups) [] new kept fresh run = absurd run
 credits plans moment old (t ∷ topups) (Added ∷ outcomes) new (may, others, kept) (none, fresh)
-    (mid, here, rest) =
-    let b = subst (λ w. Becomes plans old w Added mid) (asks_again t moment may) here in
+    (effect, here, holds, rest) =
+    let was = subst (λ w. Becomes w Added effect) (asks_again t moment may) here in
     credits plans moment (entry.TopUp (moved_to moment t) ∷ old) topups outcomes new kept
     (fresh_after moment old t topups others fresh)
-    (subst (λ x. Imported plans moment x (map cut_fields topups) outcomes new) b.2 rest)
+    (subst (λ e. Imported plans moment (after_effect old e) (map cut_fields topups) outcomes new)
+    was rest)
 credits plans moment old (t ∷ topups) (Repeated ∷ outcomes) new (may, others, kept) (none, fresh)
-    (mid, here, rest) =
-    absurd (not_repeated plans moment old mid t none
-    (subst (λ w. Becomes plans old w Repeated mid) (asks_again t moment may) here))
+    (effect, here, holds, rest) =
+    absurd (not_repeated plans moment old effect t none holds
+    (subst (λ w. Becomes w Repeated effect) (asks_again t moment may) here))
 credits plans moment old (t ∷ topups) (Refused cause ∷ outcomes) new (may, others, kept)
-    (none, fresh) (mid, here, rest) =
-    let (limit, same) = only_limit plans moment old mid t none cause
-    (subst (λ w. Becomes plans old w (Refused cause) mid) (asks_again t moment may) here) in (
+    (none, fresh) (effect, here, holds, rest) =
+    let (limit, same) = only_limit plans moment old effect t none holds cause
+    (subst (λ w. Becomes w (Refused cause) effect) (asks_again t moment may) here) in (
       limit,
       credits plans moment old topups outcomes new kept fresh
           (subst (λ x. Imported plans moment x (map cut_fields topups) outcomes new) same rest),

@@ -10,25 +10,21 @@ use Rattle.csv.proofs.ReadFacts.{rows-end, rows-more}
 use Rattle.acct_model.specs.declared.plan.Plan.{Plan}
 use Rattle.acct_model.specs.declared.entry.Entry.{Entry}
 use Rattle.acct_model.specs.Vouchers.{TopUpFacts}
-use Rattle.acct_book.specs.Content.{Content}
-use Rattle.acct_book.specs.Stands.{Stands}
-use Rattle.acct_files.specs.declared.import_report.Cause.{Cause}
-use Rattle.acct_files.specs.declared.import_report.Cause.TheVariants.{FieldCount, BadVoucher}
-use Rattle.acct_files.specs.declared.import_report.Cause.TheVariants.{BadAccount, BadSum}
-use Rattle.acct_files.specs.declared.import_report.Cause.TheVariants.{VoucherDiffers, BalanceLimit}
+use Rattle.acct_book.specs.declared.book.Book.{Ghosts}
+use Rattle.acct_book.specs.Effect.{Effect, after_effect}
+use Rattle.acct_book.specs.Step.{StoodFor, Does}
 use Rattle.acct_files.specs.declared.import_report.Stopped.{Stopped}
 use Rattle.acct_files.specs.declared.import_report.Stopped.TheVariants.{BadHeader, Unreadable}
 use Rattle.acct_files.specs.declared.import_report.Stopped.TheVariants.{Unavailable, Memory}
 use Rattle.acct_files.specs.declared.import_report.Stopped.TheVariants.{TooMany}
 use Rattle.acct_files.specs.declared.import_report.ImportReport.{ImportReport}
 use Rattle.acct_files.specs.declared.import_report.Outcome.{Outcome}
-use Rattle.acct_files.specs.declared.import_report.Outcome.TheVariants.{Added, Repeated, Refused}
 use Rattle.acct_files.specs.Vouchers.{Fields, asked_by, is_header}
-use Rattle.acct_files.specs.Importing.{IsRefused, Becomes, Imported, Imports, Counts, Begin}
+use Rattle.acct_files.specs.Importing.{Imported, Imports, Counts, Begin}
 use Rattle.acct_files.specs.Importing.{AreTaken, Did, Moves, MayHaveTried, is_refused}
 use Rattle.acct_files.specs.Reading.{HasRead, HasReadHeader, IsHeaderStop, IsReadStop}
 use Rattle.acct_files.proofs.Counting.{run_more, run_length}
-use Rattle.acct_files.proofs.Offers.{stayed}
+use Rattle.acct_files.proofs.Offers.{stayed, moved_on, moved_muted, moved_failed, refused_stays}
 
 if_some : {X : Type 0} (o : Option X) (P Q : X → Type 0) → ((x : X) → P x → Q x) → IfSome o P
     → IfSome o Q
@@ -39,28 +35,7 @@ always : {X : Type 0} (o : Option X) {P : X → Type 0} → ((x : X) → P x) �
 always None f = tt
 always (Some x) f = f x
 
-is_refused_stays : (plans : List Plan) (old new : List Entry) (topup : TopUpFacts) (cause : Cause)
-    → IsRefused plans old topup cause new → new ≡ old
-is_refused_stays plans old new topup FieldCount h = absurd h
-is_refused_stays plans old new topup BadVoucher h = absurd h
-is_refused_stays plans old new topup BadAccount h = absurd h
-is_refused_stays plans old new topup BadSum h = absurd h
-is_refused_stays plans old new topup VoucherDiffers h = h.1.1
-is_refused_stays plans old new topup BalanceLimit h = h.1.1
-
-refused_stays : (plans : List Plan) (old new : List Entry) (wanted : Result TopUpFacts Cause)
-    (outcome : Outcome) → IsTrue (is_refused outcome) → Becomes plans old wanted outcome new
-    → new ≡ old
-refused_stays plans old new (Ok topup) Added t h = absurd (cc t)
-refused_stays plans old new (Ok topup) Repeated t h = absurd (cc t)
-refused_stays plans old new (Ok topup) (Refused cause) t h =
-    is_refused_stays plans old new topup cause h
-refused_stays plans old new (Err cause) Added t h = absurd (cc t)
-refused_stays plans old new (Err cause) Repeated t h = absurd (cc t)
-refused_stays plans old new (Err cause) (Refused told) t h = h.1
-
-module _ {B R : Type 0} (content : B → Content) (is_open : B → Type 0) (left : B → Content → Type 0)
-    (remaining : R → Option (List ℕ))
+module _ {B R : Type 0} (b : Ghosts B) (remaining : R → Option (List ℕ))
     (plans : List Plan) (moment : ℕ) (text : Option (List ℕ)) (history : List Entry) where
   -- the header and the records before the one of this number were taken
   pub record Halfway (reader : Reader R) (number : ℕ) (report : ImportReport) (old new : B) : Type 0
@@ -74,13 +49,13 @@ module _ {B R : Type 0} (content : B → Content) (is_open : B → Type 0) (left
       pub header : Fields
       pub is_head : is_header header ≡ true
       pub read : HasRead remaining text (header ∷ rows) reader
-      pub moves : Moves content is_open left plans history after None old new
+      pub moves : Moves b plans history after None old new
 
-  moves_then : (mid after : List Entry) (tried : Option TopUpFacts) (a b c : B)
-      → Moves content is_open left plans history mid None a b
-      → Moves content is_open left plans mid after tried b c
-      → Moves content is_open left plans history after tried a c
-  moves_then mid after tried a b c first second =
+  moves_then : (mid after : List Entry) (tried : Option TopUpFacts) (old now new : B)
+      → Moves b plans history mid None old now
+      → Moves b plans mid after tried now new
+      → Moves b plans history after tried old new
+  moves_then mid after tried old now new first second =
       record {
         stands = second.stands;
         leaves = λ stood. second.leaves
@@ -89,7 +64,7 @@ module _ {B R : Type 0} (content : B → Content) (is_open : B → Type 0) (left
 
   pub at_start : (reader : Reader R) (report : ImportReport) (book : B)
       → HasReadHeader remaining text reader → Counts [] report
-      → (is_open book → Stands plans (content book) history)
+      → StoodFor b plans book history
       → Halfway reader 2 report book book
   at_start reader report book (header, is_head, read) counts stands = record {
     after = history;
@@ -101,54 +76,53 @@ module _ {B R : Type 0} (content : B → Content) (is_open : B → Type 0) (left
     header = header;
     is_head = is_head;
     read = read;
-    moves = stayed content is_open left plans history book stands;
+    moves = stayed b plans history book stands;
   }
 
-  read_more : (rows : List Fields) (fields : Fields) (a b : Reader R)
-      → reader_config a ≡ default_config → ReadRecord remaining a b true fields
-      → HasRead remaining text rows a → HasRead remaining text (rows ++ fields ∷ []) b
-  read_more rows fields a b config took read =
-      if_some text _ _ (λ t (rest, there, reached). rows-more remaining a b fields default_config
+  read_more : (rows : List Fields) (fields : Fields) (x y : Reader R)
+      → reader_config x ≡ default_config → ReadRecord remaining x y true fields
+      → HasRead remaining text rows x → HasRead remaining text (rows ++ fields ∷ []) y
+  read_more rows fields x y config took read =
+      if_some text _ _ (λ t (rest, there, reached). rows-more remaining x y fields default_config
       st.StartRecord t rest rows config there reached took) read
 
-  pub more : (a b : Reader R) (number next : ℕ) (report later : ImportReport) (old mid new : B)
-      (fields : Fields) (outcome : Outcome) (tried : Option TopUpFacts) (after : List Entry)
-      → (half : Halfway a number report old mid) → next ≡ number + 1
-      → reader_config a ≡ default_config → ReadRecord remaining a b true fields
-      → Did plans moment half.after fields (Ok outcome) tried after
-      → Moves content is_open left plans half.after after tried mid new
+  pub more : (x y : Reader R) (number next : ℕ) (report later : ImportReport) (old mid new : B)
+      (fields : Fields) (outcome : Outcome) (effect : Effect)
+      → (half : Halfway x number report old mid) → next ≡ number + 1
+      → reader_config x ≡ default_config → ReadRecord remaining x y true fields
+      → Did moment fields (Ok outcome) effect → Does b plans mid new effect → b.is_sound new
       → ((outcomes : List Outcome) → Counts outcomes report → number ≡ length outcomes + 2
       → Counts (outcomes ++ outcome ∷ []) later)
-      → Halfway b next later old new
-  more a b number next report later old mid new fields outcome tried after half same config took did
-      moves counts =
+      → Halfway y next later old new
+  more x y number next report later old mid new fields outcome effect half same config took did
+      does sound counts =
       let lengths = run_length plans moment history half.after half.rows half.outcomes half.run in
-      let moved : Moves content is_open left plans half.after after None mid new = subst
-      (λ t. Moves content is_open left plans half.after after t mid new) did.0 moves in
       record {
-        after = after;
+        after = after_effect half.after effect;
         rows = half.rows ++ fields ∷ [];
         outcomes = half.outcomes ++ outcome ∷ [];
-        run = run_more plans moment history half.after after half.rows half.outcomes fields outcome
-            half.run did.1;
+        run = run_more plans moment history half.after half.rows half.outcomes fields outcome effect
+            half.run did (does.holds sound half.after half.moves.stands);
         counts = counts half.outcomes half.counts (omega (arith, half.counted, lengths));
         counted = omega (arith, half.counted, length-append half.rows (fields ∷ []));
         header = half.header;
         is_head = half.is_head;
-        read = read_more (half.header ∷ half.rows) fields a b config took half.read;
-        moves = moves_then half.after after None old mid new half.moves moved;
+        read = read_more (half.header ∷ half.rows) fields x y config took half.read;
+        moves = moves_then half.after (after_effect half.after effect) None old mid new half.moves
+            (moved_on b plans half.after mid new moment fields outcome effect did does sound
+            half.moves.stands);
       }
 
   abbrev Import : Option Stopped → ImportReport → B → B → Type 0
   Import stopped report old new =
-      Imports content is_open left plans moment text history stopped report old new
+      Imports b plans moment text history stopped report old new
 
   -- the text ended
-  pub ended : (a b : Reader R) (number : ℕ) (report : ImportReport) (old new : B) (fields : Fields)
-      → Halfway a number report old new → number ≤ 1000002
-      → reader_config a ≡ default_config → ReadRecord remaining a b false fields
+  pub ended : (x y : Reader R) (number : ℕ) (report : ImportReport) (old new : B) (fields : Fields)
+      → Halfway x number report old new → number ≤ 1000002
+      → reader_config x ≡ default_config → ReadRecord remaining x y false fields
       → Import None report old new
-  ended a b number report old new fields half few config took = record {
+  ended x y number report old new fields half few config took = record {
     after = half.after;
     tried = None;
     rows = half.rows;
@@ -160,10 +134,10 @@ module _ {B R : Type 0} (content : B → Content) (is_open : B → Type 0) (left
         half.header,
         half.is_head,
         (
-          reader_state a,
+          reader_state x,
           rest,
           reached,
-          rows-end remaining a b fields default_config rest config
+          rows-end remaining x y fields default_config rest config
               there took,
         ),
       ),
@@ -200,79 +174,77 @@ module _ {B R : Type 0} (content : B → Content) (is_open : B → Type 0) (left
   }
 
   -- a record stopped the import
-  pub stopped_at : (a b : Reader R) (number : ℕ) (report : ImportReport) (old mid new : B)
-      (fields : Fields) (stopped : Stopped) (tried : Option TopUpFacts) (after : List Entry)
-      → (half : Halfway a number report old mid) → reader_config a ≡ default_config
-      → ReadRecord remaining a b true fields
-      → Did plans moment half.after fields (Err stopped) tried after
-      → Moves content is_open left plans half.after after tried mid new
+  pub stopped_at : (x y : Reader R) (number : ℕ) (report : ImportReport) (old mid new : B)
+      (fields : Fields) (stopped : Stopped) (effect : Effect)
+      → (half : Halfway x number report old mid) → reader_config x ≡ default_config
+      → ReadRecord remaining x y true fields
+      → Did moment fields (Err stopped) effect → Does b plans mid new effect → b.is_sound new
       → Import (Some stopped) report old new
-  stopped_at a b number report old mid new fields BadHeader tried after half config took did moves =
+  stopped_at x y number report old mid new fields BadHeader effect half config took did does sound
+      = absurd did
+  stopped_at x y number report old mid new fields Unreadable effect half config took did does sound
+      = absurd did
+  stopped_at x y number report old mid new fields TooMany effect half config took did does sound =
       absurd did
-  stopped_at a b number report old mid new fields Unreadable tried after half config took did
-      moves = absurd did
-  stopped_at a b number report old mid new fields TooMany tried after half config took did moves =
-      absurd did
-  stopped_at a b number report old mid new fields Unavailable tried after half config took
-      (same, topup, is, asked) moves = record {
-        after = after;
-        tried = tried;
+  stopped_at x y number report old mid new fields Unavailable effect half config took
+      (topup, asked, is) does sound = record {
+        after = half.after;
+        tried = Some topup;
         rows = half.rows;
         outcomes = half.outcomes;
-        run = subst (λ h. Imported plans moment history half.rows half.outcomes h) (sym same)
-            half.run;
+        run = half.run;
         counts = half.counts;
-        taken = if_some text _ _ (λ t b. (topup, is, fields, asked, b))
-            (begin (half.rows ++ fields ∷ []) b half.header half.is_head
-            (read_more (half.header ∷ half.rows) fields a b config took half.read));
-        only = subst (λ o. MayHaveTried (Some Unavailable) o) (sym is) refl;
-        moves = moves_then half.after after tried old mid new half.moves moves;
+        taken = if_some text _ _ (λ t begun. (topup, refl, fields, asked, begun))
+            (begin (half.rows ++ fields ∷ []) y half.header half.is_head
+            (read_more (half.header ∷ half.rows) fields x y config took half.read));
+        only = refl;
+        moves = moves_then half.after half.after (Some topup) old mid new half.moves
+            (moved_failed b plans half.after mid new topup effect is does sound half.moves.stands);
       }
-  stopped_at a b number report old mid new fields Memory tried after half config took (same, none)
-      moves = record {
-        after = after;
-        tried = tried;
+  stopped_at x y number report old mid new fields Memory effect half config took is does sound =
+      record {
+        after = half.after;
+        tried = None;
         rows = half.rows;
         outcomes = half.outcomes;
-        run = subst (λ h. Imported plans moment history half.rows half.outcomes h) (sym same)
-            half.run;
+        run = half.run;
         counts = half.counts;
-        taken = if_some text _ _ (λ t b. inr b)
-            (begin half.rows a half.header half.is_head half.read);
-        only = subst (λ o. MayHaveTried (Some Memory) o) (sym none) tt;
-        moves = moves_then half.after after tried old mid new half.moves moves;
+        taken = if_some text _ _ (λ t begun. inr begun)
+            (begin half.rows x half.header half.is_head half.read);
+        only = tt;
+        moves = moves_then half.after half.after None old mid new half.moves
+            (moved_muted b plans half.after mid new effect is does sound half.moves.stands);
       }
 
   -- a refused record could not be kept
-  pub uncounted : (a : Reader R) (number : ℕ) (report : ImportReport) (old mid new : B)
-      (fields : Fields) (outcome : Outcome) (tried : Option TopUpFacts) (after : List Entry)
-      → (half : Halfway a number report old mid) → IsTrue (is_refused outcome)
-      → Did plans moment half.after fields (Ok outcome) tried after
-      → Moves content is_open left plans half.after after tried mid new
+  pub uncounted : (x : Reader R) (number : ℕ) (report : ImportReport) (old mid new : B)
+      (fields : Fields) (outcome : Outcome) (effect : Effect)
+      → (half : Halfway x number report old mid) → IsTrue (is_refused outcome)
+      → Did moment fields (Ok outcome) effect → Does b plans mid new effect → b.is_sound new
       → Import (Some Memory) report old new
-  uncounted a number report old mid new fields outcome tried after half refused (none, becomes)
-      moves = record {
-        after = after;
-        tried = tried;
-        rows = half.rows;
-        outcomes = half.outcomes;
-        run = subst (λ h. Imported plans moment history half.rows half.outcomes h)
-            (sym (refused_stays plans half.after after (asked_by moment fields) outcome refused
-            becomes))
-            half.run;
-        counts = half.counts;
-        taken = if_some text _ _ (λ t b. inr b)
-            (begin half.rows a half.header half.is_head half.read);
-        only = subst (λ o. MayHaveTried (Some Memory) o) (sym none) tt;
-        moves = moves_then half.after after tried old mid new half.moves moves;
-      }
+  uncounted x number report old mid new fields outcome effect half refused did does sound = record {
+    after = half.after;
+    tried = None;
+    rows = half.rows;
+    outcomes = half.outcomes;
+    run = half.run;
+    counts = half.counts;
+    taken = if_some text _ _ (λ t begun. inr begun)
+        (begin half.rows x half.header half.is_head half.read);
+    only = tt;
+    moves = moves_then half.after half.after None old mid new half.moves
+        (subst (λ h. Moves b plans half.after h None mid new)
+        (refused_stays half.after (asked_by moment fields) outcome effect refused did)
+        (moved_on b plans half.after mid new moment fields outcome effect did does sound
+        half.moves.stands));
+  }
 
   -- there is a record past the last
-  pub too_many : (a b : Reader R) (number : ℕ) (report : ImportReport) (old new : B)
-      (fields : Fields) → Halfway a number report old new → number ≡ 1000002
-      → reader_config a ≡ default_config → ReadRecord remaining a b true fields
+  pub too_many : (x y : Reader R) (number : ℕ) (report : ImportReport) (old new : B)
+      (fields : Fields) → Halfway x number report old new → number ≡ 1000002
+      → reader_config x ≡ default_config → ReadRecord remaining x y true fields
       → Import (Some TooMany) report old new
-  too_many a b number report old new fields half last config took = record {
+  too_many x y number report old new fields half last config took = record {
     after = half.after;
     tried = None;
     rows = half.rows;
@@ -280,15 +252,15 @@ module _ {B R : Type 0} (content : B → Content) (is_open : B → Type 0) (left
     run = half.run;
     counts = half.counts;
     taken = if_some text _ _ (λ t b. (omega (arith, half.counted, last), fields, b))
-        (begin (half.rows ++ fields ∷ []) b half.header half.is_head
-        (read_more (half.header ∷ half.rows) fields a b config took half.read));
+        (begin (half.rows ++ fields ∷ []) y half.header half.is_head
+        (read_more (half.header ∷ half.rows) fields x y config took half.read));
     only = tt;
     moves = half.moves;
   }
 
   -- the text was given up at its header
   pub beheaded : (report : ImportReport) (book : B) (stopped : Stopped) → Counts [] report
-      → (is_open book → Stands plans (content book) history) → IsHeaderStop text stopped
+      → StoodFor b plans book history → IsHeaderStop text stopped
       → Import (Some stopped) report book book
   beheaded report book stopped counts stands why = record {
     after = history;
@@ -306,21 +278,21 @@ module _ {B R : Type 0} (content : B → Content) (is_open : B → Type 0) (left
           (sym same) (if_some text _ _ (λ t b. (refl, b)) bare)
     ];
     only = tt;
-    moves = stayed content is_open left plans history book stands;
+    moves = stayed b plans history book stands;
   }
 
 -- the same run, of a report that counts the same
-pub recounted : {B : Type 0} (content : B → Content) (is_open : B → Type 0)
-    (left : B → Content → Type 0) (plans : List Plan) (moment : ℕ) (text text' : Option (List ℕ))
+pub recounted : {B : Type 0} (b : Ghosts B) (plans : List Plan) (moment : ℕ)
+    (text text' : Option (List ℕ))
     (history : List Entry)
     (stopped stopped' : Option Stopped) (report report' : ImportReport) (old new : B) → text ≡ text'
     → stopped ≡ stopped'
     → report'.added ≡ report.added → report'.repeated ≡ report.repeated
     → report'.refused ≡ report.refused
-    → Imports content is_open left plans moment text history stopped report old new
-    → Imports content is_open left plans moment text' history stopped' report' old new
-recounted content is_open left plans moment text text' history stopped stopped' report report' old
-    new same_text same_stop a b c run = record {
+    → Imports b plans moment text history stopped report old new
+    → Imports b plans moment text' history stopped' report' old new
+recounted b plans moment text text' history stopped stopped' report report' old
+    new same_text same_stop one two three run = record {
       after = run.after;
       tried = run.tried;
       rows = run.rows;
@@ -328,9 +300,9 @@ recounted content is_open left plans moment text text' history stopped stopped' 
       run = run.run;
       counts =
           record {
-            added = a ∙ run.counts.added;
-            repeated = b ∙ run.counts.repeated;
-            refused = c
+            added = one ∙ run.counts.added;
+            repeated = two ∙ run.counts.repeated;
+            refused = three
                 ∙ run.counts.refused;
           };
       taken = rw (← same_text, ← same_stop) run.taken;

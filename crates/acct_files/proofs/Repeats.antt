@@ -12,6 +12,8 @@ use Rattle.acct_model.specs.Vouchers.{TopUpFacts, is_voucher_number, is_voucher_
 use Rattle.acct_model.specs.Vouchers.{is_voucher_sum}
 use Rattle.acct_model.specs.History.{first_of, all_topups, topup_of}
 use Rattle.acct_model.proofs.Same.{Decides-bytes_eq}
+use Rattle.acct_book.specs.Effect.{Effect, added, repeated, differs, limited, failed, looked}
+use Rattle.acct_book.specs.Effect.{passed, unasked, after_effect, Holds}
 use Rattle.acct_book.specs.Outcome.{IsRepeated}
 use Rattle.acct_files.specs.declared.import_report.Cause.{Cause}
 use Rattle.acct_files.specs.declared.import_report.Cause.TheVariants.{FieldCount, BadVoucher}
@@ -19,7 +21,7 @@ use Rattle.acct_files.specs.declared.import_report.Cause.TheVariants.{BadAccount
 use Rattle.acct_files.specs.declared.import_report.Cause.TheVariants.{VoucherDiffers, BalanceLimit}
 use Rattle.acct_files.specs.declared.import_report.Outcome.{Outcome}
 use Rattle.acct_files.specs.declared.import_report.Outcome.TheVariants.{Added, Repeated, Refused}
-use Rattle.acct_files.specs.Importing.{Becomes, Imported, IsRefused, is_refused}
+use Rattle.acct_files.specs.Importing.{Becomes, Imported, is_refused}
 use Rattle.acct_files.specs.Laws.{RepeatsLater}
 use Rattle.acct_files.specs.Vouchers.{Fields, three_of, sum_of, asked_by}
 
@@ -52,34 +54,25 @@ keeps_behind : (es history : List Entry) (t : TopUpFacts) → Keeps history t
 keeps_behind [] history t h = h
 keeps_behind (e ∷ es) history t h = keeps_longer e (es ++ history) t (keeps_behind es history t h)
 
-refused_keeps : (plans : List Plan) (old new : List Entry) (topup : TopUpFacts) (cause : Cause)
-    → IsRefused plans old topup cause new → new ≡ old
-refused_keeps plans old new topup FieldCount h = absurd h
-refused_keeps plans old new topup BadVoucher h = absurd h
-refused_keeps plans old new topup BadAccount h = absurd h
-refused_keeps plans old new topup BadSum h = absurd h
-refused_keeps plans old new topup VoucherDiffers h = h.1.1
-refused_keeps plans old new topup BalanceLimit h = h.1.1
-
-record_keeps : (plans : List Plan) (old new : List Entry) (wanted : Result TopUpFacts Cause)
-    (outcome : Outcome) (t : TopUpFacts) → Keeps old t → Becomes plans old wanted outcome new
-    → Keeps new t
-record_keeps plans old new (Ok topup) Added t h b =
-    subst (λ x. Keeps x t) (sym b.2) (keeps_longer (entry.TopUp topup) old t h)
-record_keeps plans old new (Ok topup) Repeated t h b = subst (λ x. Keeps x t) (sym b.1) h
-record_keeps plans old new (Ok topup) (Refused cause) t h b =
-    subst (λ x. Keeps x t) (sym (refused_keeps plans old new topup cause b)) h
-record_keeps plans old new (Err cause) Added t h b = absurd b
-record_keeps plans old new (Err cause) Repeated t h b = absurd b
-record_keeps plans old new (Err cause) (Refused told) t h b = subst (λ x. Keeps x t) (sym b.1) h
+effect_keeps : (old : List Entry) (effect : Effect) (t : TopUpFacts) → Keeps old t
+    → Keeps (after_effect old effect) t
+effect_keeps old (added e) t h = keeps_longer e old t h
+effect_keeps old (repeated e) t h = h
+effect_keeps old (differs e kept) t h = h
+effect_keeps old (limited e balance) t h = h
+effect_keeps old (failed e) t h = h
+effect_keeps old looked t h = h
+effect_keeps old passed t h = h
+effect_keeps old unasked t h = h
 
 run_keeps : (plans : List Plan) (moment : ℕ) (old new : List Entry) (rows : List Fields)
     (outcomes : List Outcome) (t : TopUpFacts) → Keeps old t
     → Imported plans moment old rows outcomes new → Keeps new t
 run_keeps plans moment old new [] [] t h run = subst (λ x. Keeps x t) (sym run) h
-run_keeps plans moment old new (line ∷ rows) (outcome ∷ outcomes) t h (mid, here, rest) =
-    run_keeps plans moment mid new rows outcomes t
-    (record_keeps plans old mid (asked_by moment line) outcome t h here) rest
+run_keeps plans moment old new (line ∷ rows) (outcome ∷ outcomes) t h
+    (effect, here, holds, rest) =
+    run_keeps plans moment (after_effect old effect) new rows outcomes t
+    (effect_keeps old effect t h) rest
 run_keeps plans moment old new [] (outcome ∷ outcomes) t h run = absurd run
 run_keeps plans moment old new (line ∷ rows) [] t h run = absurd run
 
@@ -90,26 +83,28 @@ newest : (b : Bool) (t : TopUpFacts) (xs : List TopUpFacts) → b ≡ true → f
 newest true t xs e none = ap (λ o. option_or o (Some t)) none
 newest false t xs e none = absurd (cc e)
 
-taken_keeps : (plans : List Plan) (old new : List Entry) (wanted : Result TopUpFacts Cause)
-    (outcome : Outcome) → is_refused outcome ≡ false → Becomes plans old wanted outcome new
-    → (t : TopUpFacts) × (wanted ≡ Ok t) × Keeps new t
-taken_keeps plans old new (Ok t) Added r b = (
+taken_keeps : (plans : List Plan) (old : List Entry) (wanted : Result TopUpFacts Cause)
+    (outcome : Outcome) (effect : Effect) → is_refused outcome ≡ false
+    → Becomes wanted outcome effect → Holds plans old effect
+    → (t : TopUpFacts) × (wanted ≡ Ok t) × Keeps (after_effect old effect) t
+taken_keeps plans old (Ok t) Added effect r is holds = (
   t,
   refl,
-  subst (λ x. Keeps x t) (sym b.2) (
+  subst (λ e. Keeps (after_effect old e) t) (sym is) (
     t,
     newest (bytes_eq t.voucher t.voucher) t
         (filter (λ x. bytes_eq t.voucher x.voucher) (all_topups old))
-        ((Decides-bytes_eq t.voucher t.voucher).1 refl) b.1,
+        ((Decides-bytes_eq t.voucher t.voucher).1 refl) (subst (Holds plans old) is holds).1,
     refl,
     refl,
   ),
 )
-taken_keeps plans old new (Ok t) Repeated r b = (t, refl, subst (λ x. Keeps x t) (sym b.1) b.0)
-taken_keeps plans old new (Ok t) (Refused cause) r b = absurd (cc r)
-taken_keeps plans old new (Err cause) Added r b = absurd b
-taken_keeps plans old new (Err cause) Repeated r b = absurd b
-taken_keeps plans old new (Err cause) (Refused told) r b = absurd (cc r)
+taken_keeps plans old (Ok t) Repeated effect r is holds =
+    (t, refl, subst (λ e. Keeps (after_effect old e) t) (sym is) (subst (Holds plans old) is holds))
+taken_keeps plans old (Ok t) (Refused cause) effect r is holds = absurd (cc r)
+taken_keeps plans old (Err cause) Added effect r is holds = absurd is
+taken_keeps plans old (Err cause) Repeated effect r is holds = absurd is
+taken_keeps plans old (Err cause) (Refused told) effect r is holds = absurd (cc r)
 
 taken_at : (plans : List Plan) (moment : ℕ) (old new : List Entry) (rows : List Fields)
     (outcomes : List Outcome) (i : ℕ) (line : Fields) (outcome : Outcome)
@@ -119,47 +114,50 @@ taken_at : (plans : List Plan) (moment : ℕ) (old new : List Entry) (rows : Lis
 taken_at plans moment old new [] [] i line outcome run at out r = absurd (cc at)
 taken_at plans moment old new [] (o ∷ outcomes) i line outcome run at out r = absurd run
 taken_at plans moment old new (x ∷ rows) [] i line outcome run at out r = absurd run
-taken_at plans moment old new (x ∷ rows) (o ∷ outcomes) zero line outcome (mid, here, rest) at out
-    r =
+taken_at plans moment old new (x ∷ rows) (o ∷ outcomes) zero line outcome
+    (effect, here, holds, rest) at out r =
     let same_line : x ≡ line = cc at in
     let same_out : o ≡ outcome = cc out in
-    let (t, is, keeps) = taken_keeps plans old mid (asked_by moment x) o
-    (ap is_refused same_out ∙ r) here in (
+    let (t, is, keeps) = taken_keeps plans old (asked_by moment x) o effect
+    (ap is_refused same_out ∙ r) here holds in (
       t,
-      sym (ap (asked_by moment) same_line)
-          ∙ is,
-      run_keeps plans moment mid new rows outcomes t keeps rest,
+      sym (ap (asked_by moment) same_line) ∙ is,
+      run_keeps plans moment (after_effect old effect) new rows outcomes t keeps rest,
     )
-taken_at plans moment old new (x ∷ rows) (o ∷ outcomes) (suc i) line outcome (mid, here, rest) at
-    out r =
-    taken_at plans moment mid new rows outcomes i line outcome rest at out r
+taken_at plans moment old new (x ∷ rows) (o ∷ outcomes) (suc i) line outcome
+    (effect, here, holds, rest) at out r =
+    taken_at plans moment (after_effect old effect) new rows outcomes i line outcome rest at out r
 
 -- ---- what is kept is repeated
 
 moved_to : TopUpFacts → ℕ → TopUpFacts
 moved_to t when = record { voucher = t.voucher; account = t.account; sum = t.sum; when = when }
 
-told_again : (plans : List Plan) (old new : List Entry) (t s : TopUpFacts) (told : Outcome)
+told_again : (plans : List Plan) (old : List Entry) (t s : TopUpFacts) (told : Outcome)
+    (effect : Effect)
     → s.voucher ≡ t.voucher → s.account ≡ t.account → s.sum ≡ t.sum → Keeps old t
-    → Becomes plans old (Ok s) told new → told ≡ Repeated
-told_again plans old new t s Added v a m (k, is, account, amount) b =
+    → Becomes (Ok s) told effect → Holds plans old effect → told ≡ Repeated
+told_again plans old t s Added effect v a m (k, is, account, amount) was holds =
     let fresh : topup_of old t.voucher ≡ None = sym (ap (topup_of old) v)
-    ∙ b.1 in absurd (cc (is, fresh))
-told_again plans old new t s Repeated v a m keeps b = refl
-told_again plans old new t s (Refused FieldCount) v a m keeps b = absurd b
-told_again plans old new t s (Refused BadVoucher) v a m keeps b = absurd b
-told_again plans old new t s (Refused BadAccount) v a m keeps b = absurd b
-told_again plans old new t s (Refused BadSum) v a m keeps b = absurd b
-told_again plans old new t s (Refused VoucherDiffers) v a m (k, is, account, amount) (other, told) =
-    let there : topup_of old t.voucher ≡ Some other = sym (ap (topup_of old) v) ∙ told.0.0 in
+    ∙ (subst (Holds plans old) was holds).1 in absurd (cc (is, fresh))
+told_again plans old t s Repeated effect v a m keeps was holds = refl
+told_again plans old t s (Refused FieldCount) effect v a m keeps was holds = absurd was
+told_again plans old t s (Refused BadVoucher) effect v a m keeps was holds = absurd was
+told_again plans old t s (Refused BadAccount) effect v a m keeps was holds = absurd was
+told_again plans old t s (Refused BadSum) effect v a m keeps was holds = absurd was
+told_again plans old t s (Refused VoucherDiffers) effect v a m (k, is, account, amount)
+    (other, was) holds =
+    let told = subst (Holds plans old) was holds in
+    let there : topup_of old t.voucher ≡ Some other = sym (ap (topup_of old) v) ∙ told.0 in
     let one : k ≡ other = cc (is, there) in
     let other_account : other.account ≡ s.account = sym (ap (λ (x : TopUpFacts). x.account) one)
     ∙ account ∙ sym a in
     let other_sum : other.sum ≡ s.sum = sym (ap (λ (x : TopUpFacts). x.sum) one) ∙ amount ∙ sym m in
-    absurd (told.0.1 other_account other_sum)
-told_again plans old new t s (Refused BalanceLimit) v a m (k, is, account, amount) (balance, told) =
+    absurd (told.1 other_account other_sum)
+told_again plans old t s (Refused BalanceLimit) effect v a m (k, is, account, amount)
+    (balance, was) holds =
     let fresh : topup_of old t.voucher ≡ None = sym (ap (topup_of old) v)
-    ∙ told.0.fresh in absurd (cc (is, fresh))
+    ∙ (subst (Holds plans old) was holds).fresh in absurd (cc (is, fresh))
 
 -- ---- the same line at another moment
 
@@ -206,17 +204,17 @@ told_at plans moment old new [] [] j line told t s run at out is v a m keeps = a
 told_at plans moment old new [] (o ∷ outcomes) j line told t s run at out is v a m keeps =
     absurd run
 told_at plans moment old new (x ∷ rows) [] j line told t s run at out is v a m keeps = absurd run
-told_at plans moment old new (x ∷ rows) (o ∷ outcomes) zero line told t s (mid, here, rest) at out
-    is v a m keeps =
+told_at plans moment old new (x ∷ rows) (o ∷ outcomes) zero line told t s
+    (effect, here, holds, rest) at out is v a m keeps =
     let same_line : x ≡ line = cc at in
     let same_out : o ≡ told = cc out in
     let wanted : asked_by moment x ≡ Ok s = ap (asked_by moment) same_line ∙ is in
-    sym same_out ∙ told_again plans old mid t s o v a m keeps
-    (subst (λ w. Becomes plans old w o mid) wanted here)
-told_at plans moment old new (x ∷ rows) (o ∷ outcomes) (suc j) line told t s (mid, here, rest) at
-    out is v a m keeps =
-    told_at plans moment mid new rows outcomes j line told t s rest at out is v a m
-    (record_keeps plans old mid (asked_by moment x) o t keeps here)
+    sym same_out ∙ told_again plans old t s o effect v a m keeps
+    (subst (λ w. Becomes w o effect) wanted here) holds
+told_at plans moment old new (x ∷ rows) (o ∷ outcomes) (suc j) line told t s
+    (effect, here, holds, rest) at out is v a m keeps =
+    told_at plans moment (after_effect old effect) new rows outcomes j line told t s rest at out is
+    v a m (effect_keeps old effect t keeps)
 
 pub repeats-later : RepeatsLater
 repeats-later plans later_plans moment later old mid between new rows later_rows outcomes

@@ -6,7 +6,8 @@ use Rattle.std.specs.Io.KnownBytes.{Appends, Keeps}
 use Rattle.std.specs.declared.cmp.Ordering.{Ordering}
 use Rattle.std.proofs.lemmas.Grind.{flat_map-append}
 use Rattle.std.proofs.lemmas.List.{append-nil}
-use Rattle.acct_book.specs.Book.{Reads}
+use Rattle.acct_book.specs.declared.book.Book.{Ghosts}
+use Rattle.acct_book.specs.Step.{Looks}
 use Rattle.acct_book.specs.Content.{Content}
 use Rattle.acct_book.specs.Walk.{IsNext, IsWalk}
 use Rattle.acct_files.specs.Exporting.{export_text, line}
@@ -92,15 +93,14 @@ pub next_here : {B K X : Type 0} (content : B → Content) (is_open : B → Type
 next_here content is_open cmp side start now new after entry same was found opens =
     subst (λ x. IsNext cmp (side x) after entry) (same (was opens)) (found opens)
 
-module _ {B : Type 0} (content : B → Content) (is_sound is_open is_steady : B → Type 0)
-    (left : B → Content → Type 0) where
+module _ {B : Type 0} (b : Ghosts B) where
   -- calls that read, whatever they answered
   pub record Quiet (old new : B) : Type 0 where
-    pub was_sound : is_sound new → is_sound old
-    pub was_open : is_open new → is_open old
-    pub keeps_steady : is_steady old → is_steady new
-    pub same : is_open new → content new ≡ content old
-    pub adds_none : is_sound new → (c : Content) → left new c → left old c
+    pub was_sound : b.is_sound new → b.is_sound old
+    pub was_open : b.is_open new → b.is_open old
+    pub keeps_steady : b.is_steady old → b.is_steady new
+    pub same : b.is_open new → b.content new ≡ b.content old
+    pub adds_none : b.is_sound new → (c : Content) → b.left new c → b.left old c
 
   pub quiet_at_first : (book : B) → Quiet book book
   quiet_at_first book =
@@ -112,9 +112,9 @@ module _ {B : Type 0} (content : B → Content) (is_sound is_open is_steady : B 
         adds_none = λ s c l. l;
       }
 
-  pub quiet_more : {T E : Type 0} (a b c : B) (result : Result T E) → Quiet a b
-      → Reads content is_sound is_open is_steady left b c result → Quiet a c
-  quiet_more a b c result quiet reads = record {
+  pub quiet_more : {T E : Type 0} (old mid new : B) (result : Result T E) → Quiet old mid
+      → Looks b mid new result → Quiet old new
+  quiet_more old mid new result quiet reads = record {
     was_sound = λ s. quiet.was_sound (reads.was_sound s);
     was_open = λ o. quiet.was_open (reads.was_open o);
     keeps_steady = λ s. reads.keeps_steady (quiet.keeps_steady s);
@@ -123,11 +123,12 @@ module _ {B : Type 0} (content : B → Content) (is_sound is_open is_steady : B 
   }
 
   -- a call after them answers for all
-  pub reads_after : {T E T' E' : Type 0} (a b c : B) (result : Result T E) (told : Result T' E')
-      → Quiet a b → Reads content is_sound is_open is_steady left b c result
-      → (is_sound c → OnOk result (is_open c) → OnOk told (is_open c))
-      → Reads content is_sound is_open is_steady left a c told
-  reads_after a b c result told quiet reads answers = record {
+  pub reads_after : {T E T' E' : Type 0} (old mid new : B) (result : Result T E)
+      (told : Result T' E')
+      → Quiet old mid → Looks b mid new result
+      → (b.is_sound new → OnOk result (b.is_open new) → OnOk told (b.is_open new))
+      → Looks b old new told
+  reads_after old mid new result told quiet reads answers = record {
     was_sound = λ s. quiet.was_sound (reads.was_sound s);
     was_open = λ o. quiet.was_open (reads.was_open o);
     keeps_steady = λ s. reads.keeps_steady (quiet.keeps_steady s);

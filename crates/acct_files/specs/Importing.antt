@@ -17,8 +17,11 @@ use Rattle.acct_book.specs.declared.recording.RecordError.{RecordError}
 use Rattle.acct_book.specs.declared.recording.Recorded.TheVariants.{New, Repeat}
 use Rattle.acct_book.specs.declared.recording.RecordError.TheVariants as error
 use Rattle.acct_book.specs.Content.{Content}
-use Rattle.acct_book.specs.Outcome.{Tells}
-use Rattle.acct_book.specs.Step.{MayAdd}
+use Rattle.acct_book.specs.declared.book.Book.{Ghosts}
+use Rattle.acct_book.specs.Effect.{Effect, added, repeated, differs, limited, failed}
+use Rattle.acct_book.specs.Effect.{unasked}
+use Rattle.acct_book.specs.Effect.{after_effect, Holds}
+use Rattle.acct_book.specs.Step.{MayAdd, StoodFor}
 use Rattle.acct_book.specs.Stands.{Stands}
 use Rattle.acct_files.specs.declared.import_report.Cause.{Cause}
 use Rattle.acct_files.specs.declared.import_report.Cause.TheVariants.{FieldCount, BadVoucher}
@@ -36,36 +39,27 @@ use Rattle.acct_files.specs.Vouchers.{Fields, is_header, asked_by}
 
 -- ---- one record
 
--- a top-up is refused for this cause, and the history stays
-abbrev pub IsRefused : List Plan → List Entry → TopUpFacts → Cause → List Entry → Type 0
-IsRefused plans old topup FieldCount new = ⊥
-IsRefused plans old topup BadVoucher new = ⊥
-IsRefused plans old topup BadAccount new = ⊥
-IsRefused plans old topup BadSum new = ⊥
-IsRefused plans old topup VoucherDiffers new =
-    (kept : TopUpFacts) × Tells plans old (TopUp topup) (Err (error.VoucherDiffers kept)) new
-IsRefused plans old topup BalanceLimit new =
-    (balance : ℤ) × Tells plans old (TopUp topup) (Err (error.BalanceLimit balance)) new
-
--- what becomes of a top-up, or of a record that asks for none: from a history to the history after
--- it
-abbrev pub Becomes : List Plan → List Entry → Result TopUpFacts Cause → Outcome → List Entry
-    → Type 0
-Becomes plans old (Ok topup) outcome.Added new = Tells plans old (TopUp topup) (Ok New) new
-Becomes plans old (Ok topup) outcome.Repeated new = Tells plans old (TopUp topup) (Ok Repeat) new
-Becomes plans old (Ok topup) (outcome.Refused cause) new = IsRefused plans old topup cause new
-Becomes plans old (Err cause) outcome.Added new = ⊥
-Becomes plans old (Err cause) outcome.Repeated new = ⊥
-Becomes plans old (Err cause) (outcome.Refused told) new = (told ≡ cause) × (new ≡ old)
+-- what a record did that asks for this top-up, or for none, by what became of it
+abbrev pub Becomes : Result TopUpFacts Cause → Outcome → Effect → Type 0
+Becomes (Ok topup) outcome.Added effect = effect ≡ added (TopUp topup)
+Becomes (Ok topup) outcome.Repeated effect = effect ≡ repeated (TopUp topup)
+Becomes (Ok topup) (outcome.Refused VoucherDiffers) effect =
+    (kept : TopUpFacts) × (effect ≡ differs (TopUp topup) kept)
+Becomes (Ok topup) (outcome.Refused BalanceLimit) effect =
+    (balance : ℤ) × (effect ≡ limited (TopUp topup) balance)
+Becomes (Ok topup) (outcome.Refused cause) effect = ⊥
+Becomes (Err cause) outcome.Added effect = ⊥
+Becomes (Err cause) outcome.Repeated effect = ⊥
+Becomes (Err cause) (outcome.Refused told) effect = (told ≡ cause) × (effect ≡ unasked)
 
 -- ---- record after record
 
--- each record in its turn, from the history that the one before it left
+-- each record in its turn: an effect that is true of the history that the one before it left
 abbrev pub Imported : List Plan → ℕ → List Entry → List Fields → List Outcome → List Entry → Type 0
 Imported plans moment old [] [] new = new ≡ old
 Imported plans moment old (fields ∷ rows) (outcome ∷ outcomes) new =
-    (mid : List Entry) × Becomes plans old (asked_by moment fields) outcome mid
-    × Imported plans moment mid rows outcomes new
+    (effect : Effect) × Becomes (asked_by moment fields) outcome effect × Holds plans old effect
+    × Imported plans moment (after_effect old effect) rows outcomes new
 Imported plans moment old [] (outcome ∷ outcomes) new = ⊥
 Imported plans moment old (fields ∷ rows) [] new = ⊥
 
@@ -138,18 +132,15 @@ MayHaveTried stopped (Some topup) = stopped ≡ Some stop.Unavailable
 
 -- ---- one record, or a stop at it
 
--- what a record did: its outcome, or why the import stopped at it
-abbrev pub Did : List Plan → ℕ → List Entry → Fields → Result Outcome Stopped → Option TopUpFacts
-    → List Entry → Type 0
-Did plans moment history fields (Ok told) tried after =
-    (tried ≡ None) × Becomes plans history (asked_by moment fields) told after
-Did plans moment history fields (Err stop.Unavailable) tried after =
-    (after ≡ history) × (topup : TopUpFacts) × (tried ≡ Some topup)
-    × (asked_by moment fields ≡ Ok topup)
-Did plans moment history fields (Err stop.Memory) tried after = (after ≡ history) × (tried ≡ None)
-Did plans moment history fields (Err stop.BadHeader) tried after = ⊥
-Did plans moment history fields (Err stop.Unreadable) tried after = ⊥
-Did plans moment history fields (Err stop.TooMany) tried after = ⊥
+-- what a record did, by its outcome or by why the import stopped at it
+abbrev pub Did : ℕ → Fields → Result Outcome Stopped → Effect → Type 0
+Did moment fields (Ok told) effect = Becomes (asked_by moment fields) told effect
+Did moment fields (Err stop.Unavailable) effect =
+    (topup : TopUpFacts) × (asked_by moment fields ≡ Ok topup) × (effect ≡ failed (TopUp topup))
+Did moment fields (Err stop.Memory) effect = effect ≡ unasked
+Did moment fields (Err stop.BadHeader) effect = ⊥
+Did moment fields (Err stop.Unreadable) effect = ⊥
+Did moment fields (Err stop.TooMany) effect = ⊥
 
 -- what a fault says, as the outcome of a record or as a stop at it
 abbrev pub refused_by : Fault → Result Outcome Stopped
@@ -172,15 +163,15 @@ MayLeave plans history None content = Stands plans content history
 MayLeave plans history (Some topup) content =
     Stands plans content history ⊎ MayAdd plans history (TopUp topup) content
 
-module _ {B : Type 0} (content : B → Content) (is_open : B → Type 0) (left : B → Content
-    → Type 0) where
+module _ {B : Type 0} (b : Ghosts B) where
   -- From a history to the one after it: the book stands for that while it is open, and a crash
   -- leaves what stands for it, or for it with
   -- the top-up whose call failed, if before it left nothing but what stood for the history.
   pub record Moves (plans : List Plan) (history after : List Entry) (tried : Option TopUpFacts)
       (old new : B) : Type 0 where
-    pub stands : is_open new → Stands plans (content new) after
-    pub leaves : ((c : Content) → left old c → Stands plans c history) → (c : Content) → left new c
+    pub stands : StoodFor b plans new after
+    pub leaves : ((c : Content) → b.left old c → Stands plans c history) → (c : Content)
+        → b.left new c
         → MayLeave plans after tried c
 
   -- a run over a text, from a history to the one after it
@@ -197,14 +188,15 @@ module _ {B : Type 0} (content : B → Content) (is_open : B → Type 0) (left :
     pub only : MayHaveTried stopped tried
     pub moves : Moves plans history after tried old new
 
-module _ {B : Type 0} (content : B → Content) (is_sound is_open is_steady : B → Type 0) where
+module _ {B : Type 0} (b : Ghosts B) where
   -- what calls keep of a book, whatever it stands for
   pub record Keeps (stopped : Option Stopped) (added : ℕ) (old new : B) : Type 0 where
-    pub was_sound : is_sound new → is_sound old
-    pub was_open : is_open new → is_open old
-    pub keeps_steady : is_steady old → is_steady new
-    pub stays_open : is_sound new → stopped ≢ Some stop.Unavailable → is_open old → is_open new
-    pub unchanged : is_open new → added ≡ 0 → content new ≡ content old
+    pub was_sound : b.is_sound new → b.is_sound old
+    pub was_open : b.is_open new → b.is_open old
+    pub keeps_steady : b.is_steady old → b.is_steady new
+    pub stays_open : b.is_sound new → stopped ≢ Some stop.Unavailable → b.is_open old
+        → b.is_open new
+    pub unchanged : b.is_open new → added ≡ 0 → b.content new ≡ b.content old
 
 -- why a run stopped, if it did
 abbrev pub stop_of : {X : Type 0} → Result X Stopped → Option Stopped

@@ -2,7 +2,7 @@
 ghost use Rattle.std.specs.Prelude.{◌≡◌, [], ◌∷◌, ℕ, ℤ, List, None, IfOk, OnOk, option_map};
 ghost use Rattle.std.specs.Io.KnownBytes.{Appends};
 ghost use Rattle.csv.specs.Writing.{text_written};
-ghost use Rattle.acct_book.specs.Book.{Reads};
+ghost use Rattle.acct_book.specs.Step.{Looks};
 ghost use Rattle.acct_book.specs.Maps.{octets_cmp};
 ghost use Rattle.acct_book.specs.Walk.{AreAllPast, IsNextBalance};
 ghost use Rattle.acct_files.specs.Exporting.{IsBetweenLines, line, account_header, account_line};
@@ -38,7 +38,7 @@ pub fn export_balances<B: Book, W: Write + Drop>(
     book: &mut B,
     writer: W,
 ) -> Result<W, ExportError>
-    ensures reads { Reads B.content B.is_sound B.is_open B.is_steady B.left
+    ensures reads { Looks B.Book
         book.old book.new result }
     ensures text { IfOk result (λ w. (entries : List (List ℕ × ℤ))
         × Appends (W.contents writer) (W.contents w)
@@ -61,7 +61,7 @@ pub fn export_overruns<B: Book, W: Write + Drop>(
     book: &mut B,
     writer: W,
 ) -> Result<W, ExportError>
-    ensures reads { Reads B.content B.is_sound B.is_open B.is_steady B.left
+    ensures reads { Looks B.Book
         book.old book.new result }
     ensures text { IfOk result (λ w. (entries : List (List ℕ × ℤ))
         × Appends (W.contents writer) (W.contents w)
@@ -78,7 +78,7 @@ fn export_accounts<B: Book, W: Write + Drop>(
     writer: W,
     what: AccountExport,
 ) -> Result<W, ExportError>
-    ensures reads { Reads B.content B.is_sound B.is_open B.is_steady B.left
+    ensures reads { Looks B.Book
         book.old book.new result }
     ensures text { IfOk result (λ w. (entries : List (List ℕ × ℤ))
         × Appends (W.contents writer) (W.contents w)
@@ -120,7 +120,7 @@ fn next_account<B: Book>(
     ensures found { B.is_open book.new
         → IfOk result (λ kept. IsNextBalance (B.content book.old)
         (option_map (λ a. a.items) after.now) (option_map (λ k. (k.0.items, k.1)) kept)) }
-    ensures reads { Reads B.content B.is_sound B.is_open B.is_steady B.left
+    ensures reads { Looks B.Book
         book.old book.new result }
 {
     let next = match after {

@@ -5,9 +5,9 @@ ghost use Rattle.csv.specs.Reading.{ReadRecord, source_of, strip_bom, reader_sta
 ghost use Rattle.csv.specs.Records.{fields_of};
 ghost use Rattle.csv.specs.declared.parser.State.TheVariants as st;
 ghost use Rattle.acct_model.specs.declared.entry.Entry.{Entry};
-ghost use Rattle.acct_model.specs.Vouchers.{TopUpFacts};
-ghost use Rattle.acct_book.specs.Stands.{Stands};
-ghost use Rattle.acct_files.specs.Importing.{Keeps, Imports, Moves, Did, Counts, added_by};
+ghost use Rattle.acct_book.specs.Effect.{Effect};
+ghost use Rattle.acct_book.specs.Step.{StoodFor, Does};
+ghost use Rattle.acct_files.specs.Importing.{Keeps, Imports, Did, Counts, added_by};
 ghost use Rattle.acct_files.specs.Importing.{refused_by, stop_of, told_by};
 ghost use Rattle.acct_files.specs.Reading.{IsAtRecord, HasReadHeader, IsReadStop, IsHeaderStop};
 ghost use Rattle.acct_files.specs.Reading.{HasLimits};
@@ -39,11 +39,11 @@ pub fn import<R: Read + Drop, B: Book>(
     moment: u64,
 ) -> ImportReport
     requires { moment < 2 ^ 53 }
-    ensures keeps { Keeps B.content B.is_sound B.is_open B.is_steady result.stopped result.added
+    ensures keeps { Keeps B.Book result.stopped result.added
         book.old book.new }
     ensures imports { B.is_sound book.new → (history : List Entry)
-        → (B.is_open book.old → Stands plans.now (B.content book.old) history)
-        → Imports B.content B.is_open B.left plans.now moment
+        → StoodFor B.Book plans.now book.old history
+        → Imports B.Book plans.now moment
         (option_map strip_bom (R.remaining reader)) history result.stopped result book.old
         book.new }
 {
@@ -84,11 +84,11 @@ fn import_rows<R: Read, B: Book>(
     requires rows { IsAtRecord rows.old }
     requires start { reader_state rows.old ≡ st.StartRecord }
     requires report { Counts [] report.old }
-    ensures keeps { Keeps B.content B.is_sound B.is_open B.is_steady (stop_of result)
+    ensures keeps { Keeps B.Book (stop_of result)
         report.new.added book.old book.new }
     ensures imports { B.is_sound book.new → (history : List Entry)
-        → (B.is_open book.old → Stands plans.now (B.content book.old) history)
-        → Imports B.content B.is_open B.left plans.now moment (source_of R.remaining rows.old)
+        → StoodFor B.Book plans.now book.old history
+        → Imports B.Book plans.now moment (source_of R.remaining rows.old)
         history (stop_of result) report.new book.old book.new }
 {
     read_header(rows, row)?;
@@ -149,13 +149,10 @@ fn outcome_of<B: Book>(
     moment: u64,
 ) -> Result<Outcome, Stopped>
     requires { moment < 2 ^ 53 }
-    ensures keeps { Keeps B.content B.is_sound B.is_open B.is_steady (stop_of result)
+    ensures keeps { Keeps B.Book (stop_of result)
         (added_by result) book.old book.new }
-    ensures did { B.is_sound book.new → (history : List Entry)
-        → (B.is_open book.old → Stands plans.now (B.content book.old) history)
-        → (tried : Option TopUpFacts) × (after : List Entry)
-        × Did plans.now moment history (fields_of row.now) result tried after
-        × Moves B.content B.is_open B.left plans.now history after tried book.old book.new }
+    ensures did { (effect : Effect) × Did moment (fields_of row.now) result effect
+        × Does B.Book plans.now book.old book.new effect }
 {
     let topup = match topup_in(alloc, row, moment) {
         Ok(topup) => topup,

@@ -4,7 +4,7 @@ ghost use Rattle.std.specs.Io.KnownBytes.{Appends};
 ghost use Rattle.csv.specs.Records.{fields_of, partial_of};
 ghost use Rattle.csv.specs.Writing.{text_written};
 ghost use Rattle.acct_book.specs.declared.key.Key.{Key};
-ghost use Rattle.acct_book.specs.Book.{Reads};
+ghost use Rattle.acct_book.specs.Step.{Looks};
 ghost use Rattle.acct_book.specs.Content.{key_of};
 ghost use Rattle.acct_book.specs.Maps.{key_cmp};
 ghost use Rattle.acct_book.specs.Row.{RowFacts};
@@ -37,7 +37,7 @@ pub fn export_sessions<B: Book, W: Write + Drop>(
     plans: &Plans,
     writer: W,
 ) -> Result<W, ExportError>
-    ensures reads { Reads B.content B.is_sound B.is_open B.is_steady B.left
+    ensures reads { Looks B.Book
         book.old book.new result }
     ensures text { IfOk result (λ w. (entries : List (Key × RowFacts))
         × Appends (W.contents writer) (W.contents w)
@@ -78,7 +78,7 @@ fn begin_sessions<W: Write + Drop>(writer: W) -> Result<Writer<W>, ExportError>
 fn next_session<B: Book>(book: &mut B, after: &Option<Key>) -> Result<Option<Row>, ExportError>
     ensures found { B.is_open book.new
         → IfOk result (λ row. IsNextRow (B.content book.old) after.now row) }
-    ensures reads { Reads B.content B.is_sound B.is_open B.is_steady B.left
+    ensures reads { Looks B.Book
         book.old book.new result }
 {
     match book.next_session(after.as_ref()) {

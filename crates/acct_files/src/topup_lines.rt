@@ -3,7 +3,7 @@ ghost use Rattle.std.specs.Prelude.{◌≡◌, ℕ, List, None, IfOk, OnOk, map,
 ghost use Rattle.std.specs.Io.KnownBytes.{Appends};
 ghost use Rattle.csv.specs.Writing.{text_written};
 ghost use Rattle.acct_model.specs.Vouchers.{TopUpFacts};
-ghost use Rattle.acct_book.specs.Book.{Reads};
+ghost use Rattle.acct_book.specs.Step.{Looks};
 ghost use Rattle.acct_book.specs.Maps.{octets_cmp};
 ghost use Rattle.acct_book.specs.Walk.{AreAllPast, IsNextTopUp};
 ghost use Rattle.acct_files.specs.Exporting.{IsBetweenLines, line, topup_header, topup_fields};
@@ -31,7 +31,7 @@ pub fn export_topups<B: Book, W: Write + Drop>(
     book: &mut B,
     writer: W,
 ) -> Result<W, ExportError>
-    ensures reads { Reads B.content B.is_sound B.is_open B.is_steady B.left
+    ensures reads { Looks B.Book
         book.old book.new result }
     ensures text { IfOk result (λ w. (entries : List (List ℕ × TopUpFacts))
         × Appends (W.contents writer) (W.contents w)
@@ -67,7 +67,7 @@ fn begin_topups<W: Write + Drop>(writer: W) -> Result<Writer<W>, ExportError>
 fn next_topup<B: Book>(book: &mut B, after: &Option<Text>) -> Result<Option<TopUp>, ExportError>
     ensures found { B.is_open book.new
         → IfOk result (λ topup. IsNextTopUp (B.content book.old) after.now topup) }
-    ensures reads { Reads B.content B.is_sound B.is_open B.is_steady B.left
+    ensures reads { Looks B.Book
         book.old book.new result }
 {
     let next = match after {

@@ -1,5 +1,2 @@
-mod Asking
-mod Datagrams
-mod Requests
-mod Crashes
+mod Steps
 mod Visits

@@ -8,21 +8,23 @@ use Rattle.std.proofs.lemmas.List.Elements.{filter_map-append, Contains-append_l
 use Rattle.std.proofs.lemmas.List.Elements.{Contains-push}
 use Rattle.std.proofs.lemmas.List.Sums.{sum_by-append}
 use Rattle.acct_model.specs.declared.entry.Entry.{Entry}
+use Rattle.acct_book.specs.declared.book.Book.{Ghosts}
 use Rattle.acct_book.specs.Content.{Content}
+use Rattle.acct_book.specs.Effect.{Effect, after_effect, failed}
 use Rattle.acct_book.specs.Stands.{Stands}
 use Rattle.acct_book.specs.Step.{MayAdd, StoodFor}
+use Rattle.acct_book.proofs.Crashes.{Leaves, left_by}
 use Rattle.acct_wire.specs.declared.reason.Reason.{Reason}
 use Rattle.acct_files.specs.declared.config.Config.{Config}
 use Rattle.acct_service.specs.declared.event.Event.{Event}
 use Rattle.acct_service.specs.declared.exchange.Asked.{Asked}
 use Rattle.acct_service.specs.declared.server.Served.{Served}
-use Rattle.acct_service.specs.Machine.{Answer, Effect, failed, after_effect, Visit, Step, Run}
+use Rattle.acct_service.specs.Machine.{Answer, Visit, Step, Run}
 use Rattle.acct_service.specs.Machine.{TakesStep}
 use Rattle.acct_service.specs.Told.{Told, Grows}
 use Rattle.acct_service.specs.Serving.{reply_of, is_replied, place_of, is_dropped_for, is_mute}
 use Rattle.acct_service.specs.Serving.{Counts}
 use Rattle.acct_service.specs.Serving.{HasFailed, MayLeave, Serves, Keeps, AtMost}
-use Rattle.acct_service.proofs.Crashes.{leaves}
 
 -- a run goes on by one step
 pub run_more : (config : Config) (history next after : List Entry) (visits : List Visit)
@@ -51,10 +53,9 @@ grows_none None = tt
 grows_none (Some a) = (sym (append-nil a.events), sym (append-nil a.replies))
 
 -- what is kept is kept from the first to the last
-pub keeps_then : {B : Type 0} (is_sound is_open is_steady : B → Type 0) (a b c : B)
-    → Keeps is_sound is_open is_steady a b → Keeps is_sound is_open is_steady b c
-    → Keeps is_sound is_open is_steady a c
-keeps_then is_sound is_open is_steady a b c first second = record {
+pub keeps_then : {B : Type 0} (b : Ghosts B) (old mid new : B) → Keeps b old mid
+    → Keeps b mid new → Keeps b old new
+keeps_then b old mid new first second = record {
   was_sound = λ sound. first.was_sound (second.was_sound sound);
   was_open = λ still. first.was_open (second.was_open still);
   keeps_steady = λ steady. second.keeps_steady (first.keeps_steady steady);
@@ -115,13 +116,12 @@ none_at_most served counts none = record {
   faults = omega (arith, none);
 }
 
-module _ {B : Type 0} (content : B → Content) (is_sound is_open is_steady : B → Type 0)
-    (left : B → Content → Type 0) (config : Config) (history : List Entry) (start : B)
+module _ {B : Type 0} (b : Ghosts B) (config : Config) (history : List Entry) (start : B)
     (told : Option Told) where
   -- before the first turn
   pub serves_first : (served : Served) → Counts [] served → Grows told [] [] told
-      → StoodFor config.plans content is_open start history
-      → Serves content is_open left config history start start told told served
+      → StoodFor b config.plans start history
+      → Serves b config history start start told told served
   serves_first served counts grows stood = record {
     visits = [];
     after = history;
@@ -134,10 +134,10 @@ module _ {B : Type 0} (content : B → Content) (is_sound is_open is_steady : B 
 
   -- a turn in which nothing came
   pub serves_none : (book : B) (now later : Option Told) (old new : Served)
-      → Serves content is_open left config history start book told now old
+      → Serves b config history start book told now old
       → Grows now [] [] later → new.events ≡ old.events → new.replies ≡ old.replies
       → new.dropped ≡ old.dropped → new.mute ≡ old.mute
-      → Serves content is_open left config history start book told later new
+      → Serves b config history start book told later new
   serves_none book now later old new s grows events replies dropped mute = record {
     visits = s.visits;
     after = s.after;
@@ -162,15 +162,11 @@ module _ {B : Type 0} (content : B → Content) (is_sound is_open is_steady : B 
   }
 
   leaves_more : (before : List Visit) (next : List Entry) (visit : Visit) (book new : B)
-      → (((c : Content) → left start c → Stands config.plans c history) → (c : Content)
-      → left book c → MayLeave config.plans next (HasFailed before) c)
-      → ((c : Content) → left new c
-      → Stands config.plans c (after_effect next visit.effect)
-      ⊎ ((after_effect next visit.effect ≡ next)
-      × (left book c
-      ⊎ ((asked : Entry) × (visit.effect ≡ failed asked) × MayAdd config.plans next asked c))))
-      → ((c : Content) → left start c → Stands config.plans c history) → (c : Content)
-      → left new c
+      → (((c : Content) → b.left start c → Stands config.plans c history) → (c : Content)
+      → b.left book c → MayLeave config.plans next (HasFailed before) c)
+      → Leaves b config.plans book new next visit.effect
+      → ((c : Content) → b.left start c → Stands config.plans c history) → (c : Content)
+      → b.left new c
       → MayLeave config.plans (after_effect next visit.effect) (HasFailed (before ++ visit ∷ [])) c
   leaves_more before next visit book new so_far step only c may = elim (step c may) [
     | inl stands ↦ inl stands
@@ -192,10 +188,9 @@ module _ {B : Type 0} (content : B → Content) (is_sound is_open is_steady : B 
   -- a turn in which an event came and was answered
   pub serves_more : (book new : B) (now later : Option Told) (was is : Served) (event : Event)
       (answer : Answer) (is_taken : Bool)
-      → Serves content is_open left config history start book told now was
-      → is_sound new
-      → TakesStep config event.moment event.what content is_sound is_open is_steady left book new
-      answer
+      → Serves b config history start book told now was
+      → b.is_sound new
+      → TakesStep b config event.moment event.what book new answer
       → ((effect : Effect)
       → let visit : Visit = record {
         event = event;
@@ -205,21 +200,25 @@ module _ {B : Type 0} (content : B → Content) (is_sound is_open is_steady : B 
             is_taken;
       } in
       Grows now (event ∷ []) (filter_map reply_of (visit ∷ [])) later × CountsOne visit was is)
-      → Serves content is_open left config history start new told later is
+      → Serves b config history start new told later is
   serves_more book new now later was is event answer is_taken s sound t shows =
-      let (after, (effect, says, same), stands) = t.step sound s.after s.stands in
+      let effect = t.effect in
       let visit : Visit =
       record { event = event; answer = answer; effect = effect; is_taken = is_taken } in
-      let stood = subst (λ h. StoodFor config.plans content is_open new h) same stands in
+      let here : Step config s.after visit (after_effect s.after effect) = record {
+        answers = t.answers;
+        holds = t.does.holds sound s.after s.stands;
+        tells = t.tells sound s.after s.stands;
+        leads = refl;
+      } in
       record {
         visits = s.visits ++ visit ∷ [];
         after = after_effect s.after effect;
         run = run_more config history s.after (after_effect s.after effect) s.visits visit s.run
-            (says, refl);
-        stands = stood;
+            here;
+        stands = t.does.stands sound s.after s.stands;
         leaves = leaves_more s.visits s.after visit book new s.leaves
-            (leaves content is_sound is_open is_steady left book new config event.moment event.what
-            answer s.after effect t sound s.stands stood says);
+            (left_by b config.plans book new effect t.does sound s.after s.stands);
         told =
             let both =
             grows_twice told now later (map (λ (v : Visit). v.event) s.visits) (event ∷ [])

@@ -5,7 +5,9 @@ use Rattle.std.specs.Prelude.{map, length, count_by, slice_index, Contains}
 use Rattle.std.specs.List.{filter_map}
 use Rattle.acct_model.specs.declared.plan.Plan.{Plan}
 use Rattle.acct_model.specs.declared.entry.Entry.{Entry}
+use Rattle.acct_book.specs.declared.book.Book.{Ghosts}
 use Rattle.acct_book.specs.Content.{Content}
+use Rattle.acct_book.specs.Effect.{failed}
 use Rattle.acct_book.specs.Stands.{Stands}
 use Rattle.acct_book.specs.Step.{MayAdd, StoodFor}
 use Rattle.acct_wire.specs.declared.reason.Reason.{Reason}
@@ -14,7 +16,7 @@ use Rattle.acct_files.specs.declared.config.Config.{Config}
 use Rattle.acct_service.specs.declared.event.Event.{Event}
 use Rattle.acct_service.specs.declared.exchange.Asked.{Asked}
 use Rattle.acct_service.specs.declared.server.Served.{Served}
-use Rattle.acct_service.specs.Machine.{Answer, replied, dropped, mute, failed, Visit, Run}
+use Rattle.acct_service.specs.Machine.{Answer, replied, dropped, mute, Visit, Run}
 use Rattle.acct_service.specs.Told.{Told, Grows, asked}
 
 -- ---- replies
@@ -102,28 +104,27 @@ MayLeave plans history Tried content =
     ⊎ ((asked : Entry) × Tried asked × MayAdd plans history asked content)
 
 -- a book that is sound, or open, afterwards was so before, and a steady book stays steady
-pub record Keeps {B : Type 0} (is_sound is_open is_steady : B → Type 0) (old new : B) : Type 0 where
-  pub was_sound : is_sound new → is_sound old
-  pub was_open : is_open new → is_open old
-  pub keeps_steady : is_steady old → is_steady new
+pub record Keeps {B : Type 0} (b : Ghosts B) (old new : B) : Type 0 where
+  pub was_sound : b.is_sound new → b.is_sound old
+  pub was_open : b.is_open new → b.is_open old
+  pub keeps_steady : b.is_steady old → b.is_steady new
 
 -- ---- the headline
 
 -- From a history to the one after it: there is a list of visits, each an event with its answer, and
 -- it is a run of the machine.
-pub record Serves {B : Type 0} (content : B → Content) (is_open : B → Type 0)
-    (left : B → Content → Type 0) (config : Config) (history : List Entry) (old new : B)
-    (old_told new_told : Option Told) (served : Served) : Type 0 where
+pub record Serves {B : Type 0} (b : Ghosts B) (config : Config) (history : List Entry)
+    (old new : B) (old_told new_told : Option Told) (served : Served) : Type 0 where
   pub visits : List Visit
   pub after : List Entry
   pub run : Run config history visits after
   -- the book's content stands for the history after the run, while it tells one
-  pub stands : StoodFor config.plans content is_open new after
+  pub stands : StoodFor b config.plans new after
   -- Where a crash before the run could leave only what stood for the history, a crash now leaves
   -- only what stands for the one after the run, or for that with the entry of a visit whose call
   -- failed: what was answered stays.
-  pub leaves : ((c : Content) → left old c → Stands config.plans c history) → (c : Content)
-      → left new c → MayLeave config.plans after (HasFailed visits) c
+  pub leaves : ((c : Content) → b.left old c → Stands config.plans c history) → (c : Content)
+      → b.left new c → MayLeave config.plans after (HasFailed visits) c
   -- the exchange gave these events, and was asked for these replies and no others
   pub told : Grows old_told (map (λ visit. visit.event) visits) (filter_map reply_of visits)
       new_told

@@ -61,9 +61,9 @@ impl Outbox {
         book: &mut B,
         datagram: &Datagram<'_>,
     ) -> Turn
-        ensures { (port : ℕ) → TakesStep config.now datagram.now.moment
-            (what.Datagram datagram.now.source port datagram.now.bytes.now) B.content B.is_sound
-            B.is_open B.is_steady B.left book.old book.new (answer_of result self.new) }
+        ensures { (port : ℕ) → TakesStep B.Book config.now datagram.now.moment
+            (what.Datagram datagram.now.source port datagram.now.bytes.now) book.old book.new
+            (answer_of result self.new) }
     {
         let outcome = answer(
             alloc,
@@ -93,8 +93,8 @@ impl Outbox {
         moment: u64,
     ) -> Turn
         requires { moment < 2 ^ 53 }
-        ensures { TakesStep config.now moment (what.Desk bytes.now) B.content B.is_sound B.is_open
-            B.is_steady B.left book.old book.new (answer_of result self.new) }
+        ensures { TakesStep B.Book config.now moment (what.Desk bytes.now) book.old book.new
+            (answer_of result self.new) }
     {
         match handle(alloc, &config.keys, &config.plans, book, bytes, moment) {
             Ok(response) => {

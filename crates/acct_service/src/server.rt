@@ -83,12 +83,12 @@ fn take_turn<B: Book, X: Exchange>(
     ensures faults { X.failure_count exchange.new + served.old.faults
         ≡ X.failure_count exchange.old + served.new.faults }
     ensures room { (n : ℕ) → AtMost n served.old → AtMost (n + 1) served.new }
-    ensures keeps { Keeps B.is_sound B.is_open B.is_steady book.old book.new }
+    ensures keeps { Keeps B.Book book.old book.new }
     ensures serves { (start : B) → (told : Option Told) → (history : List Entry)
         → B.is_sound book.new
-        → Serves B.content B.is_open B.left config.now history start book.old told
+        → Serves B.Book config.now history start book.old told
         (X.told exchange.old) served.old
-        → Serves B.content B.is_open B.left config.now history start book.new told
+        → Serves B.Book config.now history start book.new told
         (X.told exchange.new) served.new }
 {
     match exchange.next() {
@@ -138,10 +138,10 @@ pub fn serve<B: Book, X: Exchange>(
         ≡ X.failure_count exchange.old + result.faults }
 
     // Of the book, and of both together: a run from any history for which the content stood.
-    ensures keeps { Keeps B.is_sound B.is_open B.is_steady book.old book.new }
+    ensures keeps { Keeps B.Book book.old book.new }
     ensures serves { B.is_sound book.new → (history : List Entry)
-        → StoodFor config.now.plans B.content B.is_open book.old history
-        → Serves B.content B.is_open B.left config.now history book.old book.new
+        → StoodFor B.Book config.now.plans book.old history
+        → Serves B.Book config.now history book.old book.new
         (X.told exchange.old) (X.told exchange.new) result }
 {
     let mut out = Outbox::new();

@@ -31,8 +31,8 @@ pub fn step<B: Book>(
     event: &Event,
     out: &mut Outbox,
 ) -> Turn
-    ensures { TakesStep config.now event.now.moment event.now.what B.content B.is_sound B.is_open
-        B.is_steady B.left book.old book.new (answer_of result out.new) }
+    ensures { TakesStep B.Book config.now event.now.moment event.now.what book.old book.new
+        (answer_of result out.new) }
 {
     match &event.what {
         What::Datagram {

@@ -6,3 +6,5 @@ pub mod Judgement
 pub mod Asked
 -- why no two clients share a name or an address
 pub mod ClientLaws
+-- why a request that is faultless asks for one at all
+pub mod Spelled

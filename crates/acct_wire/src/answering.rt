@@ -1,10 +1,11 @@
 //! A datagram judged, recorded and answered.
 ghost use Rattle.std.specs.Prelude.{◌≡◌, ◌⊎◌, ◌≤◌, ◌<◌, ◌^◌, IfOk, IfErr};
-ghost use Rattle.acct_book.specs.Step.{IsStep};
-ghost use Rattle.acct_wire.specs.Datagrams.{IsRequest, BreaksFirst, Breaks, Asks, AsksFor};
+ghost use Rattle.acct_book.specs.Effect.{Effect};
+ghost use Rattle.acct_book.specs.Step.{Does};
+ghost use Rattle.acct_wire.specs.Datagrams.{IsRequest, BreaksFirst, Breaks, Asks};
 ghost use Rattle.acct_wire.specs.Datagrams.{IsAsking, SpellsEntry, reason_of as reason_in};
 ghost use Rattle.acct_wire.specs.Datagrams.{RefusesAs};
-ghost use Rattle.acct_wire.specs.Outcomes.{Judges, IsDecidedAlone, Writes, IsTold, IsDrop, Steps};
+ghost use Rattle.acct_wire.specs.Outcomes.{Answers, Written};
 
 use crate::client::{Client, Clients};
 use crate::datagram::Datagram;
@@ -39,19 +40,12 @@ pub fn answer<B: Book>(
     datagram: &Datagram<'_>,
     out: &mut [u8; 4096],
 ) -> Outcome
-    // What is judged of the datagram alone, over any book, and what the array then holds.
-    ensures judged { Judges clients.now datagram.now.source datagram.now.bytes.now result }
-    ensures written { Writes clients.now datagram.now.source datagram.now.bytes.now
-        out.old out.new result }
-
-    // The first eleven reasons leave the book alone. Else it makes a step, from history to history.
-    ensures alone { IsDecidedAlone result → book.new ≡ book.old }
-    ensures step { IsStep plans.now B.content B.is_sound B.is_open B.is_steady B.left
-        book.old book.new (IsTold result) (IsDrop result)
-        (λ history after. Steps clients.now plans.now datagram.now.source datagram.now.bytes.now
-        datagram.now.moment result history after)
-        (λ asked. AsksFor clients.now datagram.now.source datagram.now.bytes.now
-        datagram.now.moment asked) }
+    // What is answered and what that does, over any book, and what the array then holds.
+    ensures answers { (effect : Effect)
+        × Answers clients.now datagram.now.source datagram.now.bytes.now datagram.now.moment
+        out.new result effect
+        × Does B.Book plans.now book.old book.new effect }
+    ensures written { Written out.old out.new result }
 {
     let request = match requested(alloc, clients, datagram) {
         Ok(request) => request,
@@ -63,7 +57,8 @@ pub fn answer<B: Book>(
             Outcome::Reply(write_response(&request.packet, secret, out))
         }
         Err(RecordError::BalanceLimit(_)) => Outcome::Drop(Reason::BalanceLimit),
-        Err(_) => Outcome::Drop(Reason::Unavailable),
+        Err(RecordError::VoucherDiffers(_)) => Outcome::Drop(Reason::Unavailable),
+        Err(RecordError::Unavailable) => Outcome::Drop(Reason::Unavailable),
     }
 }
 

@@ -10,7 +10,8 @@ use Rattle.std.proofs.lemmas.Grind.{flat_map-append}
 use Rattle.std.proofs.KnownBytes.{Appends-nil, Appends-trans, Appends-kept}
 use Rattle.std.proofs.lemmas.List.{append-nil}
 use Rattle.acct_model.specs.declared.plan.Plan.{Plan}
-use Rattle.acct_book.specs.Content.{Content, empty_content}
+use Rattle.acct_book.specs.declared.book.Book.{Ghosts}
+use Rattle.acct_book.specs.Content.{empty_content}
 use Rattle.acct_wire.specs.declared.client.Client.{Client}
 use Rattle.radacctd.specs.Lines.{IsCut, AreCut}
 use Rattle.radacctd.specs.Feed.{AnswersLine, AnswersAll, Prints, Ran, RanAfresh}
@@ -42,17 +43,16 @@ text_more answers answer =
     flat_map-append printed_text answers (answer ∷ [])
     ∙ ap (λ text. flat_map printed_text answers ++ text) (append-nil (printed_text answer))
 
-module _ {B : Type 0} (content : B → Content) (is_sound is_open is_steady : B → Type 0)
-    (left : B → Content → Type 0) (clients : List Client) (plans : List Plan) where
+module _ {B : Type 0} (b : Ghosts B) (clients : List Client) (plans : List Plan) where
   answered_more : (lines : List (List ℕ)) (answers : List (Option Answer)) (old mid new : B)
       (line : List ℕ) (answer : Option Answer)
-      → AnswersAll content is_sound is_open is_steady left clients plans lines answers old mid
-      → AnswersLine content is_sound is_open is_steady left clients plans mid new line answer
-      → AnswersAll content is_sound is_open is_steady left clients plans (lines ++ line ∷ [])
+      → AnswersAll b clients plans lines answers old mid
+      → AnswersLine b clients plans mid new line answer
+      → AnswersAll b clients plans (lines ++ line ∷ [])
       (answers ++ answer ∷ []) old new
   answered_more [] [] old mid new line answer done one = (
     new,
-    subst (λ b. AnswersLine content is_sound is_open is_steady left clients plans b new
+    subst (λ x. AnswersLine b clients plans x new
         line answer) done one,
     refl,
   )
@@ -62,7 +62,7 @@ module _ {B : Type 0} (content : B → Content) (is_sound is_open is_steady : B 
       (done.0, done.1, answered_more lines answers done.0 mid new line answer done.2 one)
 
   pub ran_none : (book : B) (input : List ℕ) (before : Option (List ℕ))
-      → Ran content is_sound is_open is_steady left clients plans book book input input true before
+      → Ran b clients plans book book input input true before
       before
   ran_none book input before = record {
     lines = [];
@@ -75,11 +75,11 @@ module _ {B : Type 0} (content : B → Content) (is_sound is_open is_steady : B 
 
   pub ran_more : (old mid new : B) (input rest line next : List ℕ) (good first : Bool)
       (before between after : Option (List ℕ))
-      → Ran content is_sound is_open is_steady left clients plans old mid input rest good before
+      → Ran b clients plans old mid input rest good before
       between → rest ≢ [] → IsCut rest line next
-      → Prints content is_sound is_open is_steady left clients plans mid new line first between
+      → Prints b clients plans mid new line first between
       after
-      → Ran content is_sound is_open is_steady left clients plans old new input next
+      → Ran b clients plans old new input next
       (good && first) before after
   ran_more old mid new input rest line next good first before between after ran some cut one =
       record {
@@ -96,9 +96,9 @@ module _ {B : Type 0} (content : B → Content) (is_sound is_open is_steady : B 
 
   ran_kept : (old new : B) (input rest : List ℕ) (good : Bool)
       (before between after : Option (List ℕ))
-      → Ran content is_sound is_open is_steady left clients plans old new input rest good before
+      → Ran b clients plans old new input rest good before
       between → Keeps between after
-      → Ran content is_sound is_open is_steady left clients plans old new input rest good before
+      → Ran b clients plans old new input rest good before
       after
   ran_kept old new input rest good before between after ran keeps = record {
     lines = ran.lines;
@@ -111,10 +111,10 @@ module _ {B : Type 0} (content : B → Content) (is_sound is_open is_steady : B 
 
   -- What was answered over a new book is so after the writer was flushed.
   pub ran_afresh : (first last : B) (input : List ℕ) (before between after : Option (List ℕ))
-      → is_open first × (content first ≡ empty_content)
-      → Ran content is_sound is_open is_steady left clients plans first last input [] true before
+      → b.is_open first × (b.content first ≡ empty_content)
+      → Ran b clients plans first last input [] true before
       between → Keeps between after
-      → RanAfresh content is_sound is_open is_steady left clients plans input before after
+      → RanAfresh b clients plans input before after
   ran_afresh first last input before between after is_new ran keeps = record {
     first = first;
     is_new = is_new;

@@ -8,20 +8,20 @@ use Rattle.radius_codec.specs.Packet.{request_octets}
 use Rattle.acct_model.specs.declared.plan.Plan.{Plan}
 use Rattle.acct_model.specs.declared.entry.Entry.TheVariants as entry
 use Rattle.acct_model.specs.Vouchers.{TopUpFacts}
+use Rattle.acct_book.specs.declared.book.Book.{Ghosts}
 use Rattle.acct_book.specs.declared.key.Key.{Key}
 use Rattle.acct_book.specs.declared.book.Unavailable.{Unavailable as Refusal}
 use Rattle.acct_book.specs.declared.recording.Recorded.{Recorded}
 use Rattle.acct_book.specs.declared.recording.RecordError.{RecordError}
-use Rattle.acct_book.specs.Book.{Reads}
-use Rattle.acct_book.specs.Content.{Content, empty_content, kept_balance}
-use Rattle.acct_book.specs.Outcome.{Records}
+use Rattle.acct_book.specs.Content.{empty_content, kept_balance}
+use Rattle.acct_book.specs.Effect.{Effect, effect_of}
 use Rattle.acct_book.specs.Row.{RowFacts}
-use Rattle.acct_book.specs.Step.{IsStep}
+use Rattle.acct_book.specs.Step.{Looks, Does}
 use Rattle.acct_wire.specs.declared.answering.Outcome.{Outcome}
 use Rattle.acct_wire.specs.declared.client.Client.{Client}
 use Rattle.acct_wire.specs.Clients.{client_named}
-use Rattle.acct_wire.specs.Datagrams.{AsksFor}
-use Rattle.acct_wire.specs.Outcomes.{Judges, Writes, IsTold, IsDrop, Steps}
+use Rattle.acct_wire.specs.Outcomes as wire
+use Rattle.acct_wire.specs.Outcomes.{Written}
 use Rattle.radacctd.specs.Answers.{answer_text, packet_answer, signed_answer, balance_answer}
 use Rattle.radacctd.specs.Answers.{credit_of}
 use Rattle.radacctd.specs.Answers.{session_answer}
@@ -32,41 +32,38 @@ use Rattle.radacctd.specs.declared.answer.Answer.TheVariants as form
 use Rattle.radacctd.specs.declared.line.Line.{Line}
 use Rattle.radacctd.specs.declared.line.Line.TheVariants as line
 
-module _ {B : Type 0} (content : B → Content) (is_sound is_open is_steady : B → Type 0)
-    (left : B → Content → Type 0) (clients : List Client) (plans : List Plan) (old new : B) where
+module _ {B : Type 0} (b : Ghosts B) (clients : List Client) (plans : List Plan) (old new : B) where
   -- A datagram was judged by the clients and told to the book once; its outcome is shown so.
   pub record AnswersDatagram (source bytes : List ℕ) (moment : ℕ) (show : List ℕ → Outcome → Answer)
       (answer : Answer) : Type 0 where
     pub outcome : Outcome
     pub before : List ℕ
     pub after : List ℕ
-    pub judged : Judges clients source bytes outcome
-    pub written : Writes clients source bytes before after outcome
-    pub step : IsStep plans content is_sound is_open is_steady left old new
-        (IsTold outcome) (IsDrop outcome)
-        (λ history next. Steps clients plans source bytes moment outcome history next)
-        (λ asked. AsksFor clients source bytes moment asked)
+    pub effect : Effect
+    pub answers : wire.Answers clients source bytes moment after outcome effect
+    pub written : Written before after outcome
+    pub does : Does b plans old new effect
     pub shown : answer ≡ show after outcome
 
   -- The balance of an account was asked for.
   pub record AnswersBalance (account : List ℕ) (answer : Answer) : Type 0 where
     pub told : Result ℤ Refusal
-    pub found : is_open new → IfOk told (λ balance. balance ≡ kept_balance (content old) account)
-    pub reads : Reads content is_sound is_open is_steady left old new told
+    pub found : b.is_open new → IfOk told (λ balance.
+        balance ≡ kept_balance (b.content old) account)
+    pub reads : Looks b old new told
     pub shown : answer ≡ balance_answer account told
 
   -- A voucher was recorded once.
   pub record AnswersTopUp (topup : TopUpFacts) (answer : Answer) : Type 0 where
     pub told : Result Recorded RecordError
-    pub records : Records plans (entry.TopUp topup) content is_sound is_open is_steady left old new
-        told
+    pub does : Does b plans old new (effect_of (entry.TopUp topup) told)
     pub shown : answer ≡ form.Voucher (credit_of told)
 
   -- The row of a configured client's session was asked for.
   pub record AnswersKnown (key : Key) (answer : Answer) : Type 0 where
     pub told : Result (Option RowFacts) Refusal
-    pub found : is_open new → IfOk told (λ row. row ≡ (content old).rows key)
-    pub reads : Reads content is_sound is_open is_steady left old new told
+    pub found : b.is_open new → IfOk told (λ row. row ≡ (b.content old).rows key)
+    pub reads : Looks b old new told
     pub shown : answer ≡ session_answer plans told
 
   -- the answer is a bad line, and the book is as it was
@@ -125,13 +122,12 @@ abbrev pub is_good : Option Answer → Bool
 is_good (Some form.BadLine) = false
 is_good _ = true
 
-module _ {B : Type 0} (content : B → Content) (is_sound is_open is_steady : B → Type 0)
-    (left : B → Content → Type 0) (clients : List Client) (plans : List Plan) where
+module _ {B : Type 0} (b : Ghosts B) (clients : List Client) (plans : List Plan) where
   -- A line was answered, its answer was printed, and it is told whether it was good.
   pub record Prints (old new : B) (octets : List ℕ) (good : Bool) (before after : Option (List ℕ))
       : Type 0 where
     pub answer : Option Answer
-    pub answered : AnswersLine content is_sound is_open is_steady left clients plans old new octets
+    pub answered : AnswersLine b clients plans old new octets
         answer
     pub printed : Appends before after (printed_text answer)
     pub good_is : good ≡ is_good answer
@@ -142,7 +138,7 @@ module _ {B : Type 0} (content : B → Content) (is_sound is_open is_steady : B 
   AnswersAll [] (answer ∷ answers) old new = ⊥
   AnswersAll (line ∷ lines) [] old new = ⊥
   AnswersAll (line ∷ lines) (answer ∷ answers) old new = (next : B)
-      × AnswersLine content is_sound is_open is_steady left clients plans old next line answer
+      × AnswersLine b clients plans old next line answer
       × AnswersAll lines answers next new
 
   -- The first lines of an input, up to the rest, were answered in their order, their answers were
@@ -160,6 +156,6 @@ module _ {B : Type 0} (content : B → Content) (is_sound is_open is_steady : B 
   -- answers were printed.
   pub record RanAfresh (input : List ℕ) (before after : Option (List ℕ)) : Type 0 where
     pub first : B
-    pub is_new : is_open first × (content first ≡ empty_content)
+    pub is_new : b.is_open first × (b.content first ≡ empty_content)
     pub last : B
     pub ran : Ran first last input [] true before after

@@ -5,8 +5,8 @@ use Rattle.std.specs.Prelude.{flat_map, Result, IfOk}
 use Rattle.std.specs.Io.KnownBytes.{Appends}
 use Rattle.acct_model.specs.declared.plan.Plan.{Plan}
 use Rattle.acct_model.specs.declared.entry.Entry.{Entry}
-use Rattle.acct_book.specs.Content.{Content}
-use Rattle.acct_book.specs.Stands.{Stands}
+use Rattle.acct_book.specs.declared.book.Book.{Ghosts}
+use Rattle.acct_book.specs.Step.{StoodFor}
 use Rattle.acct_files.specs.Importing.{Imports, Keeps, unmarked}
 use Rattle.acct_files.specs.Reports.{cause_text, stop_text}
 use Rattle.acct_files.specs.declared.import_report.Refused.{Refused}
@@ -56,14 +56,13 @@ Tells report before after ended =
     (ended ≡ report_status report) × Appends before after (report_text report)
 
 -- A run of an import with its report, which is printed where the output takes it.
-module _ {B : Type 0} (content : B → Content) (is_sound is_open is_steady : B → Type 0)
-    (left : B → Content → Type 0) where
+module _ {B : Type 0} (b : Ghosts B) where
   pub record Runs (plans : List Plan) (moment : ℕ) (text : Option (List ℕ)) (old new : B)
       (before after : Option (List ℕ)) (ended : Result Status Fault) : Type 0 where
     pub report : ImportReport
-    pub keeps : Keeps content is_sound is_open is_steady report.stopped report.added old new
-    pub imports : is_sound new → (history : List Entry)
-        → (is_open old → Stands plans (content old) history)
-        → Imports content is_open left plans moment (unmarked text) history
+    pub keeps : Keeps b report.stopped report.added old new
+    pub imports : b.is_sound new → (history : List Entry)
+        → StoodFor b plans old history
+        → Imports b plans moment (unmarked text) history
         report.stopped report old new
     pub tells : IfOk ended (Tells report before after)

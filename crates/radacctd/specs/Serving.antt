@@ -6,7 +6,7 @@ use Rattle.sqlite_wal.specs.Recovery.{Image}
 use Rattle.sqlite_trees.specs.Tree.{Trees}
 use Rattle.sqlite.specs.Files.{HoldsDatabase}
 use Rattle.acct_model.specs.declared.entry.Entry.{Entry}
-use Rattle.acct_book.specs.Content.{Content}
+use Rattle.acct_book.specs.declared.book.Book.{Ghosts}
 use Rattle.acct_book.specs.Stands.{Stands}
 use Rattle.acct_sql.specs.Content.{content_of}
 use Rattle.acct_files.specs.declared.config.Config.{Config}
@@ -42,21 +42,20 @@ served_text served =
 
 -- A run of the machine over the book, from a history to the one after it, and the counts of that
 -- run, which are printed after `serving`. The sockets tell no lists.
-module _ {B : Type 0} (content : B → Content) (is_open : B → Type 0)
-    (left : B → Content → Type 0) where
+module _ {B : Type 0} (b : Ghosts B) where
   pub record Serves (config : Config) (history : List Entry) (old new : B)
       (before after : Option (List ℕ)) : Type 0 where
     pub served : Served
-    pub run : machine.Serves content is_open left config history old new None None served
+    pub run : machine.Serves b config history old new None None served
     pub printed : Appends before after (codes "serving" ++ 10 ∷ [] ++ served_text served)
 
   -- A run over the book of a file, whose content the tables in the file held, up to this book.
-  pub record ServesFile (is_sound : B → Type 0) (image : Image) (last : B)
+  pub record ServesFile (image : Image) (last : B)
       (before after : Option (List ℕ)) : Type 0 where
     pub config : Config
     pub first : B
-    pub opened : is_sound first → is_open first
-        × ((db : Trees) → HoldsDatabase image db → content first ≡ content_of db)
-    pub serves : is_sound last → (db : Trees) (history : List Entry) → HoldsDatabase image db
+    pub opened : b.is_sound first → b.is_open first
+        × ((db : Trees) → HoldsDatabase image db → b.content first ≡ content_of db)
+    pub serves : b.is_sound last → (db : Trees) (history : List Entry) → HoldsDatabase image db
         → Stands config.plans (content_of db) history
         → Serves config history first last before after

@@ -114,10 +114,8 @@ fn served<S: Start, W: Write>(
     start: S,
 ) -> Result<FileBook<S>, Fault>
     requires { turns < 2 ^ 63 }
-    ensures { IfOk result (λ book. ServesFile ⟦<SqlBook<FileStore<FileFrom<S>>> as Book>⟧.content
-        ⟦<SqlBook<FileStore<FileFrom<S>>> as Book>⟧.is_open
-        ⟦<SqlBook<FileStore<FileFrom<S>>> as Book>⟧.left
-        ⟦<SqlBook<FileStore<FileFrom<S>>> as Book>⟧.is_sound (image_at S.Start) book
+    ensures { IfOk result (λ book. ServesFile ⟦<SqlBook<FileStore<FileFrom<S>>> as Book>⟧
+        (image_at S.Start) book
         (W.contents output.old) (W.contents output.new)) }
 {
     let alloc = runtime.alloc();

@@ -1,6 +1,6 @@
 //! `export`: the book as CSV.
 ghost use Rattle.std.specs.Prelude.{IfOk};
-ghost use Rattle.acct_book.specs.Book.{Reads};
+ghost use Rattle.acct_book.specs.Step.{Looks};
 ghost use Rattle.radacctd.specs.Exports.{Exports};
 
 use crate::fault::Fault;
@@ -24,7 +24,7 @@ pub fn run_export<B: Book, W: Write + Drop>(
     book: &mut B,
     output: W,
 ) -> Result<W, Fault>
-    ensures reads { Reads B.content B.is_sound B.is_open B.is_steady B.left
+    ensures reads { Looks B.Book
         book.old book.new result }
     ensures exports { IfOk result (λ writer. Exports plans.now (B.content book.old)
         (B.is_open book.new) (W.contents output) (W.contents writer) what) }

@@ -46,9 +46,7 @@ pub fn run_feed<R: Read + Drop, W: Write>(
     ensures words { result ≢ Status.WrongWords }
     ensures ran { result ≡ Status.Done → (input : List ℕ)
         × IfSome (R.remaining reader) (λ all. input ≡ all)
-        × RanAfresh ⟦<SqlBook<MemStore> as Book>⟧.content ⟦<SqlBook<MemStore> as Book>⟧.is_sound
-        ⟦<SqlBook<MemStore> as Book>⟧.is_open ⟦<SqlBook<MemStore> as Book>⟧.is_steady
-        ⟦<SqlBook<MemStore> as Book>⟧.left config.clients config.plans input
+        × RanAfresh ⟦<SqlBook<MemStore> as Book>⟧ config.clients config.plans input
         (W.contents writer.old) (W.contents writer.new) }
 {
     let status = match empty_book(alloc, &config.plans) {
@@ -84,7 +82,7 @@ fn answer_reader<B: Book + Drop, R: Read, W: Write>(
     ensures words { result ≢ Status.WrongWords }
     ensures ran { result ≡ Status.Done → (input : List ℕ)
         × IfSome (R.remaining reader.old) (λ all. input ≡ all) × (new : B)
-        × Ran B.content B.is_sound B.is_open B.is_steady B.left config.clients config.plans
+        × Ran B.Book config.clients config.plans
         book new input [] true (W.contents writer.old) (W.contents writer.new) }
 {
     match read_input(alloc, reader) {
@@ -107,7 +105,7 @@ pub fn answer_input<B: Book + Drop, W: Write>(
 ) -> Status
     ensures words { result ≢ Status.WrongWords }
     ensures ran { result ≡ Status.Done → (new : B)
-        × Ran B.content B.is_sound B.is_open B.is_steady B.left config.clients config.plans
+        × Ran B.Book config.clients config.plans
         book new input.now [] true (W.contents writer.old) (W.contents writer.new) }
 {
     match Feed::new(alloc, config, book).answer_lines(input, writer) {
@@ -157,7 +155,7 @@ impl<B: Book> Feed<B> {
     /// `CannotWrite`, and `NoMemory`: the line at which it ended may have changed the book. No
     /// clause says what was answered then.
     pub fn answer_lines<W: Write>(&mut self, input: &[u8], writer: &mut W) -> Result<bool, Stop>
-        ensures ran { IfOk result (λ good. Ran B.content B.is_sound B.is_open B.is_steady B.left
+        ensures ran { IfOk result (λ good. Ran B.Book
             self.old.server.config.clients self.old.server.config.plans
             self.old.server.book self.new.server.book input.now [] good
             (W.contents writer.old) (W.contents writer.new)) }
@@ -172,8 +170,8 @@ impl<B: Book> Feed<B> {
 
     // Answers a line, and says whether it was good.
     fn answer_line<W: Write>(&mut self, octets: &[u8], writer: &mut W) -> Result<bool, Stop>
-        ensures printed { IfOk result (λ good. Prints B.content B.is_sound B.is_open B.is_steady
-            B.left self.old.server.config.clients self.old.server.config.plans
+        ensures printed { IfOk result (λ good. Prints B.Book self.old.server.config.clients
+            self.old.server.config.plans
             self.old.server.book self.new.server.book octets.now good
             (W.contents writer.old) (W.contents writer.new)) }
         ensures same_config { self.new.server.config ≡ self.old.server.config }
@@ -187,7 +185,7 @@ impl<B: Book> Feed<B> {
 
     // What the octets of a line are answered by. An empty line has no answer.
     fn answer_to(&mut self, octets: &[u8]) -> Result<Option<Answer>, Stop>
-        ensures answers { IfOk result (AnswersLine B.content B.is_sound B.is_open B.is_steady B.left
+        ensures answers { IfOk result (AnswersLine B.Book
             self.old.server.config.clients self.old.server.config.plans
             self.old.server.book self.new.server.book octets.now) }
         ensures same_config { self.new.server.config ≡ self.old.server.config }
@@ -210,7 +208,7 @@ impl<B: Book> Feed<B> {
     /// `NoMemory` alone. The line may have changed the book then.
     pub fn answer(&mut self, line: Line) -> Result<Answer, Stop>
         requires { HasMoment line }
-        ensures answers { IfOk result (Answers B.content B.is_sound B.is_open B.is_steady B.left
+        ensures answers { IfOk result (Answers B.Book
             self.old.server.config.clients self.old.server.config.plans
             self.old.server.book self.new.server.book line) }
         ensures same_config { self.new.server.config ≡ self.old.server.config }
@@ -249,8 +247,7 @@ impl<B: Book> Feed<B> {
         octets: &[u8],
     ) -> Result<Answer, Stop>
         requires { moment < 2 ^ 53 }
-        ensures answers { IfOk result (AnswersSigned B.content B.is_sound B.is_open B.is_steady
-            B.left
+        ensures answers { IfOk result (AnswersSigned B.Book
             self.old.server.config.clients self.old.server.config.plans
             self.old.server.book self.new.server.book moment client.now identifier octets.now) }
         ensures same_config { self.new.server.config ≡ self.old.server.config }
@@ -273,8 +270,7 @@ impl<B: Book> Feed<B> {
 
     // Answers a datagram as it came.
     fn answer_packet(&mut self, datagram: &Datagram<'_>) -> Result<Answer, Stop>
-        ensures answers { IfOk result (AnswersDatagram B.content B.is_sound B.is_open B.is_steady
-            B.left
+        ensures answers { IfOk result (AnswersDatagram B.Book
             self.old.server.config.clients self.old.server.config.plans
             self.old.server.book self.new.server.book datagram.now.source datagram.now.bytes.now
             datagram.now.moment packet_answer) }
@@ -286,8 +282,7 @@ impl<B: Book> Feed<B> {
     }
 
     fn answer_balance(&mut self, account: &[u8]) -> Result<Answer, Stop>
-        ensures answers { IfOk result (AnswersBalance B.content B.is_sound B.is_open B.is_steady
-            B.left
+        ensures answers { IfOk result (AnswersBalance B.Book
             self.old.server.config.clients self.old.server.config.plans
             self.old.server.book self.new.server.book account.now) }
         ensures same_config { self.new.server.config ≡ self.old.server.config }
@@ -299,7 +294,7 @@ impl<B: Book> Feed<B> {
 
     // Credits a voucher.
     fn answer_topup(&mut self, topup: TopUp) -> Answer
-        ensures answers { AnswersTopUp B.content B.is_sound B.is_open B.is_steady B.left
+        ensures answers { AnswersTopUp B.Book
             self.old.server.config.clients self.old.server.config.plans
             self.old.server.book self.new.server.book topup result }
         ensures same_config { self.new.server.config ≡ self.old.server.config }
@@ -311,8 +306,7 @@ impl<B: Book> Feed<B> {
     }
 
     fn answer_session(&mut self, key: &Key) -> Result<Answer, Stop>
-        ensures answers { IfOk result (AnswersSession B.content B.is_sound B.is_open B.is_steady
-            B.left
+        ensures answers { IfOk result (AnswersSession B.Book
             self.old.server.config.clients self.old.server.config.plans
             self.old.server.book self.new.server.book key.now) }
         ensures same_config { self.new.server.config ≡ self.old.server.config }

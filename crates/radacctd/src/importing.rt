@@ -28,7 +28,7 @@ pub fn run_import<B: Book, I: Read + Drop, W: Write>(
     output: &mut W,
 ) -> Result<Status, Fault>
     requires { moment < 2 ^ 53 }
-    ensures runs { Runs B.content B.is_sound B.is_open B.is_steady B.left plans.now moment
+    ensures runs { Runs B.Book plans.now moment
         (I.remaining input) book.old book.new (W.contents output.old) (W.contents output.new)
         result }
     ensures other { IfOk result (λ status. status ≢ Status.WrongWords) }

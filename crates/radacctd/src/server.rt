@@ -1,8 +1,8 @@
 //! A configuration with its book: what answers datagrams.
 ghost use Rattle.std.specs.Prelude.{◌≡◌};
-ghost use Rattle.acct_book.specs.Step.{IsStep};
-ghost use Rattle.acct_wire.specs.Datagrams.{AsksFor};
-ghost use Rattle.acct_wire.specs.Outcomes.{Judges, Writes, IsTold, IsDrop, Steps};
+ghost use Rattle.acct_book.specs.Effect.{Effect};
+ghost use Rattle.acct_book.specs.Step.{Does};
+ghost use Rattle.acct_wire.specs.Outcomes.{Answers, Written};
 ghost use Rattle.radacctd.specs.Answers.{ReplyFits};
 
 use acct_book::Book;
@@ -42,17 +42,12 @@ impl<B: Book> Server<B> {
 
     /// Answers a datagram: the reply, if it gets one, stands at the front of `reply`.
     pub fn answer(&mut self, datagram: &Datagram<'_>) -> Outcome
-        ensures judged { Judges self.old.config.clients datagram.now.source datagram.now.bytes.now
-            result }
-        ensures written { Writes self.old.config.clients datagram.now.source datagram.now.bytes.now
-            self.old.reply self.new.reply result }
+        ensures answers { (effect : Effect)
+            × Answers self.old.config.clients datagram.now.source datagram.now.bytes.now
+            datagram.now.moment self.new.reply result effect
+            × Does B.Book self.old.config.plans self.old.book self.new.book effect }
+        ensures written { Written self.old.reply self.new.reply result }
         ensures fits { ReplyFits result }
-        ensures step { IsStep self.old.config.plans B.content B.is_sound B.is_open B.is_steady
-            B.left self.old.book self.new.book (IsTold result) (IsDrop result)
-            (λ history after. Steps self.old.config.clients self.old.config.plans
-            datagram.now.source datagram.now.bytes.now datagram.now.moment result history after)
-            (λ asked. AsksFor self.old.config.clients datagram.now.source datagram.now.bytes.now
-            datagram.now.moment asked) }
         ensures same_config { self.new.config ≡ self.old.config }
     {
         answer(

@@ -38,8 +38,8 @@ pub fn run_serve<R: Net + Clock, B: Book, W: Write>(
     requires { turns < 2 ^ 63 }
     ensures done { IfOk result (λ status. status ≡ Status.Done) }
     ensures serves { B.is_sound book.new → (history : List Entry)
-        → StoodFor config.now.plans B.content B.is_open book.old history
-        → OnOk result (Serves B.content B.is_open B.left config.now history book.old book.new
+        → StoodFor B.Book config.now.plans book.old history
+        → OnOk result (Serves B.Book config.now history book.old book.new
         (W.contents output.old) (W.contents output.new)) }
 {
     let mut sockets = bound(runtime, alloc, listening)?;

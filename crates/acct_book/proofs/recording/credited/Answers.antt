@@ -1,4 +1,4 @@
-use Rattle.std.proofs.Common.{◌≡◌, pos, ◌+ℤ◌, ◌-ℤ◌, sym, ap, ◌∙◌, subst, rules, SFits, refl}
+use Rattle.std.proofs.Common.{◌≡◌, pos, ◌+ℤ◌, ◌-ℤ◌, sym, ap, ◌∙◌, subst, rules, SFits}
 use Rattle.std.specs.Prelude.{None}
 use Rattle.std.specs.Int.{w64}
 use Rattle.std.proofs.lemmas.Int.{to_z-of_z}
@@ -46,10 +46,8 @@ returns-in-None-clause-refused g c = λ now history st.
     let balance : c.in_ok-balance.balance ≡ kept_balance c0 t.account
     = c.in_ok-balance.ensures.found now ∙ (λ i. kept_balance (same1 i) (account i)) in
     let fits : SFits w64 c.in_ok-balance.balance = search rules in
-    let old : _ ≡ c.in_ok-balance.balance = to_z-of_z w64 c.in_ok-balance.balance fits in (
-      subst (IsOverLimit c.args.plans.now history (TopUp t)) (sym old)
-          (topup_read_over c.args.plans.now c0 history t c.in_ok-balance.balance st none balance
-          (λ f. c.in-None.ensures.none (subst InRange (sym (λ i. (old i +ℤ pos (sum i)) -ℤ pos 0))
-          f))),
-      refl,
-    )
+    let old : _ ≡ c.in_ok-balance.balance = to_z-of_z w64 c.in_ok-balance.balance fits in
+    subst (IsOverLimit c.args.plans.now history (TopUp t)) (sym old)
+    (topup_read_over c.args.plans.now c0 history t c.in_ok-balance.balance st none balance
+    (λ f. c.in-None.ensures.none (subst InRange (sym (λ i. (old i +ℤ pos (sum i)) -ℤ pos 0))
+    f)))

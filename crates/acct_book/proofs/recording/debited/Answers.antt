@@ -1,4 +1,4 @@
-use Rattle.std.proofs.Common.{◌≡◌, pos, ◌+ℤ◌, ◌-ℤ◌, sym, ap, ◌∙◌, subst, rules, SFits, refl}
+use Rattle.std.proofs.Common.{◌≡◌, pos, ◌+ℤ◌, ◌-ℤ◌, sym, ap, ◌∙◌, subst, rules, SFits}
 use Rattle.std.specs.Int.{w64}
 use Rattle.std.proofs.lemmas.Int.{to_z-of_z}
 use Rattle.acct_book.specs.Content.{with_session}
@@ -43,11 +43,9 @@ returns-clause-refused g c = λ now history st.
     c.in_ok-row.ensures.before c.charge-after.ensures.exact
     (c.as_slice.ensures ∙ ap (λ r. r.account) c.row.view_is) (c.in_ok-balance.ensures.found now) in
     let fits : SFits w64 c.in_ok-balance.balance = search rules in
-    let old : _ ≡ c.in_ok-balance.balance = to_z-of_z w64 c.in_ok-balance.balance fits in (
-      subst (IsOverLimit c.args.plans.now history (Report c.args.report.now)) (sym old)
-          (read_over c.args.plans.now c0 history c.args.report.now c.in_ok-row.row
-          c.in_ok-row.before c.charge-after.result c.in_ok-balance.balance read st
-          (λ f. c.in-None.ensures.none (subst (λ z. InRange
-          ((z +ℤ pos c.in_ok-row.before) -ℤ pos c.charge-after.result)) (sym old) f))),
-      refl,
-    )
+    let old : _ ≡ c.in_ok-balance.balance = to_z-of_z w64 c.in_ok-balance.balance fits in
+    subst (IsOverLimit c.args.plans.now history (Report c.args.report.now)) (sym old)
+    (read_over c.args.plans.now c0 history c.args.report.now c.in_ok-row.row
+    c.in_ok-row.before c.charge-after.result c.in_ok-balance.balance read st
+    (λ f. c.in-None.ensures.none (subst (λ z. InRange
+    ((z +ℤ pos c.in_ok-row.before) -ℤ pos c.charge-after.result)) (sym old) f)))

@@ -9,8 +9,7 @@ returns-in-Err g c =
     let some = c.in-Err.ensures.some in (
       some.0,
       some.1,
-      mute_handles {E = NoMemory} c.args.plans.now b.content b.is_sound b.is_open
-          b.is_steady b.left some.0 c.args.book.now _,
+      mute_handles {E = NoMemory} b c.args.plans.now some.0 c.args.book.now _,
     )
 
 pub returns-in-Refused : goal.returns-in-Refused
@@ -18,7 +17,7 @@ returns-in-Refused g c =
     let b = g.B.Book in (
       refused c.in-Refused.refusal,
       rw c.in-Refused.is at c.in-Ok.ensures.asks,
-      refused_handles c.args.plans.now b.content b.is_sound b.is_open b.is_steady b.left
+      refused_handles b c.args.plans.now
           c.in-Refused.refusal c.args.book.now c.refuse.result c.refuse.ensures,
     )
 

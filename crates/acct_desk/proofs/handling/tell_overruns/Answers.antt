@@ -13,7 +13,7 @@ page_octets-requires g c = for_ok (λ (v : Value). has_float (view v) ≡ false)
 pub returns : goal.returns
 returns g c =
     let b = g.B.Book in
-    λ plans. page_handles plans overruns b.content b.is_sound b.is_open b.is_steady b.left
+    λ plans. page_handles b plans overruns
     c.args.book.now c.overruns_page.new.book g.met.B.Book.settled
     c.overruns_page.result c.page_octets.result tt (λ _ none. absurd none)
     (c.overruns_page.ensures plans) c.page_octets.ensures

@@ -20,16 +20,16 @@ pub returns-in-Balance : goal.returns-in-Balance
 returns-in-Balance g c =
     let b = g.B.Book in
     let plans = c.args.plans.now in
-    rw c.in-Balance.is (page_handles plans (me page.Balance c.args.account.now) b.content b.is_sound
-    b.is_open b.is_steady b.left c.args.book.now c.balance_page.new.book g.met.B.Book.settled
+    rw c.in-Balance.is (page_handles b plans (me page.Balance c.args.account.now)
+    c.args.book.now c.balance_page.new.book g.met.B.Book.settled
     c.balance_page.result c.page_octets.result tt (λ steady _. c.balance_page.ensures.steady steady)
     (c.balance_page.ensures.shows plans) c.page_octets.ensures)
 
 pub returns-in-Sessions : goal.returns-in-Sessions
 returns-in-Sessions g c =
     let b = g.B.Book in
-    rw c.in-Sessions.is (page_handles c.args.plans.now (me page.Sessions c.args.account.now)
-    b.content b.is_sound b.is_open b.is_steady b.left c.args.book.now c.sessions_page.new.book
+    rw c.in-Sessions.is (page_handles b c.args.plans.now (me page.Sessions c.args.account.now)
+    c.args.book.now c.sessions_page.new.book
     g.met.B.Book.settled
     c.sessions_page.result c.page_octets-in-Sessions.result tt (λ _ none. absurd none)
     c.sessions_page.ensures c.page_octets-in-Sessions.ensures)
@@ -38,7 +38,7 @@ pub returns-in-TopUps : goal.returns-in-TopUps
 returns-in-TopUps g c =
     let b = g.B.Book in
     let plans = c.args.plans.now in
-    rw c.in-TopUps.is (page_handles plans (me page.TopUps c.args.account.now) b.content b.is_sound
-    b.is_open b.is_steady b.left c.args.book.now c.topups_page.new.book g.met.B.Book.settled
+    rw c.in-TopUps.is (page_handles b plans (me page.TopUps c.args.account.now)
+    c.args.book.now c.topups_page.new.book g.met.B.Book.settled
     c.topups_page.result c.page_octets-in-TopUps.result tt (λ _ none. absurd none)
     (c.topups_page.ensures plans) c.page_octets-in-TopUps.ensures)

@@ -4,8 +4,7 @@ use Rattle.acct_desk.proofs.pages.balance_page.Goals as goal
 pub returns-clause-shows : goal.returns-clause-shows
 returns-clause-shows g c =
     let b = g.B.Book in
-    λ plans. balance_shows plans c.args.account.now b.content b.is_sound b.is_open b.is_steady
-    b.left c.args.book.now c.balance-told.new.self
+    λ plans. balance_shows plans c.args.account.now b c.args.book.now c.balance-told.new.self
     c.balance-told.result c.told_balance.result c.balance-told.ensures.reads
     c.balance-told.ensures.found c.told_balance.ensures.shown c.told_balance.ensures.answers
 

@@ -34,10 +34,10 @@ returns-in-None g c =
     let to = option_map items_of_vec c.loop.last in
     let kept = option_map entry_of c.in_ok-next_account.field-0 in
     let reads =
-    reads_then b.content b.is_sound b.is_open b.is_steady b.left old mid new _ inv.reads step.reads
+    reads_then b old mid new _ inv.reads step.reads
     in
     λ plans.
-    shows_body plans overruns b.content b.is_sound b.is_open b.is_steady b.left old new _
+    shows_body plans overruns b old new _
     (overruns_body accounts) reads step.reads.answers
     (c.in_ok-overruns_value-in-None.ensures ∙ ap over_body inv.walked.2) (overruns_plain accounts)
     (λ o history st.
@@ -64,7 +64,7 @@ loop-preserved g c =
     let kept = option_map entry_of c.in_ok-next_account.field-0 in
     record {
       reads =
-          reads_then b.content b.is_sound b.is_open b.is_steady b.left old mid new _ inv.reads
+          reads_then b old mid new _ inv.reads
           step.reads;
       walked = (
         accounts ++ next ∷ [],
@@ -85,6 +85,6 @@ pub loop-init : goal.loop-init
 loop-init g c =
     let b = g.B.Book in
     record {
-      reads = reads_nothing b.content b.is_sound b.is_open b.is_steady b.left c.args.book.now;
+      reads = reads_nothing b c.args.book.now;
       walked = ([], (λ _. refl), ap (map view) c.new-over.ensures.items);
     }

@@ -9,8 +9,7 @@ use Rattle.acct_desk.proofs.pages.overruns_page.Given as goal
 
 abbrev pub invariant-loop : goal.invariant-loop
 invariant-loop g l = record {
-  reads : OnlyReads g.B.Book.content g.B.Book.is_sound g.B.Book.is_open g.B.Book.is_steady
-      g.B.Book.left l.fn.book l.book;
+  reads : OnlyReads g.B.Book l.fn.book l.book;
   walked : (accounts : List (List ℕ × ℤ))
       × (g.B.Book.is_open l.book → WalksTo (g.B.Book.content l.fn.book).balances None accounts
       (option_map (λ account. account.items) l.last))

@@ -11,10 +11,10 @@ returns g c =
     let plans = c.args.plans.now in
     let account = c.args.account.now in
     let rows = c.in_ok-rows.rows.items in
-    shows_body plans (me page.Sessions account) b.content b.is_sound b.is_open b.is_steady b.left
+    shows_body plans (me page.Sessions account) b
     c.args.book.now c.sessions_of.new.self
     c.sessions_value.result (sessions_body plans account rows)
-    (only_reads plans (me page.Sessions account) b.content b.is_sound b.is_open b.is_steady b.left
+    (only_reads plans (me page.Sessions account) b
     c.args.book.now c.sessions_of.new.self _ c.in_ok-rows.ensures.reads)
     c.in_ok-rows.ensures.reads.answers (rw c.deref.ensures.value at c.sessions_value.ensures)
     (sessions_plain plans account rows)

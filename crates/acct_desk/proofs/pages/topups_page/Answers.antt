@@ -10,10 +10,9 @@ returns g c =
     let b = g.B.Book in
     let account = c.args.account.now in
     let topups = c.in_ok-topups.topups.items in
-    λ plans. shows_body plans (me page.TopUps account) b.content b.is_sound b.is_open b.is_steady
-    b.left c.args.book.now c.topups_of.new.self
+    λ plans. shows_body plans (me page.TopUps account) b c.args.book.now c.topups_of.new.self
     c.topups_value.result (topups_body account topups)
-    (only_reads plans (me page.TopUps account) b.content b.is_sound b.is_open b.is_steady b.left
+    (only_reads plans (me page.TopUps account) b
     c.args.book.now c.topups_of.new.self _ c.in_ok-topups.ensures.reads)
     c.in_ok-topups.ensures.reads.answers (rw c.deref.ensures.value at c.topups_value.ensures)
     (topups_plain account topups)

@@ -11,8 +11,7 @@ pub loop-turn-init : goal.loop-turn-init
 loop-turn-init g c = record {
   between = c.in_ok-lines.ensures.between;
   quiet =
-      quiet_at_first g.B.Book.content g.B.Book.is_sound g.B.Book.is_open g.B.Book.is_steady
-      g.B.Book.left c.args.book.now;
+      quiet_at_first g.B.Book c.args.book.now;
   walk = (
     [],
     rw (export_none (account_header c.args.what)
@@ -35,8 +34,7 @@ loop-turn-preserved g c =
     (Some (c.in-Some.kept.0.items, c.in-Some.kept.1)) inv.quiet.same reads.was_open found in
     record {
       between = c.in_ok-write_account.ensures.between;
-      quiet = quiet_more g.B.Book.content g.B.Book.is_sound g.B.Book.is_open g.B.Book.is_steady
-          g.B.Book.left c.args.book.now c.loop-turn.book c.next_account.new.book
+      quiet = quiet_more g.B.Book c.args.book.now c.loop-turn.book c.next_account.new.book
           c.next_account.result
           inv.quiet reads;
       walk = (

@@ -10,7 +10,7 @@ use Rattle.acct_files.proofs.account_lines.export_accounts.Given as goal
 abbrev pub invariant-loop-turn : goal.invariant-loop-turn
 invariant-loop-turn g l = record {
   between : IsBetweenLines l.lines;
-  quiet : Quiet g.B.Book.content g.B.Book.is_sound g.B.Book.is_open g.B.Book.is_steady g.B.Book.left
+  quiet : Quiet g.B.Book
       l.fn.book l.book;
   walk : (entries : List (List ℕ × ℤ))
       × Appends (g.W.Write.contents l.fn.writer) (text_written g.W.Write.contents l.lines)

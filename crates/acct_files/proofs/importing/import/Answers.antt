@@ -13,7 +13,7 @@ err_same (Err e) = refl
 
 pub returns-clause-imports : goal.returns-clause-imports
 returns-clause-imports g c sound history stood =
-    recounted g.B.Book.content g.B.Book.is_open g.B.Book.left c.args.plans.now c.args.moment _
+    recounted g.B.Book c.args.plans.now c.args.moment _
     (option_map strip_bom (g.R.Read.remaining c.args.reader)) history
     (stop_of c.import_rows-run.result) c.err-report.result c.import_rows-run.new.report _
     c.args.book.now c.import_rows-run.new.book

@@ -23,7 +23,7 @@ pub returns-in_err-read_header-clause-imports : goal.returns-in_err-read_header-
 returns-in_err-read_header-clause-imports g c sound history stood =
     let stop = c.in_err-read_header.field-0.0 in
     rw (err_is _ stop c.from_residual.ensures)
-    (beheaded g.B.Book.content g.B.Book.is_open g.B.Book.left g.R.Read.remaining c.args.plans.now
+    (beheaded g.B.Book g.R.Read.remaining c.args.plans.now
     c.args.moment (source_of g.R.Read.remaining c.args.rows.now) history c.args.report.now
     c.args.book.now stop c.requires.report stood c.in_err-read_header.ensures.stopped)
 
@@ -43,7 +43,7 @@ loop-number-init g c = record {
         unchanged = λ o none. refl;
       };
   halfway =
-      λ sound history stood. at_start g.B.Book.content g.B.Book.is_open g.B.Book.left
+      λ sound history stood. at_start g.B.Book
       g.R.Read.remaining c.args.plans.now c.args.moment
       (source_of g.R.Read.remaining c.args.rows.now) history c.read_header.new.rows
       c.args.report.now c.args.book.now c.in_ok-read_header.ensures.header c.requires.report stood;
@@ -54,7 +54,7 @@ returns-in_err-read_row-clause-imports g c sound history stood =
     let inv = c.loop-number.invariant in
     let stop = c.in_err-read_row.field-0.0 in
     rw (err_is _ stop c.from_residual-in_err-read_row.ensures)
-    (unread g.B.Book.content g.B.Book.is_open g.B.Book.left g.R.Read.remaining c.args.plans.now
+    (unread g.B.Book g.R.Read.remaining c.args.plans.now
     c.args.moment (source_of g.R.Read.remaining c.args.rows.now) history c.loop-number.rows
     c.loop-number.number c.loop-number.report c.args.book.now c.loop-number.book stop
     (inv.halfway sound history stood) c.in_err-read_row.ensures.stopped)
@@ -63,7 +63,7 @@ pub returns-then-not-branch-clause-imports : goal.returns-then-not-branch-clause
 returns-then-not-branch-clause-imports g c sound history stood =
     let inv = c.loop-number.invariant in
     let none = rw c.if-not-branch.true at c.in_ok-read_row.ensures.read in
-    ended g.B.Book.content g.B.Book.is_open g.B.Book.left g.R.Read.remaining c.args.plans.now
+    ended g.B.Book g.R.Read.remaining c.args.plans.now
     c.args.moment (source_of g.R.Read.remaining c.args.rows.now) history c.loop-number.rows
     c.read_row.new.rows c.loop-number.number c.loop-number.report c.args.book.now
     c.loop-number.book (fields_of c.read_row.new.row)
@@ -75,15 +75,14 @@ returns-in_err-outcome-clause-imports g c sound history stood =
     let stop = c.in_err-outcome.field-0.0 in
     let took = rw c.if-not-branch.false at c.in_ok-read_row.ensures.read in
     let half = inv.halfway (c.in_err-outcome.ensures.keeps.was_sound sound) history stood in
-    let (tried, after, did, moves) = c.in_err-outcome.ensures.did sound half.after
-    half.moves.stands in
+    let (effect, did, does) = c.in_err-outcome.ensures.did in
     rw (err_is _ stop c.from_residual-in_err-outcome.ensures)
-    (stopped_at g.B.Book.content g.B.Book.is_open g.B.Book.left g.R.Read.remaining
+    (stopped_at g.B.Book g.R.Read.remaining
     c.args.plans.now c.args.moment (source_of g.R.Read.remaining c.args.rows.now) history
     c.loop-number.rows c.read_row.new.rows c.loop-number.number c.loop-number.report
     c.args.book.now c.loop-number.book
-    c.outcome_of.new.book (fields_of c.read_row.new.row) stop tried after half inv.rows.config took
-    did moves)
+    c.outcome_of.new.book (fields_of c.read_row.new.row) stop effect half inv.rows.config took did
+    does sound)
 
 pub returns-in_err-count-clause-imports : goal.returns-in_err-count-clause-imports
 returns-in_err-count-clause-imports g c sound history stood =
@@ -91,14 +90,13 @@ returns-in_err-count-clause-imports g c sound history stood =
     let stop = c.in_err-count.field-0.0 in
     let (same, refused) = c.in_err-count.ensures.full in
     let half = inv.halfway (c.in_ok-outcome.ensures.keeps.was_sound sound) history stood in
-    let (tried, after, did, moves) = c.in_ok-outcome.ensures.did sound half.after
-    half.moves.stands in
+    let (effect, did, does) = c.in_ok-outcome.ensures.did in
     rw (err_is _ stop c.from_residual-in_err-count.ensures, same, c.in_err-count.ensures.err)
-    (uncounted g.B.Book.content g.B.Book.is_open g.B.Book.left g.R.Read.remaining c.args.plans.now
+    (uncounted g.B.Book g.R.Read.remaining c.args.plans.now
     c.args.moment (source_of g.R.Read.remaining c.args.rows.now) history c.loop-number.rows
     c.loop-number.number c.loop-number.report c.args.book.now c.loop-number.book
-    c.outcome_of.new.book (fields_of c.read_row.new.row) c.in_ok-outcome.outcome tried after half
-    refused did moves)
+    c.outcome_of.new.book (fields_of c.read_row.new.row) c.in_ok-outcome.outcome effect half refused
+    did does sound)
 
 pub loop-number-preserved : goal.loop-number-preserved
 loop-number-preserved g c =
@@ -115,19 +113,18 @@ loop-number-preserved g c =
       );
       repeated = omega (arith, inv.repeated, c.in_ok-count.ensures.room);
       number = omega arith;
-      keeps = keeps_then g.B.Book.content g.B.Book.is_sound g.B.Book.is_open g.B.Book.is_steady _
+      keeps = keeps_then g.B.Book _
           c.loop-number.report.added _ c.count.new.self.added c.args.book.now c.loop-number.book
           c.outcome_of.new.book inv.keeps kept c.in_ok-count.ensures.added;
       halfway = λ sound history stood.
           let half = inv.halfway (kept.was_sound sound) history stood in
-          let (tried, after, did, moves) = c.in_ok-outcome.ensures.did sound half.after
-          half.moves.stands in
-          more g.B.Book.content g.B.Book.is_open g.B.Book.left g.R.Read.remaining c.args.plans.now
+          let (effect, did, does) = c.in_ok-outcome.ensures.did in
+          more g.B.Book g.R.Read.remaining c.args.plans.now
           c.args.moment (source_of g.R.Read.remaining c.args.rows.now) history c.loop-number.rows
           c.read_row.new.rows c.loop-number.number (c.loop-number.number + 1) c.loop-number.report
           c.count.new.self c.args.book.now c.loop-number.book c.outcome_of.new.book
-          (fields_of c.read_row.new.row) c.in_ok-outcome.outcome tried after half refl
-          inv.rows.config took did moves c.in_ok-count.ensures.ok;
+          (fields_of c.read_row.new.row) c.in_ok-outcome.outcome effect half refl
+          inv.rows.config took did does sound c.in_ok-count.ensures.ok;
     }
 
 pub returns-in_err-read_row-2-clause-imports : goal.returns-in_err-read_row-2-clause-imports
@@ -135,7 +132,7 @@ returns-in_err-read_row-2-clause-imports g c sound history stood =
     let inv = c.loop-number.invariant in
     let stop = c.in_err-read_row-2.field-0.0 in
     rw (err_is _ stop c.from_residual-in_err-read_row-2.ensures)
-    (unread g.B.Book.content g.B.Book.is_open g.B.Book.left g.R.Read.remaining c.args.plans.now
+    (unread g.B.Book g.R.Read.remaining c.args.plans.now
     c.args.moment (source_of g.R.Read.remaining c.args.rows.now) history c.loop-number.rows
     c.loop-number.number c.loop-number.report c.args.book.now c.loop-number.book stop
     (inv.halfway sound history stood) c.in_err-read_row-2.ensures.stopped)
@@ -144,7 +141,7 @@ pub returns-then-branch-clause-imports : goal.returns-then-branch-clause-imports
 returns-then-branch-clause-imports g c sound history stood =
     let inv = c.loop-number.invariant in
     let took = rw c.if-branch.true at c.in_ok-read_row-2.ensures.read in
-    too_many g.B.Book.content g.B.Book.is_open g.B.Book.left g.R.Read.remaining c.args.plans.now
+    too_many g.B.Book g.R.Read.remaining c.args.plans.now
     c.args.moment (source_of g.R.Read.remaining c.args.rows.now) history c.loop-number.rows
     c.read_row-2.new.rows c.loop-number.number c.loop-number.report c.args.book.now
     c.loop-number.book (fields_of c.read_row-2.new.row)
@@ -155,7 +152,7 @@ pub returns-clause-imports : goal.returns-clause-imports
 returns-clause-imports g c sound history stood =
     let inv = c.loop-number.invariant in
     let none = rw c.if-branch.false at c.in_ok-read_row-2.ensures.read in
-    ended g.B.Book.content g.B.Book.is_open g.B.Book.left g.R.Read.remaining c.args.plans.now
+    ended g.B.Book g.R.Read.remaining c.args.plans.now
     c.args.moment (source_of g.R.Read.remaining c.args.rows.now) history c.loop-number.rows
     c.read_row-2.new.rows c.loop-number.number c.loop-number.report c.args.book.now
     c.loop-number.book (fields_of c.read_row-2.new.row)

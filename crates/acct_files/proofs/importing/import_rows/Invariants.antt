@@ -1,7 +1,7 @@
 use Rattle.std.proofs.Common.{◌≤◌, ◌+◌, List, None}
 use Rattle.csv.specs.Reading.{source_of}
 use Rattle.acct_model.specs.declared.entry.Entry.{Entry}
-use Rattle.acct_book.specs.Stands.{Stands}
+use Rattle.acct_book.specs.Step.{StoodFor}
 use Rattle.acct_files.specs.Importing.{Keeps}
 use Rattle.acct_files.specs.Reading.{IsAtRecord}
 use Rattle.acct_files.proofs.Halfway.{Halfway}
@@ -13,10 +13,10 @@ invariant-loop-number g l = record {
   added : l.report.added + 2 ≤ l.number;
   repeated : l.report.repeated + 2 ≤ l.number;
   number : l.number ≤ 1000002;
-  keeps : Keeps g.B.Book.content g.B.Book.is_sound g.B.Book.is_open g.B.Book.is_steady None
+  keeps : Keeps g.B.Book None
       l.report.added l.fn.book l.book;
   halfway : g.B.Book.is_sound l.book → (history : List Entry)
-      → (g.B.Book.is_open l.fn.book → Stands l.plans (g.B.Book.content l.fn.book) history)
-      → Halfway g.B.Book.content g.B.Book.is_open g.B.Book.left g.R.Read.remaining l.plans l.moment
+      → StoodFor g.B.Book l.plans l.fn.book history
+      → Halfway g.B.Book g.R.Read.remaining l.plans l.moment
       (source_of g.R.Read.remaining l.fn.rows) history l.rows l.number l.report l.fn.book l.book;
 }

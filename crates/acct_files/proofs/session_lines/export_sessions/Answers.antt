@@ -13,8 +13,7 @@ pub loop-turn-init : goal.loop-turn-init
 loop-turn-init g c = record {
   between = c.in_ok-lines.ensures.between;
   quiet =
-      quiet_at_first g.B.Book.content g.B.Book.is_sound g.B.Book.is_open g.B.Book.is_steady
-      g.B.Book.left c.args.book.now;
+      quiet_at_first g.B.Book c.args.book.now;
   walk = (
     [],
     rw (export_none session_header
@@ -36,8 +35,7 @@ loop-turn-preserved g c =
     (Some ((key_of c.in-Some.row), c.in-Some.row)) inv.quiet.same reads.was_open found in
     record {
       between = c.in_ok-write_session.ensures.between;
-      quiet = quiet_more g.B.Book.content g.B.Book.is_sound g.B.Book.is_open g.B.Book.is_steady
-          g.B.Book.left c.args.book.now c.loop-turn.book c.next_session.new.book
+      quiet = quiet_more g.B.Book c.args.book.now c.loop-turn.book c.next_session.new.book
           c.next_session.result
           inv.quiet reads;
       walk = (

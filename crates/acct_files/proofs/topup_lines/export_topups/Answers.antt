@@ -11,8 +11,7 @@ pub loop-turn-init : goal.loop-turn-init
 loop-turn-init g c = record {
   between = c.in_ok-lines.ensures.between;
   quiet =
-      quiet_at_first g.B.Book.content g.B.Book.is_sound g.B.Book.is_open g.B.Book.is_steady
-      g.B.Book.left c.args.book.now;
+      quiet_at_first g.B.Book c.args.book.now;
   walk = (
     [],
     rw (export_none topup_header (λ (e : List ℕ × TopUpFacts). line (topup_fields e.1)))
@@ -33,8 +32,8 @@ loop-turn-preserved g c =
     (Some (c.in-Some.topup.voucher, c.in-Some.topup)) inv.quiet.same reads.was_open found in
     record {
       between = c.in_ok-write_topup.ensures.between;
-      quiet = quiet_more g.B.Book.content g.B.Book.is_sound g.B.Book.is_open g.B.Book.is_steady
-          g.B.Book.left c.args.book.now c.loop-turn.book c.next_topup.new.book c.next_topup.result
+      quiet = quiet_more g.B.Book c.args.book.now c.loop-turn.book c.next_topup.new.book
+          c.next_topup.result
           inv.quiet reads;
       walk = (
         entries ++ (c.in-Some.topup.voucher, c.in-Some.topup) ∷ [],

@@ -11,7 +11,7 @@ use Rattle.acct_files.proofs.topup_lines.export_topups.Given as goal
 abbrev pub invariant-loop-turn : goal.invariant-loop-turn
 invariant-loop-turn g l = record {
   between : IsBetweenLines l.lines;
-  quiet : Quiet g.B.Book.content g.B.Book.is_sound g.B.Book.is_open g.B.Book.is_steady g.B.Book.left
+  quiet : Quiet g.B.Book
       l.fn.book l.book;
   walk : (entries : List (List ℕ × TopUpFacts))
       × Appends (g.W.Write.contents l.fn.writer) (text_written g.W.Write.contents l.lines)

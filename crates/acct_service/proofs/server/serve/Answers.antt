@@ -16,7 +16,7 @@ loop-turn-init g c =
         was_open = λ still. still;
         keeps_steady = λ steady. steady;
       };
-      serves = λ sound history stood. serves_first b.content b.is_sound b.is_open b.is_steady b.left
+      serves = λ sound history stood. serves_first b
           c.args.config.now history c.args.book.now (x.told c.args.exchange.now)
           c.none-served.result none.counts (grows_none (x.told c.args.exchange.now)) stood;
     }
@@ -31,7 +31,7 @@ loop-turn-preserved g c =
       turns = omega (arith, before.turns, turn.turns);
       faults = omega (arith, before.faults, turn.faults);
       room = turn.room c.loop-turn.turn before.room;
-      keeps = keeps_then b.is_sound b.is_open b.is_steady c.args.book.now c.loop-turn.book
+      keeps = keeps_then b c.args.book.now c.loop-turn.book
           c.take_turn.new.book before.keeps turn.keeps;
       serves = λ sound history stood. turn.serves c.args.book.now (x.told c.args.exchange.now)
           history sound (before.serves (turn.keeps.was_sound sound) history stood);

@@ -12,9 +12,9 @@ invariant-loop-turn g l =
       turns : x.turn_count l.exchange ≡ x.turn_count l.fn.exchange + l.turn;
       faults : x.failure_count l.exchange ≡ x.failure_count l.fn.exchange + l.served.faults;
       room : AtMost l.turn l.served;
-      keeps : Keeps b.is_sound b.is_open b.is_steady l.fn.book l.book;
+      keeps : Keeps b l.fn.book l.book;
       serves : b.is_sound l.book → (history : List Entry)
-          → StoodFor l.config.plans b.content b.is_open l.fn.book history
-          → Serves b.content b.is_open b.left l.config history l.fn.book l.book
+          → StoodFor b l.config.plans l.fn.book history
+          → Serves b l.config history l.fn.book l.book
           (x.told l.fn.exchange) (x.told l.exchange) l.served;
     }

@@ -8,7 +8,7 @@ returns-in-Ok-clause-serves g c start told history sound so_far =
     let b = g.B.Book in
     let gave = rw (c.in-Ok-Some.is, c.in-Ok-Some.field-0-is) at c.next.ensures.told in
     let sent = rw (c.in-Ok.is, c.bytes.ensures) at c.reply.ensures.told in
-    serves_more b.content b.is_sound b.is_open b.is_steady b.left c.args.config.now history start
+    serves_more b c.args.config.now history start
     told c.args.book.now c.step.new.book _ _ _ _ c.in-Ok-Some.event (replied c.step.new.out) true
     so_far sound c.in-Reply.ensures
     (λ effect. (
@@ -26,7 +26,7 @@ returns-in-Reply-clause-serves g c start told history sound so_far =
     let b = g.B.Book in
     let gave = rw (c.in-Ok-Some.is, c.in-Ok-Some.field-0-is) at c.next.ensures.told in
     let sent = rw (c.in-Err-reply.is, c.bytes.ensures) at c.reply.ensures.told in
-    serves_more b.content b.is_sound b.is_open b.is_steady b.left c.args.config.now history start
+    serves_more b c.args.config.now history start
     told c.args.book.now c.step.new.book _ _ _ _ c.in-Ok-Some.event (replied c.step.new.out) false
     so_far sound c.in-Reply.ensures
     (λ effect. (
@@ -43,7 +43,7 @@ pub returns-in-Dropped-clause-serves : goal.returns-in-Dropped-clause-serves
 returns-in-Dropped-clause-serves g c start told history sound so_far =
     let b = g.B.Book in
     let gave = rw (c.in-Ok-Some.is, c.in-Ok-Some.field-0-is) at c.next.ensures.told in
-    serves_more b.content b.is_sound b.is_open b.is_steady b.left c.args.config.now history start
+    serves_more b c.args.config.now history start
     told c.args.book.now c.step.new.book _ _ _ _ c.in-Ok-Some.event (dropped c.in-Dropped.reason)
     false so_far sound c.in-Dropped.ensures
     (λ effect. (
@@ -60,7 +60,7 @@ pub returns-clause-serves : goal.returns-clause-serves
 returns-clause-serves g c start told history sound so_far =
     let b = g.B.Book in
     let gave = rw (c.in-Ok-Some.is, c.in-Ok-Some.field-0-is) at c.next.ensures.told in
-    serves_more b.content b.is_sound b.is_open b.is_steady b.left c.args.config.now history start
+    serves_more b c.args.config.now history start
     told c.args.book.now c.step.new.book _ _ _ _ c.in-Ok-Some.event mute false so_far sound
     c.in-Mute.ensures
     (λ effect. (

@@ -8,7 +8,7 @@ returns-in-Ok-flush-clause-ran g c done = elim c.match-empty_book.branch [
   | in-Ok w ↦ let told = w.answer_reader-status.ensures.ran (sym w.status-is ∙ done) in (
     told.0,
     told.1,
-    ran_afresh _ _ _ _ _ _ _ w.in-Ok.book told.2 told.0 _ _ _ w.in-Ok.ensures told.3
+    ran_afresh _ _ _ w.in-Ok.book told.2 told.0 _ _ _ w.in-Ok.ensures told.3
         (rw w.writer-is at c.flush.ensures.bytes),
   )
   | in-Err w ↦ absurd (w.end-status.ensures.done (sym w.status-is ∙ done))

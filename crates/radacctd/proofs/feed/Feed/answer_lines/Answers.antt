@@ -6,8 +6,7 @@ pub loop-line-init : goal.loop-line-init
 loop-line-init g c =
     let start = c.into_iter-line-iterator.ensures.into_iter_gives ∙ c.new-line-items.ensures in (
       refl,
-      rw start (ran_none g.B.Book.content g.B.Book.is_sound g.B.Book.is_open
-          g.B.Book.is_steady g.B.Book.left c.args.self.now.server.config.clients
+      rw start (ran_none g.B.Book c.args.self.now.server.config.clients
           c.args.self.now.server.config.plans c.args.self.now.server.book c.args.input.now _),
     )
 
@@ -15,8 +14,8 @@ pub loop-line-preserved-then-are_good : goal.loop-line-preserved-then-are_good
 loop-line-preserved-then-are_good g c =
     let same = c.loop-line.invariant.0 in
     let goes = c.in-Some.ensures.steps in
-    let more = ran_more g.B.Book.content g.B.Book.is_sound g.B.Book.is_open g.B.Book.is_steady
-    g.B.Book.left c.args.self.now.server.config.clients c.args.self.now.server.config.plans _ _ _ _
+    let more = ran_more g.B.Book c.args.self.now.server.config.clients
+    c.args.self.now.server.config.plans _ _ _ _
     _ _ _ _ _ _ _ _ c.loop-line.invariant.1 goes.0 goes.1
     (rw same at c.in_ok-is_good.ensures.printed) in
     (c.in_ok-is_good.ensures.same_config ∙ same, rw c.if-are_good.true at more)
@@ -25,8 +24,8 @@ pub loop-line-preserved : goal.loop-line-preserved
 loop-line-preserved g c =
     let same = c.loop-line.invariant.0 in
     let goes = c.in-Some.ensures.steps in
-    let more = ran_more g.B.Book.content g.B.Book.is_sound g.B.Book.is_open g.B.Book.is_steady
-    g.B.Book.left c.args.self.now.server.config.clients c.args.self.now.server.config.plans _ _ _ _
+    let more = ran_more g.B.Book c.args.self.now.server.config.clients
+    c.args.self.now.server.config.plans _ _ _ _
     _ _ _ _ _ _ _ _ c.loop-line.invariant.1 goes.0 goes.1
     (rw same at c.in_ok-is_good.ensures.printed) in (
       c.in_ok-is_good.ensures.same_config ∙ same,

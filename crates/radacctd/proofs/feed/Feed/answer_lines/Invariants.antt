@@ -4,7 +4,7 @@ use Rattle.radacctd.proofs.feed.Feed.answer_lines.Given as goal
 
 abbrev pub invariant-loop-line : goal.invariant-loop-line
 invariant-loop-line g l = (l.self.server.config ≡ l.fn.self.server.config)
-    × Ran g.B.Book.content g.B.Book.is_sound g.B.Book.is_open g.B.Book.is_steady g.B.Book.left
+    × Ran g.B.Book
     l.fn.self.server.config.clients l.fn.self.server.config.plans l.fn.self.server.book
     l.self.server.book l.input l.line-iterator l.are_good (g.W.Write.contents l.fn.writer)
     (g.W.Write.contents l.writer)

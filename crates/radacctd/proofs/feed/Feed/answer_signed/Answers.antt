@@ -4,6 +4,7 @@ use Rattle.radacctd.proofs.feed.Feed.answer_signed.Goals as goal
 pub returns : goal.returns
 returns g c =
     let found = rw c.in-Some.is at c.named.ensures in
+    let told = rw c.in-Some-signed_request.ensures.1 at c.answer-outcome.ensures.answers in
     record {
       answers = rw (← found) (inr (
         c.in-Some-signed_request.ensures.0,
@@ -11,9 +12,10 @@ returns g c =
           outcome = c.answer-outcome.result;
           before = c.args.self.now.server.reply;
           after = c.answer-outcome.new.self.reply;
-          judged = rw c.in-Some-signed_request.ensures.1 at c.answer-outcome.ensures.judged;
-          written = rw c.in-Some-signed_request.ensures.1 at c.answer-outcome.ensures.written;
-          step = rw c.in-Some-signed_request.ensures.1 at c.answer-outcome.ensures.step;
+          effect = told.0;
+          answers = told.1;
+          written = c.answer-outcome.ensures.written;
+          does = told.2;
           shown = search rules;
         },
       ));

@@ -1,0 +1,27 @@
+-- What the calls of a book say of an entry, whatever history the content stands for.
+use Rattle.std.specs.Prelude.{List, ◌∷◌, Err}
+use Rattle.acct_model.specs.declared.plan.Plan.{Plan}
+use Rattle.acct_model.specs.declared.entry.Entry.{Entry}
+use Rattle.acct_model.specs.History.{Admissible}
+use Rattle.acct_book.specs.declared.recording.RecordError.{RecordError}
+use Rattle.acct_book.specs.Content.{Content}
+use Rattle.acct_book.specs.Effect.{Holds, effect_of}
+use Rattle.acct_book.specs.Outcome.{IsFresh, IsRepeated}
+use Rattle.acct_book.specs.Stands.{Stands}
+
+-- with the entry the new content stands for whatever history the old one stood for
+abbrev pub Adds : List Plan → Entry → Content → Content → Type 0
+Adds plans next old new = (history : List Entry) → Stands plans old history
+    → Admissible plans history next
+    × IsFresh history next
+    × Stands plans new (next ∷ history)
+
+-- in whatever history the content stands for, the entry is kept already
+abbrev pub Repeats : List Plan → Entry → Content → Type 0
+Repeats plans next content = (history : List Entry) → Stands plans content history
+    → IsRepeated history next
+
+-- whatever history the content stands for, the entry is refused so
+abbrev pub Refuses : List Plan → Entry → Content → RecordError → Type 0
+Refuses plans next content error = (history : List Entry) → Stands plans content history
+    → Holds plans history (effect_of next (Err error))

@@ -1,0 +1,81 @@
+-- What `answer` and `handle` say is a step of the machine.
+use Rattle.std.proofs.Common.{◌≡◌, ℕ, List, take, subst, inl, inr}
+use Rattle.std.specs.Prelude.{Result, Ok, Err, Vec}
+use Rattle.std.specs.Global.{Global}
+use Rattle.acct_book.specs.declared.book.Book.{Ghosts}
+use Rattle.acct_book.specs.Effect.{Effect, limited, failed, looked, passed, unasked}
+use Rattle.acct_book.specs.Step.{Does}
+use Rattle.acct_wire.specs.declared.answering.Outcome.{Outcome}
+use Rattle.acct_wire.specs.declared.answering.Outcome.TheVariants.{Reply, Drop}
+use Rattle.acct_wire.specs.declared.reason.Reason.{Reason}
+use Rattle.acct_wire.specs.declared.reason.Reason.TheVariants as why
+use Rattle.acct_wire.specs.declared.client.Client.{Client}
+use Rattle.acct_wire.specs.Outcomes as wire
+use Rattle.acct_desk.specs.Asks.{Ask, Asks, refused, me, overruns, credit}
+use Rattle.acct_desk.specs.Handling.{Handles, Mutes}
+use Rattle.acct_files.specs.declared.config.Config.{Config}
+use Rattle.acct_service.specs.declared.event.What.TheVariants.{Datagram, Desk}
+use Rattle.acct_service.specs.Machine.{Answer, replied, dropped, mute, TakesStep}
+
+-- the answer that an outcome comes to, and a response
+abbrev pub answer_by : Outcome → List ℕ → Answer
+answer_by (Reply size) array = replied (take size array)
+answer_by (Drop reason) array = dropped reason
+
+abbrev pub response_by : {E : Type 0} → Result (Vec ℕ Global) E → Answer
+response_by (Ok octets) = replied octets.items
+response_by (Err error) = mute
+
+-- a datagram has no page to be told
+dropped_looks : (clients : List Client) (source bytes : List ℕ) (moment : ℕ) (reason : Reason)
+    → wire.AnswersDrop clients source bytes moment reason looked → ⊥
+dropped_looks clients source bytes moment why.BalanceLimit says =
+    let clash : looked ≡ limited says.0 says.2.0 = says.2.1 in cc
+dropped_looks clients source bytes moment why.Unavailable says =
+    let clash : looked ≡ failed says.0 = says.2 in cc
+dropped_looks clients source bytes moment reason says =
+    let clash : looked ≡ unasked = says.1 in cc
+
+mute_looks : (ask : Ask) → Mutes ask looked → ⊥
+mute_looks (refused refusal) is = let clash : looked ≡ unasked = is in cc
+mute_looks (me page account) (inl is) = let clash : looked ≡ unasked = is in cc
+mute_looks (me page account) (inr is) = let clash : looked ≡ passed = is in cc
+mute_looks overruns (inl is) = let clash : looked ≡ unasked = is in cc
+mute_looks overruns (inr is) = let clash : looked ≡ passed = is in cc
+mute_looks (credit topup) is = let clash : looked ≡ unasked = is in cc
+
+module _ {B : Type 0} (b : Ghosts B) (config : Config) (old new : B) where
+  pub datagram_step : (source bytes array : List ℕ) (moment port : ℕ) (outcome : Outcome)
+      → (effect : Effect) × wire.Answers config.clients source bytes moment array outcome effect
+      × Does b config.plans old new effect
+      → TakesStep b config moment (Datagram source port bytes) old new (answer_by outcome array)
+  datagram_step source bytes array moment port (Reply size) (effect, says, does) = record {
+    effect = effect;
+    answers = says;
+    does = does;
+    tells = λ sound history stood is. let (asked, reply, was) = says in absurd (cc (is, was));
+  }
+  datagram_step source bytes array moment port (Drop reason) (effect, says, does) = record {
+    effect = effect;
+    answers = says;
+    does = does;
+    tells = λ sound history stood is. absurd (dropped_looks config.clients source bytes moment
+        reason (subst (wire.AnswersDrop config.clients source bytes moment reason) is says));
+  }
+
+  pub request_step : {E : Type 0} (bytes : List ℕ) (moment : ℕ) (ask : Ask)
+      (result : Result (Vec ℕ Global) E)
+      → Asks config.keys bytes moment ask → Handles b config.plans ask old new result
+      → TakesStep b config moment (Desk bytes) old new (response_by result)
+  request_step bytes moment ask (Ok octets) asks h = record {
+    effect = h.effect;
+    answers = (ask, asks, h.answers);
+    does = h.does;
+    tells = λ sound history stood is. (ask, asks, h.tells sound history stood is);
+  }
+  request_step bytes moment ask (Err error) asks h = record {
+    effect = h.effect;
+    answers = (ask, asks, h.answers);
+    does = h.does;
+    tells = λ sound history stood is. absurd (mute_looks ask (subst (Mutes ask) is h.answers));
+  }
