@@ -10,7 +10,7 @@
 //!    the accepted entries alone determine, and every balance is in range (`specs/Stands.antt`,
 //!    `specs/Rows.antt`).
 //! 5. `record` takes a content that stands for a history to one that stands for that history with
-//!    the entry, or leaves it as it is and says why (`specs/Outcome.antt`).
+//!    the entry, or leaves it as it is and says why (`specs/Effect.antt`, `specs/Step.antt`).
 //! 6. What a crash at a moment may leave of a book is a set of contents: a reading call adds none
 //!    to it, a writing call at most the content with its whole effect, and of an open book it is
 //!    the content alone.
@@ -22,17 +22,9 @@ pub mod fakes;
 mod key;
 pub mod laws;
 mod memory_book;
-#[cfg(test)]
-mod oracle;
 mod raising;
 mod recording;
 mod row;
-#[cfg(test)]
-mod tests;
-#[cfg(test)]
-mod tests_afresh;
-#[cfg(test)]
-mod tests_fakes;
 
 pub use book::{Book, Unavailable};
 pub use charging::charge;

@@ -29,13 +29,24 @@ use std::ops::Bound;
 /// A session, a balance, a voucher, the next member and a write cost a search, whose time grows
 /// with the logarithm of the book. Closing a client's sessions and listing an account's rows or
 /// top-ups go through all rows or all top-ups once.
-#[derive(Drop)]
 pub struct MemBook {
     alloc: Global,
     rows: BTreeMap<Key, Row>,
     balances: BTreeMap<Vec<u8>, i64>,
     topups: BTreeMap<String, TopUp>,
     ghost own_keys: { HasOwnKeys (content_from rows balances topups) },
+}
+
+// It is written out, so that a caller does not prove again how each part is dropped.
+impl Drop for MemBook {
+    fn drop(self) {
+        let MemBook {
+            alloc: _,
+            rows: _,
+            balances: _,
+            topups: _,
+        } = self;
+    }
 }
 
 impl MemBook {

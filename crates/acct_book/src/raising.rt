@@ -28,45 +28,8 @@ pub(crate) fn new_row(alloc: Global, report: &Report) -> Result<Row, AllocError>
     })
 }
 
-// The row after a later report.
-pub(crate) fn raise(alloc: Global, row: Row, report: &Report) -> Result<Row, AllocError>
-    ensures { IfOk result (λ raised. raised ≡ raised_row row report.now) }
-{
-    let (input, output) = later_counters(&row, report);
-    let Row {
-        client,
-        session,
-        account,
-        class,
-        input: _,
-        output: _,
-        seconds,
-        first,
-        last,
-        state,
-        cause,
-        calling,
-        framed,
-    } = row;
-    Ok(Row {
-        client,
-        session,
-        account,
-        class,
-        input,
-        output,
-        seconds: report.seconds.max(seconds),
-        first: report.when.min(first),
-        last: report.when.max(last),
-        state: later_state(report.kind, state),
-        cause: later_cause(report.kind, state, cause, report.cause),
-        calling: later_calling(alloc, calling, &report.calling)?,
-        framed: framed.or(report.framed),
-    })
-}
-
 // The greater counters, by their total and then by the input.
-fn later_counters(row: &Row, report: &Report) -> (u64, u64)
+pub(crate) fn later_counters(row: &Row, report: &Report) -> (u64, u64)
     ensures { result ≡ raised_counters row.now report.now }
 {
     let total = report.input + report.output;
@@ -79,7 +42,7 @@ fn later_counters(row: &Row, report: &Report) -> (u64, u64)
 }
 
 // A Stop stops a session, and nothing else changes its state.
-fn later_state(kind: ReportKind, state: SessionState) -> SessionState
+pub(crate) fn later_state(kind: ReportKind, state: SessionState) -> SessionState
     ensures { result ≡ state_after kind state }
 {
     match kind {
@@ -89,7 +52,7 @@ fn later_state(kind: ReportKind, state: SessionState) -> SessionState
 }
 
 // The first Stop gives the cause.
-fn later_cause(kind: ReportKind, state: SessionState, old: u32, new: u32) -> u32
+pub(crate) fn later_cause(kind: ReportKind, state: SessionState, old: u32, new: u32) -> u32
     ensures { result ≡ cause_after kind state old new }
 {
     match kind {
@@ -102,7 +65,7 @@ fn later_cause(kind: ReportKind, state: SessionState, old: u32, new: u32) -> u32
 }
 
 // The calling station that was told first.
-fn later_calling(alloc: Global, old: Octets, new: &Octets) -> Result<Octets, AllocError>
+pub(crate) fn later_calling(alloc: Global, old: Octets, new: &Octets) -> Result<Octets, AllocError>
     ensures { IfOk result (λ octets. octets ≡ or_octets old new.now) }
 {
     if old.as_slice().is_empty() {

@@ -25,7 +25,7 @@ ghost use Rattle.acct_book.specs.Calls.{Adds, Repeats, Refuses};
 use crate::book::{Book, Unavailable};
 use crate::charging::charge;
 use crate::key::Key;
-use crate::raising::{new_row, raise};
+use crate::raising::new_row;
 use crate::row::Row;
 use acct_model::{Entry, Plans, Report, Restart, TopUp};
 use std::alloc::{AllocError, Global};
@@ -219,7 +219,7 @@ fn advance(
         None => Ok((new_row(alloc, report)?, 0)),
         Some(row) => {
             let before = charge(plans, &row);
-            Ok((raise(alloc, row, report)?, before))
+            Ok((row.raised(alloc, report)?, before))
         }
     }
 }

@@ -3,7 +3,8 @@ ghost use Rattle.std.specs.Prelude.{◌≡◌, ◌+◌, ◌^◌, ◌<◌, Some, 
 ghost use Rattle.acct_book.specs.Row.{state_text};
 
 use crate::key::Key;
-use acct_model::{Octets, Text};
+use crate::raising::{later_calling, later_cause, later_counters, later_state};
+use acct_model::{Octets, Report, Text};
 use std::alloc::{AllocError, Global};
 use std::fmt;
 use std::marker::Model;
@@ -45,7 +46,6 @@ const NAS_REBOOT: u32 = 11;
 
 /// What is kept of a session. Its input and output are at most 2^63 - 1 octets together, and its
 /// moments are below 2^53.
-#[derive(Debug, Drop)]
 pub struct Row {
     /// The client's name.
     pub client: Text,
@@ -75,6 +75,27 @@ pub struct Row {
     pub framed: Option<[u8; 4]>,
 }
 
+// It is written out, so that a caller does not prove again how each part is dropped.
+impl Drop for Row {
+    fn drop(self) {
+        let Row {
+            client: _,
+            session: _,
+            account: _,
+            class: _,
+            input: _,
+            output: _,
+            seconds: _,
+            first: _,
+            last: _,
+            state: _,
+            cause: _,
+            calling: _,
+            framed: _,
+        } = self;
+    }
+}
+
 impl Model for Row {
     ghost use Rattle.acct_book.specs.Row.{RowFacts, IsRow};
 
@@ -101,6 +122,7 @@ impl Model for Row {
 
 impl Row {
     ghost use Rattle.acct_book.specs.Content.{key_of, closed_by};
+    ghost use Rattle.acct_book.specs.Next.{raised_row};
 
     /// The octets of the session, input and output together.
     pub fn total(&self) -> u64
@@ -118,6 +140,28 @@ impl Row {
             client: self.client.copy(alloc)?,
             session: self.session.copy(alloc)?,
         })
+    }
+
+    /// The key that the row stood under, which takes no memory.
+    pub fn into_key(self) -> Key
+        ensures { result ≡ key_of self }
+    {
+        let Row {
+            client,
+            session,
+            account: _,
+            class: _,
+            input: _,
+            output: _,
+            seconds: _,
+            first: _,
+            last: _,
+            state: _,
+            cause: _,
+            calling: _,
+            framed: _,
+        } = self;
+        Key { client, session }
     }
 
     /// The same row again.
@@ -149,5 +193,42 @@ impl Row {
             self.state = SessionState::Closed;
             self.cause = NAS_REBOOT;
         }
+    }
+
+    /// The row after a later report.
+    pub(crate) fn raised(self, alloc: Global, report: &Report) -> Result<Row, AllocError>
+        ensures { IfOk result (λ raised. raised ≡ raised_row self report.now) }
+    {
+        let (input, output) = later_counters(&self, report);
+        let Row {
+            client,
+            session,
+            account,
+            class,
+            input: _,
+            output: _,
+            seconds,
+            first,
+            last,
+            state,
+            cause,
+            calling,
+            framed,
+        } = self;
+        Ok(Row {
+            client,
+            session,
+            account,
+            class,
+            input,
+            output,
+            seconds: report.seconds.max(seconds),
+            first: report.when.min(first),
+            last: report.when.max(last),
+            state: later_state(report.kind, state),
+            cause: later_cause(report.kind, state, cause, report.cause),
+            calling: later_calling(alloc, calling, &report.calling)?,
+            framed: framed.or(report.framed),
+        })
     }
 }

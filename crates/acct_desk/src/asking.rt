@@ -19,7 +19,7 @@ use httparse::spans::{EMPTY_HEADER_SPAN, HeaderSpan, RequestSpans};
 use std::alloc::Global;
 
 // Why a request is refused, whatever the book says.
-#[derive(Clone, Copy, Debug, PartialEq, Eq)]
+#[derive(Clone, Copy, PartialEq, Eq)]
 pub(crate) enum Refusal {
     BadRequest,
     TooLarge,
@@ -31,7 +31,7 @@ pub(crate) enum Refusal {
 }
 
 // What an account may see of itself.
-#[derive(Clone, Copy, Debug, PartialEq, Eq)]
+#[derive(Clone, Copy, PartialEq, Eq)]
 pub(crate) enum Page {
     Balance,
     Sessions,

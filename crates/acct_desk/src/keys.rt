@@ -20,7 +20,6 @@ const SHORTEST_TOKEN: usize = 16;
 const LONGEST_TOKEN: usize = 64;
 
 /// What a key lets its bearer do.
-#[derive(Debug, Drop)]
 pub enum Role {
     /// Ask for the balance, the sessions and the vouchers of this account.
     Account(Octets),
@@ -28,13 +27,29 @@ pub enum Role {
     Cashier,
 }
 
+// It is written out, so that a caller does not prove again how each part is dropped.
+impl Drop for Role {
+    fn drop(self) {
+        match self {
+            Role::Account(_) => {}
+            Role::Cashier => {}
+        }
+    }
+}
+
 /// A token and what it lets its bearer do.
-#[derive(Debug, Drop)]
 pub struct DeskKey {
     /// The token that a request shows in its field `Desk-Key`.
     pub token: Text,
     /// What it lets its bearer do.
     pub role: Role,
+}
+
+// It is written out, so that a caller does not prove again how each part is dropped.
+impl Drop for DeskKey {
+    fn drop(self) {
+        let DeskKey { token: _, role: _ } = self;
+    }
 }
 
 /// Why keys can't be the keys of a desk.
@@ -63,12 +78,22 @@ impl From<AllocError> for KeysError {
 }
 
 /// Keys of which no two have one token, with the desk's paths: what every request is looked up in.
-#[derive(Drop)]
 pub struct Keys {
     list: Vec<DeskKey>,
     // The place in the list of each token.
     places: BTreeMap<Vec<u8>, usize>,
     router: Router<Endpoint>,
+}
+
+// It is written out, so that a caller does not prove again how each part is dropped.
+impl Drop for Keys {
+    fn drop(self) {
+        let Keys {
+            list: _,
+            places: _,
+            router: _,
+        } = self;
+    }
 }
 
 impl Model for Keys {

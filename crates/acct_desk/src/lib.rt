@@ -18,14 +18,3 @@ pub use framing::{Reach, extent};
 pub use handling::handle;
 pub use keys::{DeskKey, Keys, KeysError, Role};
 pub use reading::{ReadFault, read_request};
-
-#[cfg(test)]
-mod sample_desk;
-#[cfg(test)]
-mod tests;
-#[cfg(test)]
-mod tests_limits;
-#[cfg(test)]
-mod tests_pages;
-#[cfg(test)]
-mod tests_refusals;

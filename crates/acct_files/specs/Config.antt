@@ -5,7 +5,7 @@ use Rattle.toml.specs.Data.{Data, Members}
 use Rattle.toml.specs.Parse.{parse_document}
 use Rattle.acct_model.specs.declared.plan.Plan.{Plan}
 use Rattle.acct_wire.specs.declared.client.Client.{Client}
-use Rattle.acct_files.specs.declared.config.Config.{Config}
+use Rattle.acct_site.specs.declared.config.Config.{Config}
 use Rattle.acct_files.specs.declared.config_error.ConfigKind.TheVariants.{NotToml, BadShape}
 use Rattle.acct_files.specs.declared.config_error.ConfigKind.TheVariants.{Memory}
 use Rattle.acct_files.specs.declared.config_error.ConfigError.{ConfigError}

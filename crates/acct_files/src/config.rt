@@ -15,9 +15,7 @@ use crate::config_error::{ConfigError, ConfigKind};
 use crate::key_tables::keys_of;
 use crate::plan_tables::plans_of;
 use crate::tables::array_at;
-use acct_desk::Keys;
-use acct_model::Plans;
-use acct_wire::Clients;
+use acct_site::Config;
 use std::alloc::Global;
 use toml::{Table, Value};
 
@@ -27,17 +25,6 @@ const MOST_CLIENTS: usize = 1_024;
 const MOST_PLANS: usize = 256;
 /// The most keys of a site.
 const MOST_KEYS: usize = 4_096;
-
-/// Who may report, what its users pay, and who may ask the desk.
-#[derive(Drop)]
-pub struct Config {
-    /// The clients, in the order of their tables.
-    pub clients: Clients,
-    /// The plans, in the order of their tables.
-    pub plans: Plans,
-    /// The keys, in the order of their tables.
-    pub keys: Keys,
-}
 
 /// The configuration that a text spells.
 ///

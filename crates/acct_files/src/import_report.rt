@@ -92,7 +92,6 @@ pub enum Outcome {
 }
 
 /// What an import did.
-#[derive(Debug, Drop)]
 pub struct ImportReport {
     /// How many vouchers were added.
     pub added: u64,
@@ -102,6 +101,18 @@ pub struct ImportReport {
     pub refused: RefusedList,
     /// Why the import stopped before its end, if it did.
     pub stopped: Option<Stopped>,
+}
+
+// It is written out, so that a caller does not prove again how each part is dropped.
+impl Drop for ImportReport {
+    fn drop(self) {
+        let ImportReport {
+            added: _,
+            repeated: _,
+            refused: _,
+            stopped: _,
+        } = self;
+    }
 }
 
 impl ImportReport {

@@ -16,28 +16,21 @@ mod capped;
 mod client_tables;
 mod config;
 mod config_error;
-#[cfg(test)]
-mod config_tests;
 mod csv_lines;
-#[cfg(test)]
-mod export_tests;
 mod import_report;
 mod importing;
 mod key_tables;
 pub mod laws;
-#[cfg(test)]
-mod memory_tests;
 mod plan_tables;
 mod refused_list;
 mod session_lines;
 mod tables;
-#[cfg(test)]
-mod tests;
 mod topup_lines;
 mod voucher_record;
 
 pub use account_lines::{AccountExport, export_balances, export_overruns};
-pub use config::{Config, config_of};
+pub use acct_site::Config;
+pub use config::config_of;
 pub use config_error::{ConfigError, ConfigKind, ConfigTable};
 pub use csv_lines::ExportError;
 pub use import_report::{Cause, ImportReport, Outcome, Refused, Stopped};

@@ -7,10 +7,16 @@ use std::alloc::Global;
 use std::marker::Model;
 
 /// Refused records in the order of their numbers, which contracts see as a list.
-#[derive(Debug, Drop)]
 pub struct RefusedList {
     /// The records.
     pub records: Vec<Refused>,
+}
+
+// It is written out, so that a caller does not prove again how each part is dropped.
+impl Drop for RefusedList {
+    fn drop(self) {
+        let RefusedList { records: _ } = self;
+    }
 }
 
 impl Model for RefusedList {

@@ -5,7 +5,6 @@ ghost use Rattle.csv.specs.Records.{fields_of, partial_of};
 ghost use Rattle.csv.specs.Writing.{text_written};
 ghost use Rattle.acct_book.specs.declared.key.Key.{Key};
 ghost use Rattle.acct_book.specs.Step.{Looks};
-ghost use Rattle.acct_book.specs.Content.{key_of};
 ghost use Rattle.acct_book.specs.Maps.{key_cmp};
 ghost use Rattle.acct_book.specs.Row.{RowFacts};
 ghost use Rattle.acct_book.specs.Walk.{AreAllPast, IsNextRow};
@@ -52,7 +51,7 @@ pub fn export_sessions<B: Book, W: Write + Drop>(
             return finish(lines);
         };
         write_session(alloc, &mut lines, &mut fields, plans, &row)?;
-        after = Some(key_in(row));
+        after = Some(row.into_key());
     }
     match next_session(book, &after)? {
         Some(_) => Err(ExportError::Unavailable),
@@ -148,14 +147,5 @@ fn push_end(alloc: Global, fields: &mut ByteRecord, row: &Row) -> Result<(), Exp
     match show_address(alloc, row.framed) {
         Ok(text) => push(fields, text.as_bytes()),
         Err(NoMemory) => Err(ExportError::Memory),
-    }
-}
-
-fn key_in(row: Row) -> Key
-    ensures { result ≡ key_of row }
-{
-    Key {
-        client: row.client,
-        session: row.session,
     }
 }

@@ -47,7 +47,7 @@ pub fn export_topups<B: Book, W: Write + Drop>(
             return finish(lines);
         };
         write_topup(alloc, &mut lines, &mut fields, &topup)?;
-        after = Some(voucher_of(topup));
+        after = Some(topup.into_voucher());
     }
     match next_topup(book, &after)? {
         Some(_) => Err(ExportError::Unavailable),
@@ -97,10 +97,4 @@ fn write_topup<W: Write + Drop>(
     push_number(fields, topup.sum)?;
     push_number(fields, topup.when)?;
     write_line(lines, fields)
-}
-
-fn voucher_of(topup: TopUp) -> Text
-    ensures { result ≡ topup.voucher }
-{
-    topup.voucher
 }

@@ -4,14 +4,14 @@ use crate::text::Text;
 use crate::top_up::TopUp;
 
 /// A client began or ended accounting: Accounting-On or Accounting-Off (RFC 2866, section 5.1).
-#[derive(Debug, Drop)]
+#[derive(Drop)]
 pub struct Restart {
     /// The client's name.
     pub client: Text,
 }
 
 /// One entry of a history.
-#[derive(Debug, Drop)]
+#[derive(Drop)]
 pub enum Entry {
     /// A session reports.
     Report(Report),

@@ -38,8 +38,3 @@ pub use report::{Report, ReportKind};
 pub use shown::{NoMemory, show, unshow};
 pub use text::Text;
 pub use top_up::{TopUp, TopUpError};
-
-#[cfg(test)]
-mod caller;
-#[cfg(test)]
-mod tests;

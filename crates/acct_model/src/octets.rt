@@ -6,10 +6,17 @@ use std::cmp::Ordering;
 use std::marker::Model;
 
 /// A list of octets, ordered octet by octet.
-#[derive(Debug, Drop)]
+#[derive(Debug)]
 pub struct Octets {
     /// The octets.
     pub octets: Vec<u8>,
+}
+
+// It is written out, so that a caller does not prove again how each part is dropped.
+impl Drop for Octets {
+    fn drop(self) {
+        let Octets { octets: _ } = self;
+    }
 }
 
 impl Model for Octets {

@@ -5,7 +5,6 @@ ghost use Rattle.acct_model.specs.Plans.{price_of, IsLeastBlocks};
 use crate::octets::Octets;
 
 /// What the sessions of a class pay: a unit for each block that was started.
-#[derive(Debug, Drop)]
 pub struct Plan {
     /// The Class whose sessions it prices.
     pub class: Octets,
@@ -13,6 +12,17 @@ pub struct Plan {
     pub block: u64,
     /// What a block costs, 0 to 10^9 in the plans of a site.
     pub unit: u64,
+}
+
+// It is written out, so that a caller does not prove again how each part is dropped.
+impl Drop for Plan {
+    fn drop(self) {
+        let Plan {
+            class: _,
+            block: _,
+            unit: _,
+        } = self;
+    }
 }
 
 /// What a total of octets costs: `unit` times the least number of blocks that cover it.

@@ -18,9 +18,15 @@ const GREATEST_UNIT: u64 = 1_000_000_000;
 
 /// Plans of which each class has one at most and `default` has one. Each block is 1 to 2^53 and
 /// each unit 0 to 10^9.
-#[derive(Drop)]
 pub struct Plans {
     plans: Vec<Plan>,
+}
+
+// It is written out, so that a caller does not prove again how each part is dropped.
+impl Drop for Plans {
+    fn drop(self) {
+        let Plans { plans: _ } = self;
+    }
 }
 
 impl Model for Plans {

@@ -16,7 +16,6 @@ pub enum ReportKind {
 
 /// One report of a session. Its input and output are at most 2^63 - 1 octets together, and its
 /// `when` is below 2^53.
-#[derive(Debug, Drop)]
 pub struct Report {
     /// The name of the client, the access server that sent the report.
     pub client: Text,
@@ -47,6 +46,26 @@ pub struct Report {
     pub calling: Octets,
     /// Framed-IP-Address (RFC 2865, section 5.8), if there is one.
     pub framed: Option<[u8; 4]>,
+}
+
+// It is written out, so that a caller does not prove again how each part is dropped.
+impl Drop for Report {
+    fn drop(self) {
+        let Report {
+            client: _,
+            session: _,
+            user: _,
+            class: _,
+            kind: _,
+            input: _,
+            output: _,
+            seconds: _,
+            when: _,
+            cause: _,
+            calling: _,
+            framed: _,
+        } = self;
+    }
 }
 
 impl Model for Report {

@@ -6,10 +6,17 @@ use std::cmp::Ordering;
 use std::marker::Model;
 
 /// A text in UTF-8, ordered octet by octet.
-#[derive(Debug, Drop)]
+#[derive(Debug)]
 pub struct Text {
     /// The text.
     pub text: String,
+}
+
+// It is written out, so that a caller does not prove again how each part is dropped.
+impl Drop for Text {
+    fn drop(self) {
+        let Text { text: _ } = self;
+    }
 }
 
 impl Model for Text {

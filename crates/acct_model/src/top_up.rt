@@ -18,7 +18,7 @@ const GREATEST_SUM: u64 = 1_000_000_000_000;
 
 /// A voucher that is credited to an account. Its number is 1 to 32 of the characters `A` to `Z`,
 /// `0` to `9` and `-`, its account 1 to 253 octets, its sum 1 to 10^12, and its moment below 2^53.
-#[derive(Debug, Drop)]
+#[derive(Debug)]
 pub struct TopUp {
     /// The voucher's number.
     pub voucher: Text,
@@ -28,6 +28,18 @@ pub struct TopUp {
     pub sum: u64,
     /// The moment of the top-up, in seconds since 1970.
     pub when: u64,
+}
+
+// It is written out, so that a caller does not prove again how each part is dropped.
+impl Drop for TopUp {
+    fn drop(self) {
+        let TopUp {
+            voucher: _,
+            account: _,
+            sum: _,
+            when: _,
+        } = self;
+    }
 }
 
 impl Model for TopUp {
@@ -114,6 +126,19 @@ impl TopUp {
             sum,
             when,
         })
+    }
+
+    /// The voucher's number, which takes no memory.
+    pub fn into_voucher(self) -> Text
+        ensures { result ≡ self.voucher }
+    {
+        let TopUp {
+            voucher,
+            account: _,
+            sum: _,
+            when: _,
+        } = self;
+        voucher
     }
 }
 

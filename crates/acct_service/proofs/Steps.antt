@@ -13,7 +13,7 @@ use Rattle.acct_wire.specs.declared.client.Client.{Client}
 use Rattle.acct_wire.specs.Outcomes as wire
 use Rattle.acct_desk.specs.Asks.{Ask, Asks, refused, me, overruns, credit}
 use Rattle.acct_desk.specs.Handling.{Handles, Mutes}
-use Rattle.acct_files.specs.declared.config.Config.{Config}
+use Rattle.acct_site.specs.declared.config.Config.{Config}
 use Rattle.acct_service.specs.declared.event.What.TheVariants.{Datagram, Desk}
 use Rattle.acct_service.specs.Machine.{Answer, replied, dropped, mute, TakesStep}
 

@@ -15,7 +15,7 @@ use Rattle.acct_book.specs.Stands.{Stands}
 use Rattle.acct_book.specs.Step.{MayAdd, StoodFor}
 use Rattle.acct_book.proofs.Crashes.{Leaves, left_by}
 use Rattle.acct_wire.specs.declared.reason.Reason.{Reason}
-use Rattle.acct_files.specs.declared.config.Config.{Config}
+use Rattle.acct_site.specs.declared.config.Config.{Config}
 use Rattle.acct_service.specs.declared.event.Event.{Event}
 use Rattle.acct_service.specs.declared.exchange.Asked.{Asked}
 use Rattle.acct_service.specs.declared.server.Served.{Served}

@@ -9,7 +9,7 @@ use Rattle.acct_wire.specs.declared.reason.Reason.{Reason}
 use Rattle.acct_wire.specs.Outcomes.{AnswersReply, AnswersDrop}
 use Rattle.acct_desk.specs.Asks.{Ask, Asks}
 use Rattle.acct_desk.specs.Handling.{AnswersAsk, Mutes, IsTold}
-use Rattle.acct_files.specs.declared.config.Config.{Config}
+use Rattle.acct_site.specs.declared.config.Config.{Config}
 use Rattle.acct_service.specs.declared.event.What.{What}
 use Rattle.acct_service.specs.declared.event.What.TheVariants.{Datagram, Desk}
 use Rattle.acct_service.specs.declared.event.Event.{Event}

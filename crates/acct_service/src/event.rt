@@ -5,7 +5,6 @@ use acct_model::Octets;
 use std::alloc::{AllocError, Global};
 
 /// What came, and from where.
-#[derive(Debug, Drop)]
 pub enum What {
     /// A datagram.
     Datagram {
@@ -21,6 +20,20 @@ pub enum What {
         /// Its octets.
         bytes: Octets,
     },
+}
+
+// It is written out, so that a caller does not prove again how each part is dropped.
+impl Drop for What {
+    fn drop(self) {
+        match self {
+            What::Datagram {
+                source: _,
+                port: _,
+                bytes: _,
+            } => {}
+            What::Desk { bytes: _ } => {}
+        }
+    }
 }
 
 impl What {
@@ -46,13 +59,19 @@ impl What {
 }
 
 /// Something that came, and when. Its moment is below 2^53.
-#[derive(Debug, Drop)]
 pub struct Event {
     /// When it came, in seconds since 1970.
     pub moment: u64,
     /// What came.
     pub what: What,
     pub ghost moment_fits: { moment < 2 ^ 53 },
+}
+
+// It is written out, so that a caller does not prove again how each part is dropped.
+impl Drop for Event {
+    fn drop(self) {
+        let Event { moment: _, what: _ } = self;
+    }
 }
 
 impl Event {

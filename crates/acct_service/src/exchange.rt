@@ -12,7 +12,7 @@ use thiserror::Error;
 pub struct Fault;
 
 /// A reply that was asked for.
-#[derive(Debug, Drop)]
+#[derive(Drop)]
 pub struct Asked {
     /// The event that it answers.
     pub event: Event,

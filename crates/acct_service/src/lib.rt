@@ -23,12 +23,3 @@ pub use exchange::{Asked, Exchange, Fault};
 pub use outbox::Outbox;
 pub use server::{Served, serve};
 pub use stepping::{Turn, step};
-
-#[cfg(test)]
-mod oracle;
-#[cfg(test)]
-mod sample_site;
-#[cfg(test)]
-mod tests;
-#[cfg(test)]
-mod tests_random;

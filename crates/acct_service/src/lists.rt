@@ -10,7 +10,7 @@ use std::alloc::{AllocError, Global};
 use std::mem;
 
 /// What a turn of a list brings.
-#[derive(Debug, Drop)]
+#[derive(Drop)]
 pub enum Planned {
     /// An event, and whether the exchange takes its reply.
     Comes {
@@ -28,7 +28,7 @@ pub enum Planned {
 /// An exchange that brings the turns of a list, and nothing after the last of them. It tells the
 /// events that it gave and the replies that it was asked for. A growth that is refused in it is a
 /// fault, and from then on it tells neither.
-#[derive(Debug, Drop)]
+#[derive(Drop)]
 pub struct ListExchange {
     alloc: Global,
     planned: Vec<Planned>,

@@ -6,18 +6,28 @@ ghost use Rattle.acct_service.specs.Machine.{TakesStep, answer_of};
 use crate::stepping::Turn;
 use acct_book::Book;
 use acct_desk::handle;
-use acct_files::Config;
+use acct_site::Config;
 use acct_wire::{Datagram, Outcome, answer};
 use std::alloc::Global;
 use std::marker::Model;
 
 /// The octets of an answer: of the reply to a datagram, in an array that is made once, or of a
 /// response of the desk, as the desk gave them. Contracts see it as these octets.
-#[derive(Drop)]
 pub struct Outbox {
     reply: [u8; 4096],
     size: usize,
     response: Option<Vec<u8>>,
+}
+
+// It is written out, so that a caller does not prove again how each part is dropped.
+impl Drop for Outbox {
+    fn drop(self) {
+        let Outbox {
+            reply: _,
+            size: _,
+            response: _,
+        } = self;
+    }
 }
 
 impl Model for Outbox {

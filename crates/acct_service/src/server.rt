@@ -11,7 +11,7 @@ use crate::exchange::Exchange;
 use crate::outbox::Outbox;
 use crate::stepping::{Turn, step};
 use acct_book::Book;
-use acct_files::Config;
+use acct_site::Config;
 use acct_wire::Reason;
 use std::alloc::Global;
 

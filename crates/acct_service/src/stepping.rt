@@ -4,7 +4,7 @@ ghost use Rattle.acct_service.specs.Machine.{TakesStep, answer_of};
 use crate::event::{Event, What};
 use crate::outbox::Outbox;
 use acct_book::Book;
-use acct_files::Config;
+use acct_site::Config;
 use acct_wire::{Datagram, Reason};
 use std::alloc::Global;
 

@@ -170,7 +170,14 @@ fn counters_at(columns: &sqlite::Row) -> Result<(u64, u64), Refused>
 pub(crate) fn session_at(columns: &sqlite::Row) -> Result<Row, Refused>
     ensures { IfOk result (λ row. row ≡ session_of (column columns.now)) }
 {
+    // The numbers come first, so that no text is held where one of them is refused.
     let (input, output) = counters_at(columns)?;
+    let seconds = word_at(columns, 6)?;
+    let first = moment_at(columns, 7)?;
+    let last = moment_at(columns, 8)?;
+    let state = state_at(columns, 9)?;
+    let cause = word_at(columns, 10)?;
+    let framed = framed_at(columns, 12)?;
     Ok(Row {
         client: text_at(columns, 0)?,
         session: octets_at(columns, 1)?,
@@ -178,13 +185,13 @@ pub(crate) fn session_at(columns: &sqlite::Row) -> Result<Row, Refused>
         class: octets_at(columns, 3)?,
         input,
         output,
-        seconds: word_at(columns, 6)?,
-        first: moment_at(columns, 7)?,
-        last: moment_at(columns, 8)?,
-        state: state_at(columns, 9)?,
-        cause: word_at(columns, 10)?,
+        seconds,
+        first,
+        last,
+        state,
+        cause,
         calling: octets_at(columns, 11)?,
-        framed: framed_at(columns, 12)?,
+        framed,
     })
 }
 

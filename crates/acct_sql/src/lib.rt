@@ -17,15 +17,11 @@ mod book_schema;
 mod columns;
 mod listing;
 mod making;
-#[cfg(test)]
-mod memory_tests;
 mod reading;
 mod refused;
 mod rowids;
 mod sql_book;
 mod sql_book_error;
-#[cfg(test)]
-mod tests;
 mod writing;
 
 pub use sql_book::SqlBook;

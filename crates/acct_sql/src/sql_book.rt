@@ -16,10 +16,16 @@ use std::alloc::Global;
 use std::marker::Model;
 
 /// A book on the tables of a database.
-#[derive(Drop)]
 pub struct SqlBook<S: Alter> {
     conn: Connection<S>,
     alloc: Global,
+}
+
+// It is written out, so that a caller does not prove again how each part is dropped.
+impl<S: Alter + Drop> Drop for SqlBook<S> {
+    fn drop(self) {
+        let SqlBook { conn: _, alloc: _ } = self;
+    }
 }
 
 impl<S: Alter> Model for SqlBook<S> {

@@ -10,7 +10,6 @@ use std::marker::Model;
 use thiserror::Error;
 
 /// An access server, or a proxy in its place.
-#[derive(Debug, Drop)]
 pub struct Client {
     /// Its name, by which its sessions are known.
     pub name: Text,
@@ -20,10 +19,27 @@ pub struct Client {
     pub secret: Octets,
 }
 
+// It is written out, so that a caller does not prove again how each part is dropped.
+impl Drop for Client {
+    fn drop(self) {
+        let Client {
+            name: _,
+            address: _,
+            secret: _,
+        } = self;
+    }
+}
+
 /// Clients of which no two share a name or an address.
-#[derive(Drop)]
 pub struct Clients {
     clients: Vec<Client>,
+}
+
+// It is written out, so that a caller does not prove again how each part is dropped.
+impl Drop for Clients {
+    fn drop(self) {
+        let Clients { clients: _ } = self;
+    }
 }
 
 impl Model for Clients {

@@ -22,10 +22,3 @@ pub use answering::{Outcome, answer};
 pub use client::{Client, ClientError, Clients};
 pub use datagram::Datagram;
 pub use reason::Reason;
-
-#[cfg(test)]
-mod foreign_packets;
-#[cfg(test)]
-mod sample_site;
-#[cfg(test)]
-mod tests;

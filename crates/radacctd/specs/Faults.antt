@@ -1,12 +1,11 @@
--- Why a line cannot be read.
-use Rattle.acct_model.specs.declared.top_up.TopUpError.{TopUpError}
-use Rattle.acct_model.specs.declared.top_up.TopUpError.TheVariants as topup
-use Rattle.radacctd.specs.declared.line_fault.LineFault.{LineFault}
-use Rattle.radacctd.specs.declared.line_fault.LineFault.TheVariants.{Bad, NoMemory}
+-- What a command says is wrong with a book.
+use Rattle.acct_sql.specs.declared.sql_book_error.SqlBookError.{SqlBookError}
+use Rattle.acct_sql.specs.declared.sql_book_error.SqlBookError.TheVariants as error
+use Rattle.acct_commands.specs.declared.fault.StoreFault.{StoreFault}
+use Rattle.acct_commands.specs.declared.fault.StoreFault.TheVariants as fault
 
--- what is wrong with a line whose top-up has a fault
-abbrev pub topup_line_fault : TopUpError → LineFault
-topup_line_fault topup.BadVoucher = Bad
-topup_line_fault topup.BadAccount = Bad
-topup_line_fault topup.BadSum = Bad
-topup_line_fault topup.Memory = NoMemory
+abbrev pub store_fault_of : SqlBookError → StoreFault
+store_fault_of error.NotABook = fault.NotABook
+store_fault_of error.PlansDiffer = fault.PlansDiffer
+store_fault_of (error.WrongSchema number) = fault.WrongSchema
+store_fault_of error.Unavailable = fault.Unavailable

@@ -1,16 +1,2 @@
-pub mod Answers
-pub mod Checks
-pub mod CommandLine
-pub mod Counts
-pub mod Endings
 pub mod Faults
-pub mod Feed
-pub mod Line
-pub mod Exports
-pub mod Imports
-pub mod Lines
-pub mod Numbers
-pub mod Octets
-pub mod SampleSite
 pub mod Serving
-pub mod Words

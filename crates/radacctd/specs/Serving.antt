@@ -1,7 +1,5 @@
--- What `serve` prints, and over which book it runs.
-use Rattle.std.specs.Prelude.{◌≡◌, ℕ, List, [], ◌∷◌, ◌++◌, ◌+◌, ◌==◌, if◌then◌else◌}
-use Rattle.std.specs.Prelude.{Option, None, codes}
-use Rattle.std.specs.Io.KnownBytes.{Appends}
+-- Over which book `serve` runs.
+use Rattle.std.specs.Prelude.{◌≡◌, ℕ, List, Option}
 use Rattle.sqlite_wal.specs.Recovery.{Image}
 use Rattle.sqlite_trees.specs.Tree.{Trees}
 use Rattle.sqlite.specs.Files.{HoldsDatabase}
@@ -9,46 +7,10 @@ use Rattle.acct_model.specs.declared.entry.Entry.{Entry}
 use Rattle.acct_book.specs.declared.book.Book.{Ghosts}
 use Rattle.acct_book.specs.Stands.{Stands}
 use Rattle.acct_sql.specs.Content.{content_of}
-use Rattle.acct_files.specs.declared.config.Config.{Config}
-use Rattle.acct_service.specs.Serving as machine
-use Rattle.acct_service.specs.declared.server.Served.{Served}
-use Rattle.radacctd.specs.Counts.{counts_text, drops_text}
-use Rattle.radacctd.specs.declared.counts.Counts.{Counts}
-use Rattle.radacctd.specs.declared.counts.Drops.{Drops}
+use Rattle.acct_site.specs.declared.config.Config.{Config}
+use Rattle.acct_commands.specs.Serving.{Serves}
 
--- what came, of all that was counted
-abbrev pub counts_of : Served → Counts
-counts_of served = record {
-  events = served.events;
-  replies = served.replies;
-  mute = served.mute;
-  faults = served.faults;
-}
-
--- a line for the drops of one reason, where there were some
-abbrev pub drops_line : Drops → List ℕ
-drops_line drops = if drops.count == 0 then [] else drops_text drops ++ 10 ∷ []
-
--- those of the reasons in the order of their numbers, of which the first is n
-abbrev pub drops_lines : ℕ → List ℕ → List ℕ
-drops_lines n [] = []
-drops_lines n (count ∷ counts) =
-    drops_line (record { reason = n; count = count }) ++ drops_lines (n + 1) counts
-
--- all lines of the counts
-abbrev pub served_text : Served → List ℕ
-served_text served =
-    counts_text (counts_of served) ++ 10 ∷ [] ++ drops_lines 1 served.dropped
-
--- A run of the machine over the book, from a history to the one after it, and the counts of that
--- run, which are printed after `serving`. The sockets tell no lists.
 module _ {B : Type 0} (b : Ghosts B) where
-  pub record Serves (config : Config) (history : List Entry) (old new : B)
-      (before after : Option (List ℕ)) : Type 0 where
-    pub served : Served
-    pub run : machine.Serves b config history old new None None served
-    pub printed : Appends before after (codes "serving" ++ 10 ∷ [] ++ served_text served)
-
   -- A run over the book of a file, whose content the tables in the file held, up to this book.
   pub record ServesFile (image : Image) (last : B)
       (before after : Option (List ℕ)) : Type 0 where
@@ -58,4 +20,4 @@ module _ {B : Type 0} (b : Ghosts B) where
         × ((db : Trees) → HoldsDatabase image db → b.content first ≡ content_of db)
     pub serves : b.is_sound last → (db : Trees) (history : List Entry) → HoldsDatabase image db
         → Stands config.plans (content_of db) history
-        → Serves config history first last before after
+        → Serves b config history first last before after

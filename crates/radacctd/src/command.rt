@@ -5,23 +5,18 @@
 //! `Wary`, which supposes nothing of what a write leaves that a crash tore: a commit syncs twice.
 ghost use Rattle.std.specs.Prelude.{◌≢◌, ◌≡◌, ◌<◌, ◌^◌, IfOk};
 ghost use Rattle.sqlite_wal.specs.Files.{image_at};
-ghost use Rattle.radacctd.specs.CommandLine.{HasTurns};
+ghost use Rattle.acct_command_line.specs.CommandLine.{HasTurns};
 ghost use Rattle.radacctd.specs.Serving.{ServesFile};
 
-use crate::check::run_check;
-use crate::clock::moment_of;
-use crate::config_file::read_config;
 use crate::database::{FileBook, adopted, close, made};
-use crate::exporting::run_export;
-use crate::fault::{Fault, end};
 use crate::feed::run_feed;
-use crate::importing::run_import;
-use crate::job::{Export, Job, Listening, Paths};
-use crate::sample_site::sample_config;
-use crate::serving::run_serve;
-use crate::status::Status;
 use acct_book::Book;
+use acct_command_line::{Export, Job, Listening, Paths};
+use acct_commands::{Fault, end, read_config, run_check, run_export, run_import, run_serve};
+use acct_feed::Status;
 use acct_model::Text;
+use acct_samples::sample_config;
+use acct_sockets::moment_of;
 use acct_sql::SqlBook;
 use sqlite::{FileFrom, FileStore, Start, Wary};
 use std::io::{Read, Write};

@@ -8,9 +8,10 @@ ghost use Rattle.sqlite.specs.Start.{FindsIn};
 ghost use Rattle.sqlite.specs.Files.{file_state, IsOpened, HoldsDatabase};
 ghost use Rattle.acct_book.specs.Content.{empty_content};
 ghost use Rattle.acct_sql.specs.Content.{content_of};
+ghost use Rattle.radacctd.specs.Faults.{store_fault_of};
 
-use crate::fault::Fault;
 use acct_book::Book;
+use acct_commands::{Fault, StoreFault};
 use acct_model::{Plans, Text};
 use acct_sql::{SqlBook, SqlBookError};
 use sqlite::{Connection, FileFrom, FileStore, Start};
@@ -37,7 +38,7 @@ pub fn made<S: Start>(
     let connection = opened(runtime, file, start)?;
     match SqlBook::create(runtime.alloc(), connection, plans) {
         Ok(book) => Ok(book),
-        Err((error, _)) => Err(Fault::Store(error)),
+        Err((error, _)) => Err(Fault::Store(store_fault(error))),
     }
 }
 
@@ -65,7 +66,7 @@ pub fn adopted<S: Start>(
     let connection = opened(runtime, file, start)?;
     match SqlBook::adopt(runtime.alloc(), connection, plans) {
         Ok(book) => Ok(book),
-        Err((error, _)) => Err(Fault::Store(error)),
+        Err((error, _)) => Err(Fault::Store(store_fault(error))),
     }
 }
 
@@ -77,7 +78,7 @@ pub fn adopted<S: Start>(
 pub fn close<S: Start>(book: FileBook<S>) -> Result<(), Fault> {
     match book.into_connection().close() {
         Ok(()) => Ok(()),
-        Err(_) => Err(Fault::Store(SqlBookError::Unavailable)),
+        Err(_) => Err(Fault::Store(StoreFault::Unavailable)),
     }
 }
 
@@ -94,5 +95,17 @@ fn opened<S: Start>(
     match Connection::open_from(runtime, file.as_str(), false, start) {
         Ok(connection) => Ok(connection),
         Err(_) => Err(Fault::CannotOpen),
+    }
+}
+
+// What is wrong with a book.
+fn store_fault(error: SqlBookError) -> StoreFault
+    ensures { result ≡ store_fault_of error }
+{
+    match error {
+        SqlBookError::NotABook => StoreFault::NotABook,
+        SqlBookError::PlansDiffer => StoreFault::PlansDiffer,
+        SqlBookError::WrongSchema(_) => StoreFault::WrongSchema,
+        SqlBookError::Unavailable => StoreFault::Unavailable,
     }
 }

@@ -5,44 +5,15 @@
 //! configuration; `feed` answers a script.
 #![tactic(auto)]
 
-ghost use Rattle.radacctd.specs.CommandLine.{HasTurns};
+ghost use Rattle.acct_command_line.specs.CommandLine.{HasTurns};
 
-mod answer;
-mod caller;
-mod check;
-mod clock;
 mod command;
-mod config_file;
-mod counts;
 mod database;
-mod exporting;
-mod fault;
 mod feed;
-mod importing;
-mod input;
-mod job;
-mod line;
-mod line_fault;
-mod lines;
-mod number;
-mod octet_words;
-mod sample_site;
-mod server;
-mod serving;
-mod shown_row;
-mod sockets;
-mod status;
-mod stop;
-#[cfg(test)]
-mod tests;
-#[cfg(test)]
-mod tests_commands;
-mod words;
 
 use crate::command::run;
-use crate::job::{Job, job_of};
-use crate::status::Status;
-use clap::Error;
+use acct_command_line::{Job, job_of, tell};
+use acct_feed::Status;
 use std::io::BufWriter;
 use std::process::ExitCode;
 use std::{env, io};
@@ -80,16 +51,5 @@ fn run_on_standard_streams(rt: &HostRuntime, job: &Job) -> Status
             let _ = println!(rt; "unavailable");
             Status::Unavailable
         }
-    }
-}
-
-// Prints what `clap` says of the words: help and the version to standard output, a mistake to
-// standard error. It says how the program ends.
-fn tell<R: Print + Eprint>(rt: &R, error: &Error) -> Status {
-    let _ = error.print(rt);
-    if error.use_stderr() {
-        Status::WrongWords
-    } else {
-        Status::Done
     }
 }

@@ -37,8 +37,3 @@ pub use authenticator::{request_matches, response_matches};
 pub use packet::{CodecError, Packet, front, read};
 pub use request::{TooLong, sign_request, write_request};
 pub use response::write_response;
-
-#[cfg(test)]
-mod foreign_packets;
-#[cfg(test)]
-mod tests;

@@ -43,7 +43,7 @@ loop-turn-preserved g c =
         grown session_header (λ (e : Key × RowFacts). line (session_fields c.args.plans.now e.1))
             entries ((key_of c.in-Some.row), c.in-Some.row) _ _ _ written
             c.in_ok-write_session.ensures.text,
-        λ opens. rw c.key_in.ensures
+        λ opens. rw c.into_key.ensures
             (walked_more key_cmp (g.B.Book.content c.args.book.now).rows None entries _
             (key_of c.in-Some.row) c.in-Some.row (walked (reads.was_open opens)) (here opens)),
       );

@@ -40,7 +40,7 @@ loop-turn-preserved g c =
         grown topup_header (λ (e : List ℕ × TopUpFacts). line (topup_fields e.1)) entries
             (c.in-Some.topup.voucher, c.in-Some.topup) _ _ _ written
             c.in_ok-write_topup.ensures.text,
-        λ opens. rw c.voucher_of.ensures
+        λ opens. rw c.into_voucher.ensures
             (walked_more octets_cmp (g.B.Book.content c.args.book.now).topups None entries _
             c.in-Some.topup.voucher c.in-Some.topup (walked (reads.was_open opens)) (here opens)),
       );

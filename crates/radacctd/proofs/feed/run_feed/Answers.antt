@@ -1,5 +1,5 @@
 use Rattle.std.proofs.Common.{◌∙◌, sym}
-use Rattle.radacctd.proofs.Runs.{ran_afresh}
+use Rattle.acct_feed.proofs.Runs.{ran_afresh}
 use Rattle.radacctd.proofs.feed.run_feed.Goals as goal
 use Rattle.radacctd.proofs.feed.run_feed.Goals.{in-Ok, in-Err}
 

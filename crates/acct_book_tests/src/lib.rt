@@ -1,0 +1,13 @@
+//! Tests of `acct_book`, of its public calls alone.
+#![tactic(auto)]
+
+#[cfg(test)]
+mod calls;
+#[cfg(test)]
+mod entries;
+#[cfg(test)]
+mod recording;
+#[cfg(test)]
+mod texts;
+#[cfg(test)]
+mod walks;

@@ -1,0 +1,2 @@
+-- the subcommand that a parse entered
+pub mod Entered

@@ -1,0 +1,43 @@
+-- What ends a command before its time, and how the command then ends.
+use Rattle.std.specs.Prelude.{ℕ, List, ◌++◌, codes, Result, Ok, Err}
+use Rattle.acct_files.specs.ErrorText.{error_text}
+use Rattle.acct_commands.specs.declared.fault.StoreFault.{StoreFault}
+use Rattle.acct_commands.specs.declared.fault.StoreFault.TheVariants as error
+use Rattle.acct_commands.specs.declared.fault.Fault.{Fault}
+use Rattle.acct_commands.specs.declared.fault.Fault.TheVariants as fault
+use Rattle.acct_feed.specs.declared.status.Status.{Status}
+use Rattle.acct_feed.specs.declared.status.Status.TheVariants as status
+
+-- the text of what is wrong with a book
+abbrev pub store_fault_text : StoreFault → List ℕ
+store_fault_text error.NotABook = codes "db: NotABook"
+store_fault_text error.PlansDiffer = codes "db: PlansDiffer"
+store_fault_text error.WrongSchema = codes "db: WrongSchema"
+store_fault_text error.Unavailable = codes "db: Unavailable"
+
+-- the text of a fault
+abbrev pub fault_text : Fault → List ℕ
+fault_text fault.CannotRead = codes "file: cannot read"
+fault_text (fault.Config error) = codes "config: " ++ error_text error
+fault_text fault.CannotOpen = codes "db: cannot open"
+fault_text (fault.Store why) = store_fault_text why
+fault_text fault.StoreMemory = codes "db: Memory"
+fault_text fault.CannotBind = codes "socket: cannot bind"
+fault_text fault.CannotWrite = codes "cannot write"
+fault_text fault.NoMemory = codes "out of memory"
+
+-- how a command ends that a fault ends
+abbrev pub fault_status : Fault → Status
+fault_status fault.CannotRead = status.Refused
+fault_status (fault.Config error) = status.Refused
+fault_status fault.CannotOpen = status.Unavailable
+fault_status (fault.Store why) = status.Unavailable
+fault_status fault.StoreMemory = status.Unavailable
+fault_status fault.CannotBind = status.Socket
+fault_status fault.CannotWrite = status.Refused
+fault_status fault.NoMemory = status.Unavailable
+
+-- how a command ends
+abbrev pub ended_status : Result Status Fault → Status
+ended_status (Ok ended) = ended
+ended_status (Err why) = fault_status why

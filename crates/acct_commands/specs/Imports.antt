@@ -1,0 +1,68 @@
+-- What `import` prints, and how it ends.
+use Rattle.std.specs.Prelude.{ℕ, List, [], ◌∷◌, ◌++◌, Option, None, Some, ◌≡◌, codes, decimal}
+use Rattle.std.specs.Prelude.{length}
+use Rattle.std.specs.Prelude.{flat_map, Result, IfOk}
+use Rattle.std.specs.Io.KnownBytes.{Appends}
+use Rattle.acct_model.specs.declared.plan.Plan.{Plan}
+use Rattle.acct_model.specs.declared.entry.Entry.{Entry}
+use Rattle.acct_book.specs.declared.book.Book.{Ghosts}
+use Rattle.acct_book.specs.Step.{StoodFor}
+use Rattle.acct_files.specs.Importing.{Imports, Keeps, unmarked}
+use Rattle.acct_files.specs.Reports.{cause_text, stop_text}
+use Rattle.acct_files.specs.declared.import_report.Refused.{Refused}
+use Rattle.acct_files.specs.declared.import_report.Stopped.{Stopped}
+use Rattle.acct_files.specs.declared.import_report.Stopped.TheVariants as stop
+use Rattle.acct_files.specs.declared.import_report.ImportReport.{ImportReport}
+use Rattle.acct_commands.specs.declared.fault.Fault.{Fault}
+use Rattle.acct_feed.specs.declared.status.Status.{Status}
+use Rattle.acct_feed.specs.declared.status.Status.TheVariants as status
+
+-- `added A, repeated R, refused N`
+abbrev pub counted_line : ImportReport → List ℕ
+counted_line report =
+    codes "added " ++ decimal report.added ++ codes ", repeated " ++ decimal report.repeated
+    ++ codes ", refused " ++ decimal (length report.refused) ++ 10 ∷ []
+
+-- `NUMBER: CAUSE`
+abbrev pub refused_line : Refused → List ℕ
+refused_line refused = decimal refused.number ++ codes ": " ++ cause_text refused.cause ++ 10 ∷ []
+
+-- `stopped: WHY`, where the import stopped
+abbrev pub stopped_line : Option Stopped → List ℕ
+stopped_line None = []
+stopped_line (Some why) = codes "stopped: " ++ stop_text why ++ 10 ∷ []
+
+-- all lines of a report
+abbrev pub report_text : ImportReport → List ℕ
+report_text report =
+    counted_line report ++ flat_map refused_line report.refused ++ stopped_line report.stopped
+
+abbrev pub stopped_status : Option Stopped → List Refused → Status
+stopped_status None [] = status.Done
+stopped_status None (refused ∷ others) = status.Refused
+stopped_status (Some stop.BadHeader) refused = status.Refused
+stopped_status (Some stop.Unreadable) refused = status.Refused
+stopped_status (Some stop.Unavailable) refused = status.Unavailable
+stopped_status (Some stop.Memory) refused = status.Refused
+stopped_status (Some stop.TooMany) refused = status.Refused
+
+-- how an import ends
+abbrev pub report_status : ImportReport → Status
+report_status report = stopped_status report.stopped report.refused
+
+-- what was imported is what was printed, and how it ended
+abbrev pub Tells : ImportReport → Option (List ℕ) → Option (List ℕ) → Status → Type 0
+Tells report before after ended =
+    (ended ≡ report_status report) × Appends before after (report_text report)
+
+-- A run of an import with its report, which is printed where the output takes it.
+module _ {B : Type 0} (b : Ghosts B) where
+  pub record Runs (plans : List Plan) (moment : ℕ) (text : Option (List ℕ)) (old new : B)
+      (before after : Option (List ℕ)) (ended : Result Status Fault) : Type 0 where
+    pub report : ImportReport
+    pub keeps : Keeps b report.stopped report.added old new
+    pub imports : b.is_sound new → (history : List Entry)
+        → StoodFor b plans old history
+        → Imports b plans moment (unmarked text) history
+        report.stopped report old new
+    pub tells : IfOk ended (Tells report before after)

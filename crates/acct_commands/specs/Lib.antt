@@ -1,0 +1,6 @@
+pub mod Checks
+pub mod Counts
+pub mod Endings
+pub mod Exports
+pub mod Imports
+pub mod Serving

@@ -1,0 +1,128 @@
+//! What ends a command before its time.
+ghost use Rattle.std.specs.Prelude.{◌≡◌, ◌≢◌, Some, IfOk};
+ghost use Rattle.acct_commands.specs.Endings.{fault_text, store_fault_text, fault_status, ended_status};
+
+use acct_feed::Status;
+use acct_files::ConfigError;
+use std::alloc::AllocError;
+use std::io::Write;
+use std::{fmt, io};
+
+/// Why a book could not be made or adopted, or refused.
+#[derive(Clone, Copy, PartialEq, Eq, Debug)]
+pub enum StoreFault {
+    /// The file holds something else than a book.
+    NotABook,
+    /// The book keeps other plans than the configuration.
+    PlansDiffer,
+    /// The book is of another schema.
+    WrongSchema,
+    /// The book or memory refused.
+    Unavailable,
+}
+
+/// What ends a command before its time.
+#[derive(Clone, Copy, PartialEq, Eq, Debug)]
+pub enum Fault {
+    /// The file of the configuration cannot be read, or is too long.
+    CannotRead,
+    /// The configuration is wrong.
+    Config(ConfigError),
+    /// The book's file cannot be opened.
+    CannotOpen,
+    /// The book could not be made or adopted, or refused.
+    Store(StoreFault),
+    /// Memory was refused while the book was written out.
+    StoreMemory,
+    /// A socket could not be bound.
+    CannotBind,
+    /// What was to be printed could not be written.
+    CannotWrite,
+    /// Memory was refused.
+    NoMemory,
+}
+
+impl fmt::Display for Fault {
+    ghost output = { λ fault. Some (fault_text fault) };
+
+    fn fmt<W: fmt::Write>(&self, f: &mut fmt::Formatter<W>) -> fmt::Result {
+        match self {
+            Fault::CannotRead => f.write_str("file: cannot read"),
+            Fault::Config(error) => write!(f, "config: {error}"),
+            Fault::CannotOpen => f.write_str("db: cannot open"),
+            Fault::Store(error) => f.write_str(store_text(*error)),
+            Fault::StoreMemory => f.write_str("db: Memory"),
+            Fault::CannotBind => f.write_str("socket: cannot bind"),
+            Fault::CannotWrite => f.write_str("cannot write"),
+            Fault::NoMemory => f.write_str("out of memory"),
+        }
+    }
+}
+
+// What is wrong with a book.
+fn store_text(error: StoreFault) -> &'static str
+    ensures { result.now ≡ store_fault_text error }
+{
+    match error {
+        StoreFault::NotABook => "db: NotABook",
+        StoreFault::PlansDiffer => "db: PlansDiffer",
+        StoreFault::WrongSchema => "db: WrongSchema",
+        StoreFault::Unavailable => "db: Unavailable",
+    }
+}
+
+impl Fault {
+    /// How a command ends that this ends.
+    pub fn status(self) -> Status
+        ensures status { result ≡ fault_status self }
+        ensures other { result ≢ Status.WrongWords }
+    {
+        match self {
+            Fault::CannotRead | Fault::Config(_) | Fault::CannotWrite => Status::Refused,
+            Fault::CannotOpen | Fault::Store(_) | Fault::StoreMemory | Fault::NoMemory => {
+                Status::Unavailable
+            }
+            Fault::CannotBind => Status::Socket,
+        }
+    }
+}
+
+impl From<io::Error> for Fault {
+    ghost use Rattle.std.specs.Prelude.{◌≡◌};
+    ghost use Rattle.acct_commands.specs.declared.fault.Fault.TheVariants.{CannotWrite};
+
+    ghost from_gives = { λ _ fault. fault ≡ CannotWrite };
+
+    fn from(_error: io::Error) -> Fault {
+        Fault::CannotWrite
+    }
+}
+
+impl From<AllocError> for Fault {
+    ghost use Rattle.std.specs.Prelude.{◌≡◌};
+    ghost use Rattle.acct_commands.specs.declared.fault.Fault.TheVariants.{NoMemory};
+
+    ghost from_gives = { λ _ fault. fault ≡ NoMemory };
+
+    fn from(_error: AllocError) -> Fault {
+        Fault::NoMemory
+    }
+}
+
+/// How a command ends: as it says, or by its fault, which is told. Of a writer that failed nothing
+/// is told.
+pub fn end<E: Write>(faults: &mut E, ended: Result<Status, Fault>) -> Status
+    requires { IfOk ended (λ status. status ≢ Status.WrongWords) }
+    ensures status { result ≡ ended_status ended }
+    ensures other { result ≢ Status.WrongWords }
+{
+    match ended {
+        Ok(status) => status,
+        Err(fault) => {
+            if fault != Fault::CannotWrite {
+                let _ = writeln!(faults, "{fault}");
+            }
+            fault.status()
+        }
+    }
+}

@@ -1,0 +1,17 @@
+//! The commands of the program over any book: what each does, prints and ends with.
+#![tactic(auto)]
+
+mod check;
+mod config_file;
+mod counts;
+mod exporting;
+mod fault;
+mod importing;
+mod serving;
+
+pub use check::run_check;
+pub use config_file::{config_from, read_config};
+pub use exporting::run_export;
+pub use fault::{Fault, StoreFault, end};
+pub use importing::run_import;
+pub use serving::run_serve;

@@ -1,0 +1,19 @@
+//! Tests of `acct_desk`, of its public calls alone.
+#![tactic(auto)]
+
+#[cfg(test)]
+mod keys;
+#[cfg(test)]
+mod limits;
+#[cfg(test)]
+mod pages;
+#[cfg(test)]
+mod reading;
+#[cfg(test)]
+mod refusals;
+#[cfg(test)]
+mod requests;
+#[cfg(test)]
+mod sample_desk;
+#[cfg(test)]
+mod texts;

@@ -1,0 +1,11 @@
+//! Tests of `acct_files`, of its public calls alone.
+#![tactic(auto)]
+
+#[cfg(test)]
+mod config;
+#[cfg(test)]
+mod exports;
+#[cfg(test)]
+mod imports;
+#[cfg(test)]
+mod refused_memory;

@@ -1,0 +1,84 @@
+//! Plans, and what they charge.
+use acct_model::{PlanError, Plans, price};
+use acct_samples::{plan, sample_plans};
+use std::alloc::Global;
+use std::test::Fail;
+
+// Totals, and what `gold` charges for them: 10 for each started block of 1,048,576 octets. The last
+// is 2^63 - 1.
+const PRICES: [(u64, u128); 7] = [
+    (0, 0),
+    (1, 10),
+    (1_048_576, 10),
+    (1_048_577, 20),
+    (3_145_728, 30),
+    (4_294_967_296, 40_960),
+    (9_223_372_036_854_775_807, 87_960_930_222_080),
+];
+
+#[test]
+fn started_blocks_are_charged(rt: HostRuntime) -> Result<(), Fail> {
+    let plans = sample_plans(rt.alloc())?;
+    for (total, wanted) in PRICES {
+        assert!(rt; is_price(&plans, total, wanted), "{total}");
+    }
+    Ok(())
+}
+
+fn is_price(plans: &Plans, total: u64, wanted: u128) -> bool {
+    let gold = plans.plan_of(b"gold");
+    gold.block > 0 && price(gold, total) == wanted
+}
+
+#[test]
+fn plans_are_found_by_class(rt: HostRuntime) -> Result<(), Fail> {
+    let plans = sample_plans(rt.alloc())?;
+    assert!(rt; has_units(&plans));
+    Ok(())
+}
+
+fn has_units(plans: &Plans) -> bool {
+    plans.list().len() == 2
+        && plans.plan_of(b"gold").unit == 10
+        && plans.plan_of(b"silver").unit == 5
+        && plans.plan_of(b"").unit == 5
+}
+
+// A plan, how often it is listed, and what is wrong with the list: of several faults the first in
+// the order of `PlanError`.
+const FAULTS: [(&[u8], u64, u64, usize, PlanError); 5] = [
+    (b"gold", 1, 1, 1, PlanError::NoDefault),
+    (b"default", 1, 1, 2, PlanError::TwicePlanned),
+    (b"default", 0, 1_000_000_001, 1, PlanError::BadBlock),
+    (b"default", 9_007_199_254_740_993, 0, 1, PlanError::BadBlock),
+    (
+        b"default",
+        9_007_199_254_740_992,
+        1_000_000_001,
+        1,
+        PlanError::BadUnit,
+    ),
+];
+
+#[test]
+fn faults_of_plans_are_found_in_order(rt: HostRuntime) -> Result<(), Fail> {
+    for (class, block, unit, copies, wanted) in FAULTS {
+        assert!(rt; fault_of(rt.alloc(), class, block, unit, copies)? == Some(wanted));
+    }
+    Ok(())
+}
+
+// What is wrong with a list of copies of a plan.
+fn fault_of(
+    alloc: Global,
+    class: &[u8],
+    block: u64,
+    unit: u64,
+    copies: usize,
+) -> Result<Option<PlanError>, Fail> {
+    let mut list = Vec::new(alloc);
+    for _ in 0..copies {
+        list.push(plan(alloc, class, block, unit)?)?;
+    }
+    Ok(Plans::new(list).err())
+}

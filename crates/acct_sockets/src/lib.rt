@@ -1,0 +1,9 @@
+//! Access servers by UDP and callers of the desk by TCP, as an exchange, and the clock's moment.
+#![tactic(auto)]
+
+mod caller;
+mod clock;
+mod sockets;
+
+pub use clock::moment_of;
+pub use sockets::Sockets;

@@ -1,0 +1,118 @@
+//! The sample site over a book in memory, and requests of its client.
+use acct_book::fakes::FailingBook;
+use acct_book::{Book, Key, MemBook, Row};
+use acct_model::{Octets, Plans, Text};
+use acct_samples::{sample_clients, sample_plans};
+use acct_wire::{Clients, Datagram, Outcome, answer};
+use foreign_packets::SECRET;
+use radius_codec::{sign_request, write_request};
+use std::alloc::Global;
+use std::test::Fail;
+
+/// The address of the client `ap1`.
+pub(crate) const AP1: [u8; 4] = [10, 0, 0, 1];
+
+/// The address of none.
+pub(crate) const STRANGER: [u8; 4] = [10, 0, 0, 2];
+
+/// A reply without Proxy-States.
+pub(crate) const SHORT_REPLY: Outcome = Outcome::Reply(20);
+
+/// The sample site, its book, of which a call can be refused, and the array that its replies are
+/// written to.
+pub(crate) struct Site {
+    pub(crate) book: FailingBook<MemBook>,
+    pub(crate) plans: Plans,
+    pub(crate) out: [u8; 4096],
+    alloc: Global,
+    clients: Clients,
+}
+
+// It is written out, so that a test does not prove again how each part is dropped.
+impl Drop for Site {
+    fn drop(self) {
+        let Site {
+            book: _,
+            plans: _,
+            out: _,
+            alloc: _,
+            clients: _,
+        } = self;
+    }
+}
+
+impl Site {
+    /// The site over an empty book that refuses no call.
+    pub(crate) fn new(alloc: Global) -> Result<Site, Fail> {
+        let clients = sample_clients(alloc)?;
+        let plans = sample_plans(alloc)?;
+        Ok(Site {
+            book: FailingBook::new(MemBook::new(alloc), 0),
+            plans,
+            out: [0; 4096],
+            alloc,
+            clients,
+        })
+    }
+
+    /// Answers a datagram.
+    pub(crate) fn answer(&mut self, source: [u8; 4], moment: u32, bytes: &[u8]) -> Outcome {
+        let datagram = Datagram {
+            source,
+            bytes,
+            moment: u64::from(moment),
+        };
+        answer(
+            self.alloc,
+            &self.clients,
+            &self.plans,
+            &mut self.book,
+            &datagram,
+            &mut self.out,
+        )
+    }
+
+    /// Answers a request of `ap1` with these attribute octets, signed.
+    pub(crate) fn ask(
+        &mut self,
+        moment: u32,
+        identifier: u8,
+        octets: &[u8],
+    ) -> Result<Outcome, Fail> {
+        let mut request = [0; 4096];
+        let size = sign_request(identifier, octets, SECRET, &mut request)?;
+        Ok(self.answer(AP1, moment, &request[..size]))
+    }
+
+    /// Answers a request of `ap1` with these attributes, signed.
+    pub(crate) fn ask_with(
+        &mut self,
+        moment: u32,
+        identifier: u8,
+        attributes: &[(u8, &[u8])],
+    ) -> Result<Outcome, Fail> {
+        let mut request = [0; 4096];
+        let size = write_request(identifier, attributes, SECRET, &mut request)?;
+        Ok(self.answer(AP1, moment, &request[..size]))
+    }
+
+    /// The balance of an account. No call of the book is refused for it.
+    pub(crate) fn balance(&mut self, account: &[u8]) -> Result<i64, Fail> {
+        Ok(self.book.book.balance(account)?)
+    }
+
+    /// The row of a session of `ap1`.
+    pub(crate) fn row(&mut self, session: &[u8]) -> Result<Option<Row>, Fail> {
+        let key = Key {
+            client: Text::from_str(self.alloc, "ap1")?,
+            session: Octets::from_slice(self.alloc, session)?,
+        };
+        Ok(self.book.book.session(&key)?)
+    }
+
+    /// Whether nothing was ever recorded.
+    pub(crate) fn is_empty(&mut self) -> Result<bool, Fail> {
+        let book = &mut self.book.book;
+        Ok(book.next_session(None)?.is_none() && book.next_account(None)?.is_none())
+    }
+}
