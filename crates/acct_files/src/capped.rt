@@ -54,39 +54,3 @@ impl<R: Read> Read for Capped<R> {
         Ok(count)
     }
 }
-
-#[cfg(test)]
-mod tests {
-    use super::Capped;
-    use std::io::Read;
-
-    // How many octets of six a reader under limits hands on, one a read, and whether it then tells
-    // the end of the text.
-    fn handed_on(octets: u64, reads: u64) -> (usize, bool) {
-        let mut capped = Capped::new(b"abcdef".as_slice(), octets, reads);
-        let mut octet = [0; 1];
-        for count in 0..10 {
-            match capped.read(&mut octet) {
-                Ok(0) => return (count, true),
-                Ok(_) => {}
-                Err(_) => return (count, false),
-            }
-        }
-        (10, false)
-    }
-
-    // The read that tells the end counts, and the octet past the limit is handed on.
-    #[test]
-    fn fails_past_its_limits(rt: HostRuntime) {
-        for (octets, reads, told) in [
-            (6, 7, (6, true)),
-            (5, 9, (6, false)),
-            (4, 9, (5, false)),
-            (9, 6, (6, false)),
-            (9, 5, (5, false)),
-            (9, 0, (0, false)),
-        ] {
-            assert!(rt; handed_on(octets, reads) == told);
-        }
-    }
-}

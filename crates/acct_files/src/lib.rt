@@ -30,6 +30,7 @@ mod voucher_record;
 
 pub use account_lines::{AccountExport, export_balances, export_overruns};
 pub use acct_site::Config;
+pub use capped::Capped;
 pub use config::config_of;
 pub use config_error::{ConfigError, ConfigKind, ConfigTable};
 pub use csv_lines::ExportError;

@@ -8,4 +8,6 @@ mod exports;
 #[cfg(test)]
 mod imports;
 #[cfg(test)]
+mod limits;
+#[cfg(test)]
 mod refused_memory;
