@@ -16,6 +16,8 @@ pub mod Steps
 pub mod Calls
 -- how a step is put together, for whoever asks a book to record
 pub mod StepLemmas
+-- calls that only look, one after another
+pub mod Looking
 -- what `record` says at its exits
 pub mod Exits
 -- what a crash may leave after a call, by its effect

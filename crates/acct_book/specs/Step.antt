@@ -19,6 +19,14 @@ abbrev pub Puts : {B T E : Type 0} → Ghosts B → B → B → Content → Resu
 Puts b old new written result =
     Writes b.content b.is_sound b.is_open b.is_steady b.left old new written result
 
+-- Calls that only read, whatever they answered: what holds of a book before and after them.
+pub record OnlyLooks {B : Type 0} (b : Ghosts B) (old new : B) : Type 0 where
+  pub was_sound : b.is_sound new → b.is_sound old
+  pub was_open : b.is_open new → b.is_open old
+  pub keeps_steady : b.is_steady old → b.is_steady new
+  pub same : b.is_open new → b.content new ≡ b.content old
+  pub adds_none : b.is_sound new → (c : Content) → b.left new c → b.left old c
+
 -- the entry may be accepted, and the content stands for the history with it
 abbrev pub MayAdd : List Plan → List Entry → Entry → Content → Type 0
 MayAdd plans history next content =

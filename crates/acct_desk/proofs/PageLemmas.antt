@@ -16,7 +16,7 @@ use Rattle.acct_model.specs.Vouchers.{TopUpFacts}
 use Rattle.acct_model.specs.History.{topup_of}
 use Rattle.acct_book.specs.declared.book.Book.{Ghosts}
 use Rattle.acct_book.specs.declared.key.Key.{Key}
-use Rattle.acct_book.specs.Step.{Looks}
+use Rattle.acct_book.specs.Step.{Looks, OnlyLooks}
 use Rattle.acct_book.specs.Content.{Content, kept_balance, key_of}
 use Rattle.acct_book.specs.Maps.{octets_cmp}
 use Rattle.acct_book.specs.Part.{part_of, own_row, own_topup, AreRowsIn, AreTopUpsIn}
@@ -25,6 +25,7 @@ use Rattle.acct_book.specs.Rows.{row_of}
 use Rattle.acct_book.specs.Stands.{Stands}
 use Rattle.acct_book.specs.Walk.{AreMembers, AreRowsOf, AreTopUpsOf, AreAllPast, IsWalk, IsNext}
 use Rattle.acct_book.specs.Walk.{IsNextBalance}
+use Rattle.acct_book.proofs.Looking.{looks_once}
 use Rattle.acct_book.proofs.Steps.{kept-balance}
 use Rattle.acct_book.proofs.WalkLaws.{walks-meet-all}
 use Rattle.acct_desk.specs.declared.bodies.PageError.{PageError}
@@ -33,7 +34,7 @@ use Rattle.acct_desk.specs.declared.asking.Page.TheVariants.{Balance}
 use Rattle.acct_desk.specs.Asks.{Ask, me}
 use Rattle.acct_desk.specs.Bodies.{balance_body, session_item, sessions_body, topup_item}
 use Rattle.acct_desk.specs.Bodies.{topups_body, overrun_of, overrun_item, overrun_in, overruns_body}
-use Rattle.acct_desk.specs.Handling.{OnlyReads, IsBody, AreBalances, known_balance}
+use Rattle.acct_desk.specs.Handling.{IsBody, AreBalances, known_balance}
 use Rattle.acct_desk.specs.Pages.{Shows}
 
 -- ---- bodies have no floats
@@ -96,19 +97,7 @@ overruns_plain es = rw (over_plain es) refl
 -- ---- a page that was read
 
 module _ {B : Type 0} (plans : List Plan) (ask : Ask) (b : Ghosts B) (old new : B) where
-  pub only_reads : {T E : Type 0} (result : Result T E)
-      → Looks b old new result
-      → OnlyReads b old new
-  only_reads result r = record {
-    was_sound = r.was_sound;
-    was_open = r.was_open;
-    keeps_steady =
-        r.keeps_steady;
-    same = r.same;
-    adds_none = r.adds_none;
-  }
-
-  pub shows_none : (error : PageError) → OnlyReads b old new
+  pub shows_none : (error : PageError) → OnlyLooks b old new
       → Shows plans ask b old new (Err error)
   shows_none error reads = record {
     reads = reads;
@@ -119,7 +108,7 @@ module _ {B : Type 0} (plans : List Plan) (ask : Ask) (b : Ghosts B) (old new : 
   }
 
   pub shows_body : (result : Result Value PageError) (body : Data)
-      → OnlyReads b old new → (b.is_sound new → b.is_open new)
+      → OnlyLooks b old new → (b.is_sound new → b.is_open new)
       → IfOk result (λ v. view v ≡ body) → has_float body ≡ false
       → (b.is_open new → (history : List Entry) → Stands plans (b.content old) history
       → IsBody plans history ask body)
@@ -252,7 +241,7 @@ balance_shows plans account b old new (Ok z) (Ok v) reads
     found is answers =
     shows_body plans (me Balance account) b old new (Ok v)
     (balance_body account z)
-    (only_reads plans (me Balance account) b old new (Ok z)
+    (looks_once b old new (Ok z)
     reads) reads.answers is (balance_plain account z)
     (λ o history st. balance_told plans (b.content old) history account z st (found o))
 balance_shows plans account b old new (Err e) (Ok v) reads
@@ -260,7 +249,7 @@ balance_shows plans account b old new (Err e) (Ok v) reads
 balance_shows plans account b old new told (Err e) reads
     found is answers =
     shows_none plans (me Balance account) b old new e
-    (only_reads plans (me Balance account) b old new
+    (looks_once b old new
     told reads)
 
 pub not_both : {T E : Type 0} (r : Result T E) → IsOk r → IsErr r → ⊥
@@ -268,29 +257,6 @@ not_both (Ok x) is none = true≢false (sym none)
 not_both (Err e) none is = true≢false (sym none)
 
 -- ---- calls that read, one after the other
-
-module _ {B : Type 0} (b : Ghosts B) where
-  pub reads_nothing : (book : B) → OnlyReads b book book
-  reads_nothing book = record {
-    was_sound = λ h. h;
-    was_open = λ h. h;
-    keeps_steady = λ h. h;
-    same =
-        λ _. refl;
-    adds_none = λ _ c h. h;
-  }
-
-  pub reads_then : {T E : Type 0} (old mid new : B) (result : Result T E)
-      → OnlyReads b old mid
-      → Looks b mid new result
-      → OnlyReads b old new
-  reads_then old mid new result a b = record {
-    was_sound = λ h. a.was_sound (b.was_sound h);
-    was_open = λ h. a.was_open (b.was_open h);
-    keeps_steady = λ h. b.keeps_steady (a.keeps_steady h);
-    same = λ h. b.same h ∙ a.same (b.was_open h);
-    adds_none = λ h c left. a.adds_none (b.was_sound h) c (b.adds_none h c left);
-  }
 
 -- the next account of an equal content
 pub next_from : (c d : Content) (after to : Option (List ℕ)) (x y : Option (List ℕ × ℤ))

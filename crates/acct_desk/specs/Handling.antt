@@ -111,13 +111,3 @@ pub record Handles {B E : Type 0} (b : Ghosts B) (plans : List Plan) (ask : Ask)
   -- over a steady book a balance is told
   pub steady : b.is_steady old → IsOfBalance ask
       → IfOk result (λ octets. octets.items ≢ unavailable_response)
-
--- ---- pages
-
--- Calls that only read: what holds of a book before and after them.
-pub record OnlyReads {B : Type 0} (b : Ghosts B) (old new : B) : Type 0 where
-  pub was_sound : b.is_sound new → b.is_sound old
-  pub was_open : b.is_open new → b.is_open old
-  pub keeps_steady : b.is_steady old → b.is_steady new
-  pub same : b.is_open new → b.content new ≡ b.content old
-  pub adds_none : b.is_sound new → (c : Content) → b.left new c → b.left old c

@@ -7,17 +7,18 @@ use Rattle.acct_model.specs.declared.plan.Plan.{Plan}
 use Rattle.acct_model.specs.declared.entry.Entry.{Entry}
 use Rattle.acct_book.specs.declared.book.Book.{Ghosts}
 use Rattle.acct_book.specs.Stands.{Stands}
+use Rattle.acct_book.specs.Step.{OnlyLooks}
 use Rattle.acct_desk.specs.declared.bodies.PageError.{PageError}
 use Rattle.acct_desk.specs.declared.bodies.PageError.TheVariants.{Unavailable, Memory}
 use Rattle.acct_desk.specs.Asks.{Ask}
-use Rattle.acct_desk.specs.Handling.{OnlyReads, IsBody}
+use Rattle.acct_desk.specs.Handling.{IsBody}
 use Rattle.acct_desk.specs.Responses.{response_of, unavailable_response}
 
 -- A page that was read: the book is only read, a page that is there says that it is open, and its
 -- body is told by the history.
 pub record Shows {B : Type 0} (plans : List Plan) (ask : Ask) (b : Ghosts B) (old new : B)
     (result : Result Value PageError) : Type 0 where
-  pub reads : OnlyReads b old new
+  pub reads : OnlyLooks b old new
   pub answers : b.is_sound new → OnOk result (b.is_open new)
   pub plain : IfOk result (λ v. has_float (view v) ≡ false)
   pub told : b.is_open new → (history : List Entry) → Stands plans (b.content old) history

@@ -7,7 +7,7 @@ use Rattle.std.specs.declared.cmp.Ordering.{Ordering}
 use Rattle.std.proofs.lemmas.Grind.{flat_map-append}
 use Rattle.std.proofs.lemmas.List.{append-nil}
 use Rattle.acct_book.specs.declared.book.Book.{Ghosts}
-use Rattle.acct_book.specs.Step.{Looks}
+use Rattle.acct_book.specs.Step.{Looks, OnlyLooks}
 use Rattle.acct_book.specs.Content.{Content}
 use Rattle.acct_book.specs.Walk.{IsNext, IsWalk}
 use Rattle.acct_files.specs.Exporting.{export_text, line}
@@ -94,38 +94,10 @@ next_here content is_open cmp side start now new after entry same was found open
     subst (λ x. IsNext cmp (side x) after entry) (same (was opens)) (found opens)
 
 module _ {B : Type 0} (b : Ghosts B) where
-  -- calls that read, whatever they answered
-  pub record Quiet (old new : B) : Type 0 where
-    pub was_sound : b.is_sound new → b.is_sound old
-    pub was_open : b.is_open new → b.is_open old
-    pub keeps_steady : b.is_steady old → b.is_steady new
-    pub same : b.is_open new → b.content new ≡ b.content old
-    pub adds_none : b.is_sound new → (c : Content) → b.left new c → b.left old c
-
-  pub quiet_at_first : (book : B) → Quiet book book
-  quiet_at_first book =
-      record {
-        was_sound = λ s. s;
-        was_open = λ o. o;
-        keeps_steady = λ s. s;
-        same = λ o. refl;
-        adds_none = λ s c l. l;
-      }
-
-  pub quiet_more : {T E : Type 0} (old mid new : B) (result : Result T E) → Quiet old mid
-      → Looks b mid new result → Quiet old new
-  quiet_more old mid new result quiet reads = record {
-    was_sound = λ s. quiet.was_sound (reads.was_sound s);
-    was_open = λ o. quiet.was_open (reads.was_open o);
-    keeps_steady = λ s. reads.keeps_steady (quiet.keeps_steady s);
-    same = λ o. reads.same o ∙ quiet.same (reads.was_open o);
-    adds_none = λ s x l. quiet.adds_none (reads.was_sound s) x (reads.adds_none s x l);
-  }
-
   -- a call after them answers for all
   pub reads_after : {T E T' E' : Type 0} (old mid new : B) (result : Result T E)
       (told : Result T' E')
-      → Quiet old mid → Looks b mid new result
+      → OnlyLooks b old mid → Looks b mid new result
       → (b.is_sound new → OnOk result (b.is_open new) → OnOk told (b.is_open new))
       → Looks b old new told
   reads_after old mid new result told quiet reads answers = record {

@@ -6,10 +6,11 @@ use Rattle.std.specs.Option.{option_copied}
 use Rattle.std.proofs.lemmas.List.Elements.{filter_map-append}
 use Rattle.serde_json.specs.Data.{Data, array, object, member, no_members}
 use Rattle.serde_json.specs.View.{view, items_of}
+use Rattle.acct_book.proofs.Looking.{looks_none, looks_then}
 use Rattle.acct_desk.specs.Asks.{overruns}
 use Rattle.acct_desk.specs.Bodies.{overrun_in, overruns_body}
 use Rattle.acct_desk.proofs.PageLemmas.{shows_body, overruns_plain, accounts_told, walks-more}
-use Rattle.acct_desk.proofs.PageLemmas.{walks-end, next_from, reads_nothing, reads_then}
+use Rattle.acct_desk.proofs.PageLemmas.{walks-end, next_from}
 use Rattle.acct_desk.proofs.pages.overruns_page.Goals as goal
 
 abbrev entry_of : Vec ℕ Global × ℤ → List ℕ × ℤ
@@ -34,7 +35,7 @@ returns-in-None g c =
     let to = option_map items_of_vec c.loop.last in
     let kept = option_map entry_of c.in_ok-next_account.field-0 in
     let reads =
-    reads_then b old mid new _ inv.reads step.reads
+    looks_then b old mid new _ inv.reads step.reads
     in
     λ plans.
     shows_body plans overruns b old new _
@@ -64,7 +65,7 @@ loop-preserved g c =
     let kept = option_map entry_of c.in_ok-next_account.field-0 in
     record {
       reads =
-          reads_then b old mid new _ inv.reads
+          looks_then b old mid new _ inv.reads
           step.reads;
       walked = (
         accounts ++ next ∷ [],
@@ -85,6 +86,6 @@ pub loop-init : goal.loop-init
 loop-init g c =
     let b = g.B.Book in
     record {
-      reads = reads_nothing b c.args.book.now;
+      reads = looks_none b c.args.book.now;
       walked = ([], (λ _. refl), ap (map view) c.new-over.ensures.items);
     }

@@ -3,13 +3,13 @@ use Rattle.std.specs.Prelude.{None, option_map}
 use Rattle.std.specs.List.{filter_map}
 use Rattle.serde_json.specs.View.{view}
 use Rattle.acct_desk.specs.Bodies.{overrun_in}
-use Rattle.acct_desk.specs.Handling.{OnlyReads}
+use Rattle.acct_book.specs.Step.{OnlyLooks}
 use Rattle.acct_desk.proofs.PageLemmas.{WalksTo}
 use Rattle.acct_desk.proofs.pages.overruns_page.Given as goal
 
 abbrev pub invariant-loop : goal.invariant-loop
 invariant-loop g l = record {
-  reads : OnlyReads g.B.Book l.fn.book l.book;
+  reads : OnlyLooks g.B.Book l.fn.book l.book;
   walked : (accounts : List (List ℕ × ℤ))
       × (g.B.Book.is_open l.book → WalksTo (g.B.Book.content l.fn.book).balances None accounts
       (option_map (λ account. account.items) l.last))

@@ -1,8 +1,9 @@
 use Rattle.std.proofs.Common.{refl}
+use Rattle.acct_book.proofs.Looking.{looks_once}
 use Rattle.acct_desk.specs.declared.asking.Page.TheVariants as page
 use Rattle.acct_desk.specs.Asks.{me}
 use Rattle.acct_desk.specs.Bodies.{sessions_body}
-use Rattle.acct_desk.proofs.PageLemmas.{only_reads, shows_body, sessions_plain, rows_told}
+use Rattle.acct_desk.proofs.PageLemmas.{shows_body, sessions_plain, rows_told}
 use Rattle.acct_desk.proofs.pages.sessions_page.Goals as goal
 
 pub returns : goal.returns
@@ -14,7 +15,7 @@ returns g c =
     shows_body plans (me page.Sessions account) b
     c.args.book.now c.sessions_of.new.self
     c.sessions_value.result (sessions_body plans account rows)
-    (only_reads plans (me page.Sessions account) b
+    (looks_once b
     c.args.book.now c.sessions_of.new.self _ c.in_ok-rows.ensures.reads)
     c.in_ok-rows.ensures.reads.answers (rw c.deref.ensures.value at c.sessions_value.ensures)
     (sessions_plain plans account rows)

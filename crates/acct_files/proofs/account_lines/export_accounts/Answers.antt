@@ -1,17 +1,18 @@
 use Rattle.std.proofs.Common.{◌++◌, ◌∷◌, [], refl, ℕ, List, Some, None}
 use Rattle.std.specs.Prelude.{ℤ, option_map}
 use Rattle.acct_book.specs.Maps.{octets_cmp}
+use Rattle.acct_book.proofs.Looking.{looks_none, looks_then}
 use Rattle.acct_book.proofs.WalkLaws.{walks-meet-all}
 use Rattle.acct_files.specs.Exporting.{export_text, account_header, account_line}
 use Rattle.acct_files.proofs.Walking.{appends_kept, export_none, grown, if_ok, next_here}
-use Rattle.acct_files.proofs.Walking.{quiet_at_first, quiet_more, walked_all, walked_more}
+use Rattle.acct_files.proofs.Walking.{walked_all, walked_more}
 use Rattle.acct_files.proofs.account_lines.export_accounts.Goals as goal
 
 pub loop-turn-init : goal.loop-turn-init
 loop-turn-init g c = record {
   between = c.in_ok-lines.ensures.between;
   quiet =
-      quiet_at_first g.B.Book c.args.book.now;
+      looks_none g.B.Book c.args.book.now;
   walk = (
     [],
     rw (export_none (account_header c.args.what)
@@ -34,7 +35,7 @@ loop-turn-preserved g c =
     (Some (c.in-Some.kept.0.items, c.in-Some.kept.1)) inv.quiet.same reads.was_open found in
     record {
       between = c.in_ok-write_account.ensures.between;
-      quiet = quiet_more g.B.Book c.args.book.now c.loop-turn.book c.next_account.new.book
+      quiet = looks_then g.B.Book c.args.book.now c.loop-turn.book c.next_account.new.book
           c.next_account.result
           inv.quiet reads;
       walk = (

@@ -3,17 +3,18 @@ use Rattle.acct_book.specs.declared.key.Key.{Key}
 use Rattle.acct_book.specs.Row.{RowFacts}
 use Rattle.acct_book.specs.Content.{key_of}
 use Rattle.acct_book.specs.Maps.{key_cmp}
+use Rattle.acct_book.proofs.Looking.{looks_none, looks_then}
 use Rattle.acct_book.proofs.WalkLaws.{walks-meet-all}
 use Rattle.acct_files.specs.Exporting.{export_text, line, session_header, session_fields}
 use Rattle.acct_files.proofs.Walking.{appends_kept, export_none, grown, if_ok, next_here}
-use Rattle.acct_files.proofs.Walking.{quiet_at_first, quiet_more, walked_all, walked_more}
+use Rattle.acct_files.proofs.Walking.{walked_all, walked_more}
 use Rattle.acct_files.proofs.session_lines.export_sessions.Goals as goal
 
 pub loop-turn-init : goal.loop-turn-init
 loop-turn-init g c = record {
   between = c.in_ok-lines.ensures.between;
   quiet =
-      quiet_at_first g.B.Book c.args.book.now;
+      looks_none g.B.Book c.args.book.now;
   walk = (
     [],
     rw (export_none session_header
@@ -35,7 +36,7 @@ loop-turn-preserved g c =
     (Some ((key_of c.in-Some.row), c.in-Some.row)) inv.quiet.same reads.was_open found in
     record {
       between = c.in_ok-write_session.ensures.between;
-      quiet = quiet_more g.B.Book c.args.book.now c.loop-turn.book c.next_session.new.book
+      quiet = looks_then g.B.Book c.args.book.now c.loop-turn.book c.next_session.new.book
           c.next_session.result
           inv.quiet reads;
       walk = (

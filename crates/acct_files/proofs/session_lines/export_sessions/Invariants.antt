@@ -4,15 +4,16 @@ use Rattle.csv.specs.Writing.{text_written}
 use Rattle.acct_book.specs.declared.key.Key.{Key}
 use Rattle.acct_book.specs.Row.{RowFacts}
 use Rattle.acct_book.specs.Maps.{key_cmp}
+use Rattle.acct_book.specs.Step.{OnlyLooks}
 use Rattle.acct_files.specs.Exporting.{IsBetweenLines, export_text, line, session_header}
 use Rattle.acct_files.specs.Exporting.{session_fields}
-use Rattle.acct_files.proofs.Walking.{Quiet, Walked}
+use Rattle.acct_files.proofs.Walking.{Walked}
 use Rattle.acct_files.proofs.session_lines.export_sessions.Given as goal
 
 abbrev pub invariant-loop-turn : goal.invariant-loop-turn
 invariant-loop-turn g l = record {
   between : IsBetweenLines l.lines;
-  quiet : Quiet g.B.Book
+  quiet : OnlyLooks g.B.Book
       l.fn.book l.book;
   walk : (entries : List (Key × RowFacts))
       × Appends (g.W.Write.contents l.fn.writer) (text_written g.W.Write.contents l.lines)

@@ -1,17 +1,18 @@
 use Rattle.std.proofs.Common.{◌++◌, ◌∷◌, [], refl, ℕ, List, Some, None}
 use Rattle.acct_model.specs.Vouchers.{TopUpFacts}
 use Rattle.acct_book.specs.Maps.{octets_cmp}
+use Rattle.acct_book.proofs.Looking.{looks_none, looks_then}
 use Rattle.acct_book.proofs.WalkLaws.{walks-meet-all}
 use Rattle.acct_files.specs.Exporting.{export_text, line, topup_header, topup_fields}
 use Rattle.acct_files.proofs.Walking.{appends_kept, export_none, grown, if_ok, next_here}
-use Rattle.acct_files.proofs.Walking.{quiet_at_first, quiet_more, walked_all, walked_more}
+use Rattle.acct_files.proofs.Walking.{walked_all, walked_more}
 use Rattle.acct_files.proofs.topup_lines.export_topups.Goals as goal
 
 pub loop-turn-init : goal.loop-turn-init
 loop-turn-init g c = record {
   between = c.in_ok-lines.ensures.between;
   quiet =
-      quiet_at_first g.B.Book c.args.book.now;
+      looks_none g.B.Book c.args.book.now;
   walk = (
     [],
     rw (export_none topup_header (λ (e : List ℕ × TopUpFacts). line (topup_fields e.1)))
@@ -32,7 +33,7 @@ loop-turn-preserved g c =
     (Some (c.in-Some.topup.voucher, c.in-Some.topup)) inv.quiet.same reads.was_open found in
     record {
       between = c.in_ok-write_topup.ensures.between;
-      quiet = quiet_more g.B.Book c.args.book.now c.loop-turn.book c.next_topup.new.book
+      quiet = looks_then g.B.Book c.args.book.now c.loop-turn.book c.next_topup.new.book
           c.next_topup.result
           inv.quiet reads;
       walk = (
