@@ -168,12 +168,21 @@ numbered c old new n h t =
       };
       fresh = record {
         content = content_none new.now.trees sessions accounts vouchers;
-        number = (
-          put,
-          added.adds,
-          ap (λ r. column r 1) (number_put old new done),
-          ap (λ r. column r 2) (number_put old new done),
-        );
+        number = record {
+          has = (
+            put,
+            added.adds,
+            ap (λ r. column r 1) (number_put old new done),
+            ap (λ r. column r 2) (number_put old new done),
+          );
+          only = λ row h. elim (added.back row h) [
+            | inl is ↦ (
+              ap (λ r. column r 1) (is ∙ number_put old new done),
+              ap (λ r. column r 2) (is ∙ number_put old new done),
+            )
+            | inr was ↦ absurd (subst (λ rows. Has rows row) t.empty.meta_rows was)
+          ];
+        };
         plans_kept = no_plans new.now.trees plans;
       };
     }
@@ -247,12 +256,10 @@ plan_added c plans plan old new n h t =
       fresh = record {
         content = content_same old.now.trees new.now.trees sessions accounts vouchers
             ∙ t.fresh.content;
-        number = let it = t.fresh.number in (
-          it.0,
-          subst (λ rows. Has rows it.0) (sym metas) it.1,
-          it.2,
-          it.3,
-        );
+        number = let it = t.fresh.number.has in record {
+          has = (it.0, subst (λ rows. Has rows it.0) (sym metas) it.1, it.2, it.3);
+          only = λ row h. t.fresh.number.only row (subst (λ rows. Has rows row) metas h);
+        };
         plans_kept = one_more plans plan put old.now.trees new.now.trees says added
             t.fresh.plans_kept;
       };

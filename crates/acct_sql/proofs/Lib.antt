@@ -17,6 +17,7 @@ pub mod MakeLemmas
 mod CreateLemmas
 mod NextLemmas
 mod KeyedLemmas
+mod ColumnLemmas
 mod WalkLemmas
 mod ListLemmas
 mod IdLemmas

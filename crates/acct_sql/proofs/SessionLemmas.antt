@@ -20,7 +20,7 @@ use Rattle.acct_book.specs.Content.{same_key, key_of}
 use Rattle.acct_book.proofs.Keys.{key_is, key_refl}
 use Rattle.acct_sql.specs.Tables.{book_schema, session}
 use Rattle.acct_sql.specs.Columns.{session_columns, session_of, columns, state_in, code_of}
-use Rattle.acct_sql.specs.Columns.{framed_in, framed_octets}
+use Rattle.acct_sql.specs.Columns.{cause_in, framed_in, framed_octets}
 use Rattle.acct_sql.specs.Content.{is_session}
 use Rattle.acct_sql.specs.Book.{IsBook}
 use Rattle.acct_sql.proofs.TextLemmas.{session_filter, session_project}
@@ -49,10 +49,16 @@ state_back Live = refl
 state_back Closed = refl
 state_back Stopped = refl
 
+cause_back : (state : SessionState) (cause : ℕ) → cause_in (Int (pos (code_of state)))
+    (Int (pos cause)) ≡ cause
+cause_back Live cause = refl
+cause_back Closed cause = refl
+cause_back Stopped cause = refl
+
 -- the columns of a row read back as it
 pub read_back : (row : RowFacts) (id : _) → framed_in (framed_octets row.framed) ≡ row.framed
     → session_of (columns (id ∷ session_columns row)) ≡ row
-read_back row id framed = rw (state_back row.state, framed) refl
+read_back row id framed = rw (state_back row.state, cause_back row.state row.cause, framed) refl
 
 -- the row that has a key is found by it alone
 pub key_here : (key : Key) (r : Row) → is_session key r ≡ true → (column r 1 ≡ Text key.client)

@@ -1,6 +1,6 @@
 -- What the columns of a row say.
-use Rattle.std.specs.Prelude.{ℕ, ℤ, zero, suc, pos, negsuc, ◌+◌, Bool, false, bytes_eq, List, []}
-use Rattle.std.specs.Prelude.{◌∷◌, Option, Some, None}
+use Rattle.std.specs.Prelude.{ℕ, ℤ, zero, suc, pos, negsuc, ◌+◌, ◌^◌, Bool, false, bytes_eq, List}
+use Rattle.std.specs.Prelude.{[], ◌∷◌, Option, Some, None}
 use Rattle.sqlite.specs.declared.types.Value.{Value}
 use Rattle.sqlite.specs.declared.types.Value.TheVariants.{Null, Int, Real, Text, Blob}
 use Rattle.sqlite.specs.Order.{Row, column}
@@ -32,13 +32,18 @@ int_in (Real x) = pos 0
 int_in (Text t) = pos 0
 int_in (Blob b) = pos 0
 
--- an integer below 0 counts as 0
+-- an integer below 0 counts as 2^64 and more, which no row has
 abbrev pub size_of : ℤ → ℕ
 size_of (pos n) = n
-size_of (negsuc n) = 0
+size_of (negsuc n) = 2 ^ 64 + n
 
+-- and so does what is no integer
 abbrev pub count_in : Value → ℕ
-count_in v = size_of (int_in v)
+count_in Null = 2 ^ 64
+count_in (Int n) = size_of n
+count_in (Real x) = 2 ^ 64
+count_in (Text t) = 2 ^ 64
+count_in (Blob b) = 2 ^ 64
 
 abbrev pub state_of : ℤ → SessionState
 state_of (pos zero) = Live
@@ -46,13 +51,30 @@ state_of (pos (suc zero)) = Closed
 state_of (pos (suc (suc n))) = Stopped
 state_of (negsuc n) = Stopped
 
--- 0 is open and 1 closed
+-- 0 is open, 1 closed and 2 stopped
 abbrev pub state_in : Value → SessionState
 state_in Null = Stopped
 state_in (Int n) = state_of n
 state_in (Real x) = Stopped
 state_in (Text t) = Stopped
 state_in (Blob b) = Stopped
+
+-- What is none of the three is no state: it counts as stopped, with a cause of 2^64 and more, which
+-- no row has.
+abbrev pub cause_of : ℤ → ℕ → ℕ
+cause_of (pos zero) cause = cause
+cause_of (pos (suc zero)) cause = cause
+cause_of (pos (suc (suc zero))) cause = cause
+cause_of (pos (suc (suc (suc n)))) cause = 2 ^ 64 + cause
+cause_of (negsuc n) cause = 2 ^ 64 + cause
+
+-- the cause of a session by the columns of its state and its cause
+abbrev pub cause_in : Value → Value → ℕ
+cause_in Null cause = 2 ^ 64
+cause_in (Int n) cause = cause_of n (count_in cause)
+cause_in (Real x) cause = 2 ^ 64
+cause_in (Text t) cause = 2 ^ 64
+cause_in (Blob b) cause = 2 ^ 64
 
 abbrev pub framed_in : List ℕ → Option (List ℕ)
 framed_in [] = None
@@ -72,7 +94,7 @@ session_of at = record {
   first = count_in (at 7);
   last = count_in (at 8);
   state = state_in (at 9);
-  cause = count_in (at 10);
+  cause = cause_in (at 9) (at 10);
   calling = bytes (at 11);
   framed = framed_in (bytes (at 12));
 }

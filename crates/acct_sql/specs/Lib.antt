@@ -2,6 +2,7 @@ pub mod Tables
 pub mod Tidy
 pub mod Columns
 pub mod Content
+pub mod Kept
 pub mod Book
 pub mod Next
 pub mod Rising

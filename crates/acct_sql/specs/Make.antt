@@ -30,10 +30,16 @@ abbrev pub HasNumber : ℤ → Trees → Type 0
 HasNumber n db = (row : Row) × Has (db meta.tree) row
     × (column row 1 ≡ Text (codes "schema")) × (column row 2 ≡ Int n)
 
+-- the table `meta` has a row `schema` with this number, and no other row
+pub record KeepsNumber (n : ℤ) (db : Trees) : Type 0 where
+  pub has : HasNumber n db
+  pub only : (row : Row) → Has (db meta.tree) row → (column row 1 ≡ Text (codes "schema"))
+      × (column row 2 ≡ Int n)
+
 -- the tables of an empty book that was made with these plans, schema number 1
 pub record IsNew (plans : List Plan) (db : Trees) : Type 0 where
   pub content : content_of db ≡ empty_content
-  pub number : HasNumber (pos 1) db
+  pub number : KeepsNumber (pos 1) db
   pub plans_kept : KeepsPlans plans db
 
 -- ---- the making, in a transaction over what was committed before

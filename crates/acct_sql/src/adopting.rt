@@ -1,6 +1,6 @@
 //! Whether a database is a book, by queries that change nothing.
 ghost use Rattle.std.specs.Prelude.{◌≡◌, ◌≢◌, ◌↔◌, ℤ, pos, [], IsTrue, IfOk, IfErr, OnOk};
-ghost use Rattle.std.specs.Prelude.{List, MatchOption, MatchResult};
+ghost use Rattle.std.specs.Prelude.{List, MatchOption};
 ghost use Rattle.std.specs.List.{AllByRecursion};
 ghost use Rattle.sqlite.specs.State.{HasCleanDisk, Shown};
 ghost use Rattle.sqlite.specs.Held.{state};
@@ -12,7 +12,7 @@ ghost use Rattle.sqlite_value.specs.declared.value.Value.TheVariants.{Int, Blob}
 ghost use Rattle.acct_sql.specs.Tables.{book_schema};
 ghost use Rattle.acct_sql.specs.Tidy.{IsTidy};
 ghost use Rattle.acct_model.specs.declared.plan.Plan.{Plan};
-ghost use Rattle.acct_sql.specs.Book.{IsBook, HasShown};
+ghost use Rattle.acct_sql.specs.Book.{IsBook};
 ghost use Rattle.acct_sql.specs.Make.{KeepsPlans};
 ghost use Rattle.acct_sql.specs.Look.{IsIdle, OnlyLooks, HasSchema, ShowsPlan, IsShownIn, IsPlanIn};
 ghost use Rattle.acct_sql.specs.Look.{AreShown, IsNumber, IsNumberFault, IsPlanFault, IsRefusedAs};
@@ -178,9 +178,10 @@ fn check_plans<S: Alter>(conn: &mut Connection<S>, plans: &[Plan]) -> Result<(),
     }
 }
 
-// Why a database with other tables is no book: it has no schema number, or another.
+// Why a database with other tables is no book: it has another schema number than 1, or it is none.
 fn fault_of_other<S: Alter>(conn: &mut Connection<S>) -> SqlBookError
-    requires { IsIdle (state S.Store conn.old) }
+    requires idle { IsIdle (state S.Store conn.old) }
+    requires other { (state S.Store conn.old).now.schema ≢ book_schema }
     ensures looks { OnlyLooks (state S.Store conn.old) (state S.Store conn.new) }
     ensures refused { HasCleanDisk (state S.Store conn.new)
         → (plans : List Plan) → IsRefusedAs plans (state S.Store conn.old).now result }
@@ -189,8 +190,8 @@ fn fault_of_other<S: Alter>(conn: &mut Connection<S>) -> SqlBookError
         Err(error) if is_failure(&error) => SqlBookError::Unavailable,
         Err(_) => SqlBookError::NotABook,
         Ok(rows) => match judge_number(&rows) {
-            Ok(()) => SqlBookError::Unavailable,
-            Err(fault) => fault,
+            Err(SqlBookError::WrongSchema(number)) => SqlBookError::WrongSchema(number),
+            _ => SqlBookError::NotABook,
         },
     }
 }
@@ -198,11 +199,7 @@ fn fault_of_other<S: Alter>(conn: &mut Connection<S>) -> SqlBookError
 // What the query for the schema number shows under any tables. What it might do is undone.
 fn glance<S: Alter>(conn: &mut Connection<S>) -> Result<Vec<sqlite::Row>, Error>
     requires { IsIdle (state S.Store conn.old) }
-    ensures looks { OnlyLooks (state S.Store conn.old) (state S.Store conn.new) }
-    ensures shown { HasCleanDisk (state S.Store conn.new)
-        → (state S.Store conn.old).now.schema ≡ book_schema
-        → MatchResult result (λ rows. HasShown S.Store conn.old NUMBER.now [] rows.items)
-        (λ e. IsTrue (is_failure e)) }
+    ensures { OnlyLooks (state S.Store conn.old) (state S.Store conn.new) }
 {
     let mut tx = conn.transaction();
     tx.query_all(NUMBER, &[])

@@ -1,5 +1,5 @@
 //! Whether a database has exactly the tables and the indices of a book.
-ghost use Rattle.std.specs.Prelude.{◌≡◌, None, false, [], ◌∷◌, IsTrue, drop};
+ghost use Rattle.std.specs.Prelude.{◌≡◌, ◌↔◌, None, false, [], ◌∷◌, IsTrue, drop};
 ghost use Rattle.sqlite_value.specs.Keys.{plain};
 ghost use Rattle.acct_sql.specs.Tables.{book_schema, meta, price_plan, account, voucher, session};
 ghost use Rattle.acct_sql.specs.Tables.{column_of, table_of, index_of};
@@ -11,7 +11,7 @@ use sqlite_value::value::Value;
 
 /// Whether the schema is that of a book, and nothing besides.
 pub(crate) fn is_book_schema(schema: &Schema) -> bool
-    ensures { IsTrue result → schema.now ≡ book_schema }
+    ensures { IsTrue result ↔ (schema.now ≡ book_schema) }
 {
     schema.views.is_empty()
         && are_tables(schema.tables.as_slice())
@@ -19,7 +19,8 @@ pub(crate) fn is_book_schema(schema: &Schema) -> bool
 }
 
 fn are_tables(tables: &[Table]) -> bool
-    ensures { IsTrue result → tables.now ≡ book_schema.tables }
+    ensures only { IsTrue result → tables.now ≡ book_schema.tables }
+    ensures each { tables.now ≡ book_schema.tables → IsTrue result }
 {
     let [meta, price_plan, account, voucher, session] = tables else {
         return false;
@@ -32,7 +33,8 @@ fn are_tables(tables: &[Table]) -> bool
 }
 
 fn is_meta(table: &Table) -> bool
-    ensures { IsTrue result → table.now ≡ meta }
+    ensures only { IsTrue result → table.now ≡ meta }
+    ensures each { table.now ≡ meta → IsTrue result }
 {
     let [name, value] = table.columns.as_slice() else {
         return false;
@@ -43,7 +45,8 @@ fn is_meta(table: &Table) -> bool
 }
 
 fn is_price_plan(table: &Table) -> bool
-    ensures { IsTrue result → table.now ≡ price_plan }
+    ensures only { IsTrue result → table.now ≡ price_plan }
+    ensures each { table.now ≡ price_plan → IsTrue result }
 {
     let [class, block, unit] = table.columns.as_slice() else {
         return false;
@@ -55,7 +58,8 @@ fn is_price_plan(table: &Table) -> bool
 }
 
 fn is_account(table: &Table) -> bool
-    ensures { IsTrue result → table.now ≡ account }
+    ensures only { IsTrue result → table.now ≡ account }
+    ensures each { table.now ≡ account → IsTrue result }
 {
     let [name, balance] = table.columns.as_slice() else {
         return false;
@@ -66,13 +70,15 @@ fn is_account(table: &Table) -> bool
 }
 
 fn is_voucher(table: &Table) -> bool
-    ensures { IsTrue result → table.now ≡ voucher }
+    ensures only { IsTrue result → table.now ≡ voucher }
+    ensures each { table.now ≡ voucher → IsTrue result }
 {
     are_voucher_columns(table.columns.as_slice()) && is_keyed(table, b"voucher", 6, &[1])
 }
 
 fn are_voucher_columns(columns: &[Column]) -> bool
-    ensures { IsTrue result → columns.now ≡ voucher.columns }
+    ensures only { IsTrue result → columns.now ≡ voucher.columns }
+    ensures each { columns.now ≡ voucher.columns → IsTrue result }
 {
     let [number, account, amount, moment] = columns else {
         return false;
@@ -84,13 +90,15 @@ fn are_voucher_columns(columns: &[Column]) -> bool
 }
 
 fn is_session(table: &Table) -> bool
-    ensures { IsTrue result → table.now ≡ session }
+    ensures only { IsTrue result → table.now ≡ session }
+    ensures each { table.now ≡ session → IsTrue result }
 {
     are_session_columns(table.columns.as_slice()) && is_keyed(table, b"session", 8, &[1, 2])
 }
 
 fn are_session_columns(columns: &[Column]) -> bool
-    ensures { IsTrue result → columns.now ≡ session.columns }
+    ensures only { IsTrue result → columns.now ≡ session.columns }
+    ensures each { columns.now ≡ session.columns → IsTrue result }
 {
     let [client, id, account, later @ ..] = columns else {
         return false;
@@ -102,7 +110,8 @@ fn are_session_columns(columns: &[Column]) -> bool
 }
 
 fn are_from_class(columns: &[Column]) -> bool
-    ensures { IsTrue result → columns.now ≡ drop 3 session.columns }
+    ensures only { IsTrue result → columns.now ≡ drop 3 session.columns }
+    ensures each { columns.now ≡ drop 3 session.columns → IsTrue result }
 {
     let [class, input, output, later @ ..] = columns else {
         return false;
@@ -114,7 +123,8 @@ fn are_from_class(columns: &[Column]) -> bool
 }
 
 fn are_from_seconds(columns: &[Column]) -> bool
-    ensures { IsTrue result → columns.now ≡ drop 6 session.columns }
+    ensures only { IsTrue result → columns.now ≡ drop 6 session.columns }
+    ensures each { columns.now ≡ drop 6 session.columns → IsTrue result }
 {
     let [seconds, first, last, later @ ..] = columns else {
         return false;
@@ -126,7 +136,8 @@ fn are_from_seconds(columns: &[Column]) -> bool
 }
 
 fn are_from_state(columns: &[Column]) -> bool
-    ensures { IsTrue result → columns.now ≡ drop 9 session.columns }
+    ensures only { IsTrue result → columns.now ≡ drop 9 session.columns }
+    ensures each { columns.now ≡ drop 9 session.columns → IsTrue result }
 {
     let [state, cause, later @ ..] = columns else {
         return false;
@@ -137,7 +148,8 @@ fn are_from_state(columns: &[Column]) -> bool
 }
 
 fn are_from_calling(columns: &[Column]) -> bool
-    ensures { IsTrue result → columns.now ≡ drop 11 session.columns }
+    ensures only { IsTrue result → columns.now ≡ drop 11 session.columns }
+    ensures each { columns.now ≡ drop 11 session.columns → IsTrue result }
 {
     let [calling, framed] = columns else {
         return false;
@@ -146,7 +158,8 @@ fn are_from_calling(columns: &[Column]) -> bool
 }
 
 fn is_column(column: &Column, name: &[u8], kind: Kind) -> bool
-    ensures { IsTrue result → column.now ≡ column_of name.now kind }
+    ensures only { IsTrue result → column.now ≡ column_of name.now kind }
+    ensures each { column.now ≡ column_of name.now kind → IsTrue result }
 {
     column.name.as_slice() == name
         && column.kind == kind
@@ -158,7 +171,8 @@ fn is_column(column: &Column, name: &[u8], kind: Kind) -> bool
 
 // A STRICT table of its columns and its PRIMARY KEY, and nothing besides.
 fn is_keyed(table: &Table, name: &[u8], tree: u32, key: &[usize]) -> bool
-    ensures { IsTrue result → table.now ≡ table_of name.now tree table.now.columns key.now }
+    ensures only { IsTrue result → table.now ≡ table_of name.now tree table.now.columns key.now }
+    ensures each { table.now ≡ table_of name.now tree table.now.columns key.now → IsTrue result }
 {
     table.name.as_slice() == name && table.tree == tree && has_key(table, key) && has_no_more(table)
 }
@@ -168,6 +182,8 @@ fn has_key(table: &Table, key: &[usize]) -> bool
     ensures primary { IsTrue result → table.now.primary ≡ key.now }
     ensures uniques { IsTrue result → table.now.uniques ≡ key.now ∷ [] }
     ensures orders { IsTrue result → table.now.orders ≡ plain ∷ [] }
+    ensures each { table.now.key ≡ None → table.now.primary ≡ key.now
+        → table.now.uniques ≡ key.now ∷ [] → table.now.orders ≡ plain ∷ [] → IsTrue result }
 {
     table.key.is_none()
         && table.primary.as_slice() == key
@@ -178,6 +194,7 @@ fn has_key(table: &Table, key: &[usize]) -> bool
 fn are_one(uniques: &[Items<usize>], orders: &[Order], key: &[usize]) -> bool
     ensures uniques { IsTrue result → uniques.now ≡ key.now ∷ [] }
     ensures orders { IsTrue result → orders.now ≡ plain ∷ [] }
+    ensures each { uniques.now ≡ key.now ∷ [] → orders.now ≡ plain ∷ [] → IsTrue result }
 {
     let [unique] = uniques else {
         return false;
@@ -195,6 +212,9 @@ fn has_no_more(table: &Table) -> bool
     ensures stamps { IsTrue result → table.now.stamps ≡ record
         { places = []; terms = []; formats = [] } }
     ensures counted { IsTrue result → table.now.is_counted ≡ false }
+    ensures each { table.now.checks ≡ [] → table.now.references ≡ [] → table.now.computed ≡ []
+        → table.now.stamps ≡ record { places = []; terms = []; formats = [] }
+        → table.now.is_counted ≡ false → IsTrue result }
 {
     table.checks.roots.is_empty()
         && table.references.is_empty()
@@ -206,7 +226,8 @@ fn has_no_more(table: &Table) -> bool
 }
 
 fn are_indexes(indexes: &[Index]) -> bool
-    ensures { IsTrue result → indexes.now ≡ book_schema.indexes }
+    ensures only { IsTrue result → indexes.now ≡ book_schema.indexes }
+    ensures each { indexes.now ≡ book_schema.indexes → IsTrue result }
 {
     let [meta, price_plan, account, later @ ..] = indexes else {
         return false;
@@ -225,7 +246,8 @@ fn are_indexes(indexes: &[Index]) -> bool
 }
 
 fn are_later_indexes(indexes: &[Index]) -> bool
-    ensures { IsTrue result → indexes.now ≡ drop 3 book_schema.indexes }
+    ensures only { IsTrue result → indexes.now ≡ drop 3 book_schema.indexes }
+    ensures each { indexes.now ≡ drop 3 book_schema.indexes → IsTrue result }
 {
     let [voucher, session, later @ ..] = indexes else {
         return false;
@@ -236,7 +258,8 @@ fn are_later_indexes(indexes: &[Index]) -> bool
 }
 
 fn are_account_indexes(indexes: &[Index]) -> bool
-    ensures { IsTrue result → indexes.now ≡ drop 5 book_schema.indexes }
+    ensures only { IsTrue result → indexes.now ≡ drop 5 book_schema.indexes }
+    ensures each { indexes.now ≡ drop 5 book_schema.indexes → IsTrue result }
 {
     let [session_account, voucher_account] = indexes else {
         return false;
@@ -253,7 +276,8 @@ fn is_index(
     columns: &[usize],
     is_unique: bool,
 ) -> bool
-    ensures { IsTrue result → index.now ≡ index_of name.now tree table columns.now is_unique }
+    ensures only { IsTrue result → index.now ≡ index_of name.now tree table columns.now is_unique }
+    ensures each { index.now ≡ index_of name.now tree table columns.now is_unique → IsTrue result }
 {
     index.name.as_slice() == name
         && index.tree == tree

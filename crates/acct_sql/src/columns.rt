@@ -4,7 +4,7 @@ ghost use Rattle.sqlite.specs.Values.{bound};
 ghost use Rattle.sqlite_value.specs.Order.{column, bytes};
 ghost use Rattle.acct_sql.specs.Columns.{session_columns, topup_columns, plan_columns, account_of};
 ghost use Rattle.acct_sql.specs.Columns.{framed_octets, framed_in, code_of, count_in, state_in};
-ghost use Rattle.acct_sql.specs.Columns.{int_in, session_of, topup_of};
+ghost use Rattle.acct_sql.specs.Columns.{int_in, cause_in, session_of, topup_of};
 
 use crate::refused::Refused;
 use acct_book::{Row, SessionState};
@@ -128,14 +128,18 @@ fn moment_at(columns: &sqlite::Row, at: usize) -> Result<u64, Refused>
     }
 }
 
-fn state_at(columns: &sqlite::Row, at: usize) -> Result<SessionState, Refused>
-    ensures { IfOk result (λ state. state ≡ state_in (column columns.now at)) }
+// The state of a session, and the cause that it has in it.
+fn end_at(columns: &sqlite::Row) -> Result<(SessionState, u32), Refused>
+    ensures state { IfOk result (λ end. end.0 ≡ state_in (column columns.now 9)) }
+    ensures cause { IfOk result (λ end. end.1
+        ≡ cause_in (column columns.now 9) (column columns.now 10)) }
 {
-    let code: i64 = columns.get(at)?;
+    let code: i64 = columns.get(9)?;
+    let cause = word_at(columns, 10)?;
     match code {
-        0 => Ok(SessionState::Live),
-        1 => Ok(SessionState::Closed),
-        2 => Ok(SessionState::Stopped),
+        0 => Ok((SessionState::Live, cause)),
+        1 => Ok((SessionState::Closed, cause)),
+        2 => Ok((SessionState::Stopped, cause)),
         _ => Err(Refused),
     }
 }
@@ -175,8 +179,7 @@ pub(crate) fn session_at(columns: &sqlite::Row) -> Result<Row, Refused>
     let seconds = word_at(columns, 6)?;
     let first = moment_at(columns, 7)?;
     let last = moment_at(columns, 8)?;
-    let state = state_at(columns, 9)?;
-    let cause = word_at(columns, 10)?;
+    let (state, cause) = end_at(columns)?;
     let framed = framed_at(columns, 12)?;
     Ok(Row {
         client: text_at(columns, 0)?,

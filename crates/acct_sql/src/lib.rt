@@ -15,6 +15,7 @@
 mod adopting;
 mod book_schema;
 mod columns;
+pub mod laws;
 mod listing;
 mod making;
 mod reading;

@@ -48,7 +48,7 @@ impl<S: Alter> SqlBook<S> {
     ghost use Rattle.acct_sql.specs.Tables.{no_schema};
     ghost use Rattle.acct_sql.specs.Make.{IsNew, KeepsPlans};
     ghost use Rattle.acct_sql.specs.Look.{OnlyLooks, HasNumberAlone, IsRefusedAs};
-    ghost use Rattle.acct_sql.specs.Book.{IsSettled, IsBookOver};
+    ghost use Rattle.acct_sql.specs.Book.{IsSettled, IsResting, IsBookOver};
 
     /// Makes an empty database an empty book that is kept by these plans: the five tables, their
     /// two indices, the schema number 1 and a row for each plan, in one transaction. It is handed
@@ -96,10 +96,11 @@ impl<S: Alter> SqlBook<S> {
     ///
     /// # Errors
     ///
-    /// `NotABook` where no schema number can be read, `WrongSchema` where it is not 1, and
-    /// `PlansDiffer` where the book was made with other plans, in this order. `Unavailable` where
-    /// the store or memory refused, where the tables are not exactly those of a book, or where two
-    /// rows have one rowid or both the schema number.
+    /// `WrongSchema` where a schema number is read that is not 1, `NotABook` where none is or the
+    /// tables and indices are not exactly those of a book, in the order in which `create` makes
+    /// them, and `PlansDiffer` where the book was made with other plans, in this order.
+    /// `Unavailable` where the store or memory refused, or where two rows of a book have one rowid
+    /// or both the schema number.
     pub fn adopt(
         alloc: Global,
         mut conn: Connection<S>,
@@ -126,6 +127,13 @@ impl<S: Alter> SqlBook<S> {
             Ok(()) => Ok(SqlBook { conn, alloc }),
             Err(error) => Err((error, conn)),
         }
+    }
+
+    /// It is outside a transaction, and while it is open its tables are those of a book.
+    pub(crate) fn rests(&self)
+        ensures { IsResting (state S.Store self.now) }
+    {
+        let _ = &self.conn;
     }
 
     /// The connection, whose tables stay as they are. It takes no memory.

@@ -55,7 +55,7 @@ fn adopted(
 // Statements that come before an adoption, the unit of gold, and what the database is then.
 type Adoption = (&'static [&'static str], u64, Result<i64, SqlBookError>);
 
-static ADOPTIONS: [Adoption; 8] = [
+static ADOPTIONS: [Adoption; 10] = [
     (&[], 10, Ok(500)),
     (&[], 11, Err(SqlBookError::PlansDiffer)),
     (
@@ -78,7 +78,23 @@ static ADOPTIONS: [Adoption; 8] = [
     (
         &["CREATE INDEX other ON session (class)"],
         10,
-        Err(SqlBookError::Unavailable),
+        Err(SqlBookError::NotABook),
+    ),
+    (
+        &[
+            "CREATE TABLE other (name TEXT)",
+            "UPDATE meta SET value = 9",
+        ],
+        10,
+        Err(SqlBookError::WrongSchema(9)),
+    ),
+    (
+        &[
+            "DROP INDEX session_account",
+            "CREATE INDEX session_account ON session (account)",
+        ],
+        10,
+        Err(SqlBookError::NotABook),
     ),
 ];
 

@@ -1,0 +1,248 @@
+-- What is told of a table is what its columns are.
+use Rattle.std.proofs.Common.{◌≡◌, ℕ, ℤ, zero, suc, pos, negsuc, ◌+◌, ◌<◌, ◌^◌, List, [], ◌∷◌, drop}
+use Rattle.std.proofs.Common.{true, not, Some, find, option_map, refl, sym, ap, subst, ◌∙◌}
+use Rattle.std.proofs.Common.{true≢false, arith, Option, None, length}
+use Rattle.std.proofs.lemmas.Bool.{and_parts}
+use Rattle.sqlite.specs.declared.types.Value.{Value}
+use Rattle.sqlite.specs.declared.types.Value.TheVariants.{Null, Int, Real, Text, Blob}
+use Rattle.sqlite.specs.Order.{Row, column}
+use Rattle.sqlite.specs.Kind.TheVariants as kind
+use Rattle.sqlite.specs.Effect.{Database}
+use Rattle.sqlite_value.specs.Order.{bytes}
+use Rattle.sqlite_sql.specs.Ops.{is_null}
+use Rattle.sqlite_schema.specs.declared.schema.Constraint.TheVariants.{Datatype, NotNull}
+use Rattle.sqlite_schema.specs.declared.schema.Column.{Column}
+use Rattle.sqlite_schema.specs.Rules.{is_of, are_present, passes, Keeps}
+use Rattle.sqlite_rules.proofs.ListLemmas.{all_has}
+use Rattle.acct_model.specs.Vouchers.{TopUpFacts}
+use Rattle.acct_book.specs.Row.{RowFacts}
+use Rattle.acct_book.specs.Content.{key_of}
+use Rattle.acct_sql.specs.Tables.{book_schema, account, session}
+use Rattle.acct_sql.specs.Columns.{session_of, topup_of, columns, count_in, int_in, state_in}
+use Rattle.acct_sql.specs.Columns.{cause_in, code_of, framed_in, framed_octets}
+use Rattle.acct_sql.specs.Content.{content_of, is_session, is_account, is_voucher}
+use Rattle.acct_sql.specs.Book.{IsBook}
+use Rattle.acct_sql.specs.Kept.{KeepsSession, KeepsTopUp, KeepsBalance}
+use Rattle.acct_sql.proofs.FindLemmas.{find_has}
+use Rattle.acct_sql.proofs.ValueLemmas.{blob_is, text_is}
+use Rattle.acct_sql.proofs.KeyLemmas.{one_session, one_account, one_voucher}
+use Rattle.acct_sql.proofs.SessionLemmas.{key_here}
+use Rattle.acct_sql.proofs.CloseLemmas.{typed, typed_at, shifted}
+use Rattle.acct_sql.proofs.KeyedLemmas.{voucher_account}
+
+-- ---- a column by what it counts as
+
+pub count_is : (v : Value) (n : ℕ) → n ≡ count_in v → n < 2 ^ 64 → v ≡ Int (pos n)
+count_is Null n h fits = absurd (omega (arith, h, fits))
+count_is (Int (pos m)) n h fits = ap (λ k. Int (pos k)) (sym h)
+count_is (Int (negsuc m)) n h fits = absurd (omega (arith, h, fits))
+count_is (Real x) n h fits = absurd (omega (arith, h, fits))
+count_is (Text t) n h fits = absurd (omega (arith, h, fits))
+count_is (Blob b) n h fits = absurd (omega (arith, h, fits))
+
+pub cause_is : (v w : Value) (n : ℕ) → n ≡ cause_in v w → n < 2 ^ 64 → w ≡ Int (pos n)
+cause_is Null w n h fits = absurd (omega (arith, h, fits))
+cause_is (Int (pos zero)) w n h fits = count_is w n h fits
+cause_is (Int (pos (suc zero))) w n h fits = count_is w n h fits
+cause_is (Int (pos (suc (suc zero)))) w n h fits = count_is w n h fits
+cause_is (Int (pos (suc (suc (suc m))))) w n h fits = absurd (omega (arith, h, fits))
+cause_is (Int (negsuc m)) w n h fits = absurd (omega (arith, h, fits))
+cause_is (Real x) w n h fits = absurd (omega (arith, h, fits))
+cause_is (Text t) w n h fits = absurd (omega (arith, h, fits))
+cause_is (Blob b) w n h fits = absurd (omega (arith, h, fits))
+
+pub state_is : (v w : Value) (n : ℕ) → n ≡ cause_in v w → n < 2 ^ 64
+    → v ≡ Int (pos (code_of (state_in v)))
+state_is Null w n h fits = absurd (omega (arith, h, fits))
+state_is (Int (pos zero)) w n h fits = refl
+state_is (Int (pos (suc zero))) w n h fits = refl
+state_is (Int (pos (suc (suc zero)))) w n h fits = refl
+state_is (Int (pos (suc (suc (suc m))))) w n h fits = absurd (omega (arith, h, fits))
+state_is (Int (negsuc m)) w n h fits = absurd (omega (arith, h, fits))
+state_is (Real x) w n h fits = absurd (omega (arith, h, fits))
+state_is (Text t) w n h fits = absurd (omega (arith, h, fits))
+state_is (Blob b) w n h fits = absurd (omega (arith, h, fits))
+
+-- a column of octets that is there
+pub octets_are : (v : Value) → is_of kind.Blob v ≡ true → not (is_null v) ≡ true → v
+    ≡ Blob (bytes v)
+octets_are Null h there = absurd (true≢false (sym there))
+octets_are (Int n) h there = absurd (true≢false (sym h))
+octets_are (Real x) h there = absurd (true≢false (sym h))
+octets_are (Text t) h there = absurd (true≢false (sym h))
+octets_are (Blob b) h there = refl
+
+-- a column of integers that is there
+pub int_is : (v : Value) → is_of kind.Integer v ≡ true → not (is_null v) ≡ true → v
+    ≡ Int (int_in v)
+int_is Null h there = absurd (true≢false (sym there))
+int_is (Int n) h there = refl
+int_is (Real x) h there = absurd (true≢false (sym h))
+int_is (Text t) h there = absurd (true≢false (sym h))
+int_is (Blob b) h there = absurd (true≢false (sym h))
+
+-- each of the columns is NOT NULL
+abbrev pub AreRequired : List Column → Type 0
+AreRequired [] = Unit {0}
+AreRequired (c ∷ cs) = (c.not_null ≡ true) × AreRequired cs
+
+-- so each is there
+pub present_at : (cs : List Column) (at : ℕ) (r : Row) → AreRequired cs → are_present None at cs r
+    ≡ true → (i : ℕ) → i < length cs → not (is_null (column r (at + i + 1))) ≡ true
+present_at [] at r required h i lt = absurd (omega (arith, lt))
+present_at (c ∷ cs) at r required h zero lt =
+    let here : not (is_null (column r (at + 1))) ≡ true = (and_parts _ _ (rw required.0 at h)).0 in
+    let same : at + 1 ≡ at + 0 + 1 = omega arith in
+    subst (λ k. not (is_null (column r k)) ≡ true) same here
+present_at (c ∷ cs) at r required h (suc i) lt =
+    let less : i < length cs = omega (arith, lt) in
+    let later : not (is_null (column r (at + 1 + i + 1))) ≡ true =
+    present_at cs (at + 1) r required.1 (and_parts _ _ h).1 i less in
+    let same : at + 1 + i + 1 ≡ at + suc i + 1 = omega arith in
+    subst (λ k. not (is_null (column r k)) ≡ true) same later
+
+pub framed_back : (octets : List ℕ) → octets ≡ framed_octets (framed_in octets)
+framed_back [] = refl
+framed_back (octet ∷ octets) = refl
+
+pub was_found : {X Y : Type 0} (f : X → Y) (o : Option X) (y : Y) → option_map f o ≡ Some y
+    → (x : X) × (o ≡ Some x) × (y ≡ f x)
+was_found f None y h = absurd cc
+was_found f (Some x) y h = let same : f x ≡ y = cc in (x, refl, sym same)
+
+-- ---- a row of each table
+
+pub keeps_session : (db : Database) (book : IsBook db) (facts : RowFacts) → facts.input < 2 ^ 64
+    → facts.output < 2 ^ 64 → facts.seconds < 2 ^ 64 → facts.first < 2 ^ 64 → facts.last < 2 ^ 64
+    → facts.cause < 2 ^ 64 → (content_of db.trees).rows (key_of facts) ≡ Some facts
+    → KeepsSession facts db.trees
+keeps_session db book facts input output seconds first last cause kept =
+    let found = was_found (λ r. session_of (columns r)) (find (is_session (key_of facts))
+    (db.trees 8)) facts kept in
+    let here = find_has (is_session (key_of facts)) (db.trees 8) found.0 found.1 in
+    let key = key_here (key_of facts) found.0 here.1 in
+    let at = typed db book found.0 here.0 in
+    let rules = subst (λ schema. Keeps NotNull schema db.trees) book.schema
+    (book.sound.obeys.rules NotNull) in
+    let present : passes NotNull book_schema db.trees session found.0
+    ≡ true = all_has (λ row. passes NotNull book_schema db.trees session row ≡ true)
+    (db.trees 8) found.0 rules.1.1.1.1.0 here.0 in
+    let present_in = present_at session.columns 0 found.0 (
+      refl,
+      (
+        refl,
+        (refl, (refl, (refl, (refl, (refl, (refl, (refl, (refl, (refl, (refl, (refl, tt))))))))))),
+      ),
+    ) present in
+    let account_is = octets_are (column found.0 3) (at 2 _ refl) (present_in 2 (omega arith))
+    ∙ ap Blob (sym (ap (λ (r : RowFacts). r.account) found.2)) in
+    let class_is = octets_are (column found.0 4) (at 3 _ refl) (present_in 3 (omega arith))
+    ∙ ap Blob (sym (ap (λ (r : RowFacts). r.class) found.2)) in
+    let input_is = count_is (column found.0 5) facts.input (ap (λ (r : RowFacts). r.input) found.2)
+    input in
+    let output_is = count_is (column found.0 6) facts.output
+    (ap (λ (r : RowFacts). r.output) found.2) output in
+    let seconds_is = count_is (column found.0 7) facts.seconds
+    (ap (λ (r : RowFacts). r.seconds) found.2) seconds in
+    let first_is = count_is (column found.0 8) facts.first (ap (λ (r : RowFacts). r.first) found.2)
+    first in
+    let last_is = count_is (column found.0 9) facts.last (ap (λ (r : RowFacts). r.last) found.2)
+    last in
+    let ended = ap (λ (r : RowFacts). r.cause) found.2 in
+    let state_here = state_is (column found.0 10) (column found.0 11) facts.cause ended cause
+    ∙ ap (λ s. Int (pos (code_of s))) (sym (ap (λ (r : RowFacts). r.state) found.2)) in
+    let cause_here = cause_is (column found.0 10) (column found.0 11) facts.cause ended cause in
+    let calling_is = octets_are (column found.0 12) (at 11 _ refl) (present_in 11 (omega arith))
+    ∙ ap Blob (sym (ap (λ (r : RowFacts). r.calling) found.2)) in
+    let framed_is = octets_are (column found.0 13) (at 12 _ refl) (present_in 12 (omega arith))
+    ∙ ap Blob (framed_back (bytes (column found.0 13))
+    ∙ ap framed_octets (sym (ap (λ (r : RowFacts). r.framed) found.2))) in
+    record {
+      row = found.0;
+      there = here.0;
+      says = (
+        key.0,
+        (
+          key.1,
+          (
+            account_is,
+            (
+              class_is,
+              (
+                input_is,
+                (
+                  output_is,
+                  (
+                    seconds_is,
+                    (
+                      first_is,
+                      (last_is, (state_here, (cause_here, (calling_is, (framed_is, tt))))),
+                    ),
+                  ),
+                ),
+              ),
+            ),
+          ),
+        ),
+      );
+      alone = λ other there mine. one_session db book (key_of facts) other found.0 there here.0
+          mine here.1;
+    }
+
+pub keeps_topup : (db : Database) (book : IsBook db) (facts : TopUpFacts) → facts.sum < 2 ^ 64
+    → facts.when < 2 ^ 64 → (content_of db.trees).topups facts.voucher ≡ Some facts
+    → KeepsTopUp facts db.trees
+keeps_topup db book facts sum when kept =
+    let found = was_found (λ r. topup_of (columns r)) (find (is_voucher facts.voucher)
+    (db.trees 6)) facts kept in
+    let here = find_has (is_voucher facts.voucher) (db.trees 6) found.0 found.1 in
+    let paid = voucher_account db book found.0 here.0 in
+    let account_is = paid.1 ∙ ap Blob (sym (ap bytes paid.1)
+    ∙ sym (ap (λ (t : TopUpFacts). t.account) found.2)) in
+    let sum_is = count_is (column found.0 3) facts.sum (ap (λ (t : TopUpFacts). t.sum) found.2)
+    sum in
+    let when_is = count_is (column found.0 4) facts.when (ap (λ (t : TopUpFacts). t.when) found.2)
+    when in
+    record {
+      row = found.0;
+      there = here.0;
+      says = (
+        text_is facts.voucher (column found.0 1) here.1,
+        (account_is, (sum_is, (when_is, tt))),
+      );
+      alone = λ other there mine. one_voucher db book facts.voucher other found.0 there here.0
+          mine here.1;
+    }
+
+pub keeps_balance : (db : Database) (book : IsBook db) (name : List ℕ) (balance : ℤ)
+    → (content_of db.trees).balances name ≡ Some balance → KeepsBalance name balance db.trees
+keeps_balance db book name balance kept =
+    let found = was_found (λ r. int_in (column r 2)) (find (is_account name) (db.trees 4)) balance
+    kept in
+    let here = find_has (is_account name) (db.trees 4) found.0 found.1 in
+    let types = subst (λ schema. Keeps Datatype schema db.trees) book.schema
+    (book.sound.obeys.rules Datatype) in
+    let there = subst (λ schema. Keeps NotNull schema db.trees) book.schema
+    (book.sound.obeys.rules NotNull) in
+    let kinds : passes Datatype book_schema db.trees account found.0
+    ≡ true = all_has (λ row. passes Datatype book_schema db.trees account row ≡ true)
+    (db.trees 4) found.0 types.1.1.0 here.0 in
+    let present : passes NotNull book_schema db.trees account found.0
+    ≡ true = all_has (λ row. passes NotNull book_schema db.trees account row ≡ true)
+    (db.trees 4) found.0 there.1.1.0 here.0 in
+    let kind_is = subst (λ v. is_of kind.Integer v ≡ true) (shifted found.0 1)
+    (typed_at account.columns 0 (drop 1 found.0) (refl, (refl, tt)) (and_parts _ _ kinds).0 1 _
+    refl) in
+    record {
+      row = found.0;
+      there = here.0;
+      says = (
+        blob_is name (column found.0 1) here.1,
+        (
+          int_is (column found.0 2) kind_is (and_parts _ _ (and_parts _ _ present).1).0
+              ∙ ap Int (sym found.2),
+          tt,
+        ),
+      );
+      alone = λ other k mine. one_account db book name other found.0 k here.0 mine here.1;
+    }

@@ -1,0 +1,42 @@
+-- What stands in a table, column by column.
+use Rattle.std.specs.Prelude.{◌≡◌, ℕ, ℤ, suc, true, List, [], ◌∷◌}
+use Rattle.sqlite.specs.declared.types.Value.{Value}
+use Rattle.sqlite.specs.declared.types.Value.TheVariants.{Int, Blob}
+use Rattle.sqlite.specs.Order.{Row}
+use Rattle.sqlite.specs.Tree.{Trees}
+use Rattle.sqlite_rules.specs.Lists.{Has}
+use Rattle.acct_model.specs.Vouchers.{TopUpFacts}
+use Rattle.acct_book.specs.Row.{RowFacts}
+use Rattle.acct_book.specs.Content.{key_of}
+use Rattle.acct_sql.specs.Tables.{account, voucher, session}
+use Rattle.acct_sql.specs.Columns.{session_columns, topup_columns, columns}
+use Rattle.acct_sql.specs.Content.{is_session, is_account, is_voucher}
+
+-- the columns are these values, from the first on
+abbrev pub AreColumns : Row → (ℕ → Value) → Type 0
+AreColumns [] at = Unit {0}
+AreColumns (value ∷ values) at = (at 0 ≡ value) × AreColumns values (λ i. at (suc i))
+
+-- a row of the table `session` has exactly the columns of this session, and no other row its key
+pub record KeepsSession (facts : RowFacts) (db : Trees) : Type 0 where
+  pub row : Row
+  pub there : Has (db session.tree) row
+  pub says : AreColumns (session_columns facts) (columns row)
+  pub alone : (other : Row) → Has (db session.tree) other
+      → is_session (key_of facts) other ≡ true → other ≡ row
+
+-- a row of the table `voucher` has exactly the columns of this top-up, and no other row its number
+pub record KeepsTopUp (facts : TopUpFacts) (db : Trees) : Type 0 where
+  pub row : Row
+  pub there : Has (db voucher.tree) row
+  pub says : AreColumns (topup_columns facts) (columns row)
+  pub alone : (other : Row) → Has (db voucher.tree) other
+      → is_voucher facts.voucher other ≡ true → other ≡ row
+
+-- a row of the table `account` has exactly this name and balance, and no other row the name
+pub record KeepsBalance (name : List ℕ) (balance : ℤ) (db : Trees) : Type 0 where
+  pub row : Row
+  pub there : Has (db account.tree) row
+  pub says : AreColumns (Blob name ∷ Int balance ∷ []) (columns row)
+  pub alone : (other : Row) → Has (db account.tree) other → is_account name other ≡ true
+      → other ≡ row
