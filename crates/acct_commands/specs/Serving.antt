@@ -1,15 +1,21 @@
--- What `serve` prints.
-use Rattle.std.specs.Prelude.{ℕ, List, [], ◌∷◌, ◌++◌, ◌+◌, ◌==◌, if◌then◌else◌}
-use Rattle.std.specs.Prelude.{Option, None, codes}
+-- What `serve` does, and what it prints of it.
+use Rattle.std.specs.Prelude.{◌≡◌, ℕ, List, [], ◌∷◌, ◌++◌, ◌+◌, ◌==◌, if◌then◌else◌}
+use Rattle.std.specs.Prelude.{Option, Result, Ok, Err, IsErr, ◌⊎◌, codes}
 use Rattle.std.specs.Io.KnownBytes.{Appends}
-use Rattle.acct_model.specs.declared.entry.Entry.{Entry}
-use Rattle.acct_book.specs.declared.book.Book.{Ghosts}
+use Rattle.acct_book.specs.declared.book.Book as book
 use Rattle.acct_site.specs.declared.config.Config.{Config}
 use Rattle.acct_service.specs.Serving as machine
+use Rattle.acct_service.specs.declared.exchange.Exchange as exchange
 use Rattle.acct_service.specs.declared.server.Served.{Served}
 use Rattle.acct_commands.specs.Counts.{counts_text, drops_text}
 use Rattle.acct_commands.specs.declared.counts.Counts.{Counts}
 use Rattle.acct_commands.specs.declared.counts.Drops.{Drops}
+use Rattle.acct_commands.specs.declared.ended.Ended.{Ended}
+use Rattle.acct_commands.specs.declared.fault.Fault.{Fault}
+use Rattle.acct_commands.specs.declared.fault.Fault.TheVariants as fault
+use Rattle.acct_feed.specs.declared.status.Status.{Status}
+use Rattle.acct_feed.specs.declared.status.Status.TheVariants as status
+use Rattle.acct_commands.specs.declared.ended.Ended.TheVariants as how
 
 -- what came, of all that was counted
 abbrev pub counts_of : Served → Counts
@@ -35,11 +41,49 @@ abbrev pub served_text : Served → List ℕ
 served_text served =
     counts_text (counts_of served) ++ 10 ∷ [] ++ drops_lines 1 served.dropped
 
--- A run of the machine over the book, from a history to the one after it, and the counts of that
--- run, which are printed after `serving`. The sockets tell no lists.
-module _ {B : Type 0} (b : Ghosts B) where
-  pub record Serves (config : Config) (history : List Entry) (old new : B)
-      (before after : Option (List ℕ)) : Type 0 where
-    pub served : Served
-    pub run : machine.Serves b config history old new None None served
-    pub printed : Appends before after (codes "serving" ++ 10 ∷ [] ++ served_text served)
+-- all that a server prints
+abbrev pub whole_text : Served → List ℕ
+whole_text served = codes "serving" ++ 10 ∷ [] ++ served_text served
+
+-- how the command ends
+abbrev pub ended_of : Ended → Result Status Fault
+ended_of (how.Told served) = Ok status.Done
+ended_of (how.Untold served) = Err fault.CannotWrite
+ended_of how.NotBegun = Err fault.CannotWrite
+
+-- A run of a server over a book and an exchange, from its first turn to its last.
+module _ {B X : Type 0} (b : book.Ghosts B) (x : exchange.Ghosts X) where
+  -- it made exactly so many turns of the exchange, they are a run of the machine, and these are
+  -- the counts of that run
+  pub record Ran (config : Config) (turns : ℕ) (old new : B) (first last : X)
+      (served : Served) : Type 0 where
+    pub turns_made : x.turn_count last ≡ x.turn_count first + turns
+    pub faults : x.failure_count last ≡ x.failure_count first + served.faults
+    pub run : machine.Serves b config old new (x.told first) (x.told last) served
+
+  -- How a server ended. Once it has begun its turns are a run, whatever the output does. What it
+  -- then printed is `serving` and the counts of that run, and nothing else. Before that it does
+  -- nothing.
+  abbrev pub Ends : Config → ℕ → B → B → X → X → Option (List ℕ) → Option (List ℕ) → Ended → Type 0
+  Ends config turns old new first last before after (how.Told served) =
+      Ran config turns old new first last served × Appends before after (whole_text served)
+  Ends config turns old new first last before after (how.Untold served) =
+      Ran config turns old new first last served
+  Ends config turns old new first last before after how.NotBegun =
+      (new ≡ old) × (last ≡ first)
+
+  -- The same from an exchange that had made no turn.
+  pub record EndsAfresh (config : Config) (turns : ℕ) (old new : B) (last : X)
+      (before after : Option (List ℕ)) (ended : Ended) : Type 0 where
+    pub first : X
+    pub fresh : x.turn_count first ≡ 0
+    pub ends : Ends config turns old new first last before after ended
+
+  -- The command: no exchange could be made, and nothing was done; or a server ended so over one
+  -- that had made no turn.
+  abbrev pub RunsServer : Config → ℕ → Option (List ℕ) → Option (List ℕ) → Result Status Fault → B
+      → B → Type 0
+  RunsServer config turns before after result old new =
+      (IsErr result × (new ≡ old) × (after ≡ before))
+      ⊎ ((ended : Ended) × (result ≡ ended_of ended) × ((last : X)
+      × EndsAfresh config turns old new last before after ended))

@@ -3,21 +3,22 @@ ghost use Rattle.std.specs.Prelude.{◌≡◌, IfOk, OnOk};
 ghost use Rattle.std.specs.Io.KnownBytes.{Appends};
 ghost use Rattle.acct_commands.specs.Checks.{TellsSizes, sizes_line};
 
-use crate::config_file::read_config;
+use crate::config_file::config_from;
 use crate::fault::Fault;
 use acct_feed::Status;
 use acct_model::Text;
 use acct_site::Config;
 use std::alloc::Global;
-use std::fs::Files;
+use std::fs::{File, Files};
 use std::io;
-use std::io::Write;
+use std::io::{Read, Write};
 
-/// Says how many clients, plans and keys the configuration in a file has.
+/// Says how many clients, plans and keys the configuration in a file has: `check_from` over what
+/// the file has.
 ///
 /// # Errors
 ///
-/// Those of `read_config`, and `CannotWrite`.
+/// `CannotRead` where the file cannot be opened, and those of `check_from`.
 pub fn run_check<R: Files, W: Write>(
     runtime: &R,
     alloc: Global,
@@ -25,9 +26,29 @@ pub fn run_check<R: Files, W: Write>(
     output: &mut W,
 ) -> Result<Status, Fault>
     ensures done { IfOk result (λ status. status ≡ Status.Done) }
-    ensures sizes { IfOk result (λ _. TellsSizes (W.contents output.old) (W.contents output.new)) }
+    ensures sizes { OnOk result (TellsSizes None (W.contents output.old) (W.contents output.new)) }
 {
-    let config = read_config(runtime, alloc, file)?;
+    match File::open(runtime, file.as_str()) {
+        Ok(mut reader) => check_from(alloc, &mut reader, output),
+        Err(_) => Err(Fault::CannotRead),
+    }
+}
+
+/// Says how many clients, plans and keys the configuration has that a reader spells.
+///
+/// # Errors
+///
+/// Those of `config_from`, and `CannotWrite`.
+pub fn check_from<R: Read, W: Write>(
+    alloc: Global,
+    reader: &mut R,
+    output: &mut W,
+) -> Result<Status, Fault>
+    ensures done { IfOk result (λ status. status ≡ Status.Done) }
+    ensures sizes { OnOk result (TellsSizes (R.remaining reader.old) (W.contents output.old)
+        (W.contents output.new)) }
+{
+    let config = config_from(alloc, reader)?;
     write_sizes(output, &config)?;
     output.flush()?;
     Ok(Status::Done)

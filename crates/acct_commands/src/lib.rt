@@ -4,14 +4,16 @@
 mod check;
 mod config_file;
 mod counts;
+mod ended;
 mod exporting;
 mod fault;
 mod importing;
 mod serving;
 
-pub use check::run_check;
+pub use check::{check_from, run_check};
 pub use config_file::{config_from, read_config};
+pub use ended::Ended;
 pub use exporting::run_export;
 pub use fault::{Fault, StoreFault, end};
 pub use importing::run_import;
-pub use serving::run_serve;
+pub use serving::{run_serve, serve_exchange, serve_sockets};

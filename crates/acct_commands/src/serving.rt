@@ -1,17 +1,18 @@
 //! `serve`: access servers and callers of the desk, answered over a book.
-ghost use Rattle.std.specs.Prelude.{◌≡◌, ◌<◌, ◌^◌, ◌++◌, List, IfOk, OnOk, codes};
+ghost use Rattle.std.specs.Prelude.{◌≡◌, ◌+◌, ◌-◌, ◌≤◌, ◌<◌, ◌^◌, ◌++◌, ◌∷◌, [], codes};
+ghost use Rattle.std.specs.Prelude.{IfOk, OnOk, OnErr};
 ghost use Rattle.std.specs.Io.KnownBytes.{Appends};
-ghost use Rattle.acct_model.specs.declared.entry.Entry.{Entry};
-ghost use Rattle.acct_book.specs.Step.{StoodFor};
-ghost use Rattle.acct_commands.specs.Serving.{Serves, drops_line, drops_lines, served_text};
+ghost use Rattle.acct_commands.specs.Serving.{Ends, EndsAfresh, RunsServer, ended_of};
+ghost use Rattle.acct_commands.specs.Serving.{drops_line, drops_lines, served_text};
 
 use crate::counts::{Counts, Drops};
+use crate::ended::Ended;
 use crate::fault::Fault;
 use acct_book::Book;
 use acct_command_line::Listening;
 use acct_feed::Status;
 use acct_model::address_of;
-use acct_service::{Served, serve};
+use acct_service::{Exchange, Served, serve};
 use acct_site::Config;
 use acct_sockets::Sockets;
 use std::alloc::Global;
@@ -20,14 +21,16 @@ use std::io::{ErrorKind, Write};
 use std::net::Net;
 use std::time::Clock;
 
-/// Serves a configuration over a book for this many turns. It says so once both sockets are bound,
-/// and what came at the end.
+/// Serves a configuration over a book for this many turns, at an address and two ports. It says so
+/// once both sockets are bound, and what came at the end: `serve_exchange` over sockets.
 ///
 /// # Errors
 ///
-/// `CannotBind`, `NoMemory` where there is no room for datagrams, and `CannotWrite`.
-pub fn run_serve<R: Net + Clock, B: Book, W: Write>(
-    runtime: &R,
+/// `CannotBind`, and `NoMemory` where there is no room for datagrams; the book and the output are
+/// then as they were. `CannotWrite` where the output failed: before the first turn, or after the
+/// last one.
+pub fn run_serve<'r, R: Net + Clock, B: Book, W: Write>(
+    runtime: &'r R,
     alloc: Global,
     config: &Config,
     book: &mut B,
@@ -37,18 +40,79 @@ pub fn run_serve<R: Net + Clock, B: Book, W: Write>(
 ) -> Result<Status, Fault>
     requires { turns < 2 ^ 63 }
     ensures done { IfOk result (λ status. status ≡ Status.Done) }
-    ensures serves { B.is_sound book.new → (history : List Entry)
-        → StoodFor B.Book config.now.plans book.old history
-        → OnOk result (Serves B.Book config.now history book.old book.new
-        (W.contents output.old) (W.contents output.new)) }
+    ensures serves { RunsServer B.Book ⟦<Sockets<'r, R> as Exchange>⟧ config.now turns
+        (W.contents output.old) (W.contents output.new) result book.old book.new }
+{
+    match serve_sockets(runtime, alloc, config, book, listening, turns, output) {
+        Ok((_sockets, ended)) => status_of(ended),
+        Err(fault) => Err(fault),
+    }
+}
+
+// How `serve` ends.
+fn status_of(ended: Ended) -> Result<Status, Fault>
+    ensures status { result ≡ ended_of ended }
+    ensures done { IfOk result (λ status. status ≡ Status.Done) }
+{
+    match ended {
+        Ended::Told(_) => Ok(Status::Done),
+        Ended::Untold(_) | Ended::NotBegun => Err(Fault::CannotWrite),
+    }
+}
+
+/// Binds both sockets at an address and two ports, and is then `serve_exchange` over them. They are
+/// handed back as the last turn left them.
+///
+/// # Errors
+///
+/// `CannotBind`, and `NoMemory` where there is no room for datagrams. The book and the output are
+/// then as they were.
+pub fn serve_sockets<'r, R: Net + Clock, B: Book, W: Write>(
+    runtime: &'r R,
+    alloc: Global,
+    config: &Config,
+    book: &mut B,
+    listening: &Listening,
+    turns: u64,
+    output: &mut W,
+) -> Result<(Sockets<'r, R>, Ended), Fault>
+    requires { turns < 2 ^ 63 }
+    ensures serves { IfOk result (λ done. EndsAfresh B.Book ⟦<Sockets<'r, R> as Exchange>⟧
+        config.now turns book.old book.new done.0 (W.contents output.old) (W.contents output.new)
+        done.1) }
+    ensures unbound { OnErr result ((book.new ≡ book.old) × (output.new ≡ output.old)) }
 {
     let mut sockets = bound(runtime, alloc, listening)?;
-    writeln!(output, "serving")?;
-    output.flush()?;
-    let served = serve(alloc, config, book, &mut sockets, turns);
-    write_counts(output, &served)?;
-    output.flush()?;
-    Ok(Status::Done)
+    let ended = serve_exchange(alloc, config, book, &mut sockets, turns, output);
+    Ok((sockets, ended))
+}
+
+/// Makes this many turns of an exchange over a book, and says how far it came. `serving` is printed
+/// and flushed before the first turn, and what was counted after the last one, flushed too.
+///
+/// What comes in the turns is answered whatever the output does then: a run of `serve`, which says
+/// what that is.
+pub fn serve_exchange<B: Book, X: Exchange, W: Write>(
+    alloc: Global,
+    config: &Config,
+    book: &mut B,
+    exchange: &mut X,
+    turns: u64,
+    output: &mut W,
+) -> Ended
+    requires turns { X.turn_count exchange.old + turns ≤ 2 ^ 64 - 1 }
+    requires failures { X.failure_count exchange.old + turns ≤ 2 ^ 64 - 1 }
+    ensures { Ends B.Book X.Exchange config.now turns book.old book.new exchange.old exchange.new
+        (W.contents output.old) (W.contents output.new) result }
+{
+    let Ok(()) = write_serving(output) else {
+        return Ended::NotBegun;
+    };
+    let served = serve(alloc, config, book, exchange, turns);
+    match write_counts(output, &served) {
+        Ok(()) => Ended::Told(served),
+        Err(_) => Ended::Untold(served),
+    }
 }
 
 // The sockets at the address and the ports that were asked for.
@@ -70,6 +134,15 @@ fn bound<'r, R: Net + Clock>(
     }
 }
 
+// Says that what comes will be answered from now on.
+fn write_serving<W: Write>(output: &mut W) -> io::Result<()>
+    ensures { OnOk result (Appends (W.contents output.old) (W.contents output.new)
+        (codes "serving" ++ 10 ∷ [])) }
+{
+    writeln!(output, "serving")?;
+    output.flush()
+}
+
 // Writes what a server counted: all that came, and the drops for each reason that had some.
 fn write_counts<W: Write>(output: &mut W, served: &Served) -> io::Result<()>
     ensures { OnOk result (Appends (W.contents output.old) (W.contents output.new)
@@ -82,7 +155,8 @@ fn write_counts<W: Write>(output: &mut W, served: &Served) -> io::Result<()>
         faults: served.faults,
     };
     writeln!(output, "{counts}")?;
-    write_drops(output, &served.dropped)
+    write_drops(output, &served.dropped)?;
+    output.flush()
 }
 
 // Writes the drops for each reason that had some. Reasons are numbered from 1 on.

@@ -2,6 +2,10 @@
 #![tactic(auto)]
 
 #[cfg(test)]
+mod checking;
+#[cfg(test)]
 mod loopback;
+#[cfg(test)]
+mod serving;
 #[cfg(test)]
 mod words;

@@ -1,2 +1,9 @@
 mod Steps
 mod Visits
+mod WorkedCalls
+mod Lives
+mod Kept
+mod Resent
+mod Settled
+mod Stops
+mod WorkedLives

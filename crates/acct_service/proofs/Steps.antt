@@ -1,5 +1,5 @@
 -- What `answer` and `handle` say is a step of the machine.
-use Rattle.std.proofs.Common.{◌≡◌, ℕ, List, take, subst, inl, inr}
+use Rattle.std.proofs.Common.{◌≡◌, ℕ, List, take, subst, ap, inl, inr}
 use Rattle.std.specs.Prelude.{Result, Ok, Err, Vec}
 use Rattle.std.specs.Global.{Global}
 use Rattle.acct_book.specs.declared.book.Book.{Ghosts}
@@ -12,7 +12,9 @@ use Rattle.acct_wire.specs.declared.reason.Reason.TheVariants as why
 use Rattle.acct_wire.specs.declared.client.Client.{Client}
 use Rattle.acct_wire.specs.Outcomes as wire
 use Rattle.acct_desk.specs.Asks.{Ask, Asks, refused, me, overruns, credit}
-use Rattle.acct_desk.specs.Handling.{Handles, Mutes}
+use Rattle.acct_desk.specs.Handling.{Handles, Mutes, IsOfBalance}
+use Rattle.acct_desk.proofs.AskLemmas.{one_ask}
+use Rattle.acct_desk.specs.Responses.{unavailable_response}
 use Rattle.acct_site.specs.declared.config.Config.{Config}
 use Rattle.acct_service.specs.declared.event.What.TheVariants.{Datagram, Desk}
 use Rattle.acct_service.specs.Machine.{Answer, replied, dropped, mute, TakesStep}
@@ -54,6 +56,7 @@ module _ {B : Type 0} (b : Ghosts B) (config : Config) (old new : B) where
     answers = says;
     does = does;
     tells = λ sound history stood is. let (asked, reply, was) = says in absurd (cc (is, was));
+    steady = λ steady none. absurd none;
   }
   datagram_step source bytes array moment port (Drop reason) (effect, says, does) = record {
     effect = effect;
@@ -61,6 +64,7 @@ module _ {B : Type 0} (b : Ghosts B) (config : Config) (old new : B) where
     does = does;
     tells = λ sound history stood is. absurd (dropped_looks config.clients source bytes moment
         reason (subst (wire.AnswersDrop config.clients source bytes moment reason) is says));
+    steady = λ steady none. absurd none;
   }
 
   pub request_step : {E : Type 0} (bytes : List ℕ) (moment : ℕ) (ask : Ask)
@@ -72,10 +76,14 @@ module _ {B : Type 0} (b : Ghosts B) (config : Config) (old new : B) where
     answers = (ask, asks, h.answers);
     does = h.does;
     tells = λ sound history stood is. (ask, asks, h.tells sound history stood is);
+    steady = λ steady (other, wants, balance) is. h.steady steady
+        (subst IsOfBalance (one_ask config.keys bytes moment other ask wants asks) balance)
+        (let same : octets.items ≡ unavailable_response = cc (is) in same);
   }
   request_step bytes moment ask (Err error) asks h = record {
     effect = h.effect;
     answers = (ask, asks, h.answers);
     does = h.does;
     tells = λ sound history stood is. absurd (mute_looks ask (subst (Mutes ask) is h.answers));
+    steady = λ steady wants is. let clash : mute ≡ replied unavailable_response = is in cc;
   }

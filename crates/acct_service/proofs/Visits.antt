@@ -1,56 +1,56 @@
 -- A server's turns, one after another.
-use Rattle.std.proofs.Common.{◌≡◌, ◌+◌, ◌⊎◌, inl, inr, Bool, List, [], ◌∷◌, ◌++◌, refl, sym, ◌∙◌}
-use Rattle.std.proofs.Common.{ap, subst, arith, map, length-append, append_assoc, slice_index}
+use Rattle.std.proofs.Common.{◌≡◌, ◌≢◌, ◌⊎◌, ◌+◌, inl, inr, Bool, List, [], ◌∷◌, ◌++◌, refl, sym}
+use Rattle.std.proofs.Common.{◌∙◌, ap, subst, arith, map, length-append, append_assoc, slice_index}
 use Rattle.std.specs.Prelude.{count_by, cond, Option, Some, None, Contains}
-use Rattle.std.specs.List.{filter_map}
+use Rattle.std.specs.List.{flat_map}
 use Rattle.std.proofs.lemmas.List.{map-append, append-nil}
-use Rattle.std.proofs.lemmas.List.Elements.{filter_map-append, Contains-append_left}
-use Rattle.std.proofs.lemmas.List.Elements.{Contains-push}
+use Rattle.std.proofs.lemmas.List.Elements.{Contains-append_left, Contains-append_right}
+use Rattle.std.proofs.lemmas.List.Elements.{Contains-append_cases, Contains-push}
+use Rattle.std.proofs.lemmas.List.Elements.{Contains-push_cases}
 use Rattle.std.proofs.lemmas.List.Sums.{sum_by-append}
+use Rattle.std.proofs.lemmas.Grind.{flat_map-append}
+use Rattle.acct_model.specs.declared.plan.Plan.{Plan}
 use Rattle.acct_model.specs.declared.entry.Entry.{Entry}
 use Rattle.acct_book.specs.declared.book.Book.{Ghosts}
 use Rattle.acct_book.specs.Content.{Content}
-use Rattle.acct_book.specs.Effect.{Effect, after_effect, failed}
-use Rattle.acct_book.specs.Stands.{Stands}
-use Rattle.acct_book.specs.Step.{MayAdd, StoodFor}
+use Rattle.acct_book.specs.Effect.{after_effect, failed}
+use Rattle.acct_book.specs.Step.{StoodFor}
 use Rattle.acct_book.proofs.Crashes.{Leaves, left_by}
+use Rattle.acct_desk.specs.Responses.{unavailable_response}
 use Rattle.acct_wire.specs.declared.reason.Reason.{Reason}
 use Rattle.acct_site.specs.declared.config.Config.{Config}
 use Rattle.acct_service.specs.declared.event.Event.{Event}
-use Rattle.acct_service.specs.declared.exchange.Asked.{Asked}
+use Rattle.acct_service.specs.declared.exchange.Call.{Call}
 use Rattle.acct_service.specs.declared.server.Served.{Served}
-use Rattle.acct_service.specs.Machine.{Answer, Visit, Step, Run}
-use Rattle.acct_service.specs.Machine.{TakesStep}
-use Rattle.acct_service.specs.Told.{Told, Grows}
-use Rattle.acct_service.specs.Serving.{reply_of, is_replied, place_of, is_dropped_for, is_mute}
-use Rattle.acct_service.specs.Serving.{Counts}
-use Rattle.acct_service.specs.Serving.{HasFailed, MayLeave, Serves, Keeps, AtMost}
+use Rattle.acct_service.specs.Machine.{Answer, replied, Visit, Run, TakesStep, Answers}
+use Rattle.acct_service.specs.Machine.{AsksBalance}
+use Rattle.acct_service.specs.Told.{Grows}
+use Rattle.acct_service.specs.Serving.{calls_of, is_replied, place_of, is_dropped_for, is_mute}
+use Rattle.acct_service.specs.Serving.{Counts, CountsMore, HasFailed, MayLeave, Leads, Attends}
+use Rattle.acct_service.specs.Serving.{TakesTurn, Serves, Keeps, AtMost}
 
--- a run goes on by one step
-pub run_more : (config : Config) (history next after : List Entry) (visits : List Visit)
-    (visit : Visit) → Run config history visits next → Step config next visit after
-    → Run config history (visits ++ visit ∷ []) after
-run_more config history next after [] visit run step =
-    (after, subst (λ h. Step config h visit after) run step, refl)
-run_more config history next after (first ∷ visits) visit (mid, here, run) step =
-    (mid, here, run_more config mid next after visits visit run step)
+-- two runs are one
+run_join : (config : Config) (history mid after : List Entry) (visits more : List Visit)
+    → Run config history visits mid → Run config mid more after
+    → Run config history (visits ++ more) after
+run_join config history mid after [] more is run =
+    subst (λ h. Run config h more after) is run
+run_join config history mid after (visit ∷ visits) more (next, step, rest) run =
+    (next, step, run_join config next mid after visits more rest run)
 
 -- what is told grows twice
-pub grows_twice : (a b c : Option Told) (events later : List Event) (replies more : List Asked)
-    → Grows a events replies b → Grows b later more c
-    → Grows a (events ++ later) (replies ++ more) c
-grows_twice a b None events later replies more g h = tt
-grows_twice a None (Some c) events later replies more g h = absurd h
-grows_twice None (Some b) (Some c) events later replies more g h = absurd g
-grows_twice (Some a) (Some b) (Some c) events later replies more g h = (
-  h.0 ∙ ap (λ es. es ++ later) g.0 ∙ append_assoc a.events events later,
-  h.1 ∙ ap (λ rs. rs ++ more) g.1 ∙ append_assoc a.replies replies more,
-)
+pub grows_twice : (a b c : Option (List Call)) (calls later : List Call) → Grows a calls b
+    → Grows b later c → Grows a (calls ++ later) c
+grows_twice a b None calls later g h = tt
+grows_twice a None (Some c) calls later g h = absurd h
+grows_twice None (Some b) (Some c) calls later g h = absurd g
+grows_twice (Some a) (Some b) (Some c) calls later g h =
+    h ∙ ap (λ cs. cs ++ later) g ∙ append_assoc a calls later
 
 -- a turn may tell nothing more
-pub grows_none : (a : Option Told) → Grows a [] [] a
+pub grows_none : (a : Option (List Call)) → Grows a [] a
 grows_none None = tt
-grows_none (Some a) = (sym (append-nil a.events), sym (append-nil a.replies))
+grows_none (Some a) = sym (append-nil a)
 
 -- what is kept is kept from the first to the last
 pub keeps_then : {B : Type 0} (b : Ghosts B) (old mid new : B) → Keeps b old mid
@@ -61,50 +61,50 @@ keeps_then b old mid new first second = record {
   keeps_steady = λ steady. second.keeps_steady (first.keeps_steady steady);
 }
 
-count_by-more : {X : Type 0} (p : X → Bool) (xs : List X) (x : X)
-    → count_by p (xs ++ x ∷ []) ≡ count_by p xs + count_by p (x ∷ [])
-count_by-more p xs x = sum_by-append (λ y. cond (p y) 1 0) xs (x ∷ [])
+count_by-append : {X : Type 0} (p : X → Bool) (xs ys : List X)
+    → count_by p (xs ++ ys) ≡ count_by p xs + count_by p ys
+count_by-append p xs ys = sum_by-append (λ y. cond (p y) 1 0) xs ys
 
--- how the counts of one more visit differ
-pub record CountsOne (visit : Visit) (old new : Served) : Type 0 where
-  pub events : new.events ≡ old.events + 1
-  pub replies : new.replies ≡ old.replies + count_by is_replied (visit ∷ [])
-  pub dropped : (reason : Reason)
-      → slice_index new.dropped (place_of reason)
-      ≡ slice_index old.dropped (place_of reason) + count_by (is_dropped_for reason) (visit ∷ [])
-  pub mute : new.mute ≡ old.mute + count_by is_mute (visit ∷ [])
-
-counts_more : (visits : List Visit) (visit : Visit) (old new : Served) → Counts visits old
-    → CountsOne visit old new → Counts (visits ++ visit ∷ []) new
-counts_more visits visit old new counts one = record {
-  events = omega (arith, counts.events, one.events, length-append visits (visit ∷ []));
-  replies = omega (arith, counts.replies, one.replies, count_by-more is_replied visits visit);
+-- counts go on by those of more visits
+pub counts_join : (visits more : List Visit) (old new : Served) → Counts visits old
+    → CountsMore more old new → Counts (visits ++ more) new
+counts_join visits more old new counts one = record {
+  events = omega (arith, counts.events, one.events, length-append visits more);
+  replies = omega (arith, counts.replies, one.replies, count_by-append is_replied visits more);
   dropped =
       λ reason. omega (
         arith,
         counts.dropped reason,
         one.dropped reason,
-        count_by-more
-            (is_dropped_for reason) visits visit,
+        count_by-append (is_dropped_for reason) visits more,
       );
-  mute = omega (arith, counts.mute, one.mute, count_by-more is_mute visits visit);
+  mute = omega (arith, counts.mute, one.mute, count_by-append is_mute visits more);
 }
 
-more_failed : (visits : List Visit) (visit : Visit) (asked : Entry) → HasFailed visits asked
-    → HasFailed (visits ++ visit ∷ []) asked
-more_failed visits visit asked has =
+failed_before : (visits more : List Visit) (asked : Entry) → HasFailed visits asked
+    → HasFailed (visits ++ more) asked
+failed_before visits more asked has =
     subst (λ es. Contains es (failed asked))
-    (sym (map-append (λ (v : Visit). v.effect) visits (visit ∷ [])))
-    (Contains-append_left (map (λ (v : Visit). v.effect) visits) (visit.effect ∷ []) (failed asked)
-    has)
+    (sym (map-append (λ (v : Visit). v.effect) visits more))
+    (Contains-append_left (map (λ (v : Visit). v.effect) visits)
+    (map (λ (v : Visit). v.effect) more) (failed asked) has)
 
-this_failed : (visits : List Visit) (visit : Visit) (asked : Entry) → visit.effect ≡ failed asked
-    → HasFailed (visits ++ visit ∷ []) asked
-this_failed visits visit asked is =
+failed_after : (visits more : List Visit) (asked : Entry) → HasFailed more asked
+    → HasFailed (visits ++ more) asked
+failed_after visits more asked has =
     subst (λ es. Contains es (failed asked))
-    (sym (map-append (λ (v : Visit). v.effect) visits (visit ∷ [])))
-    (subst (λ e. Contains (map (λ (v : Visit). v.effect) visits ++ visit.effect ∷ []) e) is
-    (Contains-push (map (λ (v : Visit). v.effect) visits) visit.effect))
+    (sym (map-append (λ (v : Visit). v.effect) visits more))
+    (Contains-append_right (map (λ (v : Visit). v.effect) visits)
+    (map (λ (v : Visit). v.effect) more) (failed asked) has)
+
+may_leave : (plans : List Plan) (history : List Entry) (tried all : Entry → Type 0) (c : Content)
+    → ((asked : Entry) → tried asked → all asked) → MayLeave plans history tried c
+    → MayLeave plans history all c
+may_leave plans history tried all c each may =
+    elim may [
+      | inl stands ↦ inl stands
+      | inr (asked, was, adds) ↦ inr (asked, each asked was, adds)
+    ]
 
 -- what counts nothing is at most 0
 pub none_at_most : (served : Served) → Counts [] served → served.faults ≡ 0 → AtMost 0 served
@@ -116,118 +116,200 @@ none_at_most served counts none = record {
   faults = omega (arith, none);
 }
 
-module _ {B : Type 0} (b : Ghosts B) (config : Config) (history : List Entry) (start : B)
-    (told : Option Told) where
-  -- before the first turn
-  pub serves_first : (served : Served) → Counts [] served → Grows told [] [] told
-      → StoodFor b config.plans start history
-      → Serves b config history start start told told served
-  serves_first served counts grows stood = record {
-    visits = [];
-    after = history;
-    run = refl;
-    stands = stood;
-    leaves = λ only c may. inl (only c may);
+-- what holds of the visits of two lists
+of_both : (P : Visit → Type 0) (visits more : List Visit)
+    → ((visit : Visit) → Contains visits visit → P visit)
+    → ((visit : Visit) → Contains more visit → P visit)
+    → (visit : Visit) → Contains (visits ++ more) visit → P visit
+of_both P visits more one other visit at =
+    elim (Contains-append_cases visits more visit at) [
+      | inl before ↦ one visit before
+      | inr after ↦ other visit after
+    ]
+
+nowhere : (visit : Visit) → Contains [] visit → ⊥
+nowhere visit (place, within, is) = omega (arith, within)
+
+of_one : (P : Visit → Type 0) (only visit : Visit) → P only → Contains (only ∷ []) visit → P visit
+of_one P only visit holds at =
+    elim (Contains-push_cases [] only visit at) [
+      | inl none ↦ absurd (nowhere visit none)
+      | inr is ↦ subst P is holds
+    ]
+
+module _ {B : Type 0} (b : Ghosts B) (config : Config) where
+  -- no visit
+  pub attends_none : (book : B) (old_told new_told : Option (List Call))
+      → Grows old_told [] new_told → Attends b config [] book book old_told new_told
+  attends_none book old_told new_told grows = record {
+    answered = λ visit at. absurd (nowhere visit at);
+    leads = λ sound history stood. record {
+      after = history;
+      run = refl;
+      stands = stood;
+      leaves = λ c may. inr (refl, may);
+    };
+    keeps = record {
+      was_sound = λ sound. sound;
+      was_open = λ still. still;
+      keeps_steady = λ steady. steady;
+    };
+    steady = λ steady visit at. absurd (nowhere visit at);
     told = grows;
+  }
+
+  -- what a crash leaves after one visit
+  left_by_one : (old new : B) (history : List Entry) (visit : Visit)
+      → Leaves b config.plans old new history visit.effect → (c : Content) → b.left new c
+      → MayLeave config.plans (after_effect history visit.effect) (HasFailed (visit ∷ [])) c
+      ⊎ ((after_effect history visit.effect ≡ history) × b.left old c)
+  left_by_one old new history visit step c may = elim (step c may) [
+    | inl stands ↦ inl (inl stands)
+    | inr (same, inl was) ↦ inr (same, was)
+    | inr (same, inr (asked, is, adds)) ↦ inl (subst
+        (λ h. MayLeave config.plans h (HasFailed (visit ∷ [])) c) (sym same)
+        (inr (
+          asked,
+          subst (λ e. Contains (visit.effect ∷ []) e) is (Contains-push [] visit.effect),
+          adds,
+        )))
+  ]
+
+  -- one visit, whose event was answered so
+  pub attends_one : (old new : B) (old_told new_told : Option (List Call)) (event : Event)
+      (answer : Answer) (is_taken : Bool)
+      (t : TakesStep b config event.moment event.what old new answer)
+      → (let visit : Visit = record {
+        event = event;
+        answer = answer;
+        effect = t.effect;
+        is_taken = is_taken;
+      } in
+      Grows old_told (calls_of visit) new_told → Attends b config (visit ∷ []) old new old_told
+      new_told)
+  attends_one old new old_told new_told event answer is_taken t grows =
+      let visit : Visit =
+      record { event = event; answer = answer; effect = t.effect; is_taken = is_taken } in
+      record {
+        answered = λ v. of_one
+            (λ v. Answers config v.event.moment v.event.what v.answer v.effect) visit v t.answers;
+        leads = λ sound history stood. record {
+          after = after_effect history t.effect;
+          run = (
+            after_effect history t.effect,
+            record {
+              answers = t.answers;
+              holds = t.does.holds sound history stood;
+              tells = t.tells sound history stood;
+              leads = refl;
+            },
+            refl,
+          );
+          stands = t.does.stands sound history stood;
+          leaves = left_by_one old new history visit
+              (left_by b config.plans old new t.effect t.does sound history stood);
+        };
+        keeps = record {
+          was_sound = t.does.was_sound;
+          was_open = t.does.was_open;
+          keeps_steady = t.does.keeps_steady;
+        };
+        steady = λ steady v. of_one
+            (λ v. AsksBalance config v.event.moment v.event.what
+            → v.answer ≢ replied unavailable_response) visit v (t.steady steady);
+        told = subst (λ cs. Grows old_told cs new_told) (sym (append-nil (calls_of visit))) grows;
+      }
+
+  leads_join : (visits more : List Visit) (old mid new : B) (history : List Entry)
+      (first : Leads b config visits old mid history)
+      → Leads b config more mid new first.after
+      → Leads b config (visits ++ more) old new history
+  leads_join visits more old mid new history first second = record {
+    after = second.after;
+    run = run_join config history first.after second.after visits more first.run second.run;
+    stands = second.stands;
+    leaves = λ c may. elim (second.leaves c may) [
+      | inl left ↦ inl (may_leave config.plans second.after (HasFailed more)
+          (HasFailed (visits ++ more)) c (failed_after visits more) left)
+      | inr (same, was) ↦ elim (first.leaves c was) [
+        | inl left ↦ inl (subst
+            (λ h. MayLeave config.plans h (HasFailed (visits ++ more)) c) (sym same)
+            (may_leave config.plans first.after (HasFailed visits) (HasFailed (visits ++ more)) c
+            (failed_before visits more) left))
+        | inr (none, start) ↦ inr (same ∙ none, start)
+      ]
+    ];
+  }
+
+  -- the visits of two runs, one after the other, are those of one
+  pub attends_join : (visits more : List Visit) (old mid new : B)
+      (told later last : Option (List Call)) → Attends b config visits old mid told later
+      → Attends b config more mid new later last
+      → Attends b config (visits ++ more) old new told last
+  attends_join visits more old mid new told later last first second = record {
+    answered = of_both (λ v. Answers config v.event.moment v.event.what v.answer v.effect) visits
+        more first.answered second.answered;
+    leads = λ sound history stood.
+        let one = first.leads (second.keeps.was_sound sound) history stood in
+        leads_join visits more old mid new history one (second.leads sound one.after one.stands);
+    keeps = keeps_then b old mid new first.keeps second.keeps;
+    steady = λ steady. of_both
+        (λ v. AsksBalance config v.event.moment v.event.what
+        → v.answer ≢ replied unavailable_response) visits more (first.steady steady)
+        (second.steady (first.keeps.keeps_steady steady));
+    told =
+        subst (λ cs. Grows told cs last) (sym (flat_map-append calls_of visits more))
+        (grows_twice told later last (flat_map calls_of visits) (flat_map calls_of more) first.told
+        second.told);
+  }
+
+  -- before the first turn
+  pub serves_first : (book : B) (told : Option (List Call)) (served : Served) → Counts [] served
+      → Serves b config book book told told served
+  serves_first book told served counts = record {
+    visits = [];
+    attends = attends_none book told told (grows_none told);
     counts = counts;
   }
 
-  -- a turn in which nothing came
-  pub serves_none : (book : B) (now later : Option Told) (old new : Served)
-      → Serves b config history start book told now old
-      → Grows now [] [] later → new.events ≡ old.events → new.replies ≡ old.replies
-      → new.dropped ≡ old.dropped → new.mute ≡ old.mute
-      → Serves b config history start book told later new
-  serves_none book now later old new s grows events replies dropped mute = record {
-    visits = s.visits;
-    after = s.after;
-    run = s.run;
-    stands = s.stands;
-    leaves = s.leaves;
-    told =
-        let both =
-        grows_twice told now later (map (λ (v : Visit). v.event) s.visits) []
-        (filter_map reply_of s.visits) [] s.told grows in
-        subst (λ rs. Grows told (map (λ (v : Visit). v.event) s.visits) rs later)
-        (append-nil (filter_map reply_of s.visits))
-        (subst (λ es. Grows told es (filter_map reply_of s.visits ++ []) later)
-        (append-nil (map (λ (v : Visit). v.event) s.visits)) both);
-    counts = record {
-      events = events ∙ s.counts.events;
-      replies = replies ∙ s.counts.replies;
-      dropped =
-          λ reason. ap (λ xs. slice_index xs (place_of reason)) dropped ∙ s.counts.dropped reason;
-      mute = mute ∙ s.counts.mute;
-    };
+  -- after one more turn
+  pub serves_more : (old mid new : B) (told later last : Option (List Call)) (was is : Served)
+      → Serves b config old mid told later was → TakesTurn b config mid new later last was is
+      → Serves b config old new told last is
+  serves_more old mid new told later last was is s turn = record {
+    visits = s.visits ++ turn.visits;
+    attends = attends_join s.visits turn.visits old mid new told later last s.attends turn.attends;
+    counts = counts_join s.visits turn.visits was is s.counts turn.counts;
   }
 
-  leaves_more : (before : List Visit) (next : List Entry) (visit : Visit) (book new : B)
-      → (((c : Content) → b.left start c → Stands config.plans c history) → (c : Content)
-      → b.left book c → MayLeave config.plans next (HasFailed before) c)
-      → Leaves b config.plans book new next visit.effect
-      → ((c : Content) → b.left start c → Stands config.plans c history) → (c : Content)
-      → b.left new c
-      → MayLeave config.plans (after_effect next visit.effect) (HasFailed (before ++ visit ∷ [])) c
-  leaves_more before next visit book new so_far step only c may = elim (step c may) [
-    | inl stands ↦ inl stands
-    | inr (same, inl was) ↦
-        subst (λ h. MayLeave config.plans h (HasFailed (before ++ visit ∷ [])) c) (sym same)
-        (elim (so_far only c was) [
-          | inl stands ↦ inl stands
-          | inr (asked, failed_it, adds) ↦ inr (
-            asked,
-            more_failed before visit asked failed_it,
-            adds,
-          )
-        ])
-    | inr (same, inr (asked, is, adds)) ↦
-        subst (λ h. MayLeave config.plans h (HasFailed (before ++ visit ∷ [])) c) (sym same)
-        (inr (asked, this_failed before visit asked is, adds))
-  ]
+  -- a turn in which nothing came
+  pub turn_none : (book : B) (told later : Option (List Call)) (was is : Served)
+      → Grows told [] later → CountsMore [] was is → TakesTurn b config book book told later was is
+  turn_none book told later was is grows counts = record {
+    visits = [];
+    at_most_one = omega arith;
+    attends = attends_none book told later grows;
+    counts = counts;
+  }
 
   -- a turn in which an event came and was answered
-  pub serves_more : (book new : B) (now later : Option Told) (was is : Served) (event : Event)
-      (answer : Answer) (is_taken : Bool)
-      → Serves b config history start book told now was
-      → b.is_sound new
-      → TakesStep b config event.moment event.what book new answer
-      → ((effect : Effect)
-      → let visit : Visit = record {
+  pub turn_one : (old new : B) (told later : Option (List Call)) (was is : Served)
+      (event : Event) (answer : Answer) (is_taken : Bool)
+      (t : TakesStep b config event.moment event.what old new answer)
+      → (let visit : Visit = record {
         event = event;
         answer = answer;
-        effect = effect;
-        is_taken =
-            is_taken;
+        effect = t.effect;
+        is_taken = is_taken;
       } in
-      Grows now (event ∷ []) (filter_map reply_of (visit ∷ [])) later × CountsOne visit was is)
-      → Serves b config history start new told later is
-  serves_more book new now later was is event answer is_taken s sound t shows =
-      let effect = t.effect in
+      Grows told (calls_of visit) later × CountsMore (visit ∷ []) was is)
+      → TakesTurn b config old new told later was is
+  turn_one old new told later was is event answer is_taken t (grows, counts) =
       let visit : Visit =
-      record { event = event; answer = answer; effect = effect; is_taken = is_taken } in
-      let here : Step config s.after visit (after_effect s.after effect) = record {
-        answers = t.answers;
-        holds = t.does.holds sound s.after s.stands;
-        tells = t.tells sound s.after s.stands;
-        leads = refl;
-      } in
+      record { event = event; answer = answer; effect = t.effect; is_taken = is_taken } in
       record {
-        visits = s.visits ++ visit ∷ [];
-        after = after_effect s.after effect;
-        run = run_more config history s.after (after_effect s.after effect) s.visits visit s.run
-            here;
-        stands = t.does.stands sound s.after s.stands;
-        leaves = leaves_more s.visits s.after visit book new s.leaves
-            (left_by b config.plans book new effect t.does sound s.after s.stands);
-        told =
-            let both =
-            grows_twice told now later (map (λ (v : Visit). v.event) s.visits) (event ∷ [])
-            (filter_map reply_of s.visits) (filter_map reply_of (visit ∷ [])) s.told
-            (shows effect).0 in
-            subst (λ rs. Grows told (map (λ (v : Visit). v.event) (s.visits ++ visit ∷ [])) rs
-            later) (sym (filter_map-append reply_of s.visits (visit ∷ [])))
-            (subst (λ es. Grows told es (filter_map reply_of s.visits ++ filter_map reply_of
-            (visit ∷ [])) later)
-            (sym (map-append (λ (v : Visit). v.event) s.visits (visit ∷ []))) both);
-        counts = counts_more s.visits visit was is s.counts (shows effect).1;
+        visits = visit ∷ [];
+        at_most_one = omega arith;
+        attends = attends_one old new told later event answer is_taken t grows;
+        counts = counts;
       }

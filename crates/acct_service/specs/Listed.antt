@@ -1,10 +1,8 @@
 -- What an exchange over a list tells.
 use Rattle.std.specs.Prelude.{Bool, true, false, List, Option, Some, None}
-use Rattle.acct_service.specs.declared.event.Event.{Event}
-use Rattle.acct_service.specs.declared.exchange.Asked.{Asked}
-use Rattle.acct_service.specs.Told.{Told}
+use Rattle.acct_service.specs.declared.exchange.Call.{Call}
 
--- both lists, or neither
-abbrev pub told_of : Bool → List Event → List Asked → Option Told
-told_of true events replies = Some (record { events = events; replies = replies })
-told_of false events replies = None
+-- all its calls, or none
+abbrev pub told_of : Bool → List Call → Option (List Call)
+told_of true calls = Some calls
+told_of false calls = None

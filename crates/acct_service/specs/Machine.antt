@@ -1,6 +1,6 @@
 -- The machine: what an event may be answered, and what becomes of the history. A history is the
 -- list of accepted entries, the newest first; lists of events and visits have the oldest first.
-use Rattle.std.specs.Prelude.{◌≡◌, ℕ, Bool, List, [], ◌∷◌}
+use Rattle.std.specs.Prelude.{◌≡◌, ◌≢◌, ℕ, Bool, List, [], ◌∷◌}
 use Rattle.acct_model.specs.declared.entry.Entry.{Entry}
 use Rattle.acct_book.specs.declared.book.Book.{Ghosts}
 use Rattle.acct_book.specs.Effect.{Effect, looked, after_effect, Holds}
@@ -8,7 +8,8 @@ use Rattle.acct_book.specs.Step.{StoodFor, Does}
 use Rattle.acct_wire.specs.declared.reason.Reason.{Reason}
 use Rattle.acct_wire.specs.Outcomes.{AnswersReply, AnswersDrop}
 use Rattle.acct_desk.specs.Asks.{Ask, Asks}
-use Rattle.acct_desk.specs.Handling.{AnswersAsk, Mutes, IsTold}
+use Rattle.acct_desk.specs.Responses.{unavailable_response}
+use Rattle.acct_desk.specs.Handling.{AnswersAsk, Mutes, IsTold, IsOfBalance}
 use Rattle.acct_site.specs.declared.config.Config.{Config}
 use Rattle.acct_service.specs.declared.event.What.{What}
 use Rattle.acct_service.specs.declared.event.What.TheVariants.{Datagram, Desk}
@@ -55,6 +56,12 @@ Answers config moment (Datagram source port bytes) answer effect =
     AnswersDatagram config source bytes moment answer effect
 Answers config moment (Desk bytes) answer effect = AnswersRequest config bytes moment answer effect
 
+-- a request at the desk for the balance of the account whose key it bears
+abbrev pub AsksBalance : Config → ℕ → What → Type 0
+AsksBalance config moment (Datagram source port bytes) = ⊥
+AsksBalance config moment (Desk bytes) =
+    (ask : Ask) × Asks config.keys bytes moment ask × IsOfBalance ask
+
 -- the response with what the desk is asked to tell, over this history
 abbrev pub IsPage : Config → List Entry → ℕ → What → Answer → Type 0
 IsPage config history moment (Desk bytes) (replied octets) =
@@ -97,3 +104,6 @@ pub record TakesStep {B : Type 0} (b : Ghosts B) (config : Config) (moment : ℕ
   pub does : Does b config.plans old new effect
   pub tells : b.is_sound new → (history : List Entry) → StoodFor b config.plans old history
       → effect ≡ looked → IsPage config history moment what answer
+  -- over a steady book nobody is told that his balance is unavailable
+  pub steady : b.is_steady old → AsksBalance config moment what
+      → answer ≢ replied unavailable_response

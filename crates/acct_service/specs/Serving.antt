@@ -1,8 +1,8 @@
 -- What a server does in its turns: a run of the machine, over a book, told by the exchange, and
 -- counted.
-use Rattle.std.specs.Prelude.{◌≡◌, ◌⊎◌, ◌≤◌, ℕ, Bool, true, false, ◌==◌, List, Option, Some, None}
-use Rattle.std.specs.Prelude.{map, length, count_by, slice_index, Contains}
-use Rattle.std.specs.List.{filter_map}
+use Rattle.std.specs.Prelude.{◌≡◌, ◌≢◌, ◌⊎◌, ◌+◌, ◌≤◌, ℕ, Bool, true, false, ◌==◌, List, [], ◌∷◌}
+use Rattle.std.specs.Prelude.{Option, map, length, count_by, slice_index, Contains}
+use Rattle.std.specs.List.{flat_map}
 use Rattle.acct_model.specs.declared.plan.Plan.{Plan}
 use Rattle.acct_model.specs.declared.entry.Entry.{Entry}
 use Rattle.acct_book.specs.declared.book.Book.{Ghosts}
@@ -12,23 +12,28 @@ use Rattle.acct_book.specs.Stands.{Stands}
 use Rattle.acct_book.specs.Step.{MayAdd, StoodFor}
 use Rattle.acct_wire.specs.declared.reason.Reason.{Reason}
 use Rattle.acct_wire.specs.declared.reason.Reason.TheVariants as why
+use Rattle.acct_desk.specs.Responses.{unavailable_response}
 use Rattle.acct_site.specs.declared.config.Config.{Config}
 use Rattle.acct_service.specs.declared.event.Event.{Event}
-use Rattle.acct_service.specs.declared.exchange.Asked.{Asked}
+use Rattle.acct_service.specs.declared.exchange.Call.{Call}
+use Rattle.acct_service.specs.declared.exchange.Call.TheVariants as call
 use Rattle.acct_service.specs.declared.server.Served.{Served}
-use Rattle.acct_service.specs.Machine.{Answer, replied, dropped, mute, Visit, Run}
-use Rattle.acct_service.specs.Told.{Told, Grows, asked}
+use Rattle.acct_service.specs.Machine.{Answer, replied, dropped, mute, Answers, AsksBalance}
+use Rattle.acct_service.specs.Machine.{Visit, Run}
+use Rattle.acct_service.specs.Told.{Grows, asked}
 
--- ---- replies
+-- ---- calls
 
-abbrev pub reply_to : Event → Answer → Bool → Option Asked
-reply_to event (replied octets) is_taken = Some (asked event octets is_taken)
-reply_to event (dropped reason) is_taken = None
-reply_to event mute is_taken = None
+-- the call that asks for a reply to an event, if its answer is one
+abbrev pub reply_to : Event → Answer → Bool → List Call
+reply_to event (replied octets) is_taken = call.Asked (asked event octets is_taken) ∷ []
+reply_to event (dropped reason) is_taken = []
+reply_to event mute is_taken = []
 
--- the reply that a visit asks the exchange for: the octets of its answer, to its own event
-abbrev pub reply_of : Visit → Option Asked
-reply_of visit = reply_to visit.event visit.answer visit.is_taken
+-- The calls of a visit: the exchange gave its event, and was asked to reply to it at once with the
+-- octets of its answer, before any other event came.
+abbrev pub calls_of : Visit → List Call
+calls_of visit = call.Gave visit.event ∷ reply_to visit.event visit.answer visit.is_taken
 
 -- ---- counts
 
@@ -83,6 +88,15 @@ pub record Counts (visits : List Visit) (served : Served) : Type 0 where
       → slice_index served.dropped (place_of reason) ≡ count_by (is_dropped_for reason) visits
   pub mute : served.mute ≡ count_by is_mute visits
 
+-- the counts rose by those of these visits
+pub record CountsMore (visits : List Visit) (old new : Served) : Type 0 where
+  pub events : new.events ≡ old.events + length visits
+  pub replies : new.replies ≡ old.replies + count_by is_replied visits
+  pub dropped : (reason : Reason)
+      → slice_index new.dropped (place_of reason)
+      ≡ slice_index old.dropped (place_of reason) + count_by (is_dropped_for reason) visits
+  pub mute : new.mute ≡ old.mute + count_by is_mute visits
+
 -- no count is above n
 pub record AtMost (n : ℕ) (served : Served) : Type 0 where
   pub events : served.events ≤ n
@@ -111,21 +125,49 @@ pub record Keeps {B : Type 0} (b : Ghosts B) (old new : B) : Type 0 where
 
 -- ---- the headline
 
--- From a history to the one after it: there is a list of visits, each an event with its answer, and
--- it is a run of the machine.
-pub record Serves {B : Type 0} (b : Ghosts B) (config : Config) (history : List Entry)
-    (old new : B) (old_told new_told : Option Told) (served : Served) : Type 0 where
-  pub visits : List Visit
+-- What the visits made of a history, over a book whose content stood for it.
+pub record Leads {B : Type 0} (b : Ghosts B) (config : Config) (visits : List Visit) (old new : B)
+    (history : List Entry) : Type 0 where
   pub after : List Entry
+  -- they are a run of the machine, from this history to the one after it
   pub run : Run config history visits after
   -- the book's content stands for the history after the run, while it tells one
   pub stands : StoodFor b config.plans new after
-  -- Where a crash before the run could leave only what stood for the history, a crash now leaves
-  -- only what stands for the one after the run, or for that with the entry of a visit whose call
-  -- failed: what was answered stays.
-  pub leaves : ((c : Content) → b.left old c → Stands config.plans c history) → (c : Content)
-      → b.left new c → MayLeave config.plans after (HasFailed visits) c
-  -- the exchange gave these events, and was asked for these replies and no others
-  pub told : Grows old_told (map (λ visit. visit.event) visits) (filter_map reply_of visits)
-      new_told
+  -- What a crash leaves now stands for the history after the run, or for that with the entry of a
+  -- visit whose call failed: what was answered stays. While nothing was accepted it may also be
+  -- what a crash could leave before.
+  pub leaves : (c : Content) → b.left new c
+      → MayLeave config.plans after (HasFailed visits) c ⊎ ((after ≡ history) × b.left old c)
+
+-- What these visits are of a server's turns over a book.
+pub record Attends {B : Type 0} (b : Ghosts B) (config : Config) (visits : List Visit) (old new : B)
+    (old_told new_told : Option (List Call)) : Type 0 where
+  -- each event is answered as the machine may answer it, whatever the book held
+  pub answered : (visit : Visit) → Contains visits visit
+      → Answers config visit.event.moment visit.event.what visit.answer visit.effect
+  -- from each history for which the content stood
+  pub leads : b.is_sound new → (history : List Entry) → StoodFor b config.plans old history
+      → Leads b config visits old new history
+  pub keeps : Keeps b old new
+  -- over a steady book nobody is told that his balance is unavailable
+  pub steady : b.is_steady old → (visit : Visit) → Contains visits visit
+      → AsksBalance config visit.event.moment visit.event.what
+      → visit.answer ≢ replied unavailable_response
+  -- the exchange gave these events, and was asked for these replies and no others, each of them
+  -- between its own event and the next
+  pub told : Grows old_told (flat_map calls_of visits) new_told
+
+-- a turn: one visit, or none where nothing came
+pub record TakesTurn {B : Type 0} (b : Ghosts B) (config : Config) (old new : B)
+    (old_told new_told : Option (List Call)) (old_served new_served : Served) : Type 0 where
+  pub visits : List Visit
+  pub at_most_one : length visits ≤ 1
+  pub attends : Attends b config visits old new old_told new_told
+  pub counts : CountsMore visits old_served new_served
+
+-- turns, as many as there were
+pub record Serves {B : Type 0} (b : Ghosts B) (config : Config) (old new : B)
+    (old_told new_told : Option (List Call)) (served : Served) : Type 0 where
+  pub visits : List Visit
+  pub attends : Attends b config visits old new old_told new_told
   pub counts : Counts visits served

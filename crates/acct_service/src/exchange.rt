@@ -1,6 +1,7 @@
 //! Where events come from and replies go.
-ghost use Rattle.std.specs.Prelude.{◌≡◌, ℕ, ◌+◌, ◌-◌, ◌^◌, ◌<◌, Option, []};
-ghost use Rattle.acct_service.specs.Told.{Told, Grows, given, GrowsByReply, CountsFault};
+ghost use Rattle.std.specs.Prelude.{◌≡◌, ℕ, ◌+◌, ◌-◌, ◌^◌, ◌<◌, Option, List};
+ghost use Rattle.acct_service.specs.declared.exchange.Call.{Call};
+ghost use Rattle.acct_service.specs.Told.{Grows, given, sent, CountsFault};
 
 use crate::event::Event;
 use acct_model::Octets;
@@ -22,10 +23,19 @@ pub struct Asked {
     pub is_taken: bool,
 }
 
+/// A call of an exchange that had to do with an event.
+#[derive(Drop)]
+pub enum Call {
+    /// It gave this event.
+    Gave(Event),
+    /// It was asked to send this reply.
+    Asked(Asked),
+}
+
 /// A source of events that takes replies to them.
 ///
-/// It counts its turns and its faults, and may tell the lists of the events that it gave and of the
-/// replies that it was asked for.
+/// It counts its turns and its faults, and may tell the list of its calls: which events it gave and
+/// which replies it was asked for, in the order in which that was.
 pub trait Exchange {
     /// How many turns it made.
     ghost turn_count: { Self → ℕ };
@@ -33,8 +43,9 @@ pub trait Exchange {
     /// How many of its calls failed.
     ghost failure_count: { Self → ℕ };
 
-    /// The events that it gave and the replies that it was asked for, if it tells them.
-    ghost told: { Self → Option Told };
+    /// The events that it gave and the replies that it was asked for, the oldest first, if it
+    /// tells them.
+    ghost told: { Self → Option (List Call) };
 
     /// One turn: the event that came, or None where nothing came.
     ///
@@ -46,7 +57,7 @@ pub trait Exchange {
         requires failures { failure_count self.old < 2 ^ 64 - 1 }
         ensures turns { turn_count self.new ≡ turn_count self.old + 1 }
         ensures failures { CountsFault result (failure_count self.old) (failure_count self.new) }
-        ensures told { Grows (told self.old) (given result) [] (told self.new) };
+        ensures told { Grows (told self.old) (given result) (told self.new) };
 
     /// Sends octets to where an event came from.
     ///
@@ -57,7 +68,7 @@ pub trait Exchange {
         requires failures { failure_count self.old < 2 ^ 64 - 1 }
         ensures turns { turn_count self.new ≡ turn_count self.old }
         ensures failures { CountsFault result (failure_count self.old) (failure_count self.new) }
-        ensures told { GrowsByReply (told self.old) event.now bytes.now result (told self.new) };
+        ensures told { Grows (told self.old) (sent event.now bytes.now result) (told self.new) };
 
     /// How many turns it made.
     fn turns(&self) -> u64

@@ -13,13 +13,14 @@
 
 mod event;
 mod exchange;
+pub mod laws;
 pub mod lists;
 mod outbox;
 mod server;
 mod stepping;
 
 pub use event::{Event, What};
-pub use exchange::{Asked, Exchange, Fault};
+pub use exchange::{Asked, Call, Exchange, Fault};
 pub use outbox::Outbox;
-pub use server::{Served, serve};
+pub use server::{Served, serve, take_turn};
 pub use stepping::{Turn, step};

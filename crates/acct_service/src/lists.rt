@@ -1,10 +1,12 @@
 //! An exchange over a list of turns, for tests and tools.
-ghost use Rattle.std.specs.Prelude.{◌≡◌, ◌++◌, ◌∷◌, [], OnOk, IfOk, Some};
+ghost use Rattle.std.specs.Prelude.{◌≡◌, ◌++◌, ◌∷◌, [], OnOk, Some};
+ghost use Rattle.acct_service.specs.declared.exchange.Call.TheVariants.{Gave};
+ghost use Rattle.acct_service.specs.declared.exchange.Call.TheVariants as call;
 ghost use Rattle.acct_service.specs.Told.{asked};
 ghost use Rattle.acct_service.specs.Listed.{told_of};
 
 use crate::event::Event;
-use crate::exchange::{Asked, Exchange, Fault};
+use crate::exchange::{Asked, Call, Exchange, Fault};
 use acct_model::Octets;
 use std::alloc::{AllocError, Global};
 use std::mem;
@@ -26,8 +28,8 @@ pub enum Planned {
 }
 
 /// An exchange that brings the turns of a list, and nothing after the last of them. It tells the
-/// events that it gave and the replies that it was asked for. A growth that is refused in it is a
-/// fault, and from then on it tells neither.
+/// events that it gave and the replies that it was asked for, in their order. A growth that is
+/// refused in it is a fault, and from then on it tells nothing.
 #[derive(Drop)]
 pub struct ListExchange {
     alloc: Global,
@@ -37,20 +39,18 @@ pub struct ListExchange {
     turns: u64,
     failures: u64,
     tells: bool,
-    events: Vec<Event>,
-    replies: Vec<Asked>,
+    calls: Vec<Call>,
 }
 
 impl ListExchange {
     ghost use Rattle.std.specs.Prelude.{List, Option};
-    ghost use Rattle.acct_service.specs.Told.{Told};
+    ghost use Rattle.acct_service.specs.declared.exchange.Call.{Call};
 
     /// An exchange that brings these turns in their order, of which it made none.
     pub fn new(alloc: Global, planned: Vec<Planned>) -> ListExchange
         ensures turns { ⟦<ListExchange as Exchange>⟧.turn_count result ≡ 0 }
         ensures failures { ⟦<ListExchange as Exchange>⟧.failure_count result ≡ 0 }
-        ensures told { ⟦<ListExchange as Exchange>⟧.told result
-            ≡ Some (record { events = []; replies = [] }) }
+        ensures told { ⟦<ListExchange as Exchange>⟧.told result ≡ Some [] }
     {
         ListExchange {
             alloc,
@@ -60,53 +60,46 @@ impl ListExchange {
             turns: 0,
             failures: 0,
             tells: true,
-            events: Vec::new(alloc),
-            replies: Vec::new(alloc),
+            calls: Vec::new(alloc),
         }
     }
 
-    /// The events that it gave, in their order, as far as it tells them.
-    pub fn events(&self) -> &[Event]
-        ensures { result.now ≡ self.now.events.items }
+    /// The events that it gave and the replies that it was asked for, the oldest first, as far as
+    /// it tells them.
+    pub fn calls(&self) -> &[Call]
+        ensures { result.now ≡ self.now.calls.items }
     {
-        &self.events
-    }
-
-    /// The replies that it was asked for, in their order, as far as it tells them.
-    pub fn replies(&self) -> &[Asked]
-        ensures { result.now ≡ self.now.replies.items }
-    {
-        &self.replies
+        &self.calls
     }
 }
 
 // Keeps a copy of an event that is given.
-fn keep_event(alloc: Global, events: &mut Vec<Event>, event: &Event) -> Result<(), AllocError>
-    ensures { OnOk result (events.new.items ≡ events.old.items ++ event.now ∷ []) }
+fn keep_event(alloc: Global, calls: &mut Vec<Call>, event: &Event) -> Result<(), AllocError>
+    ensures { OnOk result (calls.new.items ≡ calls.old.items ++ Gave event.now ∷ []) }
 {
     let event = event.copy(alloc)?;
-    events.push(event)?;
+    calls.push(Call::Gave(event))?;
     Ok(())
 }
 
 // Keeps a reply that was asked for.
 fn keep_reply(
     alloc: Global,
-    replies: &mut Vec<Asked>,
+    calls: &mut Vec<Call>,
     event: &Event,
     bytes: &[u8],
     is_taken: bool,
 ) -> Result<(), AllocError>
-    ensures { OnOk result
-        (replies.new.items ≡ replies.old.items ++ asked event.now bytes.now is_taken ∷ []) }
+    ensures { OnOk result (calls.new.items
+        ≡ calls.old.items ++ call.Asked (asked event.now bytes.now is_taken) ∷ []) }
 {
     let event = event.copy(alloc)?;
     let bytes = Octets::from_slice(alloc, bytes)?;
-    replies.push(Asked {
+    calls.push(Call::Asked(Asked {
         event,
         bytes,
         is_taken,
-    })?;
+    }))?;
     Ok(())
 }
 
@@ -115,7 +108,7 @@ impl Exchange for ListExchange {
 
     ghost failure_count = { λ e. e.failures };
 
-    ghost told = { λ e. told_of e.tells e.events.items e.replies.items };
+    ghost told = { λ e. told_of e.tells e.calls.items };
 
     fn next(&mut self) -> Result<Option<Event>, Fault> {
         self.turns += 1;
@@ -132,7 +125,7 @@ impl Exchange for ListExchange {
             }
             Planned::Comes { event, takes_reply } => {
                 self.takes_reply = takes_reply;
-                if keep_event(self.alloc, &mut self.events, &event).is_err() {
+                if keep_event(self.alloc, &mut self.calls, &event).is_err() {
                     self.tells = false;
                     self.failures += 1;
                     return Err(Fault);
@@ -143,13 +136,7 @@ impl Exchange for ListExchange {
     }
 
     fn reply(&mut self, event: &Event, bytes: &[u8]) -> Result<(), Fault> {
-        let kept = keep_reply(
-            self.alloc,
-            &mut self.replies,
-            event,
-            bytes,
-            self.takes_reply,
-        );
+        let kept = keep_reply(self.alloc, &mut self.calls, event, bytes, self.takes_reply);
         if kept.is_err() {
             self.tells = false;
         }

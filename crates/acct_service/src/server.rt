@@ -1,11 +1,8 @@
 //! The turns of a server.
-ghost use Rattle.std.specs.Prelude.{◌≡◌, ℕ, ◌+◌, ◌-◌, ◌^◌, ◌<◌, ◌≤◌, ◌==◌, List, Option};
+ghost use Rattle.std.specs.Prelude.{◌≡◌, ℕ, ◌+◌, ◌-◌, ◌^◌, ◌<◌, ◌≤◌, ◌==◌};
 ghost use Rattle.std.specs.Prelude.{if◌then◌else◌, [], slice_index};
-ghost use Rattle.acct_model.specs.declared.entry.Entry.{Entry};
-ghost use Rattle.acct_book.specs.Step.{StoodFor};
 ghost use Rattle.acct_wire.specs.declared.reason.Reason.{Reason};
-ghost use Rattle.acct_service.specs.Told.{Told};
-ghost use Rattle.acct_service.specs.Serving.{Serves, Keeps, Counts, AtMost, place_of};
+ghost use Rattle.acct_service.specs.Serving.{Serves, TakesTurn, Counts, AtMost, place_of};
 
 use crate::exchange::Exchange;
 use crate::outbox::Outbox;
@@ -39,8 +36,8 @@ fn place(reason: Reason) -> usize
 }
 
 impl Served {
-    // Nothing yet.
-    fn none() -> Served
+    /// Nothing yet.
+    pub fn none() -> Served
         ensures counts { Counts [] result }
         ensures faults { result.faults ≡ 0 }
     {
@@ -66,9 +63,17 @@ impl Served {
     }
 }
 
-// One turn: what comes is answered and counted. It carries what was served so far, from whatever
-// history and book that began, on by one turn.
-fn take_turn<B: Book, X: Exchange>(
+/// Makes one turn: one `next`, and at most one `step` and one `reply`. What comes is answered and
+/// counted. A fault is counted too, and an entry that was recorded stays recorded when its reply
+/// fails.
+///
+/// Turns join (`laws::turns_join`), so all that `serve` says of its end holds after each of its
+/// turns, where a kill may fall: what a crash then leaves has every entry that was answered. A kill
+/// within a turn leaves what a kill before it could leave, or the history before the turn with the
+/// turn's own entry (`acct_book::Book`, `acct_book::record`).
+///
+/// It costs what `answer` or `handle` costs.
+pub fn take_turn<B: Book, X: Exchange>(
     alloc: Global,
     config: &Config,
     book: &mut B,
@@ -83,13 +88,8 @@ fn take_turn<B: Book, X: Exchange>(
     ensures faults { X.failure_count exchange.new + served.old.faults
         ≡ X.failure_count exchange.old + served.new.faults }
     ensures room { (n : ℕ) → AtMost n served.old → AtMost (n + 1) served.new }
-    ensures keeps { Keeps B.Book book.old book.new }
-    ensures serves { (start : B) → (told : Option Told) → (history : List Entry)
-        → B.is_sound book.new
-        → Serves B.Book config.now history start book.old told
-        (X.told exchange.old) served.old
-        → Serves B.Book config.now history start book.new told
-        (X.told exchange.new) served.new }
+    ensures turn { TakesTurn B.Book config.now book.old book.new (X.told exchange.old)
+        (X.told exchange.new) served.old served.new }
 {
     match exchange.next() {
         Err(_) => served.faults += 1,
@@ -108,18 +108,15 @@ fn take_turn<B: Book, X: Exchange>(
     }
 }
 
-/// Makes exactly `limit` turns, each one `next` and at most one `step` and one `reply`. A fault is
-/// counted and the next turn follows; an entry that was recorded stays recorded when its reply
-/// fails.
+/// Makes exactly `limit` turns, as `take_turn` makes one.
 ///
-/// Over any book whose content stands for a history, and any exchange: there are events with
-/// answers that are a run of the machine from that history to another, for which the content then
-/// stands. So every account's balance is the sum of its distinct vouchers less the price of each of
-/// its sessions' greatest accepted total, whatever is lost, repeated or reordered, and every reply
-/// is the one that the entries accepted before it determine. These events are those that the
-/// exchange gave, and the replies that it was asked for are theirs, each for its own event and none
-/// left out, where it tells them. What a crash may leave at the end has every entry that was
-/// answered.
+/// Over any book and any exchange there are visits, events with answers, which the exchange gave
+/// and was asked for where it tells its calls: each reply for its own event, before another came,
+/// and none left out. From each history for which the book's content stood they are a run of the
+/// machine to another, for which the content then stands. So every account's balance is the sum of
+/// its distinct vouchers less the price of each of its sessions' greatest accepted total, whatever
+/// is lost, repeated or reordered, and every reply is the one that the entries accepted before it
+/// determine. What a crash may leave at the end has every entry that was answered.
 ///
 /// The buffers are made once. A turn costs what `answer` or `handle` costs.
 pub fn serve<B: Book, X: Exchange>(
@@ -137,12 +134,12 @@ pub fn serve<B: Book, X: Exchange>(
     ensures faults { X.failure_count exchange.new
         ≡ X.failure_count exchange.old + result.faults }
 
-    // Of the book, and of both together: a run from any history for which the content stood.
-    ensures keeps { Keeps B.Book book.old book.new }
-    ensures serves { B.is_sound book.new → (history : List Entry)
-        → StoodFor B.Book config.now.plans book.old history
-        → Serves B.Book config.now history book.old book.new
-        (X.told exchange.old) (X.told exchange.new) result }
+    // Of the counts: none is above the turns.
+    ensures within { AtMost limit result }
+
+    // Of the book, of the exchange, and of both together.
+    ensures serves { Serves B.Book config.now book.old book.new (X.told exchange.old)
+        (X.told exchange.new) result }
 {
     let mut out = Outbox::new();
     let mut served = Served::none();

@@ -13,7 +13,7 @@ use std::alloc::Global;
 pub enum Turn {
     /// The octets in the outbox are to be sent.
     Reply,
-    /// The datagram was dropped, and nothing has changed.
+    /// The datagram was dropped, and nothing has changed, in a book that goes on answering.
     Dropped(Reason),
     /// There was no memory for a response of the desk. Nothing was recorded.
     Mute,

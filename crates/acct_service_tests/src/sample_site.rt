@@ -3,7 +3,7 @@ use acct_book::Book;
 use acct_model::Octets;
 use acct_samples::sample_config;
 use acct_service::lists::{ListExchange, Planned};
-use acct_service::{Event, Exchange, Served, What, serve};
+use acct_service::{Asked, Call, Event, Exchange, Served, What, serve};
 use acct_site::Config;
 use radius_codec::sign_request;
 use std::alloc::Global;
@@ -100,13 +100,13 @@ impl<B: Book + Drop> Site<B> {
 }
 
 fn ran_of(served: Served, exchange: &ListExchange, wants: &[Answer]) -> Ran {
-    let replies = exchange.replies().len();
+    let replies = replies_in(exchange);
     Ran {
         served,
         counts: (
             exchange.turns(),
             exchange.failures(),
-            exchange.events().len(),
+            exchange.calls().len().saturating_sub(replies),
             replies,
         ),
         right: right_replies(exchange, wants),
@@ -115,17 +115,33 @@ fn ran_of(served: Served, exchange: &ListExchange, wants: &[Answer]) -> Ran {
     }
 }
 
+// How many replies it was asked for.
+fn replies_in(exchange: &ListExchange) -> usize {
+    exchange
+        .calls()
+        .iter()
+        .filter(|call| matches!(call, Call::Asked(_)))
+        .count()
+}
+
 // How many replies are as they are to be, before one is not.
 fn right_replies(exchange: &ListExchange, wants: &[Answer]) -> usize {
-    let replies = exchange.replies();
-    for i in 0..wants.len().min(replies.len()) {
-        let bytes = replies[i].bytes.as_slice();
-        let (front, end, is_taken) = wants[i];
-        if !bytes.starts_with(front) || !bytes.ends_with(end) || replies[i].is_taken != is_taken {
-            return i;
+    let mut right: usize = 0;
+    for call in exchange.calls() {
+        if let Call::Asked(reply) = call {
+            match wants.get(right) {
+                Some(want) if is_wanted(reply, *want) => right = right.saturating_add(1),
+                _ => return right,
+            }
         }
     }
-    wants.len().min(replies.len())
+    right
+}
+
+fn is_wanted(reply: &Asked, want: Answer) -> bool {
+    let bytes = reply.bytes.as_slice();
+    let (front, end, is_taken) = want;
+    bytes.starts_with(front) && bytes.ends_with(end) && reply.is_taken == is_taken
 }
 
 // What the accounts come to by the replies that were asked for: a voucher was credited where its
@@ -134,8 +150,8 @@ fn told_balances(exchange: &ListExchange) -> (i64, i64) {
     let mut credit: i64 = 0;
     let mut charge = 0;
     let mut of_bo = 0;
-    for reply in exchange.replies() {
-        match reply.bytes.as_slice() {
+    for call in exchange.calls() {
+        match octets_of(call) {
             [5, 8, ..] => charge = -20,
             [5, 9, ..] => charge = if charge == -20 { -20 } else { -10 },
             [5, 10, ..] => of_bo = -20,
@@ -146,12 +162,20 @@ fn told_balances(exchange: &ListExchange) -> (i64, i64) {
     (credit.saturating_add(charge), of_bo)
 }
 
+// The octets that a call was asked to send, none where it gave an event.
+fn octets_of(call: &Call) -> &[u8] {
+    match call {
+        Call::Asked(reply) => reply.bytes.as_slice(),
+        Call::Gave(_) => &[],
+    }
+}
+
 // How many of these turns the book refused.
 fn refusals(served: &Served, exchange: &ListExchange) -> u64 {
     let refused = exchange
-        .replies()
+        .calls()
         .iter()
-        .filter(|reply| reply.bytes.as_slice().starts_with(b"HTTP/1.1 503 "))
+        .filter(|call| octets_of(call).starts_with(b"HTTP/1.1 503 "))
         .count();
     served.dropped[12].saturating_add(refused as u64)
 }

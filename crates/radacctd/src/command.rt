@@ -1,50 +1,121 @@
 //! The commands of the program.
 //!
 //! A command takes its configuration, then its book, then its sockets, and then standard input. The
-//! first fault ends it. A command that kept a book closes it at its end. Each opens its file as
-//! `Wary`, which supposes nothing of what a write leaves that a crash tore: a commit syncs twice.
-ghost use Rattle.std.specs.Prelude.{◌≢◌, ◌≡◌, ◌<◌, ◌^◌, IfOk};
+//! first fault ends it. `init`, `serve` and `import` close the book at their end; `export` only
+//! reads it, and leaves its files as they are.
+ghost use Rattle.std.specs.Prelude.{◌≢◌, ◌≡◌, ◌<◌, ◌^◌, ◌++◌, ◌∷◌, [], IfOk, IfErr, OnOk, codes};
+ghost use Rattle.std.specs.Io.KnownBytes.{Appends};
 ghost use Rattle.sqlite_wal.specs.Files.{image_at};
 ghost use Rattle.acct_command_line.specs.CommandLine.{HasTurns};
-ghost use Rattle.radacctd.specs.Serving.{ServesFile};
+ghost use Rattle.radacctd.specs.Commands.{Closes, Fails, Worked, WritesOut, FailsToExport};
+ghost use Rattle.radacctd.specs.Files.{Copies, IsUnclosed};
+ghost use Rattle.acct_commands.specs.Serving.{RunsServer};
+ghost use Rattle.acct_commands.specs.Imports.{Runs};
 
 use crate::database::{FileBook, adopted, close, made};
 use crate::feed::run_feed;
+use crate::left::Left;
 use acct_book::Book;
 use acct_command_line::{Export, Job, Listening, Paths};
-use acct_commands::{Fault, end, read_config, run_check, run_export, run_import, run_serve};
+use acct_commands::{Fault, read_config, run_check, run_export, run_import, run_serve};
 use acct_feed::Status;
 use acct_model::Text;
 use acct_samples::sample_config;
-use acct_sockets::moment_of;
+use acct_service::Exchange;
+use acct_site::Config;
+use acct_sockets::{Sockets, moment_of};
 use acct_sql::SqlBook;
-use sqlite::{FileFrom, FileStore, Start, Wary};
+use sqlite::{Connection, FileFrom, FileStore, Files, Start};
+use sqlite_disk::Disk;
+use std::io;
 use std::io::{Read, Write};
 
-/// Does a job over these streams, and says how it ended. What ended it early is told to `faults`.
-pub fn run<I: Read + Drop, W: Write + Drop, E: Write>(
+/// How a command ended, with its output where that was not lost, and what it left of its files.
+pub struct Outcome<W, D: Disk> {
+    /// Its status, or the fault that ended it.
+    pub ended: Result<Status, Fault>,
+    /// Its output.
+    pub output: Option<W>,
+    /// What it left of the book's files.
+    pub left: Left<D>,
+}
+
+// The end of a command that closes its book, or what a fault left.
+type Ending<S> = Result<(Status, Files<FileFrom<S>>), (Fault, Left<FileFrom<S>>)>;
+
+/// Does a job over these streams, and says how it ended. The book's files held what `S` says.
+pub fn run<S: Start, I: Read + Drop, W: Write + Drop>(
     runtime: &HostRuntime,
     job: &Job,
     input: I,
     mut output: W,
-    faults: &mut E,
-) -> Status
+    start: S,
+) -> Outcome<W, FileFrom<S>>
     requires { HasTurns job.now }
-    ensures { result ≢ Status.WrongWords }
+    ensures other { IfOk result.ended (λ status. status ≢ Status.WrongWords) }
 {
-    let ended = match job {
-        Job::Feed { config } => feed(runtime, config.as_ref(), input, output),
-        Job::Check { config } => run_check(runtime, runtime.alloc(), config, &mut output),
-        Job::Init { paths } => init(runtime, paths, &mut output),
+    match job {
+        Job::Feed { config } => {
+            let ended = feed(runtime, config.as_ref(), input, &mut output);
+            without_book(ended, output)
+        }
+        Job::Check { config } => {
+            let ended = run_check(runtime, runtime.alloc(), config, &mut output);
+            without_book(ended, output)
+        }
+        Job::Init { paths } => {
+            let ending = init(runtime, paths, &mut output, start);
+            with_book(ending, output)
+        }
         Job::Serve {
             paths,
             listening,
             turns,
-        } => serve(runtime, paths, listening, *turns, &mut output),
-        Job::Import { paths } => import(runtime, paths, input, &mut output),
-        Job::Export { paths, what } => export(runtime, paths, *what, output),
-    };
-    end(faults, ended)
+        } => {
+            let ending = serve(runtime, paths, listening, *turns, &mut output, start);
+            with_book(ending, output)
+        }
+        Job::Import { paths } => {
+            let ending = import(runtime, paths, input, &mut output, start);
+            with_book(ending, output)
+        }
+        Job::Export { paths, what } => export(runtime, paths, *what, output, start),
+    }
+}
+
+// The outcome of a command that has no book.
+fn without_book<W, D: Disk>(ended: Result<Status, Fault>, output: W) -> Outcome<W, D>
+    requires { IfOk ended (λ status. status ≢ Status.WrongWords) }
+    ensures same { result.ended ≡ ended }
+    ensures other { IfOk result.ended (λ status. status ≢ Status.WrongWords) }
+{
+    Outcome {
+        ended,
+        output: Some(output),
+        left: Left::Nothing,
+    }
+}
+
+// The outcome of a command that closes its book.
+fn with_book<W, D: Disk>(
+    ending: Result<(Status, Files<D>), (Fault, Left<D>)>,
+    output: W,
+) -> Outcome<W, D>
+    requires { IfOk ending (λ done. done.0 ≢ Status.WrongWords) }
+    ensures { IfOk result.ended (λ status. status ≢ Status.WrongWords) }
+{
+    match ending {
+        Ok((status, files)) => Outcome {
+            ended: Ok(status),
+            output: Some(output),
+            left: Left::Closed(files),
+        },
+        Err((fault, left)) => Outcome {
+            ended: Err(fault),
+            output: Some(output),
+            left,
+        },
+    }
 }
 
 // `feed` with the configuration of a file, or that of the sample site.
@@ -52,7 +123,7 @@ fn feed<I: Read + Drop, W: Write + Drop>(
     runtime: &HostRuntime,
     file: Option<&Text>,
     input: I,
-    mut output: W,
+    output: &mut W,
 ) -> Result<Status, Fault>
     ensures { IfOk result (λ status. status ≢ Status.WrongWords) }
 {
@@ -68,89 +139,211 @@ fn feed<I: Read + Drop, W: Write + Drop>(
             }
         },
     };
-    Ok(run_feed(alloc, config, input, &mut output))
+    Ok(run_feed(alloc, config, input, output))
+}
+
+// Closes the book of a command that ends so.
+fn finished<S: Start>(book: FileBook<S>, status: Status) -> Ending<S>
+    ensures closed { IfOk result (λ done. (done.0 ≡ status) × Copies book done.1) }
+    ensures failed { IfErr result (λ e. IsUnclosed book e.0 e.1) }
+{
+    match close(book) {
+        Ok(files) => Ok((status, files)),
+        Err(failed) => Err(failed),
+    }
+}
+
+// The configuration of a command that keeps a book, before any file of the book is opened.
+fn config_of<D: Disk>(runtime: &HostRuntime, paths: &Paths) -> Result<Config, (Fault, Left<D>)>
+    ensures { IfErr result (λ e. e.1 ≡ Left.Nothing) }
+{
+    match read_config(runtime, runtime.alloc(), &paths.config) {
+        Ok(config) => Ok(config),
+        Err(fault) => Err((fault, Left::Nothing)),
+    }
 }
 
 // `init`: an empty book.
-fn init<W: Write>(runtime: &HostRuntime, paths: &Paths, output: &mut W) -> Result<Status, Fault>
-    ensures { IfOk result (λ status. status ≡ Status.Done) }
+fn init<S: Start, W: Write>(
+    runtime: &HostRuntime,
+    paths: &Paths,
+    output: &mut W,
+    start: S,
+) -> Ending<S>
+    ensures { IfOk result (λ done. done.0 ≢ Status.WrongWords) }
 {
-    let config = read_config(runtime, runtime.alloc(), &paths.config)?;
-    let book = made(runtime, &paths.database, &config.plans, Wary)?;
-    close(book)?;
+    let config = config_of(runtime, paths)?;
+    let book = made(runtime, &paths.database, &config.plans, start)?;
+    let files = close(book)?;
+    match write_made(output) {
+        Ok(()) => Ok((Status::Done, files)),
+        Err(_) => Err((Fault::CannotWrite, Left::Closed(files))),
+    }
+}
+
+// Says that a book was made.
+fn write_made<W: Write>(output: &mut W) -> io::Result<()>
+    ensures { OnOk result (Appends (W.contents output.old) (W.contents output.new)
+        (codes "book made" ++ 10 ∷ [])) }
+{
     writeln!(output, "book made")?;
-    output.flush()?;
-    Ok(Status::Done)
+    output.flush()
 }
 
 // `serve` over the book of a file.
-fn serve<W: Write>(
-    runtime: &HostRuntime,
-    paths: &Paths,
-    listening: &Listening,
-    turns: u64,
-    output: &mut W,
-) -> Result<Status, Fault>
-    requires { turns < 2 ^ 63 }
-    ensures { IfOk result (λ status. status ≡ Status.Done) }
-{
-    let book = served(runtime, paths, listening, turns, output, Wary)?;
-    close(book)?;
-    Ok(Status::Done)
-}
-
-// The book of a file that held what `S` says, after a run of `serve` over it.
-fn served<S: Start, W: Write>(
+fn serve<S: Start, W: Write>(
     runtime: &HostRuntime,
     paths: &Paths,
     listening: &Listening,
     turns: u64,
     output: &mut W,
     start: S,
-) -> Result<FileBook<S>, Fault>
+) -> Ending<S>
     requires { turns < 2 ^ 63 }
-    ensures { IfOk result (λ book. ServesFile ⟦<SqlBook<FileStore<FileFrom<S>>> as Book>⟧
-        (image_at S.Start) book
-        (W.contents output.old) (W.contents output.new)) }
+    ensures { IfOk result (λ done. done.0 ≢ Status.WrongWords) }
 {
-    let alloc = runtime.alloc();
-    let config = read_config(runtime, alloc, &paths.config)?;
-    let mut book = adopted(runtime, &paths.database, &config.plans, start)?;
-    run_serve(runtime, alloc, &config, &mut book, listening, turns, output)?;
-    Ok(book)
+    let config = config_of(runtime, paths)?;
+    served(
+        runtime,
+        &config,
+        &paths.database,
+        listening,
+        turns,
+        output,
+        start,
+    )
 }
 
-// `import` into the book of a file.
-fn import<I: Read + Drop, W: Write>(
+// The same with this configuration.
+fn served<S: Start, W: Write>(
+    runtime: &HostRuntime,
+    config: &Config,
+    file: &Text,
+    listening: &Listening,
+    turns: u64,
+    output: &mut W,
+    start: S,
+) -> Ending<S>
+    requires { turns < 2 ^ 63 }
+    ensures done { IfOk result (λ done. done.0 ≡ Status.Done) }
+    ensures closed { IfOk result (λ done. Closes (image_at S.Start) config.now.plans
+        (RunsServer ⟦<SqlBook<FileStore<FileFrom<S>>> as Book>⟧
+        ⟦<Sockets<'static, HostRuntime> as Exchange>⟧ config.now turns (W.contents output.old)
+        (W.contents output.new)) done.0 done.1) }
+    ensures failed { IfErr result (λ e. Fails (image_at S.Start) config.now.plans
+        (RunsServer ⟦<SqlBook<FileStore<FileFrom<S>>> as Book>⟧
+        ⟦<Sockets<'static, HostRuntime> as Exchange>⟧ config.now turns (W.contents output.old)
+        (W.contents output.new)) e.0 e.1) }
+{
+    let mut book = adopted(runtime, file, &config.plans, start)?;
+    let alloc = runtime.alloc();
+    match run_serve(runtime, alloc, config, &mut book, listening, turns, output) {
+        Ok(status) => finished(book, status),
+        Err(fault) => Err((fault, Left::Open(book.into_connection()))),
+    }
+}
+
+// `import` into the book of a file, at the clock's moment.
+fn import<S: Start, I: Read + Drop, W: Write>(
     runtime: &HostRuntime,
     paths: &Paths,
     input: I,
     output: &mut W,
-) -> Result<Status, Fault>
-    ensures { IfOk result (λ status. status ≢ Status.WrongWords) }
+    start: S,
+) -> Ending<S>
+    ensures { IfOk result (λ done. done.0 ≢ Status.WrongWords) }
 {
-    let alloc = runtime.alloc();
-    let config = read_config(runtime, alloc, &paths.config)?;
-    let mut book = adopted(runtime, &paths.database, &config.plans, Wary)?;
+    let config = config_of(runtime, paths)?;
     let moment = moment_of(runtime);
-    let status = run_import(alloc, &config.plans, &mut book, moment, input, output)?;
-    close(book)?;
-    Ok(status)
+    imported(
+        runtime,
+        &config,
+        &paths.database,
+        moment,
+        input,
+        output,
+        start,
+    )
+}
+
+// The same with this configuration, at this moment.
+fn imported<S: Start, I: Read + Drop, W: Write>(
+    runtime: &HostRuntime,
+    config: &Config,
+    file: &Text,
+    moment: u64,
+    input: I,
+    output: &mut W,
+    start: S,
+) -> Ending<S>
+    requires { moment < 2 ^ 53 }
+    ensures other { IfOk result (λ done. done.0 ≢ Status.WrongWords) }
+    ensures closed { IfOk result (λ done. Closes (image_at S.Start) config.now.plans
+        (λ ended first last. Runs ⟦<SqlBook<FileStore<FileFrom<S>>> as Book>⟧
+        config.now.plans moment
+        (I.remaining input) first last (W.contents output.old) (W.contents output.new) ended)
+        done.0 done.1) }
+    ensures failed { IfErr result (λ e. Fails (image_at S.Start) config.now.plans
+        (λ ended first last. Runs ⟦<SqlBook<FileStore<FileFrom<S>>> as Book>⟧
+        config.now.plans moment
+        (I.remaining input) first last (W.contents output.old) (W.contents output.new) ended)
+        e.0 e.1) }
+{
+    let mut book = adopted(runtime, file, &config.plans, start)?;
+    let alloc = runtime.alloc();
+    match run_import(alloc, &config.plans, &mut book, moment, input, output) {
+        Ok(status) => finished(book, status),
+        Err(fault) => Err((fault, Left::Open(book.into_connection()))),
+    }
 }
 
 // `export` of the book of a file.
-fn export<W: Write + Drop>(
+fn export<S: Start, W: Write + Drop>(
     runtime: &HostRuntime,
     paths: &Paths,
     what: Export,
     output: W,
-) -> Result<Status, Fault>
-    ensures { IfOk result (λ status. status ≡ Status.Done) }
+    start: S,
+) -> Outcome<W, FileFrom<S>>
+    ensures { IfOk result.ended (λ status. status ≢ Status.WrongWords) }
 {
+    let config = match read_config(runtime, runtime.alloc(), &paths.config) {
+        Ok(config) => config,
+        Err(fault) => return without_book(Err(fault), output),
+    };
+    match exported(runtime, &config, &paths.database, what, output, start) {
+        Ok((output, connection)) => Outcome {
+            ended: Ok(Status::Done),
+            output: Some(output),
+            left: Left::Open(connection),
+        },
+        Err((fault, left)) => Outcome {
+            ended: Err(fault),
+            output: None,
+            left,
+        },
+    }
+}
+
+// The same with this configuration. The files stay as they are: an export needs no close.
+fn exported<S: Start, W: Write + Drop>(
+    runtime: &HostRuntime,
+    config: &Config,
+    file: &Text,
+    what: Export,
+    output: W,
+    start: S,
+) -> Result<(W, Connection<FileStore<FileFrom<S>>>), (Fault, Left<FileFrom<S>>)>
+    ensures exported { IfOk result (λ done. Worked (image_at S.Start) config.now.plans
+        (WritesOut ⟦<SqlBook<FileStore<FileFrom<S>>> as Book>⟧ config.now.plans what
+        (W.contents output) (W.contents done.0)) done.1) }
+    ensures failed { IfErr result (λ e. FailsToExport
+        ⟦<SqlBook<FileStore<FileFrom<S>>> as Book>⟧ (image_at S.Start) config.now.plans e.0 e.1) }
+{
+    let mut book = adopted(runtime, file, &config.plans, start)?;
     let alloc = runtime.alloc();
-    let config = read_config(runtime, alloc, &paths.config)?;
-    let mut book = adopted(runtime, &paths.database, &config.plans, Wary)?;
-    run_export(alloc, what, &config.plans, &mut book, output)?;
-    close(book)?;
-    Ok(Status::Done)
+    match run_export(alloc, what, &config.plans, &mut book, output) {
+        Ok(writer) => Ok((writer, book.into_connection())),
+        Err(fault) => Err((fault, Left::Open(book.into_connection()))),
+    }
 }

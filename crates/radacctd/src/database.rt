@@ -1,20 +1,23 @@
 //! The book in a file.
-ghost use Rattle.std.specs.Prelude.{◌≡◌, IfOk};
-ghost use Rattle.sqlite_trees.specs.Tree.{Trees};
+//!
+//! What the files held is a parameter of each call, `S: Start`, which no code can read. An error
+//! hands back what it left of them.
+ghost use Rattle.std.specs.Prelude.{◌≡◌, false, IfOk, IfErr};
 ghost use Rattle.sqlite_wal.specs.Files.{image_at};
+ghost use Rattle.sqlite_wal.specs.Recovery.{Image};
 ghost use Rattle.sqlite.specs.State.{HasCleanDisk};
-ghost use Rattle.sqlite.specs.Held.{IsNew};
-ghost use Rattle.sqlite.specs.Start.{FindsIn};
-ghost use Rattle.sqlite.specs.Files.{file_state, IsOpened, HoldsDatabase};
-ghost use Rattle.acct_book.specs.Content.{empty_content};
-ghost use Rattle.acct_sql.specs.Content.{content_of};
+ghost use Rattle.sqlite.specs.Files.{file_state};
 ghost use Rattle.radacctd.specs.Faults.{store_fault_of};
+ghost use Rattle.radacctd.specs.Files.{IsBookOf, IsMadeIn, IsRefused, HasNotMade, IsUnread};
+ghost use Rattle.radacctd.specs.Files.{IsOpenedOn, Copies, IsUnclosed};
 
-use acct_book::Book;
+use crate::left::Left;
 use acct_commands::{Fault, StoreFault};
 use acct_model::{Plans, Text};
 use acct_sql::{SqlBook, SqlBookError};
-use sqlite::{Connection, FileFrom, FileStore, Start};
+use sqlite::{Connection, FileFrom, FileStore, Files, Start};
+use sqlite_disk::Disk;
+use std::alloc::Global;
 use std::fs::File;
 
 /// A book in a file that held what `S` says.
@@ -24,77 +27,116 @@ pub type FileBook<S> = SqlBook<FileStore<FileFrom<S>>>;
 ///
 /// # Errors
 ///
-/// `CannotOpen` where the file cannot be opened, else that of `SqlBook::create`.
+/// `CannotOpen` where the file cannot be opened, else that of `SqlBook::create`, with what is left
+/// of the files. They hold what they held, but for a crash, which may leave the new book.
 pub fn made<S: Start>(
     runtime: &HostRuntime,
     file: &Text,
     plans: &Plans,
     start: S,
-) -> Result<FileBook<S>, Fault>
-    ensures { IfOk result (λ book. ⟦<SqlBook<FileStore<FileFrom<S>>> as Book>⟧.is_sound book
-        → ⟦<SqlBook<FileStore<FileFrom<S>>> as Book>⟧.is_open book
-        × (⟦<SqlBook<FileStore<FileFrom<S>>> as Book>⟧.content book ≡ empty_content)) }
+) -> Result<FileBook<S>, (Fault, Left<FileFrom<S>>)>
+    ensures made { IfOk result (λ book. HasCleanDisk (file_state book)
+        → IsMadeIn (image_at S.Start) plans.now book) }
+    ensures refused { IfErr result (λ e. HasNotMade (image_at S.Start) plans.now e.0 e.1) }
 {
     let connection = opened(runtime, file, start)?;
-    match SqlBook::create(runtime.alloc(), connection, plans) {
-        Ok(book) => Ok(book),
-        Err((error, _)) => Err(Fault::Store(store_fault(error))),
-    }
+    created(runtime.alloc(), connection, plans)
 }
 
 /// The book in a file that is there: it tells what the tables in the file held.
 ///
 /// # Errors
 ///
-/// `CannotOpen` where the file isn't there or cannot be opened, else that of `SqlBook::adopt`.
+/// `CannotOpen` where the file isn't there or cannot be opened, else that of `SqlBook::adopt`, with
+/// what is left of the files, which hold what they held.
 pub fn adopted<S: Start>(
     runtime: &HostRuntime,
     file: &Text,
     plans: &Plans,
     start: S,
-) -> Result<FileBook<S>, Fault>
-    ensures open { IfOk result (λ book. ⟦<SqlBook<FileStore<FileFrom<S>>> as Book>⟧.is_sound book
-        → ⟦<SqlBook<FileStore<FileFrom<S>>> as Book>⟧.is_open book) }
-    ensures kept { IfOk result (λ book. ⟦<SqlBook<FileStore<FileFrom<S>>> as Book>⟧.is_sound book
-        → (db : Trees) → HoldsDatabase (image_at S.Start) db
-        → ⟦<SqlBook<FileStore<FileFrom<S>>> as Book>⟧.content book ≡ content_of db) }
+) -> Result<FileBook<S>, (Fault, Left<FileFrom<S>>)>
+    ensures adopted { IfOk result (λ book. HasCleanDisk (file_state book)
+        → IsBookOf (image_at S.Start) plans.now book) }
+    ensures refused { IfErr result (λ e. IsRefused (image_at S.Start) plans.now e.0 e.1) }
 {
     // An open makes a file that isn't there, and a slip in a name is to make none.
     if File::open(runtime, file.as_str()).is_err() {
-        return Err(Fault::CannotOpen);
+        return Err((Fault::CannotOpen, Left::Nothing));
     }
     let connection = opened(runtime, file, start)?;
-    match SqlBook::adopt(runtime.alloc(), connection, plans) {
-        Ok(book) => Ok(book),
-        Err((error, _)) => Err(Fault::Store(store_fault(error))),
-    }
+    taken(runtime.alloc(), connection, plans)
 }
 
-/// Closes a book: what its log holds is copied into its file.
+/// Closes a book: what its log holds is copied into its file. It hands back the two files, which
+/// then hold the last commit, the file of the book alone too.
 ///
 /// # Errors
 ///
 /// `Unavailable` where that fails. File and log together still hold all that was accepted.
-pub fn close<S: Start>(book: FileBook<S>) -> Result<(), Fault> {
-    match book.into_connection().close() {
-        Ok(()) => Ok(()),
-        Err(_) => Err(Fault::Store(StoreFault::Unavailable)),
+pub fn close<S: Start>(book: FileBook<S>) -> Result<Files<FileFrom<S>>, (Fault, Left<FileFrom<S>>)>
+    ensures copied { IfOk result (λ files. Copies book files) }
+    ensures kept { IfErr result (λ e. IsUnclosed book e.0 e.1) }
+{
+    match book.into_connection().close_files() {
+        Ok(files) => Ok(files),
+        Err((_, rest)) => { Err((Fault::Store(StoreFault::Unavailable), Left::Unclosed(rest))) }
     }
 }
 
+// A new book in a database, which was opened over files that held an image.
+fn created<D: Disk + Drop>(
+    alloc: Global,
+    connection: Connection<FileStore<D>>,
+    plans: &Plans,
+) -> Result<SqlBook<FileStore<D>>, (Fault, Left<D>)>
+    requires { (file_state connection).in_transaction ≡ false }
+    ensures made { (image : Image) → IsOpenedOn image connection
+        → IfOk result (λ book. HasCleanDisk (file_state book) → IsMadeIn image plans.now book) }
+    ensures refused { (image : Image) → IsOpenedOn image connection
+        → IfErr result (λ e. HasNotMade image plans.now e.0 e.1) }
+{
+    match SqlBook::create(alloc, connection, plans) {
+        Ok(book) => Ok(book),
+        Err((error, connection)) => {
+            Err((Fault::Store(store_fault(error)), Left::Open(connection)))
+        }
+    }
+}
+
+// The book that a database is, which was opened over files that held an image.
+fn taken<D: Disk + Drop>(
+    alloc: Global,
+    connection: Connection<FileStore<D>>,
+    plans: &Plans,
+) -> Result<SqlBook<FileStore<D>>, (Fault, Left<D>)>
+    requires { (file_state connection).in_transaction ≡ false }
+    ensures adopted { (image : Image) → IsOpenedOn image connection
+        → IfOk result (λ book. HasCleanDisk (file_state book) → IsBookOf image plans.now book) }
+    ensures refused { (image : Image) → IsOpenedOn image connection
+        → IfErr result (λ e. IsRefused image plans.now e.0 e.1) }
+{
+    match SqlBook::adopt(alloc, connection, plans) {
+        Ok(book) => Ok(book),
+        Err((error, connection)) => {
+            Err((Fault::Store(store_fault(error)), Left::Open(connection)))
+        }
+    }
+}
+
+// The database in a file, as it was found.
 fn opened<S: Start>(
     runtime: &HostRuntime,
     file: &Text,
     start: S,
-) -> Result<Connection<FileStore<FileFrom<S>>>, Fault>
-    ensures opened { IfOk result (λ c. HasCleanDisk (file_state c) → IsOpened c) }
-    ensures found { IfOk result (λ c. HasCleanDisk (file_state c)
-        → FindsIn (image_at S.Start) (file_state c)) }
-    ensures fresh { IfOk result IsNew }
+) -> Result<Connection<FileStore<FileFrom<S>>>, (Fault, Left<FileFrom<S>>)>
+    ensures found { IfOk result (IsOpenedOn (image_at S.Start)) }
+    ensures idle { IfOk result (λ c. (file_state c).in_transaction ≡ false) }
+    ensures unread { IfErr result (λ e. IsUnread (image_at S.Start) e.0 e.1) }
 {
     match Connection::open_from(runtime, file.as_str(), false, start) {
         Ok(connection) => Ok(connection),
-        Err(_) => Err(Fault::CannotOpen),
+        Err((_, Some(rest))) => Err((Fault::CannotOpen, Left::Unopened(rest))),
+        Err((_, None)) => Err((Fault::CannotOpen, Left::Nothing)),
     }
 }
 

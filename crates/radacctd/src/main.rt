@@ -10,10 +10,13 @@ ghost use Rattle.acct_command_line.specs.CommandLine.{HasTurns};
 mod command;
 mod database;
 mod feed;
+mod left;
 
-use crate::command::run;
+use crate::command::{Outcome, run};
 use acct_command_line::{Job, job_of, tell};
+use acct_commands::end;
 use acct_feed::Status;
+use sqlite::Wary;
 use std::io::BufWriter;
 use std::process::ExitCode;
 use std::{env, io};
@@ -46,7 +49,14 @@ fn run_on_standard_streams(rt: &HostRuntime, job: &Job) -> Status
     requires { HasTurns job.now }
 {
     match BufWriter::new(rt.alloc(), rt.stdout()) {
-        Ok(output) => run(rt, job, rt.stdin(), output, &mut rt.stderr()),
+        Ok(output) => {
+            let Outcome {
+                ended,
+                output: _output,
+                left: _left,
+            } = run(rt, job, rt.stdin(), output, Wary);
+            end(&mut rt.stderr(), ended)
+        }
         Err(_) => {
             let _ = println!(rt; "unavailable");
             Status::Unavailable

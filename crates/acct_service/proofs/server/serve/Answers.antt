@@ -1,5 +1,5 @@
 use Rattle.std.proofs.Common.{arith}
-use Rattle.acct_service.proofs.Visits.{grows_none, none_at_most, keeps_then, serves_first}
+use Rattle.acct_service.proofs.Visits.{none_at_most, serves_first, serves_more}
 use Rattle.acct_service.proofs.server.serve.Goals as goal
 
 pub loop-turn-init : goal.loop-turn-init
@@ -11,14 +11,9 @@ loop-turn-init g c =
       turns = omega arith;
       faults = omega (arith, none.faults);
       room = none_at_most c.none-served.result none.counts none.faults;
-      keeps = record {
-        was_sound = λ sound. sound;
-        was_open = λ still. still;
-        keeps_steady = λ steady. steady;
-      };
-      serves = λ sound history stood. serves_first b
-          c.args.config.now history c.args.book.now (x.told c.args.exchange.now)
-          c.none-served.result none.counts (grows_none (x.told c.args.exchange.now)) stood;
+      serves = serves_first b
+          c.args.config.now c.args.book.now (x.told c.args.exchange.now)
+          c.none-served.result none.counts;
     }
 
 pub loop-turn-preserved : goal.loop-turn-preserved
@@ -31,8 +26,8 @@ loop-turn-preserved g c =
       turns = omega (arith, before.turns, turn.turns);
       faults = omega (arith, before.faults, turn.faults);
       room = turn.room c.loop-turn.turn before.room;
-      keeps = keeps_then b c.args.book.now c.loop-turn.book
-          c.take_turn.new.book before.keeps turn.keeps;
-      serves = λ sound history stood. turn.serves c.args.book.now (x.told c.args.exchange.now)
-          history sound (before.serves (turn.keeps.was_sound sound) history stood);
+      serves = serves_more b c.args.config.now c.args.book.now c.loop-turn.book
+          c.take_turn.new.book (x.told c.args.exchange.now) (x.told c.loop-turn.exchange)
+          (x.told c.take_turn.new.exchange) c.loop-turn.served c.take_turn.new.served before.serves
+          turn.turn;
     }

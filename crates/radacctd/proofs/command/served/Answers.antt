@@ -1,13 +1,29 @@
-use Rattle.std.proofs.Common.{sym, subst}
-use Rattle.acct_book.specs.Stands.{Stands}
+use Rattle.std.proofs.Common.{◌≡◌, ◌≢◌}
+use Rattle.acct_feed.specs.declared.status.Status.TheVariants as Status
+use Rattle.radacctd.proofs.Ended.{closes_if, fails_if, failed_at_work, status_if}
 use Rattle.radacctd.proofs.command.served.Goals as goal
 
-pub returns : goal.returns
-returns g c = record {
-  config = c.in_ok-config.config;
+pub returns-in-Ok-clause-done : goal.returns-in-Ok-clause-done
+returns-in-Ok-clause-done g c = status_if (λ status. status ≡ Status.Done) _ c.in-Ok.status
+    c.in-Ok.ensures.done _ c.finished.ensures.closed
+
+pub returns-in-Ok-clause-closed : goal.returns-in-Ok-clause-closed
+returns-in-Ok-clause-closed g c = closes_if _ _ _ _ c.in-Ok.status (record {
   first = c.in_ok-book.book;
-  opened = λ sound. (c.in_ok-book.ensures.«open» sound, c.in_ok-book.ensures.kept sound);
-  serves = λ sound db history holds stands. c.in_ok-run_serve.ensures.serves sound history (λ told.
-      subst (λ content. Stands c.in_ok-config.config.plans content history)
-      (sym (c.in_ok-book.ensures.kept told.0.0 db holds)) stands);
-}
+  adopted = c.in_ok-book.ensures.adopted;
+  did = c.in-Ok.ensures.serves;
+}) _ c.finished.ensures.closed
+
+pub returns-in-Ok-clause-failed : goal.returns-in-Ok-clause-failed
+returns-in-Ok-clause-failed g c = fails_if _ _ _ _ c.in-Ok.status (record {
+  first = c.in_ok-book.book;
+  adopted = c.in_ok-book.ensures.adopted;
+  did = c.in-Ok.ensures.serves;
+}) _ c.finished.ensures.failed
+
+pub returns-in-Err-clause-failed : goal.returns-in-Err-clause-failed
+returns-in-Err-clause-failed g c = failed_at_work _ _ _ _ _ (rw c.into_connection.ensures (record {
+  first = c.in_ok-book.book;
+  adopted = c.in_ok-book.ensures.adopted;
+  did = c.in-Err.ensures.serves;
+}))

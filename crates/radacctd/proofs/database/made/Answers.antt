@@ -1,9 +1,7 @@
 use Rattle.radacctd.proofs.database.made.Goals as goal
 
-pub create-requires : goal.create-requires
-create-requires g c = c.in_ok-connection.ensures.fresh.autocommit
+pub returns-clause-made : goal.returns-clause-made
+returns-clause-made g c = c.created.ensures.made _ c.in_ok-connection.ensures.found
 
-pub returns-in-Ok : goal.returns-in-Ok
-returns-in-Ok g c sound =
-    let made = c.in-Ok.ensures.made sound in
-    (made.0, made.1.content)
+pub returns-clause-refused : goal.returns-clause-refused
+returns-clause-refused g c = c.created.ensures.refused _ c.in_ok-connection.ensures.found

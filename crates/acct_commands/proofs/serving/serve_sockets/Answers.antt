@@ -1,0 +1,8 @@
+use Rattle.acct_commands.proofs.serving.serve_sockets.Goals as goal
+
+pub returns-clause-serves : goal.returns-clause-serves
+returns-clause-serves g c = record {
+  first = c.in_ok-sockets.sockets;
+  fresh = c.in_ok-sockets.ensures.fresh.0;
+  ends = c.serve_exchange-ended.ensures;
+}

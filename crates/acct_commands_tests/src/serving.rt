@@ -1,0 +1,98 @@
+//! What a server prints over an exchange, and what it does where it can't print.
+use acct_book::MemBook;
+use acct_commands::{Ended, serve_exchange};
+use acct_model::Octets;
+use acct_samples::sample_config;
+use acct_service::lists::{ListExchange, Planned};
+use acct_service::{Event, Exchange, Served, What};
+use std::alloc::Global;
+use std::io;
+use std::io::{ErrorKind, Write};
+use std::test::Fail;
+
+// A page that any caller may ask for, a datagram that is too short, and nothing.
+fn turns(alloc: Global) -> Result<Vec<Planned>, Fail> {
+    let request = b"GET /none HTTP/1.1\r\n\r\n";
+    let bytes = Octets::from_slice(alloc, request)?;
+    let desk = What::Desk { bytes };
+    let datagram = What::Datagram {
+        source: [10, 0, 0, 1],
+        port: 1024,
+        bytes: Octets::from_slice(alloc, b"\x04\x07\x00")?,
+    };
+    let mut planned = Vec::new(alloc);
+    for what in [desk, datagram] {
+        planned.push(Planned::Comes {
+            event: Event { moment: 1000, what },
+            takes_reply: true,
+        })?;
+    }
+    planned.push(Planned::Nothing)?;
+    Ok(planned)
+}
+
+// How a server of three turns ends, and how many turns it made.
+fn ended<W: Write>(alloc: Global, output: &mut W) -> Result<(Ended, u64), Fail> {
+    let config = sample_config(alloc)?;
+    let mut book = MemBook::new(alloc);
+    let mut exchange = ListExchange::new(alloc, turns(alloc)?);
+    let ended = serve_exchange(alloc, &config, &mut book, &mut exchange, 3, output);
+    Ok((ended, exchange.turns()))
+}
+
+// What it counts in them.
+fn served() -> Served {
+    let mut served = Served::none();
+    served.events = 2;
+    served.replies = 1;
+    served.dropped[1] = 1;
+    served
+}
+
+const TEXT: &str = "serving\nevents 2, replies 1, mute 0, faults 0\ndropped 2: 1\n";
+
+#[test]
+fn prints_what_it_counts(rt: HostRuntime) -> Result<(), Fail> {
+    let mut output = Vec::new(rt.alloc());
+    assert_eq!(rt; ended(rt.alloc(), &mut output)?, (Ended::Told(served()), 3));
+    assert!(rt; output.as_slice() == TEXT.as_bytes());
+    Ok(())
+}
+
+// A writer that takes so many octets, and then fails.
+#[derive(Drop)]
+struct Short {
+    room: usize,
+}
+
+impl Write for Short {
+    fn write(&mut self, octets: &[u8]) -> io::Result<usize> {
+        if self.room < octets.len() {
+            return Err(io::Error::from(ErrorKind::StorageFull));
+        }
+        self.room -= octets.len();
+        Ok(octets.len())
+    }
+
+    fn flush(&mut self) -> io::Result<()> {
+        Ok(())
+    }
+}
+
+// It serves nobody where it can't say so, and everybody where only its counts find no room.
+#[test]
+fn serves_whom_it_told(rt: HostRuntime) -> Result<(), Fail> {
+    for room in 0..TEXT.len() {
+        let told = ended(rt.alloc(), &mut Short { room })?;
+        let begun = room >= "serving\n".len();
+        let wanted = if begun {
+            (Ended::Untold(served()), 3)
+        } else {
+            (Ended::NotBegun, 0)
+        };
+        assert_eq!(rt; told, wanted);
+    }
+    let told = ended(rt.alloc(), &mut Short { room: TEXT.len() })?;
+    assert_eq!(rt; told, (Ended::Told(served()), 3));
+    Ok(())
+}

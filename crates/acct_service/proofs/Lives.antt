@@ -1,0 +1,134 @@
+-- What is kept has its claims, and so settles.
+use Rattle.std.proofs.Common.{◌≡◌, inl, inr, ℕ, List, [], ◌∷◌, refl, sym}
+use Rattle.std.proofs.Common.{◌∙◌, ap, subst, arith, Some, None}
+use Rattle.std.specs.Prelude.{Contains, bytes_eq}
+use Rattle.std.specs.List.{filter}
+use Rattle.std.specs.Option.{option_or}
+use Rattle.acct_model.specs.declared.plan.Plan.{Plan}
+use Rattle.acct_model.specs.declared.entry.Entry.{Entry}
+use Rattle.acct_model.specs.declared.entry.Entry.TheVariants as entry
+use Rattle.acct_model.specs.Vouchers.{TopUpFacts}
+use Rattle.acct_model.specs.History.{all_topups, first_of, topup_of}
+use Rattle.acct_model.specs.Claims.{Claim, OfReport, OfTopUp, report_claim, topup_claim, claim_of}
+use Rattle.acct_model.specs.Claims.{claims, ClaimsNoMore}
+use Rattle.acct_model.specs.Agreement.{BalancesAreEqual}
+use Rattle.acct_model.proofs.Agree.{covers-claimed, balances-covered}
+use Rattle.acct_model.proofs.Claimed.{claim_of_topup}
+use Rattle.acct_model.proofs.Lists.{here, deeper, nowhere, front_or_behind, from_filter}
+use Rattle.acct_model.proofs.Same.{Decides-bytes_eq}
+use Rattle.acct_service.specs.Settling.{IsDelivered, IsKept}
+
+-- ---- claims
+
+-- the claim of the first entry, or one of the others'
+claimed_by : (e : Entry) (one : Claim) (es : List Entry) (claim : Claim) → claim_of e ≡ Some one
+    → Contains (one ∷ claims es) claim
+    → ((claim_of e ≡ Some claim) → Contains (e ∷ es) e → (x : Entry) × Contains (e ∷ es) x
+    × (claim_of x ≡ Some claim))
+    → (Contains (claims es) claim → (x : Entry) × Contains (e ∷ es) x × (claim_of x ≡ Some claim))
+    → (x : Entry) × Contains (e ∷ es) x × (claim_of x ≡ Some claim)
+claimed_by e one es claim is h first rest =
+    elim (front_or_behind one claim (claims es) h) [
+      | inl same ↦ first (is ∙ ap Some same) (here e es)
+      | inr behind ↦ rest behind
+    ]
+
+-- each claim of a list is that of an entry in it
+pub from_claims : (es : List Entry) (claim : Claim) → Contains (claims es) claim
+    → (e : Entry) × Contains es e × (claim_of e ≡ Some claim)
+from_claims [] claim h = absurd (nowhere claim h)
+from_claims (entry.Report r ∷ es) claim h =
+    claimed_by (entry.Report r) (OfReport (report_claim r)) es claim refl h
+    (λ is at. (entry.Report r, at, is))
+    (λ behind. let (e, at, is) = from_claims es claim behind in
+    (e, deeper (entry.Report r) e es at, is))
+from_claims (entry.Restart r ∷ es) claim h =
+    let (e, at, is) = from_claims es claim h in (e, deeper (entry.Restart r) e es at, is)
+from_claims (entry.TopUp t ∷ es) claim h =
+    claimed_by (entry.TopUp t) (OfTopUp (topup_claim t)) es claim refl h
+    (λ is at. (entry.TopUp t, at, is))
+    (λ behind. let (e, at, is) = from_claims es claim behind in
+    (e, deeper (entry.TopUp t) e es at, is))
+
+claimed_after : (e : Entry) (es : List Entry) (claim : Claim) → Contains (claims es) claim
+    → Contains (claims (e ∷ es)) claim
+claimed_after (entry.Report r) es claim h =
+    deeper (OfReport (report_claim r)) claim (claims es) h
+claimed_after (entry.Restart r) es claim h = h
+claimed_after (entry.TopUp t) es claim h = deeper (OfTopUp (topup_claim t)) claim (claims es) h
+
+claimed_first : (e : Entry) (es : List Entry) (claim : Claim) → claim_of e ≡ Some claim
+    → Contains (claims (e ∷ es)) claim
+claimed_first (entry.Report r) es claim is =
+    let same : OfReport (report_claim r) ≡ claim = cc in
+    subst (λ c. Contains (OfReport (report_claim r) ∷ claims es) c) same
+    (here (OfReport (report_claim r)) (claims es))
+claimed_first (entry.Restart r) es claim is = cc
+claimed_first (entry.TopUp t) es claim is =
+    let same : OfTopUp (topup_claim t) ≡ claim = cc in
+    subst (λ c. Contains (OfTopUp (topup_claim t) ∷ claims es) c) same
+    (here (OfTopUp (topup_claim t)) (claims es))
+
+-- the claim of an entry of a list is one of the list's
+pub to_claims : (es : List Entry) (e : Entry) (claim : Claim) → Contains es e
+    → claim_of e ≡ Some claim → Contains (claims es) claim
+to_claims [] e claim h is = absurd (nowhere e h)
+to_claims (x ∷ es) e claim h is =
+    elim (front_or_behind x e es h) [
+      | inl same ↦ claimed_first x es claim (ap claim_of same ∙ is)
+      | inr behind ↦ claimed_after x es claim (to_claims es e claim behind is)
+    ]
+
+-- what is kept of a list has the list's claims
+pub kept_claims : (these those : List Entry)
+    → ((e : Entry) → Contains these e → IsKept those e) → ClaimsNoMore these those
+kept_claims these those kept claim h =
+    let (e, at, is) = from_claims these claim h in
+    elim (kept e at) [
+      | inl there ↦ to_claims those e claim there is
+      | inr (t, same, claimed) ↦
+          let topup : claim_of e ≡ Some (OfTopUp (topup_claim t)) = ap claim_of same in
+          let one : OfTopUp (topup_claim t) ≡ claim = cc (is, topup) in
+          subst (λ c. Contains (claims those) c) one claimed
+    ]
+
+-- ---- settling
+
+-- A history whose claims are sent ones and which has each acknowledged claim has the balances of
+-- what was sent.
+pub settles : (plans : List Plan) (sent told last : List Entry) → ClaimsNoMore told last
+    → IsDelivered sent told last → BalancesAreEqual plans last sent
+settles plans sent told last kept (no_other, by) =
+    balances-covered plans last sent by.consistent no_other
+    (λ t h. kept (OfTopUp (topup_claim t)) (by.topups t h))
+    (λ r h.
+    let s = by.reports r h in
+    let q = covers-claimed told last kept s.0 s.1 in
+    (q.0, q.1, q.2 ∙ s.2, omega (arith, s.3, q.3)))
+
+-- ---- repeated top-ups
+
+pub first_stands : (kept : TopUpFacts) (ts : List TopUpFacts) → first_of ts ≡ Some kept
+    → Contains ts kept
+first_stands kept [] e = cc
+first_stands kept (t ∷ ts) e =
+    elim (first_of ts) as (λ o. first_of ts ≡ o → option_or o (Some t) ≡ Some kept
+    → Contains (t ∷ ts) kept) [
+      | None ↦ λ is h. let same : t ≡ kept = cc in
+          subst (λ v. Contains (t ∷ ts) v) same (here t ts)
+      | Some x ↦ λ is h. deeper t kept ts (first_stands kept ts (is ∙ h))
+    ] refl e
+
+-- a repeated top-up's claim stands already
+pub repeated_claimed : (old : List Entry) (t kept : TopUpFacts) → topup_of old t.voucher ≡ Some kept
+    → kept.account ≡ t.account → kept.sum ≡ t.sum
+    → Contains (claims old) (OfTopUp (topup_claim t))
+repeated_claimed old t kept first account amount =
+    let stands = first_stands kept (filter (λ x. bytes_eq t.voucher x.voucher) (all_topups old))
+    first in
+    let one = from_filter (λ x. bytes_eq t.voucher x.voucher) (all_topups old) kept stands in
+    let number : kept.voucher ≡ t.voucher =
+    sym ((Decides-bytes_eq t.voucher kept.voucher).0 one.1) in
+    let same : topup_claim kept ≡ topup_claim t =
+    λ i. record { voucher = number i; account = account i; sum = amount i } in
+    subst (λ c. Contains (claims old) (OfTopUp c)) same (claim_of_topup old kept one.0)

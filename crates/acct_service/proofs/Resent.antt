@@ -1,0 +1,250 @@
+-- What was accepted may come again.
+use Rattle.std.proofs.Common.{◌≡◌, inl, inr, ℕ, List, [], ◌∷◌, refl, sym, ◌∙◌, ap}
+use Rattle.std.proofs.Common.{subst, arith, Some, None}
+use Rattle.std.proofs.lemmas.Int.{ints}
+use Rattle.std.proofs.lemmas.List.Elements.{All-contains}
+use Rattle.std.specs.Prelude.{Contains, bytes_eq, pos, ◌-ℤ◌}
+use Rattle.std.specs.List.{filter}
+use Rattle.std.specs.Option.{option_or}
+use Rattle.acct_model.specs.declared.plan.Plan.{Plan}
+use Rattle.acct_model.specs.declared.entry.Entry.{Entry}
+use Rattle.acct_model.specs.declared.entry.Entry.TheVariants as entry
+use Rattle.acct_model.specs.Plans.{price_under}
+use Rattle.acct_model.specs.Report.{ReportFacts}
+use Rattle.acct_model.specs.Vouchers.{TopUpFacts}
+use Rattle.acct_model.specs.History.{all_topups, first_of, greatest_total, plan_of, charge_of}
+use Rattle.acct_model.specs.History.{owned, credited, balance_of, InRange, AreInRange, Agrees}
+use Rattle.acct_model.specs.History.{AgreesWithAll, Admissible}
+use Rattle.acct_model.specs.Claims.{TopUpClaim, OfReport, OfTopUp, report_claim, topup_claim}
+use Rattle.acct_model.specs.Claims.{claims}
+use Rattle.acct_model.proofs.Lists.{nowhere, front_or_behind, to_filter, from_filter}
+use Rattle.acct_model.proofs.Claimed.{topup_of_claim}
+use Rattle.acct_model.proofs.Repeats.{balance-repeated}
+use Rattle.acct_model.proofs.Same.{Decides-bytes_eq}
+use Rattle.acct_model.proofs.TopUps.{Fits}
+use Rattle.acct_book.specs.Effect.{Effect, added, repeated, differs, limited, failed, looked}
+use Rattle.acct_book.specs.Effect.{passed, unasked, after_effect, Holds}
+use Rattle.acct_book.specs.Outcome.{IsRepeated}
+use Rattle.acct_site.specs.declared.config.Config.{Config}
+use Rattle.acct_files.specs.declared.import_report.Outcome.{Outcome}
+use Rattle.acct_files.specs.Vouchers.{Fields}
+use Rattle.acct_files.specs.Importing.{Imported}
+use Rattle.acct_service.specs.Machine.{Visit, Step}
+use Rattle.acct_service.specs.Life.{Span, served, imported, PriceAlike, Goes, StopLeaves, LivesOn}
+use Rattle.acct_service.specs.Life.{Chain, Life}
+use Rattle.acct_service.specs.Settling.{MayComeAgain}
+use Rattle.acct_service.proofs.Kept.{run_chain}
+use Rattle.acct_service.proofs.Lives.{first_stands}
+
+-- ---- what holds of each history of a life
+
+-- every balance is in range, and top-ups of one number have one account and one sum
+pub record IsOrderly (plans : List Plan) (history : List Entry) : Type 0 where
+  pub in_range : AreInRange plans history
+  pub agreed : (one other : TopUpFacts) → Contains (all_topups history) one
+      → Contains (all_topups history) other
+      → one.voucher ≡ other.voucher → (one.account ≡ other.account) × (one.sum ≡ other.sum)
+
+agrees_with : (history : List Entry) (t other : TopUpFacts) → Agrees history t
+    → Contains (all_topups history) other → other.voucher ≡ t.voucher
+    → (other.account ≡ t.account) × (other.sum ≡ t.sum)
+agrees_with history t other agrees h same =
+    All-contains (Fits t) (all_topups history) other agrees h same
+
+agreed_after : (history : List Entry) (next : Entry) → AgreesWithAll history next
+    → ((one other : TopUpFacts) → Contains (all_topups history) one
+    → Contains (all_topups history) other → one.voucher ≡ other.voucher
+    → (one.account ≡ other.account) × (one.sum ≡ other.sum))
+    → (one other : TopUpFacts) → Contains (all_topups (next ∷ history)) one
+    → Contains (all_topups (next ∷ history)) other
+    → one.voucher ≡ other.voucher → (one.account ≡ other.account) × (one.sum ≡ other.sum)
+agreed_after history (entry.Report r) agrees before one other at_one at_other same =
+    before one other at_one at_other same
+agreed_after history (entry.Restart r) agrees before one other at_one at_other same =
+    before one other at_one at_other same
+agreed_after history (entry.TopUp t) agrees before one other at_one at_other same =
+    elim (front_or_behind t one (all_topups history) at_one) [
+      | inl is ↦ elim (front_or_behind t other (all_topups history) at_other) [
+        | inl also ↦ let both : one ≡ other = sym is ∙ also in
+            (ap (λ (x : TopUpFacts). x.account) both, ap (λ (x : TopUpFacts). x.sum) both)
+        | inr behind ↦
+            let says = agrees_with history t other agrees behind
+            (sym same ∙ ap (λ (x : TopUpFacts). x.voucher) (sym is)) in (
+              sym (says.0 ∙ ap (λ (x : TopUpFacts). x.account) is),
+              sym (says.1 ∙ ap (λ (x : TopUpFacts). x.sum) is),
+            )
+      ]
+      | inr deep ↦ elim (front_or_behind t other (all_topups history) at_other) [
+        | inl also ↦
+            let says = agrees_with history t one agrees deep
+            (same ∙ ap (λ (x : TopUpFacts). x.voucher) (sym also)) in (
+              says.0 ∙ ap (λ (x : TopUpFacts). x.account) also,
+              says.1 ∙ ap (λ (x : TopUpFacts). x.sum) also,
+            )
+        | inr behind ↦ before one other deep behind same
+      ]
+    ]
+
+orderly_after : (plans : List Plan) (history new : List Entry) (next : Entry)
+    → Admissible plans history next → new ≡ next ∷ history → IsOrderly plans history
+    → IsOrderly plans new
+orderly_after plans history new next fine is old =
+    subst (IsOrderly plans) (sym is)
+    (let after : IsOrderly plans (next ∷ history) = record {
+      in_range = fine.in_range;
+      agreed = agreed_after history next fine.agrees old.agreed;
+    } in after)
+
+orderly_same : (plans : List Plan) (old new : List Entry) → new ≡ old → IsOrderly plans old
+    → IsOrderly plans new
+orderly_same plans old new is h = subst (IsOrderly plans) (sym is) h
+
+none_in_range : InRange (pos 0 -ℤ pos 0)
+none_in_range = record { low = omega (arith, ints); high = omega (arith, ints) }
+
+orderly_none : (plans : List Plan) → IsOrderly plans []
+orderly_none plans = record {
+  in_range = λ account. none_in_range;
+  agreed = λ one other h. absurd (nowhere one h);
+}
+
+effect_orderly : (plans : List Plan) (old : List Entry) (effect : Effect) → Holds plans old effect
+    → IsOrderly plans old → IsOrderly plans (after_effect old effect)
+effect_orderly plans old (added e) (fine, fresh) h =
+    orderly_after plans old (e ∷ old) e fine refl h
+effect_orderly plans old (repeated e) holds h = h
+effect_orderly plans old (differs e kept) holds h = h
+effect_orderly plans old (limited e balance) holds h = h
+effect_orderly plans old (failed e) holds h = h
+effect_orderly plans old looked holds h = h
+effect_orderly plans old passed holds h = h
+effect_orderly plans old unasked holds h = h
+
+-- ---- plans that price alike
+
+charge_alike : (these those : List Plan) → PriceAlike these those → (reports : List ReportFacts)
+    → charge_of these reports ≡ charge_of those reports
+charge_alike these those alike reports =
+    ap (λ plan. price_under plan (greatest_total reports))
+    (elim (first_of reports) as (λ first. plan_of these first ≡ plan_of those first) [
+      | None ↦ refl
+      | Some first ↦ alike first.class
+    ])
+
+balance_alike : (these those : List Plan) → PriceAlike these those → (history : List Entry)
+    (account : List ℕ) → balance_of these history account ≡ balance_of those history account
+balance_alike these those alike history account = λ i.
+    pos (credited history account)
+    -ℤ pos (owned (λ reports. charge_alike these those alike reports i) history account)
+
+orderly_alike : (these those : List Plan) (history : List Entry) → PriceAlike these those
+    → IsOrderly these history → IsOrderly those history
+orderly_alike these those history alike h = record {
+  in_range = λ account. subst InRange (balance_alike these those alike history account)
+      (h.in_range account);
+  agreed = h.agreed;
+}
+
+-- what each step keeps, a chain of them keeps
+chain_invariant : {S : Type 0} (Step : List Entry → S → List Entry → Type 0)
+    (P : List Entry → Type 0)
+    → ((old new : List Entry) (step : S) → Step old step new → P old → P new)
+    → (old new : List Entry) (steps : List S) → Chain Step old steps new → P old → P new
+chain_invariant Step P each old new [] is h = subst P (sym is) h
+chain_invariant Step P each old new (step ∷ steps) (mid, first, rest) h =
+    chain_invariant Step P each mid new steps rest (each old mid step first h)
+
+visit_orderly : (config : Config) (old new : List Entry) (visit : Visit)
+    → Step config old visit new → IsOrderly config.plans old → IsOrderly config.plans new
+visit_orderly config old new visit step h =
+    subst (IsOrderly config.plans) (sym step.leads)
+    (effect_orderly config.plans old visit.effect step.holds h)
+
+lines_orderly : (plans : List Plan) (moment : ℕ) (old new : List Entry) (rows : List Fields)
+    (outcomes : List Outcome) → Imported plans moment old rows outcomes new
+    → IsOrderly plans old → IsOrderly plans new
+lines_orderly plans moment old new [] [] is h = orderly_same plans old new is h
+lines_orderly plans moment old new [] (told ∷ outcomes) run h = absurd run
+lines_orderly plans moment old new (fields ∷ rows) [] run h = absurd run
+lines_orderly plans moment old new (fields ∷ rows) (told ∷ outcomes)
+    (effect, becomes, holds, rest) h =
+    lines_orderly plans moment (after_effect old effect) new rows outcomes rest
+    (effect_orderly plans old effect holds h)
+
+goes_orderly : (plans : List Plan) (old new : List Entry) (span : Span)
+    → Goes plans old span new → IsOrderly plans old → IsOrderly plans new
+goes_orderly plans old new (served config visits) (alike, run) h =
+    orderly_alike config.plans plans new alike
+    (chain_invariant (λ old visit new. Step config old visit new) (IsOrderly config.plans)
+    (visit_orderly config) old new visits (run_chain config old new visits run)
+    (orderly_alike plans config.plans old (λ class. sym (alike class)) h))
+goes_orderly plans old new (imported config moment rows outcomes tried) (alike, run) h =
+    orderly_alike config.plans plans new alike
+    (lines_orderly config.plans moment old new rows outcomes run
+    (orderly_alike plans config.plans old (λ class. sym (alike class)) h))
+
+stop_orderly : (plans : List Plan) (span : Span) (history left : List Entry)
+    → StopLeaves plans span history left → IsOrderly plans history → IsOrderly plans left
+stop_orderly plans span history left may h =
+    elim may [
+      | inl is ↦ orderly_same plans history left is h
+      | inr (e, tried, fine, is) ↦ orderly_after plans history left e fine is h
+    ]
+
+span_orderly : (plans : List Plan) (old new : List Entry) (span : Span)
+    → LivesOn plans old span new → IsOrderly plans old → IsOrderly plans new
+span_orderly plans old new span (end, goes, may) h =
+    stop_orderly plans span end new may (goes_orderly plans old end span goes h)
+
+pub life_orderly : (plans : List Plan) (last : List Entry) (spans : List Span)
+    → Life plans [] spans last → IsOrderly plans last
+life_orderly plans last spans life =
+    chain_invariant (LivesOn plans) (IsOrderly plans) (span_orderly plans) [] last spans life
+    (orderly_none plans)
+
+-- ---- what comes again
+
+first_some : (t : TopUpFacts) (ts : List TopUpFacts) → Contains ts t
+    → (first : TopUpFacts) × (first_of ts ≡ Some first)
+first_some t [] h = absurd (nowhere t h)
+first_some t (x ∷ ts) h =
+    elim (first_of ts) as (λ o. (first : TopUpFacts) × (option_or o (Some x) ≡ Some first)) [
+      | None ↦ (x, refl)
+      | Some y ↦ (y, refl)
+    ]
+
+repeats : (plans : List Plan) (history : List Entry) → IsOrderly plans history → (t : TopUpFacts)
+    → Contains (claims history) (OfTopUp (topup_claim t)) → IsRepeated history (entry.TopUp t)
+repeats plans history orderly t claimed =
+    let u = topup_of_claim history (topup_claim t) claimed in
+    let number : u.0.voucher ≡ t.voucher = ap (λ (c : TopUpClaim). c.voucher) u.2 in
+    let there = to_filter (λ x. bytes_eq t.voucher x.voucher) (all_topups history) u.0 u.1
+    ((Decides-bytes_eq t.voucher u.0.voucher).1 (sym number)) in
+    let first = first_some u.0 (filter (λ x. bytes_eq t.voucher x.voucher) (all_topups history))
+    there in
+    let kept = from_filter (λ x. bytes_eq t.voucher x.voucher) (all_topups history) first.0
+    (first_stands first.0 (filter (λ x. bytes_eq t.voucher x.voucher) (all_topups history))
+    first.1) in
+    let same : first.0.voucher ≡ u.0.voucher =
+    sym ((Decides-bytes_eq t.voucher first.0.voucher).0 kept.1) ∙ sym number in
+    let says = orderly.agreed first.0 u.0 kept.0 u.1 same in (
+      first.0,
+      first.1,
+      says.0 ∙ ap (λ (c : TopUpClaim). c.account) u.2,
+      says.1 ∙ ap (λ (c : TopUpClaim). c.sum) u.2,
+    )
+
+pub comes_again : (plans : List Plan) (history : List Entry) → IsOrderly plans history
+    → MayComeAgain plans history
+comes_again plans history orderly = record {
+  report = λ r claimed.
+      let same = balance-repeated plans history (entry.Report r) (OfReport (report_claim r)) refl
+      claimed in (
+        record {
+          agrees = tt;
+          in_range = λ account. subst InRange (sym (same account)) (orderly.in_range account);
+        },
+        same,
+      );
+  topup = repeats plans history orderly;
+}

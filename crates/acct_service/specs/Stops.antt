@@ -1,0 +1,37 @@
+-- What a stop leaves of a book is a history that its life goes on from.
+use Rattle.std.specs.Prelude.{◌≡◌, ℕ, List, Option, Some, None}
+use Rattle.acct_model.specs.declared.plan.Plan.{Plan}
+use Rattle.acct_model.specs.declared.entry.Entry.{Entry}
+use Rattle.acct_book.specs.declared.book.Book.{Ghosts}
+use Rattle.acct_book.specs.Content.{Content}
+use Rattle.acct_book.specs.Stands.{Stands}
+use Rattle.acct_site.specs.declared.config.Config.{Config}
+use Rattle.acct_files.specs.declared.import_report.Stopped.{Stopped}
+use Rattle.acct_files.specs.declared.import_report.ImportReport.{ImportReport}
+use Rattle.acct_files.specs.Importing.{Imports}
+use Rattle.acct_service.specs.Machine.{Visit}
+use Rattle.acct_service.specs.Serving.{Leads}
+use Rattle.acct_service.specs.Life.{Span, served, imported, LivesOn}
+
+module _ {B : Type 0} (b : Ghosts B) where
+  -- a crash leaves of the book only what stands for the history
+  abbrev pub LeavesOnly : List Plan → B → List Entry → Type 0
+  LeavesOnly plans book history = (c : Content) → b.left book c → Stands plans c history
+
+  -- Whatever a crash leaves of the book stands for a history that this span and a stop lead to.
+  abbrev pub LivesOnBy : Config → List Entry → Span → B → Type 0
+  LivesOnBy config history span book = (c : Content) → b.left book c
+      → (next : List Entry) × LivesOn config.plans history span next × Stands config.plans c next
+
+  -- where it began so that a crash left only what stood for its history
+  pub record StopsAreLived : Type 0 where
+    pub served_so_far : (config : Config) (visits : List Visit) (old new : B)
+        (history : List Entry) → LeavesOnly config.plans old history
+        → Leads b config visits old new history
+        → LivesOnBy config history (served config visits) new
+    pub imported_so_far : (config : Config) (moment : ℕ) (text : Option (List ℕ))
+        (history : List Entry) (stopped : Option Stopped) (report : ImportReport) (old new : B)
+        → LeavesOnly config.plans old history
+        → (run : Imports b config.plans moment text history stopped report old new)
+        → LivesOnBy config history
+        (imported config moment run.rows run.outcomes run.tried) new

@@ -1,0 +1,35 @@
+//! Laws above the definitions: functions without effect, whose contracts are the laws.
+ghost use Rattle.std.specs.Prelude.{◌++◌, List, Option};
+ghost use Rattle.acct_site.specs.declared.config.Config.{Config};
+ghost use Rattle.acct_service.specs.declared.exchange.Call.{Call};
+ghost use Rattle.acct_service.specs.Machine.{Visit};
+ghost use Rattle.acct_service.specs.Serving.{Attends};
+ghost use Rattle.acct_service.specs.Settling.{LifeSettles};
+ghost use Rattle.acct_service.specs.Stops.{StopsAreLived};
+
+use acct_book::Book;
+
+/// Disturbed delivery. What was accepted or acknowledged is never lost. Where the entries that were
+/// sent are consistent, nothing else was accepted, each top-up was acknowledged and each report is
+/// covered by an acknowledged one, the balances are those of what was sent, however often the
+/// server stopped and the network lost, repeated or reordered. What was never answered may come
+/// again.
+pub fn life_settles()
+    ensures { LifeSettles }
+{}
+
+/// What a crash leaves of a book that was served or imported into is a history from which
+/// `life_settles` goes on: this span of a life, and a stop.
+pub fn stops_are_lived<B: Book>()
+    ensures { StopsAreLived B.Book }
+{}
+
+/// Turns after turns are turns: what `serve` says of two runs over one book and exchange holds of
+/// both together, and what `take_turn` says of each turn holds of all of them.
+pub fn turns_join<B: Book>()
+    ensures { (config : Config) (visits more : List Visit) (old mid new : B)
+        (told later last : Option (List Call))
+        → Attends B.Book config visits old mid told later
+        → Attends B.Book config more mid new later last
+        → Attends B.Book config (visits ++ more) old new told last }
+{}

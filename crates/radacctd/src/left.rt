@@ -1,0 +1,31 @@
+//! What a command leaves of a book's files.
+use sqlite::{Connection, FileStore, Files, Leftover};
+use sqlite_disk::Disk;
+
+/// What a command leaves of a book's files. It is let go as the program ends, and until then its
+/// values say what the files hold.
+pub enum Left<D: Disk> {
+    /// No file was opened as a database.
+    Nothing,
+    /// An open that failed left this of them.
+    Unopened(Leftover<D>),
+    /// They are open still, as a command leaves them that has met a fault or has only read.
+    Open(Connection<FileStore<D>>),
+    /// A close that failed left this of them.
+    Unclosed(FileStore<D>),
+    /// The last commit is in the file of the book, and the log is empty.
+    Closed(Files<D>),
+}
+
+// It is written out, so that a caller does not prove again how each part is dropped.
+impl<D: Disk + Drop> Drop for Left<D> {
+    fn drop(self) {
+        match self {
+            Left::Nothing => {}
+            Left::Unopened(_left) => {}
+            Left::Open(_connection) => {}
+            Left::Unclosed(_store) => {}
+            Left::Closed(_files) => {}
+        }
+    }
+}
