@@ -28,8 +28,10 @@ impl From<AllocError> for Unavailable {
 ///
 /// # Errors
 ///
-/// Each call may answer `Unavailable`, and then has changed nothing: a store may refuse without a
-/// visible cause. Only `balance` of a steady book never does.
+/// Each call may answer `Unavailable`: a store may refuse without a visible cause. The content of a
+/// book that is still open is then as before. A call may also have shut the book; where it was to
+/// write, a crash may leave the whole of that. Only `balance` of a steady book never answers
+/// `Unavailable`.
 pub trait Book {
     /// What it contains, however it is kept. It says nothing of a book that is not open.
     ghost content: { Self → Content };

@@ -4,7 +4,7 @@
 //!    top-ups by number. `Book` is the trait of its calls, whatever keeps the maps; `MemBook` keeps
 //!    them in memory, in ordered maps with the balances stored.
 //! 2. A call that writes sets all of its effect or nothing. A call that reads changes nothing. A
-//!    refused call changes nothing.
+//!    refused call changes nothing, in a book that goes on answering.
 //! 3. In an open book each row stands under its own key and each top-up under its own number.
 //! 4. A content stands for a history where its rows, its top-ups and its balances are the ones that
 //!    the accepted entries alone determine, and every balance is in range (`specs/Stands.antt`,

@@ -10,8 +10,9 @@
 //! 5. A restart closes the live sessions of its client alone and moves no money. An ended session
 //!    never opens again.
 //! 6. A balance that would leave its range is refused, whoever else has what balance.
-//! 7. Every growth and every test comes before the one call that writes, so a refusal changes
-//!    nothing. Only that call's whole effect can a crash leave besides.
+//! 7. Every growth and every test comes before the one call that writes, so what is refused before
+//!    that call changes nothing. Where the call itself fails, the content of a book that is still
+//!    open is as before. Only that call's whole effect can a crash leave besides.
 ghost use Rattle.std.specs.Prelude.{◌≡◌, ◌≢◌, ◌+◌, ◌^◌, ◌<◌, Err, IfOk, IfErr, IfNone, IfSome};
 ghost use Rattle.std.specs.Prelude.{MatchOption, pos, ◌+ℤ◌, ◌-ℤ◌};
 ghost use Rattle.acct_model.specs.declared.entry.Entry.{Entry};
@@ -43,7 +44,7 @@ pub enum Recorded {
     Repeat,
 }
 
-/// Why an entry was refused. The book has changed in nothing.
+/// Why an entry was refused. The content of a book that is still open is as before.
 #[derive(Debug, Drop, Error)]
 pub enum RecordError {
     /// The voucher's number is kept, by this top-up of another account or sum.
@@ -52,7 +53,8 @@ pub enum RecordError {
     /// The account's balance, this one, would leave its range.
     #[error("the balance would leave its range")]
     BalanceLimit(i64),
-    /// The store or memory refused. It may stand in place of any other answer.
+    /// The store or memory refused. It may stand in place of any other answer. Where the write
+    /// failed and shut the book, a crash may leave the whole entry all the same.
     #[error("the book is unavailable")]
     Unavailable,
 }

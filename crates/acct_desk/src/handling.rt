@@ -16,9 +16,11 @@ use http::StatusCode;
 use std::alloc::{AllocError, Global};
 
 /// The whole response to the octets of a request, over a book whose content stands for a history
-/// under these plans. `moment` is in
-/// seconds since 1970. It is total over all octets: what is no request of the desk has its own
-/// response, and leaves the book untouched.
+/// under these plans. `moment` is in seconds since 1970. It is total over all octets: what is no
+/// request of the desk has its own response, and leaves the book untouched.
+///
+/// Every answer but a 201 leaves the content of a book that is still open as before. Where a 503
+/// says that the write of a top-up failed and shut the book, a crash may leave it all the same.
 ///
 /// # Errors
 ///

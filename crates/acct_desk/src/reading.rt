@@ -45,8 +45,12 @@ pub enum ReadFault {
 /// follows can make a request of them, at 12,288 octets, or at the reader's end. A read that was
 /// interrupted is tried again.
 ///
-/// That nothing can make a request of them is seen after the first read, and from there on each
-/// time the octets have doubled.
+/// That nothing can make a request of them is seen after the first read, where a head ends, and
+/// from there on each time the octets have doubled.
+///
+/// How far it reads ahead is bounded by `stops` past 1,024 octets alone: at some place, 1,024
+/// octets or less before the end of what was read, the request was open. That it reads no further
+/// than it has to is tested.
 ///
 /// # Errors
 ///

@@ -21,13 +21,15 @@ use std::alloc::Global;
 pub enum Outcome {
     /// Its entry was recorded, and the reply stands in this many octets of the array.
     Reply(usize),
-    /// Nothing has changed, for this reason.
+    /// Nothing is sent, for this reason, and the content of a book that is still open is as before.
+    /// After `Unavailable` a crash may leave the whole entry, where the write of it shut the book.
     Drop(Reason),
 }
 
 /// Answers a datagram over a book whose content stands for a history under these plans: judges it,
 /// records its entry and writes the reply to the front of `out` (RFC 2866, sections 3 and 4). A
-/// reply comes only after the entry was recorded; after a drop the content and `out` are as before.
+/// reply comes only after the entry was recorded; after a drop `out` is as before, and so is the
+/// content of a book that is still open.
 ///
 /// For a report it asks the book for one row and one balance and writes both by one call, for a
 /// restart it closes the client's sessions by one call; beyond that its cost is that of reading the

@@ -9,7 +9,7 @@
 //! 3. The entry of a datagram that keeps them all is recorded, and only then is the reply written
 //!    (RFC 2866, section 4). Writing it takes no memory.
 //! 4. An entry that would take a balance out of range is dropped (12), and so is one that the book
-//!    or memory refuses (13). Nothing has changed then.
+//!    or memory refuses (13). Nothing has changed then, in a book that goes on answering.
 #![tactic(auto)]
 
 mod answering;
