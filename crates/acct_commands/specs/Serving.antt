@@ -1,6 +1,6 @@
 -- What `serve` does, and what it prints of it.
 use Rattle.std.specs.Prelude.{◌≡◌, ℕ, List, [], ◌∷◌, ◌++◌, ◌+◌, ◌==◌, if◌then◌else◌}
-use Rattle.std.specs.Prelude.{Option, Result, Ok, Err, IsErr, ◌⊎◌, codes}
+use Rattle.std.specs.Prelude.{Option, Result, Ok, Err, ◌⊎◌, codes}
 use Rattle.std.specs.Io.KnownBytes.{Appends}
 use Rattle.acct_book.specs.declared.book.Book as book
 use Rattle.acct_site.specs.declared.config.Config.{Config}
@@ -51,6 +51,10 @@ ended_of (how.Told served) = Ok status.Done
 ended_of (how.Untold served) = Err fault.CannotWrite
 ended_of how.NotBegun = Err fault.CannotWrite
 
+-- the sockets could not be bound, or there was no room for datagrams
+abbrev pub IsUnbound : Fault → Type 0
+IsUnbound told = (told ≡ fault.CannotBind) ⊎ (told ≡ fault.NoMemory)
+
 -- A run of a server over a book and an exchange, from its first turn to its last.
 module _ {B X : Type 0} (b : book.Ghosts B) (x : exchange.Ghosts X) where
   -- it made exactly so many turns of the exchange, they are a run of the machine, and these are
@@ -72,18 +76,19 @@ module _ {B X : Type 0} (b : book.Ghosts B) (x : exchange.Ghosts X) where
   Ends config turns old new first last before after how.NotBegun =
       (new ≡ old) × (last ≡ first)
 
-  -- The same from an exchange that had made no turn.
+  -- The same from an exchange that had made no turn and no fault.
   pub record EndsAfresh (config : Config) (turns : ℕ) (old new : B) (last : X)
       (before after : Option (List ℕ)) (ended : Ended) : Type 0 where
     pub first : X
     pub fresh : x.turn_count first ≡ 0
+    pub faultless : x.failure_count first ≡ 0
     pub ends : Ends config turns old new first last before after ended
 
-  -- The command: no exchange could be made, and nothing was done; or a server ended so over one
-  -- that had made no turn.
+  -- The command: the sockets could not be bound, and nothing was done; or a server ended so over an
+  -- exchange that had made no turn and no fault.
   abbrev pub RunsServer : Config → ℕ → Option (List ℕ) → Option (List ℕ) → Result Status Fault → B
       → B → Type 0
   RunsServer config turns before after result old new =
-      (IsErr result × (new ≡ old) × (after ≡ before))
+      ((told : Fault) × (result ≡ Err told) × IsUnbound told × (new ≡ old) × (after ≡ before))
       ⊎ ((ended : Ended) × (result ≡ ended_of ended) × ((last : X)
       × EndsAfresh config turns old new last before after ended))

@@ -1,9 +1,9 @@
 //! `serve`: access servers and callers of the desk, answered over a book.
 ghost use Rattle.std.specs.Prelude.{◌≡◌, ◌+◌, ◌-◌, ◌≤◌, ◌<◌, ◌^◌, ◌++◌, ◌∷◌, [], codes};
-ghost use Rattle.std.specs.Prelude.{IfOk, OnOk, OnErr};
+ghost use Rattle.std.specs.Prelude.{IfOk, IfErr, OnOk, OnErr};
 ghost use Rattle.std.specs.Io.KnownBytes.{Appends};
-ghost use Rattle.acct_commands.specs.Serving.{Ends, EndsAfresh, RunsServer, ended_of};
-ghost use Rattle.acct_commands.specs.Serving.{drops_line, drops_lines, served_text};
+ghost use Rattle.acct_commands.specs.Serving.{Ends, EndsAfresh, RunsServer, IsUnbound};
+ghost use Rattle.acct_commands.specs.Serving.{ended_of, drops_line, drops_lines, served_text};
 
 use crate::counts::{Counts, Drops};
 use crate::ended::Ended;
@@ -81,6 +81,7 @@ pub fn serve_sockets<'r, R: Net + Clock, B: Book, W: Write>(
         config.now turns book.old book.new done.0 (W.contents output.old) (W.contents output.new)
         done.1) }
     ensures unbound { OnErr result ((book.new ≡ book.old) × (output.new ≡ output.old)) }
+    ensures why { IfErr result IsUnbound }
 {
     let mut sockets = bound(runtime, alloc, listening)?;
     let ended = serve_exchange(alloc, config, book, &mut sockets, turns, output);
@@ -122,6 +123,7 @@ fn bound<'r, R: Net + Clock>(
     listening: &Listening,
 ) -> Result<Sockets<'r, R>, Fault>
     ensures fresh { IfOk result (λ s. (s.turns ≡ 0) × (s.failures ≡ 0)) }
+    ensures why { IfErr result IsUnbound }
 {
     let Some(address) = address_of(listening.address.as_str()) else {
         return Err(Fault::CannotBind);

@@ -18,7 +18,10 @@ use acct_sql::{SqlBook, SqlBookError};
 use sqlite::{Connection, FileFrom, FileStore, Files, Start};
 use sqlite_disk::Disk;
 use std::alloc::Global;
-use std::fs::File;
+use std::fs::metadata;
+
+// The octets of the header of a SQLite database: no database has fewer.
+const HEADER_OCTETS: u64 = 100;
 
 /// A book in a file that held what `S` says.
 pub type FileBook<S> = SqlBook<FileStore<FileFrom<S>>>;
@@ -47,8 +50,8 @@ pub fn made<S: Start>(
 ///
 /// # Errors
 ///
-/// `CannotOpen` where the file isn't there or cannot be opened, else that of `SqlBook::adopt`, with
-/// what is left of the files, which hold what they held.
+/// `CannotOpen` where no regular file of 100 octets or more is there or it cannot be opened, else
+/// that of `SqlBook::adopt`, with what is left of the files, which hold what they held.
 pub fn adopted<S: Start>(
     runtime: &HostRuntime,
     file: &Text,
@@ -59,8 +62,9 @@ pub fn adopted<S: Start>(
         → IsBookOf (image_at S.Start) plans.now book) }
     ensures refused { IfErr result (λ e. IsRefused (image_at S.Start) plans.now e.0 e.1) }
 {
-    // An open makes a file that isn't there, and a slip in a name is to make none.
-    if File::open(runtime, file.as_str()).is_err() {
+    // An open makes a file that isn't there, makes a database of one that is shorter than a header,
+    // and waits at a pipe: a slip in a name is to do none of it.
+    if !may_be_database(runtime, file) {
         return Err((Fault::CannotOpen, Left::Nothing));
     }
     let connection = opened(runtime, file, start)?;
@@ -80,6 +84,14 @@ pub fn close<S: Start>(book: FileBook<S>) -> Result<Files<FileFrom<S>>, (Fault, 
     match book.into_connection().close_files() {
         Ok(files) => Ok(files),
         Err((_, rest)) => { Err((Fault::Store(StoreFault::Unavailable), Left::Unclosed(rest))) }
+    }
+}
+
+// Whether a file is there that may be a database: a regular one with room for a header.
+fn may_be_database(runtime: &HostRuntime, file: &Text) -> bool {
+    match metadata(runtime, file.as_str()) {
+        Ok(found) => found.is_file() && found.len() >= HEADER_OCTETS,
+        Err(_) => false,
     }
 }
 

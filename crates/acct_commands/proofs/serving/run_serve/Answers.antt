@@ -7,4 +7,10 @@ returns-in-Ok-clause-serves g c =
 
 pub returns-in-Err-clause-serves : goal.returns-in-Err-clause-serves
 returns-in-Err-clause-serves g c =
-    inl (refl, c.in-Err.ensures.unbound.0, ap g.W.Write.contents c.in-Err.ensures.unbound.1)
+    inl (
+      c.in-Err.fault,
+      refl,
+      c.in-Err.ensures.why,
+      c.in-Err.ensures.unbound.0,
+      ap g.W.Write.contents c.in-Err.ensures.unbound.1,
+    )

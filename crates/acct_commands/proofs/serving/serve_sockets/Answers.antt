@@ -4,5 +4,6 @@ pub returns-clause-serves : goal.returns-clause-serves
 returns-clause-serves g c = record {
   first = c.in_ok-sockets.sockets;
   fresh = c.in_ok-sockets.ensures.fresh.0;
+  faultless = c.in_ok-sockets.ensures.fresh.1;
   ends = c.serve_exchange-ended.ensures;
 }
