@@ -1,2 +1,4 @@
 -- the lines of the drops, one reason more
 pub mod DropLines
+-- texts that are no configuration as a whole
+pub mod NoConfigs

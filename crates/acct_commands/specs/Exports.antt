@@ -1,5 +1,5 @@
 -- What `export` prints.
-use Rattle.std.specs.Prelude.{ℕ, ℤ, List, Option, None}
+use Rattle.std.specs.Prelude.{◌≡◌, ◌⊎◌, ℕ, ℤ, List, Option, None}
 use Rattle.std.specs.Io.KnownBytes.{Appends}
 use Rattle.acct_model.specs.declared.plan.Plan.{Plan}
 use Rattle.acct_model.specs.Vouchers.{TopUpFacts}
@@ -14,6 +14,14 @@ use Rattle.acct_files.specs.declared.account_lines.AccountExport.{AccountExport}
 use Rattle.acct_files.specs.declared.account_lines.AccountExport.TheVariants as which
 use Rattle.acct_command_line.specs.declared.job.Export.{Export}
 use Rattle.acct_command_line.specs.declared.job.Export.TheVariants as what
+use Rattle.acct_commands.specs.declared.fault.Fault.{Fault}
+use Rattle.acct_commands.specs.declared.fault.Fault.TheVariants as fault
+use Rattle.acct_commands.specs.declared.fault.StoreFault.TheVariants as store
+
+-- why an export ended early: the book refused, memory was refused, or the output failed
+abbrev pub IsExportFault : Fault → Type 0
+IsExportFault told = (told ≡ fault.Store store.Unavailable) ⊎ (told ≡ fault.StoreMemory)
+    ⊎ (told ≡ fault.CannotWrite)
 
 -- What is written of a content: a header, and a line for each member, once and in order. `told`
 -- says that the book is open, and so tells its content.

@@ -6,13 +6,17 @@ use Rattle.acct_book.specs.declared.book.Book as book
 use Rattle.acct_site.specs.declared.config.Config.{Config}
 use Rattle.acct_service.specs.Serving as machine
 use Rattle.acct_service.specs.declared.exchange.Exchange as exchange
+use Rattle.acct_service.specs.Slices.{MakesTurns}
 use Rattle.acct_service.specs.declared.server.Served.{Served}
+use Rattle.acct_service.specs.declared.slices.Until.{Until}
+use Rattle.acct_service.specs.declared.slices.Until.TheVariants as until
 use Rattle.acct_commands.specs.Counts.{counts_text, drops_text}
 use Rattle.acct_commands.specs.declared.counts.Counts.{Counts}
 use Rattle.acct_commands.specs.declared.counts.Drops.{Drops}
 use Rattle.acct_commands.specs.declared.ended.Ended.{Ended}
 use Rattle.acct_commands.specs.declared.fault.Fault.{Fault}
 use Rattle.acct_commands.specs.declared.fault.Fault.TheVariants as fault
+use Rattle.acct_commands.specs.declared.fault.StoreFault.TheVariants as store
 use Rattle.acct_feed.specs.declared.status.Status.{Status}
 use Rattle.acct_feed.specs.declared.status.Status.TheVariants as status
 use Rattle.acct_commands.specs.declared.ended.Ended.TheVariants as how
@@ -45,10 +49,12 @@ served_text served =
 abbrev pub whole_text : Served → List ℕ
 whole_text served = codes "serving" ++ 10 ∷ [] ++ served_text served
 
--- how the command ends
+-- how the command ends: where the book was found shut, by that
 abbrev pub ended_of : Ended → Result Status Fault
-ended_of (how.Told served) = Ok status.Done
-ended_of (how.Untold served) = Err fault.CannotWrite
+ended_of (how.Told served until.AllMade) = Ok status.Done
+ended_of (how.Told served until.Shut) = Err (fault.Store store.Unavailable)
+ended_of (how.Untold served until.AllMade) = Err fault.CannotWrite
+ended_of (how.Untold served until.Shut) = Err (fault.Store store.Unavailable)
 ended_of how.NotBegun = Err fault.CannotWrite
 
 -- the sockets could not be bound, or there was no room for datagrams
@@ -57,11 +63,12 @@ IsUnbound told = (told ≡ fault.CannotBind) ⊎ (told ≡ fault.NoMemory)
 
 -- A run of a server over a book and an exchange, from its first turn to its last.
 module _ {B X : Type 0} (b : book.Ghosts B) (x : exchange.Ghosts X) where
-  -- it made exactly so many turns of the exchange, they are a run of the machine, and these are
-  -- the counts of that run
+  -- It made so many turns of the exchange: all, or fewer where the book was found shut, which a
+  -- steady book never is. They are a run of the machine, and these are the counts of that run.
   pub record Ran (config : Config) (turns : ℕ) (old new : B) (first last : X)
-      (served : Served) : Type 0 where
-    pub turns_made : x.turn_count last ≡ x.turn_count first + turns
+      (served : Served) (why : Until) : Type 0 where
+    pub turns_made : MakesTurns turns (x.turn_count first) (x.turn_count last) why
+    pub shut : why ≡ until.Shut → b.is_steady old → ⊥
     pub faults : x.failure_count last ≡ x.failure_count first + served.faults
     pub run : machine.Serves b config old new (x.told first) (x.told last) served
 
@@ -69,10 +76,10 @@ module _ {B X : Type 0} (b : book.Ghosts B) (x : exchange.Ghosts X) where
   -- then printed is `serving` and the counts of that run, and nothing else. Before that it does
   -- nothing.
   abbrev pub Ends : Config → ℕ → B → B → X → X → Option (List ℕ) → Option (List ℕ) → Ended → Type 0
-  Ends config turns old new first last before after (how.Told served) =
-      Ran config turns old new first last served × Appends before after (whole_text served)
-  Ends config turns old new first last before after (how.Untold served) =
-      Ran config turns old new first last served
+  Ends config turns old new first last before after (how.Told served why) =
+      Ran config turns old new first last served why × Appends before after (whole_text served)
+  Ends config turns old new first last before after (how.Untold served why) =
+      Ran config turns old new first last served why
   Ends config turns old new first last before after how.NotBegun =
       (new ≡ old) × (last ≡ first)
 

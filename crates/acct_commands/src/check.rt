@@ -1,7 +1,7 @@
 //! `check`: reads a configuration, and says how much it has.
-ghost use Rattle.std.specs.Prelude.{◌≡◌, IfOk, OnOk};
+ghost use Rattle.std.specs.Prelude.{◌≡◌, IfOk, IfErr, OnOk, None};
 ghost use Rattle.std.specs.Io.KnownBytes.{Appends};
-ghost use Rattle.acct_commands.specs.Checks.{TellsSizes, sizes_line};
+ghost use Rattle.acct_commands.specs.Checks.{TellsSizes, IsUnchecked, sizes_line};
 
 use crate::config_file::config_from;
 use crate::fault::Fault;
@@ -27,6 +27,7 @@ pub fn run_check<R: Files, W: Write>(
 ) -> Result<Status, Fault>
     ensures done { IfOk result (λ status. status ≡ Status.Done) }
     ensures sizes { OnOk result (TellsSizes None (W.contents output.old) (W.contents output.new)) }
+    ensures refused { IfErr result (IsUnchecked None) }
 {
     match File::open(runtime, file.as_str()) {
         Ok(mut reader) => check_from(alloc, &mut reader, output),
@@ -47,6 +48,7 @@ pub fn check_from<R: Read, W: Write>(
     ensures done { IfOk result (λ status. status ≡ Status.Done) }
     ensures sizes { OnOk result (TellsSizes (R.remaining reader.old) (W.contents output.old)
         (W.contents output.new)) }
+    ensures refused { IfErr result (IsUnchecked (R.remaining reader.old)) }
 {
     let config = config_from(alloc, reader)?;
     write_sizes(output, &config)?;

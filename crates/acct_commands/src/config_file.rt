@@ -1,6 +1,8 @@
 //! The file of a configuration.
-ghost use Rattle.std.specs.Prelude.{IfOk, IfSome};
+ghost use Rattle.std.specs.Prelude.{◌≡◌, IfOk, IfErr, IfSome, None};
 ghost use Rattle.acct_files.specs.Config.{IsConfig};
+ghost use Rattle.acct_files.specs.Tables.{top_error};
+ghost use Rattle.acct_commands.specs.Checks.{IsNoConfig};
 
 use crate::fault::Fault;
 use acct_feed::{InputFault, read_input};
@@ -18,7 +20,9 @@ use std::str;
 ///
 /// `CannotRead` where the file cannot be opened or read, or has more than 16,777,216 octets, else
 /// the first thing that is wrong with it.
-pub fn read_config<R: Files>(runtime: &R, alloc: Global, file: &Text) -> Result<Config, Fault> {
+pub fn read_config<R: Files>(runtime: &R, alloc: Global, file: &Text) -> Result<Config, Fault>
+    ensures refused { IfErr result (IsNoConfig None) }
+{
     match File::open(runtime, file.as_str()) {
         Ok(mut reader) => config_from(alloc, &mut reader),
         Err(_) => Err(Fault::CannotRead),
@@ -33,6 +37,7 @@ pub fn read_config<R: Files>(runtime: &R, alloc: Global, file: &Text) -> Result<
 pub fn config_from<R: Read>(alloc: Global, reader: &mut R) -> Result<Config, Fault>
     ensures spelled { IfOk result (λ config.
         IfSome (R.remaining reader.old) (λ text. IsConfig text config)) }
+    ensures refused { IfErr result (IsNoConfig (R.remaining reader.old)) }
 {
     let octets = match read_input(alloc, reader) {
         Ok(octets) => octets,
@@ -49,7 +54,9 @@ pub fn config_from<R: Read>(alloc: Global, reader: &mut R) -> Result<Config, Fau
 }
 
 // What is wrong with a text as a whole.
-fn wrong(kind: ConfigKind) -> Fault {
+fn wrong(kind: ConfigKind) -> Fault
+    ensures { result ≡ Fault.Config (top_error kind) }
+{
     Fault::Config(ConfigError {
         kind,
         table: ConfigTable::Top,

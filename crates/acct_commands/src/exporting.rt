@@ -1,7 +1,7 @@
 //! `export`: the book as CSV.
-ghost use Rattle.std.specs.Prelude.{IfOk};
+ghost use Rattle.std.specs.Prelude.{IfOk, IfErr};
 ghost use Rattle.acct_book.specs.Step.{Looks};
-ghost use Rattle.acct_commands.specs.Exports.{Exports};
+ghost use Rattle.acct_commands.specs.Exports.{Exports, IsExportFault};
 
 use crate::fault::{Fault, StoreFault};
 use acct_book::Book;
@@ -27,6 +27,7 @@ pub fn run_export<B: Book, W: Write + Drop>(
         book.old book.new result }
     ensures exports { IfOk result (λ writer. Exports plans.now (B.content book.old)
         (B.is_open book.new) (W.contents output) (W.contents writer) what) }
+    ensures why { IfErr result IsExportFault }
 {
     let written = match what {
         Export::Sessions => export_sessions(alloc, book, plans, output),

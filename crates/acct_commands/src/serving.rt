@@ -7,12 +7,12 @@ ghost use Rattle.acct_commands.specs.Serving.{ended_of, drops_line, drops_lines,
 
 use crate::counts::{Counts, Drops};
 use crate::ended::Ended;
-use crate::fault::Fault;
+use crate::fault::{Fault, StoreFault};
 use acct_book::Book;
 use acct_command_line::Listening;
 use acct_feed::Status;
 use acct_model::address_of;
-use acct_service::{Exchange, Served, serve};
+use acct_service::{Exchange, Served, Until, serve_while_open};
 use acct_site::Config;
 use acct_sockets::Sockets;
 use std::alloc::Global;
@@ -27,8 +27,9 @@ use std::time::Clock;
 /// # Errors
 ///
 /// `CannotBind`, and `NoMemory` where there is no room for datagrams; the book and the output are
-/// then as they were. `CannotWrite` where the output failed: before the first turn, or after the
-/// last one.
+/// then as they were. `Store(Unavailable)` where the book was found shut, which ends the turns:
+/// whoever started the program is to start it again. `CannotWrite` where the output failed: before
+/// the first turn, or after the last one.
 pub fn run_serve<'r, R: Net + Clock, B: Book, W: Write>(
     runtime: &'r R,
     alloc: Global,
@@ -55,8 +56,11 @@ fn status_of(ended: Ended) -> Result<Status, Fault>
     ensures done { IfOk result (λ status. status ≡ Status.Done) }
 {
     match ended {
-        Ended::Told(_) => Ok(Status::Done),
-        Ended::Untold(_) | Ended::NotBegun => Err(Fault::CannotWrite),
+        Ended::Told(_, Until::AllMade) => Ok(Status::Done),
+        Ended::Told(_, Until::Shut) | Ended::Untold(_, Until::Shut) => {
+            Err(Fault::Store(StoreFault::Unavailable))
+        }
+        Ended::Untold(_, Until::AllMade) | Ended::NotBegun => Err(Fault::CannotWrite),
     }
 }
 
@@ -88,8 +92,9 @@ pub fn serve_sockets<'r, R: Net + Clock, B: Book, W: Write>(
     Ok((sockets, ended))
 }
 
-/// Makes this many turns of an exchange over a book, and says how far it came. `serving` is printed
-/// and flushed before the first turn, and what was counted after the last one, flushed too.
+/// Makes this many turns of an exchange over a book, fewer only where the book is found shut, and
+/// says how far it came. `serving` is printed and flushed before the first turn, and what was
+/// counted after the last one, flushed too.
 ///
 /// What comes in the turns is answered whatever the output does then: a run of `serve`, which says
 /// what that is.
@@ -109,10 +114,10 @@ pub fn serve_exchange<B: Book, X: Exchange, W: Write>(
     let Ok(()) = write_serving(output) else {
         return Ended::NotBegun;
     };
-    let served = serve(alloc, config, book, exchange, turns);
+    let (served, until) = serve_while_open(alloc, config, book, exchange, turns);
     match write_counts(output, &served) {
-        Ok(()) => Ended::Told(served),
-        Err(_) => Ended::Untold(served),
+        Ok(()) => Ended::Told(served, until),
+        Err(_) => Ended::Untold(served, until),
     }
 }
 

@@ -1,10 +1,11 @@
 //! What a server prints over an exchange, and what it does where it can't print.
 use acct_book::MemBook;
+use acct_book::fakes::ShutBook;
 use acct_commands::{Ended, serve_exchange};
 use acct_model::Octets;
 use acct_samples::sample_config;
 use acct_service::lists::{ListExchange, Planned};
-use acct_service::{Event, Exchange, Served, What};
+use acct_service::{Event, Exchange, Served, Until, What};
 use std::alloc::Global;
 use std::io;
 use std::io::{ErrorKind, Write};
@@ -54,7 +55,10 @@ const TEXT: &str = "serving\nevents 2, replies 1, mute 0, faults 0\ndropped 2: 1
 #[test]
 fn prints_what_it_counts(rt: HostRuntime) -> Result<(), Fail> {
     let mut output = Vec::new(rt.alloc());
-    assert_eq!(rt; ended(rt.alloc(), &mut output)?, (Ended::Told(served()), 3));
+    assert_eq!(rt;
+        ended(rt.alloc(), &mut output)?,
+        (Ended::Told(served(), Until::AllMade), 3)
+    );
     assert!(rt; output.as_slice() == TEXT.as_bytes());
     Ok(())
 }
@@ -86,13 +90,64 @@ fn serves_whom_it_told(rt: HostRuntime) -> Result<(), Fail> {
         let told = ended(rt.alloc(), &mut Short { room })?;
         let begun = room >= "serving\n".len();
         let wanted = if begun {
-            (Ended::Untold(served()), 3)
+            (Ended::Untold(served(), Until::AllMade), 3)
         } else {
             (Ended::NotBegun, 0)
         };
         assert_eq!(rt; told, wanted);
     }
     let told = ended(rt.alloc(), &mut Short { room: TEXT.len() })?;
-    assert_eq!(rt; told, (Ended::Told(served()), 3));
+    assert_eq!(rt; told, (Ended::Told(served(), Until::AllMade), 3));
+    Ok(())
+}
+
+// A Start of the client of the sample site, whose digest another program computed.
+const START: &[u8] = b"\x04\x07\x00\x22\xa0\x21\x9d\xa7\x81\xbf\x21\x71\x05\xbb\xdd\x1d\x2b\x3a\
+    \x0e\x94\x28\x06\x00\x00\x00\x01\x2c\x04\x73\x31\x01\x04\x61\x6c";
+
+// A list of two turns, in each of which the client sends its Start.
+fn starts(alloc: Global) -> Result<Vec<Planned>, Fail> {
+    let mut planned = Vec::new(alloc);
+    for moment in [1000, 1005] {
+        let what = What::Datagram {
+            source: [10, 0, 0, 1],
+            port: 1024,
+            bytes: Octets::from_slice(alloc, START)?,
+        };
+        planned.push(Planned::Comes {
+            event: Event { moment, what },
+            takes_reply: true,
+        })?;
+    }
+    Ok(planned)
+}
+
+// How a server of 1,000 turns ends over a book that shuts at the write after so many, the number of
+// turns that it made, and what it printed.
+fn shuts(alloc: Global, writes: u64) -> Result<(Ended, u64, Vec<u8>), Fail> {
+    let config = sample_config(alloc)?;
+    let mut book = ShutBook::new(alloc, writes);
+    let mut exchange = ListExchange::new(alloc, starts(alloc)?);
+    let mut output = Vec::new(alloc);
+    let ended = serve_exchange(alloc, &config, &mut book, &mut exchange, 1000, &mut output);
+    Ok((ended, exchange.turns(), output))
+}
+
+// A server whose book was shut by a failed write ends after its slice of turns, and says what it
+// counted. One that it wasn't makes all of its turns.
+#[test]
+fn ends_where_the_book_is_shut(rt: HostRuntime) -> Result<(), Fail> {
+    let mut served = Served::none();
+    served.events = 2;
+    served.dropped[12] = 2;
+    let (ended, turns, output) = shuts(rt.alloc(), 0)?;
+    assert_eq!(rt; (ended, turns), (Ended::Told(served, Until::Shut), 256));
+    let text = "serving\nevents 2, replies 0, mute 0, faults 0\ndropped 13: 2\n";
+    assert!(rt; output.as_slice() == text.as_bytes());
+    let mut served = Served::none();
+    served.events = 2;
+    served.replies = 2;
+    let (ended, turns, _) = shuts(rt.alloc(), 2)?;
+    assert_eq!(rt; (ended, turns), (Ended::Told(served, Until::AllMade), 1000));
     Ok(())
 }

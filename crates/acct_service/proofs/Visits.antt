@@ -1,5 +1,5 @@
 -- A server's turns, one after another.
-use Rattle.std.proofs.Common.{◌≡◌, ◌≢◌, ◌⊎◌, ◌+◌, inl, inr, Bool, List, [], ◌∷◌, ◌++◌, refl, sym}
+use Rattle.std.proofs.Common.{◌≡◌, ◌≢◌, ◌⊎◌, ◌+◌, ◌≤◌, ℕ, inl, inr, Bool, List, [], ◌∷◌, ◌++◌, refl, sym}
 use Rattle.std.proofs.Common.{◌∙◌, ap, subst, arith, map, length-append, append_assoc, slice_index}
 use Rattle.std.specs.Prelude.{count_by, cond, Option, Some, None, Contains}
 use Rattle.std.specs.List.{flat_map}
@@ -14,7 +14,8 @@ use Rattle.acct_model.specs.declared.entry.Entry.{Entry}
 use Rattle.acct_book.specs.declared.book.Book.{Ghosts}
 use Rattle.acct_book.specs.Content.{Content}
 use Rattle.acct_book.specs.Effect.{after_effect, failed}
-use Rattle.acct_book.specs.Step.{StoodFor}
+use Rattle.acct_book.specs.Stands.{Stands}
+use Rattle.acct_book.specs.Step.{StoodFor, OnlyLooks}
 use Rattle.acct_book.proofs.Crashes.{Leaves, left_by}
 use Rattle.acct_desk.specs.Responses.{unavailable_response}
 use Rattle.acct_wire.specs.declared.reason.Reason.{Reason}
@@ -27,7 +28,7 @@ use Rattle.acct_service.specs.Machine.{AsksBalance}
 use Rattle.acct_service.specs.Told.{Grows}
 use Rattle.acct_service.specs.Serving.{calls_of, is_replied, place_of, is_dropped_for, is_mute}
 use Rattle.acct_service.specs.Serving.{Counts, CountsMore, HasFailed, MayLeave, Leads, Attends}
-use Rattle.acct_service.specs.Serving.{TakesTurn, Serves, Keeps, AtMost}
+use Rattle.acct_service.specs.Serving.{TakesTurn, TakesTurns, Serves, Keeps, AtMost}
 
 -- two runs are one
 run_join : (config : Config) (history mid after : List Entry) (visits more : List Visit)
@@ -81,6 +82,22 @@ counts_join visits more old new counts one = record {
   mute = omega (arith, counts.mute, one.mute, count_by-append is_mute visits more);
 }
 
+counts_more : (visits more : List Visit) (was now is : Served) → CountsMore visits was now
+    → CountsMore more now is → CountsMore (visits ++ more) was is
+counts_more visits more was now is first second = record {
+  events = omega (arith, first.events, second.events, length-append visits more);
+  replies =
+      omega (arith, first.replies, second.replies, count_by-append is_replied visits more);
+  dropped =
+      λ reason. omega (
+        arith,
+        first.dropped reason,
+        second.dropped reason,
+        count_by-append (is_dropped_for reason) visits more,
+      );
+  mute = omega (arith, first.mute, second.mute, count_by-append is_mute visits more);
+}
+
 failed_before : (visits more : List Visit) (asked : Entry) → HasFailed visits asked
     → HasFailed (visits ++ more) asked
 failed_before visits more asked has =
@@ -114,6 +131,16 @@ none_at_most served counts none = record {
   dropped = λ reason. omega (arith, counts.dropped reason);
   mute = omega (arith, counts.mute);
   faults = omega (arith, none);
+}
+
+-- what is at most a number is at most a greater one
+pub at_most_greater : (n m : ℕ) (served : Served) → n ≤ m → AtMost n served → AtMost m served
+at_most_greater n m served le most = record {
+  events = omega (arith, most.events, le);
+  replies = omega (arith, most.replies, le);
+  dropped = λ reason. omega (arith, most.dropped reason, le);
+  mute = omega (arith, most.mute, le);
+  faults = omega (arith, most.faults, le);
 }
 
 -- what holds of the visits of two lists
@@ -263,6 +290,32 @@ module _ {B : Type 0} (b : Ghosts B) (config : Config) where
         second.told);
   }
 
+  -- no turn
+  pub turns_none : (book : B) (told : Option (List Call)) (served : Served)
+      → TakesTurns b config book book told told served served
+  turns_none book told served = record {
+    visits = [];
+    attends = attends_none book told told (grows_none told);
+    counts = record {
+      events = omega arith;
+      replies = omega arith;
+      dropped = λ reason. omega arith;
+      mute = omega arith;
+    };
+  }
+
+  -- one turn more
+  pub turns_more : (old mid new : B) (told later last : Option (List Call)) (was now is : Served)
+      → TakesTurns b config old mid told later was now
+      → TakesTurn b config mid new later last now is
+      → TakesTurns b config old new told last was is
+  turns_more old mid new told later last was now is turns turn = record {
+    visits = turns.visits ++ turn.visits;
+    attends = attends_join turns.visits turn.visits old mid new told later last turns.attends
+        turn.attends;
+    counts = counts_more turns.visits turn.visits was now is turns.counts turn.counts;
+  }
+
   -- before the first turn
   pub serves_first : (book : B) (told : Option (List Call)) (served : Served) → Counts [] served
       → Serves b config book book told told served
@@ -272,15 +325,46 @@ module _ {B : Type 0} (b : Ghosts B) (config : Config) where
     counts = counts;
   }
 
-  -- after one more turn
+  -- after more turns
   pub serves_more : (old mid new : B) (told later last : Option (List Call)) (was is : Served)
-      → Serves b config old mid told later was → TakesTurn b config mid new later last was is
+      → Serves b config old mid told later was → TakesTurns b config mid new later last was is
       → Serves b config old new told last is
-  serves_more old mid new told later last was is s turn = record {
-    visits = s.visits ++ turn.visits;
-    attends = attends_join s.visits turn.visits old mid new told later last s.attends turn.attends;
-    counts = counts_join s.visits turn.visits was is s.counts turn.counts;
+  serves_more old mid new told later last was is s turns = record {
+    visits = s.visits ++ turns.visits;
+    attends = attends_join s.visits turns.visits old mid new told later last s.attends
+        turns.attends;
+    counts = counts_join s.visits turns.visits was is s.counts turns.counts;
   }
+
+  -- after a look at the book
+  pub serves_looked : (old mid new : B) (told later : Option (List Call)) (served : Served)
+      → Serves b config old mid told later served → OnlyLooks b mid new
+      → Serves b config old new told later served
+  serves_looked old mid new told later served s looks =
+      let a = s.attends in
+      record {
+        visits = s.visits;
+        attends = record {
+          answered = a.answered;
+          leads = λ sound history stood.
+              let it = a.leads (looks.was_sound sound) history stood in
+              record {
+                after = it.after;
+                run = it.run;
+                stands = λ still. subst (λ c. Stands config.plans c it.after)
+                    (sym (looks.same still)) (it.stands (looks.was_open still));
+                leaves = λ c may. it.leaves c (looks.adds_none sound c may);
+              };
+          keeps = record {
+            was_sound = λ sound. a.keeps.was_sound (looks.was_sound sound);
+            was_open = λ still. a.keeps.was_open (looks.was_open still);
+            keeps_steady = λ steady. looks.keeps_steady (a.keeps.keeps_steady steady);
+          };
+          steady = a.steady;
+          told = a.told;
+        };
+        counts = s.counts;
+      }
 
   -- a turn in which nothing came
   pub turn_none : (book : B) (told later : Option (List Call)) (was is : Served)

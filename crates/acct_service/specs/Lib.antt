@@ -2,6 +2,7 @@ pub mod Machine
 pub mod Sending
 pub mod Told
 pub mod Serving
+pub mod Slices
 pub mod Listed
 pub mod Life
 pub mod Settling

@@ -165,6 +165,13 @@ pub record TakesTurn {B : Type 0} (b : Ghosts B) (config : Config) (old new : B)
   pub attends : Attends b config visits old new old_told new_told
   pub counts : CountsMore visits old_served new_served
 
+-- turns, and what was counted in them beside what was counted before
+pub record TakesTurns {B : Type 0} (b : Ghosts B) (config : Config) (old new : B)
+    (old_told new_told : Option (List Call)) (old_served new_served : Served) : Type 0 where
+  pub visits : List Visit
+  pub attends : Attends b config visits old new old_told new_told
+  pub counts : CountsMore visits old_served new_served
+
 -- turns, as many as there were
 pub record Serves {B : Type 0} (b : Ghosts B) (config : Config) (old new : B)
     (old_told new_told : Option (List Call)) (served : Served) : Type 0 where

@@ -7,6 +7,7 @@
 //! 3. `serve` makes a number of turns over a book and an exchange. What it does is a run of that
 //!    machine: every balance and every reply is the one that the entries accepted before it
 //!    determine, whatever comes, repeated, reordered or failing (`specs/Serving.antt`).
+//!    `serve_while_open` ends besides where its book is found shut.
 //! 4. A fault of the exchange is counted, and the next turn follows. An entry that was recorded
 //!    stays recorded when its reply fails.
 #![tactic(auto)]
@@ -17,10 +18,12 @@ pub mod laws;
 pub mod lists;
 mod outbox;
 mod server;
+mod slices;
 mod stepping;
 
 pub use event::{Event, What};
 pub use exchange::{Asked, Call, Exchange, Fault};
 pub use outbox::Outbox;
-pub use server::{Served, serve, take_turn};
+pub use server::{Served, serve, take_turn, take_turns};
+pub use slices::{Until, serve_while_open};
 pub use stepping::{Turn, step};

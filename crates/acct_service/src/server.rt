@@ -2,7 +2,8 @@
 ghost use Rattle.std.specs.Prelude.{◌≡◌, ℕ, ◌+◌, ◌-◌, ◌^◌, ◌<◌, ◌≤◌, ◌==◌};
 ghost use Rattle.std.specs.Prelude.{if◌then◌else◌, [], slice_index};
 ghost use Rattle.acct_wire.specs.declared.reason.Reason.{Reason};
-ghost use Rattle.acct_service.specs.Serving.{Serves, TakesTurn, Counts, AtMost, place_of};
+ghost use Rattle.acct_service.specs.Serving.{Serves, TakesTurn, TakesTurns, Counts, AtMost};
+ghost use Rattle.acct_service.specs.Serving.{place_of};
 
 use crate::exchange::Exchange;
 use crate::outbox::Outbox;
@@ -87,6 +88,7 @@ pub fn take_turn<B: Book, X: Exchange>(
     ensures turns { X.turn_count exchange.new ≡ X.turn_count exchange.old + 1 }
     ensures faults { X.failure_count exchange.new + served.old.faults
         ≡ X.failure_count exchange.old + served.new.faults }
+    ensures few { X.failure_count exchange.new ≤ X.failure_count exchange.old + 1 }
     ensures room { (n : ℕ) → AtMost n served.old → AtMost (n + 1) served.new }
     ensures turn { TakesTurn B.Book config.now book.old book.new (X.told exchange.old)
         (X.told exchange.new) served.old served.new }
@@ -105,6 +107,33 @@ pub fn take_turn<B: Book, X: Exchange>(
                 Turn::Mute => served.mute += 1,
             }
         }
+    }
+}
+
+/// Makes exactly `limit` turns, as `take_turn` makes one, and counts what came in them beside what
+/// was counted before.
+pub fn take_turns<B: Book, X: Exchange>(
+    alloc: Global,
+    config: &Config,
+    book: &mut B,
+    exchange: &mut X,
+    limit: u64,
+    out: &mut Outbox,
+    served: &mut Served,
+)
+    requires turns { X.turn_count exchange.old + limit ≤ 2 ^ 64 - 1 }
+    requires failures { X.failure_count exchange.old + limit ≤ 2 ^ 64 - 1 }
+    requires room { AtMost (2 ^ 64 - 1 - limit) served.old }
+    ensures turns { X.turn_count exchange.new ≡ X.turn_count exchange.old + limit }
+    ensures faults { X.failure_count exchange.new + served.old.faults
+        ≡ X.failure_count exchange.old + served.new.faults }
+    ensures few { X.failure_count exchange.new ≤ X.failure_count exchange.old + limit }
+    ensures room { (n : ℕ) → AtMost n served.old → AtMost (n + limit) served.new }
+    ensures taken { TakesTurns B.Book config.now book.old book.new (X.told exchange.old)
+        (X.told exchange.new) served.old served.new }
+{
+    for turn in 0..limit {
+        take_turn(alloc, config, book, exchange, out, served);
     }
 }
 
@@ -143,8 +172,6 @@ pub fn serve<B: Book, X: Exchange>(
 {
     let mut out = Outbox::new();
     let mut served = Served::none();
-    for turn in 0..limit {
-        take_turn(alloc, config, book, exchange, &mut out, &mut served);
-    }
+    take_turns(alloc, config, book, exchange, limit, &mut out, &mut served);
     served
 }

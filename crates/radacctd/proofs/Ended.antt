@@ -7,12 +7,34 @@ use Rattle.sqlite_store.specs.declared.store.FileStore.{FileStore}
 use Rattle.sqlite.specs.Held.{Held}
 use Rattle.acct_model.specs.declared.plan.Plan.{Plan}
 use Rattle.acct_book.specs.declared.book.Book as book
+use Rattle.acct_site.specs.declared.config.Config.{Config}
 use Rattle.acct_feed.specs.declared.status.Status.{Status}
 use Rattle.acct_commands.specs.declared.fault.Fault.{Fault}
 use Rattle.radacctd.specs.declared.left.Left.{Left}
 use Rattle.radacctd.specs.declared.left.Left.TheVariants as left
 use Rattle.radacctd.specs.Files.{IsRefused, IsUnclosed, Copies}
 use Rattle.radacctd.specs.Commands.{Worked, Closes, Fails, FailsToExport}
+use Rattle.radacctd.specs.Jobs.{ClosesOrFails}
+
+-- what holds with one configuration holds with some
+pub with_config : {A E : Type 0} (P : Config → A → Type 0) (config : Config) (result : Result A E)
+    → IfOk result (P config) → IfOk result (λ done. (some : Config) × P some done)
+with_config P config (Ok done) h = (config, h)
+with_config P config (Err e) h = tt
+
+module _ {D : Type 0} {g : disk.Ghosts D} where
+  -- how a command that closes its book ended
+  pub ended_so : (Closed : Status → Files D → Type 0) (Failed : Fault → Left D g → Type 0)
+      (ending : Result (Status × Files D) (Fault × Left D g)) (ended : Result Status Fault)
+      (rest : Left D g)
+      → IfOk ending (λ done. (ended ≡ Ok done.0) × (rest ≡ left.Closed done.1))
+      → IfErr ending (λ e. (ended ≡ Err e.0) × (rest ≡ e.1))
+      → IfOk ending (λ done. Closed done.0 done.1) → IfErr ending (λ e. Failed e.0 e.1)
+      → ClosesOrFails Closed Failed ended rest
+  ended_so Closed Failed (Ok done) ended rest ok err closed failed =
+      inl (done.0, done.1, ok.0, ok.1, closed)
+  ended_so Closed Failed (Err e) ended rest ok err closed failed =
+      inr (e.0, err.0, subst (Failed e.0) (sym err.1) failed)
 
 module _ {D : Type 0} {g : disk.Ghosts D} where
   -- its status is that of its work

@@ -3,12 +3,16 @@
 //! A command takes its configuration, then its book, then its sockets, and then standard input. The
 //! first fault ends it. `init`, `serve` and `import` close the book at their end; `export` only
 //! reads it, and leaves its files as they are.
-ghost use Rattle.std.specs.Prelude.{◌≢◌, ◌≡◌, ◌<◌, ◌^◌, ◌++◌, ◌∷◌, [], IfOk, IfErr, OnOk, codes};
+ghost use Rattle.std.specs.Prelude.{◌≢◌, ◌≡◌, ◌⊎◌, ◌<◌, ◌^◌, ℕ, Ok, Err, IfOk, IfErr, OnOk};
 ghost use Rattle.std.specs.Io.KnownBytes.{Appends};
 ghost use Rattle.sqlite_wal.specs.Files.{image_at};
+ghost use Rattle.acct_site.specs.declared.config.Config.{Config};
 ghost use Rattle.acct_command_line.specs.CommandLine.{HasTurns};
 ghost use Rattle.radacctd.specs.Commands.{Closes, Fails, Worked, WritesOut, FailsToExport};
 ghost use Rattle.radacctd.specs.Files.{Copies, IsUnclosed};
+ghost use Rattle.radacctd.specs.Jobs.{DoesJob, HasNoConfig, MakesBook, FailsToMake, WorksAndCloses};
+ghost use Rattle.radacctd.specs.Jobs.{FailsAtWork, ExportsBook, ExportsNothing, FeedsScript};
+ghost use Rattle.radacctd.specs.Jobs.{text_of, made_line};
 ghost use Rattle.acct_commands.specs.Serving.{RunsServer};
 ghost use Rattle.acct_commands.specs.Imports.{Runs};
 
@@ -25,7 +29,7 @@ use acct_service::Exchange;
 use acct_site::Config;
 use acct_sockets::{Sockets, moment_of};
 use acct_sql::SqlBook;
-use sqlite::{Connection, FileFrom, FileStore, Files, Start};
+use sqlite::{Connection, FileFrom, FileStore, Files, MemStore, Start};
 use sqlite_disk::Disk;
 use std::io;
 use std::io::{Read, Write};
@@ -53,6 +57,10 @@ pub fn run<S: Start, I: Read + Drop, W: Write + Drop>(
 ) -> Outcome<W, FileFrom<S>>
     requires { HasTurns job.now }
     ensures other { IfOk result.ended (λ status. status ≢ Status.WrongWords) }
+    ensures does { DoesJob (image_at S.Start) ⟦<SqlBook<FileStore<FileFrom<S>>> as Book>⟧
+        ⟦<Sockets<'static, HostRuntime> as Exchange>⟧ ⟦<SqlBook<MemStore> as Book>⟧
+        (I.remaining input) (W.contents output) (text_of W.contents result.output) job.now
+        result.ended result.left }
 {
     match job {
         Job::Feed { config } => {
@@ -76,7 +84,8 @@ pub fn run<S: Start, I: Read + Drop, W: Write + Drop>(
             with_book(ending, output)
         }
         Job::Import { paths } => {
-            let ending = import(runtime, paths, input, &mut output, start);
+            let moment = moment_of(runtime);
+            let ending = import(runtime, paths, moment, input, &mut output, start);
             with_book(ending, output)
         }
         Job::Export { paths, what } => export(runtime, paths, *what, output, start),
@@ -84,9 +93,11 @@ pub fn run<S: Start, I: Read + Drop, W: Write + Drop>(
 }
 
 // The outcome of a command that has no book.
-fn without_book<W, D: Disk>(ended: Result<Status, Fault>, output: W) -> Outcome<W, D>
+fn without_book<W: Write, D: Disk>(ended: Result<Status, Fault>, output: W) -> Outcome<W, D>
     requires { IfOk ended (λ status. status ≢ Status.WrongWords) }
     ensures same { result.ended ≡ ended }
+    ensures output { text_of W.contents result.output ≡ W.contents output }
+    ensures left { result.left ≡ Left.Nothing }
     ensures other { IfOk result.ended (λ status. status ≢ Status.WrongWords) }
 {
     Outcome {
@@ -97,12 +108,16 @@ fn without_book<W, D: Disk>(ended: Result<Status, Fault>, output: W) -> Outcome<
 }
 
 // The outcome of a command that closes its book.
-fn with_book<W, D: Disk>(
+fn with_book<W: Write, D: Disk>(
     ending: Result<(Status, Files<D>), (Fault, Left<D>)>,
     output: W,
 ) -> Outcome<W, D>
     requires { IfOk ending (λ done. done.0 ≢ Status.WrongWords) }
-    ensures { IfOk result.ended (λ status. status ≢ Status.WrongWords) }
+    ensures ok { IfOk ending (λ done. (result.ended ≡ Ok done.0)
+        × (result.left ≡ Left.Closed done.1)) }
+    ensures err { IfErr ending (λ e. (result.ended ≡ Err e.0) × (result.left ≡ e.1)) }
+    ensures output { text_of W.contents result.output ≡ W.contents output }
+    ensures other { IfOk result.ended (λ status. status ≢ Status.WrongWords) }
 {
     match ending {
         Ok((status, files)) => Outcome {
@@ -125,7 +140,10 @@ fn feed<I: Read + Drop, W: Write + Drop>(
     input: I,
     output: &mut W,
 ) -> Result<Status, Fault>
-    ensures { IfOk result (λ status. status ≢ Status.WrongWords) }
+    ensures other { IfOk result (λ status. status ≢ Status.WrongWords) }
+    ensures done { result ≡ Ok Status.Done → (config : Config)
+        × FeedsScript ⟦<SqlBook<MemStore> as Book>⟧ config (I.remaining input)
+        (W.contents output.old) (W.contents output.new) }
 {
     let alloc = runtime.alloc();
     let config = match file {
@@ -155,7 +173,7 @@ fn finished<S: Start>(book: FileBook<S>, status: Status) -> Ending<S>
 
 // The configuration of a command that keeps a book, before any file of the book is opened.
 fn config_of<D: Disk>(runtime: &HostRuntime, paths: &Paths) -> Result<Config, (Fault, Left<D>)>
-    ensures { IfErr result (λ e. e.1 ≡ Left.Nothing) }
+    ensures { IfErr result (λ e. HasNoConfig e.0 e.1) }
 {
     match read_config(runtime, runtime.alloc(), &paths.config) {
         Ok(config) => Ok(config),
@@ -170,7 +188,11 @@ fn init<S: Start, W: Write>(
     output: &mut W,
     start: S,
 ) -> Ending<S>
-    ensures { IfOk result (λ done. done.0 ≢ Status.WrongWords) }
+    ensures other { IfOk result (λ done. done.0 ≢ Status.WrongWords) }
+    ensures made { IfOk result (λ done. MakesBook (image_at S.Start)
+        ⟦<SqlBook<FileStore<FileFrom<S>>> as Book>⟧ (W.contents output.old)
+        (W.contents output.new) done.0 done.1) }
+    ensures failed { IfErr result (λ e. FailsToMake (image_at S.Start) e.0 e.1) }
 {
     let config = config_of(runtime, paths)?;
     let book = made(runtime, &paths.database, &config.plans, start)?;
@@ -184,7 +206,7 @@ fn init<S: Start, W: Write>(
 // Says that a book was made.
 fn write_made<W: Write>(output: &mut W) -> io::Result<()>
     ensures { OnOk result (Appends (W.contents output.old) (W.contents output.new)
-        (codes "book made" ++ 10 ∷ [])) }
+        made_line) }
 {
     writeln!(output, "book made")?;
     output.flush()
@@ -200,7 +222,15 @@ fn serve<S: Start, W: Write>(
     start: S,
 ) -> Ending<S>
     requires { turns < 2 ^ 63 }
-    ensures { IfOk result (λ done. done.0 ≢ Status.WrongWords) }
+    ensures other { IfOk result (λ done. done.0 ≢ Status.WrongWords) }
+    ensures closed { IfOk result (λ done. WorksAndCloses (image_at S.Start)
+        (λ config. RunsServer ⟦<SqlBook<FileStore<FileFrom<S>>> as Book>⟧
+        ⟦<Sockets<'static, HostRuntime> as Exchange>⟧ config turns (W.contents output.old)
+        (W.contents output.new)) done.0 done.1) }
+    ensures failed { IfErr result (λ e. FailsAtWork (image_at S.Start)
+        (λ config. RunsServer ⟦<SqlBook<FileStore<FileFrom<S>>> as Book>⟧
+        ⟦<Sockets<'static, HostRuntime> as Exchange>⟧ config turns (W.contents output.old)
+        (W.contents output.new)) e.0 e.1) }
 {
     let config = config_of(runtime, paths)?;
     served(
@@ -243,18 +273,27 @@ fn served<S: Start, W: Write>(
     }
 }
 
-// `import` into the book of a file, at the clock's moment.
+// `import` into the book of a file, at this moment.
 fn import<S: Start, I: Read + Drop, W: Write>(
     runtime: &HostRuntime,
     paths: &Paths,
+    moment: u64,
     input: I,
     output: &mut W,
     start: S,
 ) -> Ending<S>
-    ensures { IfOk result (λ done. done.0 ≢ Status.WrongWords) }
+    requires { moment < 2 ^ 53 }
+    ensures other { IfOk result (λ done. done.0 ≢ Status.WrongWords) }
+    ensures closed { IfOk result (λ done. WorksAndCloses (image_at S.Start)
+        (λ config ended first last. Runs ⟦<SqlBook<FileStore<FileFrom<S>>> as Book>⟧
+        config.plans moment (I.remaining input) first last (W.contents output.old)
+        (W.contents output.new) ended) done.0 done.1) }
+    ensures failed { IfErr result (λ e. FailsAtWork (image_at S.Start)
+        (λ config ended first last. Runs ⟦<SqlBook<FileStore<FileFrom<S>>> as Book>⟧
+        config.plans moment (I.remaining input) first last (W.contents output.old)
+        (W.contents output.new) ended) e.0 e.1) }
 {
     let config = config_of(runtime, paths)?;
-    let moment = moment_of(runtime);
     imported(
         runtime,
         &config,
@@ -305,7 +344,11 @@ fn export<S: Start, W: Write + Drop>(
     output: W,
     start: S,
 ) -> Outcome<W, FileFrom<S>>
-    ensures { IfOk result.ended (λ status. status ≢ Status.WrongWords) }
+    ensures other { IfOk result.ended (λ status. status ≢ Status.WrongWords) }
+    ensures does { ExportsBook (image_at S.Start) ⟦<SqlBook<FileStore<FileFrom<S>>> as Book>⟧ what
+        (W.contents output) (text_of W.contents result.output) result.ended result.left
+        ⊎ ExportsNothing (image_at S.Start) ⟦<SqlBook<FileStore<FileFrom<S>>> as Book>⟧
+        result.ended result.left }
 {
     let config = match read_config(runtime, runtime.alloc(), &paths.config) {
         Ok(config) => config,

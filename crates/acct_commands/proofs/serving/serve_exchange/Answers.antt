@@ -4,8 +4,13 @@ use Rattle.acct_commands.proofs.serving.serve_exchange.Goals as goal
 pub returns-in-Ok-write_counts : goal.returns-in-Ok-write_counts
 returns-in-Ok-write_counts g c =
     let w = g.W.Write.contents in
-    let ran = c.serve-served.ensures in (
-      record { turns_made = ran.turns; faults = ran.faults; run = ran.serves },
+    let ran = c.serve_while_open-until.ensures in (
+      record {
+        turns_made = ran.turns;
+        shut = ran.shut;
+        faults = ran.faults;
+        run = ran.serves;
+      },
       Appends-trans (w c.args.output.now) (w c.write_serving.new.output)
           (w c.write_counts.new.output) _ _ c.in-Ok.ensures c.in-Ok-write_counts.ensures,
     )

@@ -1,0 +1,17 @@
+use Rattle.std.proofs.Common.{◌≡◌, ◌+◌, ◌≤◌, ℕ}
+use Rattle.acct_service.specs.Serving.{TakesTurns, AtMost}
+use Rattle.acct_service.proofs.server.take_turns.Given as goal
+
+abbrev pub invariant-loop-turn : goal.invariant-loop-turn
+invariant-loop-turn g l =
+    let b = g.B.Book in
+    let x = g.X.Exchange in
+    record {
+      turns : x.turn_count l.exchange ≡ x.turn_count l.fn.exchange + l.turn;
+      faults : x.failure_count l.exchange + l.fn.served.faults
+          ≡ x.failure_count l.fn.exchange + l.served.faults;
+      few : x.failure_count l.exchange ≤ x.failure_count l.fn.exchange + l.turn;
+      room : (n : ℕ) → AtMost n l.fn.served → AtMost (n + l.turn) l.served;
+      taken : TakesTurns b l.config l.fn.book l.book (x.told l.fn.exchange) (x.told l.exchange)
+          l.fn.served l.served;
+    }

@@ -1,0 +1,19 @@
+use Rattle.std.proofs.Common.{◌≡◌, ◌+◌, ◌≤◌, ◌-◌}
+use Rattle.acct_service.specs.Serving.{Serves, AtMost}
+use Rattle.acct_service.proofs.slices.serve_while_open.Given as goal
+
+abbrev pub invariant-loop-left : goal.invariant-loop-left
+invariant-loop-left g l =
+    let b = g.B.Book in
+    let x = g.X.Exchange in
+    record {
+      left : l.left ≤ l.limit;
+      turns : x.turn_count l.exchange + l.left ≡ x.turn_count l.fn.exchange + l.limit;
+      faults : x.failure_count l.exchange ≡ x.failure_count l.fn.exchange + l.served.faults;
+      room : AtMost (l.limit - l.left) l.served;
+      serves : Serves b l.config l.fn.book l.book (x.told l.fn.exchange) (x.told l.exchange)
+          l.served;
+    }
+
+abbrev pub decreases-loop-left : goal.decreases-loop-left
+decreases-loop-left g l = l.left

@@ -1,0 +1,72 @@
+//! Turns in slices, after each of which the server looks whether its book still tells what it holds.
+ghost use Rattle.std.specs.Prelude.{◌≡◌, ◌+◌, ◌-◌, ◌^◌, ◌≤◌, IsTrue};
+ghost use Rattle.acct_book.specs.Step.{OnlyLooks};
+ghost use Rattle.acct_service.specs.Serving.{Serves, AtMost};
+ghost use Rattle.acct_service.specs.Slices.{MakesTurns};
+
+use crate::exchange::Exchange;
+use crate::outbox::Outbox;
+use crate::server::{Served, take_turns};
+use acct_book::Book;
+use acct_site::Config;
+use std::alloc::Global;
+
+/// How many turns are made before the book is looked at again. Where nothing comes they take 5
+/// seconds over sockets that wait 20 milliseconds for a datagram.
+const SLICE: u64 = 256;
+
+/// Until when a server made turns.
+#[derive(Clone, Copy, PartialEq, Eq, Debug)]
+pub enum Until {
+    /// It made all that it was given.
+    AllMade,
+    /// Its book refused to tell a balance. A book that a failed write has shut refuses each call
+    /// until it is opened again.
+    Shut,
+}
+
+/// MakesTurns `limit` turns, as `serve` does, but ends where its book refuses to tell a balance after a
+/// slice of them: a book that is shut would answer nobody any more, and is to be opened again.
+///
+/// What `serve` says of its turns holds of those that were made.
+///
+/// It costs one search of the book in 256 turns besides what `serve` costs.
+pub fn serve_while_open<B: Book, X: Exchange>(
+    alloc: Global,
+    config: &Config,
+    book: &mut B,
+    exchange: &mut X,
+    limit: u64,
+) -> (Served, Until)
+    requires turns { X.turn_count exchange.old + limit ≤ 2 ^ 64 - 1 }
+    requires failures { X.failure_count exchange.old + limit ≤ 2 ^ 64 - 1 }
+    ensures turns { MakesTurns limit (X.turn_count exchange.old) (X.turn_count exchange.new) result.1 }
+    ensures faults { X.failure_count exchange.new
+        ≡ X.failure_count exchange.old + result.0.faults }
+    ensures within { AtMost limit result.0 }
+    ensures serves { Serves B.Book config.now book.old book.new (X.told exchange.old)
+        (X.told exchange.new) result.0 }
+    // A book that never refuses to tell a balance ends no run.
+    ensures shut { result.1 ≡ Until.Shut → B.is_steady book.old → ⊥ }
+{
+    let mut out = Outbox::new();
+    let mut served = Served::none();
+    let mut left = limit;
+    while left > 0 {
+        let slice = left.min(SLICE);
+        take_turns(alloc, config, book, exchange, slice, &mut out, &mut served);
+        left -= slice;
+        if is_shut(book) {
+            return (served, Until::Shut);
+        }
+    }
+    (served, Until::AllMade)
+}
+
+// Whether the book refuses to tell a balance: any, so that of no account.
+fn is_shut<B: Book>(book: &mut B) -> bool
+    ensures looks { OnlyLooks B.Book book.old book.new }
+    ensures steady { IsTrue result → B.is_steady book.old → ⊥ }
+{
+    book.balance(b"").is_err()
+}

@@ -1,0 +1,44 @@
+use Rattle.std.proofs.Common.{◌∙◌, sym}
+use Rattle.radacctd.proofs.Ended.{ended_so}
+use Rattle.radacctd.proofs.command.run.Goals as goal
+
+pub returns-in-Feed-clause-does : goal.returns-in-Feed-clause-does
+returns-in-Feed-clause-does g c =
+    let out = c.without_book.ensures in
+    rw (c.in-Feed.is, out.output)
+    (λ done. c.feed-ended.ensures.done (sym out.same ∙ done), out.left)
+
+pub returns-in-Check-clause-does : goal.returns-in-Check-clause-does
+returns-in-Check-clause-does g c =
+    let out = c.without_book-in-Check.ensures in
+    rw (c.in-Check.is, out.output, out.same) (
+      record { sizes = c.run_check-ended.ensures.sizes; refused = c.run_check-ended.ensures.refused },
+      out.left,
+    )
+
+pub returns-in-Init-clause-does : goal.returns-in-Init-clause-does
+returns-in-Init-clause-does g c =
+    let out = c.with_book.ensures in
+    rw (c.in-Init.is, out.output)
+    (ended_so _ _ c.init-ending.result _ _ out.ok out.err c.init-ending.ensures.made
+    c.init-ending.ensures.failed)
+
+pub returns-in-Serve-clause-does : goal.returns-in-Serve-clause-does
+returns-in-Serve-clause-does g c =
+    let out = c.with_book-in-Serve.ensures in
+    rw (c.in-Serve.is, out.output)
+    (ended_so _ _ c.serve-ending.result _ _ out.ok out.err c.serve-ending.ensures.closed
+    c.serve-ending.ensures.failed)
+
+pub returns-in-Import-clause-does : goal.returns-in-Import-clause-does
+returns-in-Import-clause-does g c =
+    let out = c.with_book-in-Import.ensures in
+    rw (c.in-Import.is, out.output) (
+      c.moment_of-moment.result,
+      c.moment_of-moment.ensures,
+      ended_so _ _ c.import-ending.result _ _ out.ok out.err c.import-ending.ensures.closed
+          c.import-ending.ensures.failed,
+    )
+
+pub returns-in-Export-clause-does : goal.returns-in-Export-clause-does
+returns-in-Export-clause-does g c = rw c.in-Export.is c.export.ensures.does

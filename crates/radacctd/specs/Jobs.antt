@@ -1,0 +1,166 @@
+-- What each job does: how it ends, what it prints, and what it leaves of the book's files. The
+-- configuration is the one that was read from its file, which no contract can name.
+use Rattle.std.specs.Prelude.{◌≡◌, ◌⊎◌, ◌<◌, ◌^◌, ℕ, List, [], ◌∷◌, ◌++◌, Option, Some, None, Result}
+use Rattle.std.specs.Prelude.{Ok, Err, IfErr, IfSome, OnOk, codes}
+use Rattle.std.specs.Io.KnownBytes.{Appends}
+use Rattle.sqlite_disk.specs.declared.Disk as disk
+use Rattle.sqlite_disk.specs.declared.Files.{Files}
+use Rattle.sqlite_wal.specs.Recovery.{Image}
+use Rattle.sqlite_store.specs.declared.store.FileStore.{FileStore}
+use Rattle.sqlite.specs.Held.{Held}
+use Rattle.sqlite.specs.State.{HasCleanDisk}
+use Rattle.sqlite.specs.Files.{file_state}
+use Rattle.acct_model.specs.declared.plan.Plan.{Plan}
+use Rattle.acct_book.specs.declared.book.Book as book
+use Rattle.acct_site.specs.declared.config.Config.{Config}
+use Rattle.acct_service.specs.declared.exchange.Exchange as exchange
+use Rattle.acct_feed.specs.Feed.{RanAfresh}
+use Rattle.acct_feed.specs.declared.status.Status.{Status}
+use Rattle.acct_feed.specs.declared.status.Status.TheVariants as status
+use Rattle.acct_command_line.specs.declared.job.Job.{Job}
+use Rattle.acct_command_line.specs.declared.job.Job.TheVariants as job
+use Rattle.acct_command_line.specs.declared.job.Export.{Export}
+use Rattle.acct_commands.specs.Checks.{IsNoConfig, IsUnchecked, TellsSizes}
+use Rattle.acct_commands.specs.Imports.{Runs}
+use Rattle.acct_commands.specs.Serving.{RunsServer}
+use Rattle.acct_commands.specs.declared.fault.Fault.{Fault}
+use Rattle.acct_commands.specs.declared.fault.Fault.TheVariants as fault
+use Rattle.radacctd.specs.declared.left.Left.{Left}
+use Rattle.radacctd.specs.declared.left.Left.TheVariants as left
+use Rattle.radacctd.specs.Files.{IsMadeIn, HasNotMade, IsUnclosed, Copies}
+use Rattle.radacctd.specs.Commands.{Worked, Closes, Fails, WritesOut, FailsToExport}
+
+-- what a command printed, where its output was not lost
+abbrev pub text_of : {W : Type 0} → (W → Option (List ℕ)) → Option W → Option (List ℕ)
+text_of contents None = None
+text_of contents (Some output) = contents output
+
+-- `book made`
+abbrev pub made_line : List ℕ
+made_line = codes "book made" ++ 10 ∷ []
+
+-- ---- commands without a book
+
+-- `check`: the sizes of a configuration, or why none were told
+pub record ChecksConfig (before after : Option (List ℕ)) (ended : Result Status Fault) : Type 0 where
+  pub sizes : OnOk ended (TellsSizes None before after)
+  pub refused : IfErr ended (IsUnchecked None)
+
+-- a script whose lines were all good was answered over an empty book with this configuration
+pub record FeedsScript {B : Type 0} (b : book.Ghosts B) (config : Config) (text : Option (List ℕ))
+    (before after : Option (List ℕ)) : Type 0 where
+  pub input : List ℕ
+  pub read : IfSome text (λ all. input ≡ all)
+  pub ran : RanAfresh b config.clients config.plans input before after
+
+-- ---- commands that keep a book
+
+module _ {D : Type 0} {g : disk.Ghosts D} where
+  -- a fault ended a command before any file of the book was opened
+  pub record HasNoConfig (told : Fault) (rest : Left D g) : Type 0 where
+    pub why : IsNoConfig None told
+    pub nothing : rest ≡ left.Nothing
+
+  -- how a command ended: well, and its book was closed so; or by a fault, which left this
+  abbrev pub ClosesOrFails : (Status → Files D → Type 0) → (Fault → Left D g → Type 0)
+      → Result Status Fault → Left D g → Type 0
+  ClosesOrFails Closed Failed ended rest =
+      ((status : Status) × (files : Files D) × (ended ≡ Ok status) × (rest ≡ left.Closed files)
+      × Closed status files)
+      ⊎ ((told : Fault) × (ended ≡ Err told) × Failed told rest)
+
+  module _ (image : Image) where
+    -- a new book of these plans was closed into these files
+    pub record IsClosedNew (plans : List Plan) (book : Held (FileStore D g)) (files : Files D)
+        : Type 0 where
+      pub made : HasCleanDisk (file_state book) → IsMadeIn image plans book
+      pub copied : Copies book files
+
+    -- a new book of these plans was made, and could not be closed
+    pub record IsUnclosedNew (plans : List Plan) (told : Fault) (rest : Left D g) : Type 0 where
+      pub book : Held (FileStore D g)
+      pub made : HasCleanDisk (file_state book) → IsMadeIn image plans book
+      pub unclosed : IsUnclosed book told rest
+
+    -- one was closed, and the line that says so could not be written
+    pub record IsUntoldNew (plans : List Plan) (told : Fault) (rest : Left D g) : Type 0 where
+      pub untold : told ≡ fault.CannotWrite
+      pub files : Files D
+      pub closed : rest ≡ left.Closed files
+      pub book : Held (FileStore D g)
+      pub is_new : IsClosedNew plans book files
+
+    -- why `init` did not end well
+    abbrev pub FailsToMake : Fault → Left D g → Type 0
+    FailsToMake told rest = HasNoConfig told rest
+        ⊎ ((config : Config) × (HasNotMade image config.plans told rest
+        ⊎ IsUnclosedNew config.plans told rest
+        ⊎ IsUntoldNew config.plans told rest))
+
+    -- `serve` and `import`: what was done with a configuration, from the book that the files held
+    module _ (Did : Config → Result Status Fault → Held (FileStore D g) → Held (FileStore D g)
+        → Type 0) where
+      abbrev pub WorksAndCloses : Status → Files D → Type 0
+      WorksAndCloses ended files =
+          (config : Config) × Closes image config.plans (Did config) ended files
+
+      abbrev pub FailsAtWork : Fault → Left D g → Type 0
+      FailsAtWork told rest = HasNoConfig told rest
+          ⊎ ((config : Config) × Fails image config.plans (Did config) told rest)
+
+    module _ (b : book.Ghosts (Held (FileStore D g))) where
+      -- `init` ended well: a new book, and a line that says so
+      pub record MakesBook (before after : Option (List ℕ)) (ended : Status) (files : Files D)
+          : Type 0 where
+        pub config : Config
+        pub done : ended ≡ status.Done
+        pub book : Held (FileStore D g)
+        pub is_new : IsClosedNew config.plans book files
+        pub told : Appends before after made_line
+
+      -- `export`: what was written of the content that the files held
+      pub record ExportsBook (what : Export) (before after : Option (List ℕ))
+          (ended : Result Status Fault) (rest : Left D g) : Type 0 where
+        pub config : Config
+        pub done : ended ≡ Ok status.Done
+        pub last : Held (FileStore D g)
+        pub open_is : rest ≡ left.Open last
+        pub worked : Worked image config.plans (WritesOut b config.plans what before after) last
+
+      -- why it was not written
+      pub record ExportsNothing (ended : Result Status Fault) (rest : Left D g) : Type 0 where
+        pub told : Fault
+        pub ended_is : ended ≡ Err told
+        pub why : HasNoConfig told rest
+            ⊎ ((config : Config) × FailsToExport b image config.plans told rest)
+
+    -- ---- all of them
+
+    -- What a job does over the files that held the image: how it ends, and what it leaves of them.
+    -- `text` is what standard input has, `before` and `after` what standard output had and has.
+    module _ {X M : Type 0} (b : book.Ghosts (Held (FileStore D g))) (x : exchange.Ghosts X)
+        (m : book.Ghosts M) (text before after : Option (List ℕ)) where
+      -- turns of a server, and an import at a moment, with a configuration
+      abbrev pub HasServed : ℕ → Config → Result Status Fault → Held (FileStore D g)
+          → Held (FileStore D g) → Type 0
+      HasServed turns config = RunsServer b x config turns before after
+
+      abbrev pub HasImported : ℕ → Config → Result Status Fault → Held (FileStore D g)
+          → Held (FileStore D g) → Type 0
+      HasImported moment config ended first last =
+          Runs b config.plans moment text first last before after ended
+
+      abbrev pub DoesJob : Job → Result Status Fault → Left D g → Type 0
+      DoesJob (job.Feed file) ended rest =
+          (ended ≡ Ok status.Done → (config : Config) × FeedsScript m config text before after)
+          × (rest ≡ left.Nothing)
+      DoesJob (job.Check file) ended rest = ChecksConfig before after ended × (rest ≡ left.Nothing)
+      DoesJob (job.Init paths) ended rest =
+          ClosesOrFails (MakesBook b before after) FailsToMake ended rest
+      DoesJob (job.Serve paths listening turns) ended rest =
+          ClosesOrFails (WorksAndCloses (HasServed turns)) (FailsAtWork (HasServed turns)) ended rest
+      DoesJob (job.Import paths) ended rest = (moment : ℕ) × (moment < 2 ^ 53)
+          × ClosesOrFails (WorksAndCloses (HasImported moment)) (FailsAtWork (HasImported moment))
+          ended rest
+      DoesJob (job.Export paths what) ended rest =
+          ExportsBook b what before after ended rest ⊎ ExportsNothing b ended rest
