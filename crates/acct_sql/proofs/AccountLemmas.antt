@@ -28,12 +28,12 @@ use Rattle.acct_sql.proofs.ValueLemmas.{cast_null}
 use Rattle.acct_sql.proofs.KeyLemmas.{one_account}
 
 abbrev pub IsUpdated : Row → State → State → ℕ → Type 0
-IsUpdated params old new count = HasUpdated 2 account.name 4 account.columns (1 ∷ []) refl
-    (λ db. refl) (λ taken news. refl) name_filter balance_project params old new count
+IsUpdated params old new count = HasUpdated 2 account.name account.tree account.columns
+    (1 ∷ []) refl (λ db. refl) (λ taken news. refl) name_filter balance_project params old new count
 
 abbrev pub IsInserted : Row → State → State → Type 0
-IsInserted source old new = HasInserted 2 account.name 4 account.columns (1 ∷ []) refl (λ db. refl)
-    (λ taken news. refl) source old new
+IsInserted source old new = HasInserted 2 account.name account.tree account.columns (1 ∷ []) refl
+    (λ db. refl) (λ taken news. refl) source old new
 
 same_blob : (s t : List ℕ) → Blob s ≡ Blob t → s ≡ t
 same_blob s t e = cc
@@ -50,7 +50,7 @@ module _ (name : List ℕ) (n : ℤ) (old new : State) (count : ℕ) (book : IsB
   params = Blob name ∷ Int n ∷ []
 
   abbrev met : Row → Bool
-  met = meets 4 name_filter balance_project [] Null old.now.trees params
+  met = meets account.tree name_filter balance_project [] Null old.now.trees params
 
   abbrev made : Row → Row
   made r = cast_row account (drop 1 (eval_all balance_project (params ∷ r ∷ [])))
@@ -58,7 +58,7 @@ module _ (name : List ℕ) (n : ℤ) (old new : State) (count : ℕ) (book : IsB
   abbrev step : Row → Row
   step r = cond (met r) (made r) r
 
-  mapped : IsMapped step (old.now.trees 4) (new.now.trees 4)
+  mapped : IsMapped step (old.now.trees account.tree) (new.now.trees account.tree)
   mapped = update_mapped book_schema Enforced account name_filter balance_project Null old.now.trees
       new.now.trees params done.answer done.selects (λ r. refl) (λ r. refl) book.accounts
       done.applies
@@ -77,38 +77,39 @@ module _ (name : List ℕ) (n : ℤ) (old new : State) (count : ℕ) (book : IsB
       go true = refl
       go false = refl
 
-  found : (key : List ℕ) → find (is_account key) (new.now.trees 4)
-      ≡ option_map step (find (is_account key) (old.now.trees 4))
-  found key = find_mapped (is_account key) step (old.now.trees 4) (new.now.trees 4)
-      (one_account old.now book key) (λ r h. keeps key r) mapped
+  found : (key : List ℕ) → find (is_account key) (new.now.trees account.tree)
+      ≡ option_map step (find (is_account key) (old.now.trees account.tree))
+  found key = find_mapped (is_account key) step (old.now.trees account.tree)
+      (new.now.trees account.tree) (one_account old.now book key) (λ r h. keeps key r) mapped
 
-  set_other : (key : List ℕ) → bytes_eq name key ≡ false → balances_in (new.now.trees 4) key
-      ≡ balances_in (old.now.trees 4) key
+  set_other : (key : List ℕ) → bytes_eq name key ≡ false → balances_in (new.now.trees account.tree)
+      key ≡ balances_in (old.now.trees account.tree) key
   set_other key apart =
       ap (option_map (λ r. int_in (column r 2))) (found key
-      ∙ unchanged step (find (is_account key) (old.now.trees 4)) (λ r is.
-      let here = find_has (is_account key) (old.now.trees 4) r is in
+      ∙ unchanged step (find (is_account key) (old.now.trees account.tree)) (λ r is.
+      let here = find_has (is_account key) (old.now.trees account.tree) r is in
       let unmet = not_true (met r) (λ h. true≢false (sym (octets_refl key)
       ∙ (ap (λ k. bytes_eq k key) (sym (one_key name key r (met_key r h) here.1)) ∙ apart)))
       in
       ap (λ b. cond b (made r) r) unmet))
 
-  unmet : count ≡ 0 → (r : Row) → Has (old.now.trees 4) r → met r ≡ false
+  unmet : count ≡ 0 → (r : Row) → Has (old.now.trees account.tree) r → met r ≡ false
   unmet nothing r h = not_true (met r) (λ passes. none_shown done.answer count done.counted nothing
-      _ (has_shown 4 name_filter balance_project [] Null old.now.trees params done.answer
+      _ (has_shown account.tree name_filter balance_project [] Null old.now.trees params done.answer
       done.selects r h passes))
 
   -- no row was met, and nothing has changed
-  pub set_none : count ≡ 0 → (key : List ℕ) → balances_in (new.now.trees 4) key
-      ≡ balances_in (old.now.trees 4) key
+  pub set_none : count ≡ 0 → (key : List ℕ) → balances_in (new.now.trees account.tree) key
+      ≡ balances_in (old.now.trees account.tree) key
   set_none nothing key =
       ap (option_map (λ r. int_in (column r 2))) (found key
-      ∙ unchanged step (find (is_account key) (old.now.trees 4)) (λ r is.
-      ap (λ b. cond b (made r) r) (unmet nothing r (find_has (is_account key) (old.now.trees 4) r
-      is).0)))
+      ∙ unchanged step (find (is_account key) (old.now.trees account.tree)) (λ r is.
+      ap (λ b. cond b (made r) r) (unmet nothing r (find_has (is_account key)
+      (old.now.trees account.tree) r is).0)))
 
   -- no row has the name
-  pub none_kept : count ≡ 0 → (r : Row) → Has (new.now.trees 4) r → is_account name r ≡ false
+  pub none_kept : count ≡ 0 → (r : Row) → Has (new.now.trees account.tree) r → is_account name r
+      ≡ false
   none_kept nothing r h = not_true _ (λ passes.
       let b = mapped.back r h in
       let was : is_account name b.0 ≡ true = sym (keeps name b.0)
@@ -116,48 +117,50 @@ module _ (name : List ℕ) (n : ℤ) (old new : State) (count : ℕ) (book : IsB
       true≢false (sym (key_met b.0 was) ∙ unmet nothing b.0 b.1))
 
   -- a row was met, so it has the new balance
-  pub set_balance : count ≢ 0 → (key : List ℕ) → balances_in (new.now.trees 4) key
-      ≡ update bytes_eq (balances_in (old.now.trees 4)) name (Some n) key
+  pub set_balance : count ≢ 0 → (key : List ℕ) → balances_in (new.now.trees account.tree) key
+      ≡ update bytes_eq (balances_in (old.now.trees account.tree)) name (Some n) key
   set_balance some key = go (bytes_eq name key) refl (some_shown done.answer count done.counted
       some)
     where
       go : (b : Bool) → bytes_eq name key ≡ b → (r : Row) × Has done.answer r
-          → balances_in (new.now.trees 4) key ≡ cond b (Some n) (balances_in (old.now.trees 4) key)
+          → balances_in (new.now.trees account.tree) key ≡ cond b (Some n) (balances_in
+          (old.now.trees account.tree) key)
       go true is shown =
-          let r = shown_has 4 name_filter balance_project [] Null old.now.trees params done.answer
-          done.selects shown.0 shown.1 in
+          let r = shown_has account.tree name_filter balance_project [] Null old.now.trees params
+          done.answer done.selects shown.0 shown.1 in
           let mine = met_key r.0 r.2 in
-          let at = found_is (is_account name) (old.now.trees 4) r.0 r.1 mine
+          let at = found_is (is_account name) (old.now.trees account.tree) r.0 r.1 mine
           (λ s h passes. one_account old.now book name s r.0 h r.1 passes mine) in
           let value : int_in (column (step r.0) 2) ≡ n = ap
           (λ b. int_in (column (cond b (made r.0) r.0) 2)) r.2 ∙ ap int_in (cast_int n) in
-          let here : balances_in (new.now.trees 4) name ≡ Some n = ap
+          let here : balances_in (new.now.trees account.tree) name ≡ Some n = ap
           (option_map (λ r. int_in (column r 2))) (found name ∙ ap (option_map step) at)
           ∙ ap Some value in
-          subst (λ k. balances_in (new.now.trees 4) k ≡ Some n) (octets_are name key is) here
+          subst (λ k. balances_in (new.now.trees account.tree) k ≡ Some n) (octets_are name key is)
+          here
       go false is shown = set_other key is
 
 module _ (name : List ℕ) (n : ℤ) (old new : State) (book : IsBook old.now)
     (done : IsInserted (Null ∷ Blob name ∷ Int n ∷ []) old new)
-    (fresh : (r : Row) → Has (old.now.trees 4) r → is_account name r ≡ false) where
+    (fresh : (r : Row) → Has (old.now.trees account.tree) r → is_account name r ≡ false) where
   abbrev put : Row
   put = inserted book_schema Enforced account old.now.trees new.now.trees
       (Null ∷ Blob name ∷ Int n ∷ []) refl done.applies
 
-  pub put_is : put ≡ Int (next_rowid (old.now.trees 4)) ∷ Blob name ∷ Int n ∷ []
+  pub put_is : put ≡ Int (next_rowid (old.now.trees account.tree)) ∷ Blob name ∷ Int n ∷ []
   put_is = rw (cast_null, cast_int n) refl
 
-  added : IsAdded put (old.now.trees 4) (new.now.trees 4)
+  added : IsAdded put (old.now.trees account.tree) (new.now.trees account.tree)
   added = insert_added book_schema Enforced account old.now.trees new.now.trees
       (Null ∷ Blob name ∷ Int n ∷ []) refl done.applies
 
   put_key : (key : List ℕ) → is_account key put ≡ bytes_eq name key
   put_key key = ap (is_account key) put_is
 
-  found_now : (key : List ℕ) → find (is_account key) (new.now.trees 4)
-      ≡ cond (is_account key put) (Some put) (find (is_account key) (old.now.trees 4))
-  found_now key = find_added (is_account key) put (old.now.trees 4) (new.now.trees 4)
-      (one_account old.now book key)
+  found_now : (key : List ℕ) → find (is_account key) (new.now.trees account.tree)
+      ≡ cond (is_account key put) (Some put) (find (is_account key) (old.now.trees account.tree))
+  found_now key = find_added (is_account key) put (old.now.trees account.tree)
+      (new.now.trees account.tree) (one_account old.now book key)
       (λ is r h. subst (λ k. is_account k r ≡ false) (octets_are name key (sym (put_key key) ∙ is))
       (fresh r h)) added
 
@@ -167,10 +170,10 @@ module _ (name : List ℕ) (n : ℤ) (old new : State) (book : IsBook old.now)
   shown_if true x o is = ap Some is
   shown_if false x o is = refl
 
-  pub new_balance : (key : List ℕ) → balances_in (new.now.trees 4) key
-      ≡ update bytes_eq (balances_in (old.now.trees 4)) name (Some n) key
+  pub new_balance : (key : List ℕ) → balances_in (new.now.trees account.tree) key
+      ≡ update bytes_eq (balances_in (old.now.trees account.tree)) name (Some n) key
   new_balance key =
       ap (option_map (λ r. int_in (column r 2))) (found_now key)
-      ∙ (shown_if (is_account key put) put (find (is_account key) (old.now.trees 4))
+      ∙ (shown_if (is_account key put) put (find (is_account key) (old.now.trees account.tree))
       (ap (λ r. int_in (column r 2)) put_is)
-      ∙ ap (λ b. cond b (Some n) (balances_in (old.now.trees 4) key)) (put_key key))
+      ∙ ap (λ b. cond b (Some n) (balances_in (old.now.trees account.tree) key)) (put_key key))

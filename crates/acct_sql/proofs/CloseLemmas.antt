@@ -27,7 +27,7 @@ use Rattle.acct_book.specs.declared.row.SessionState.TheVariants.{Live, Closed, 
 use Rattle.acct_book.specs.Row.{RowFacts}
 use Rattle.acct_book.specs.Content.{closed_by, closed_row}
 use Rattle.acct_sql.specs.Tables.{book_schema, session}
-use Rattle.acct_sql.specs.Columns.{session_of, columns, state_in, state_of}
+use Rattle.acct_sql.specs.Columns.{session_in_columns, columns, state_in, state_by_code}
 use Rattle.acct_sql.specs.Content.{is_session}
 use Rattle.acct_sql.specs.Book.{IsBook}
 use Rattle.acct_sql.proofs.TextLemmas.{close_filter, close_project}
@@ -67,14 +67,15 @@ shifted [] i = refl
 shifted (v ∷ r) i = refl
 
 -- each column of a row of `session` is of its type
-pub typed : (db : Database) → IsBook db → (r : Row) → Has (db.trees 8) r → (i : ℕ) (c : Column)
-    → slice_get session.columns i ≡ Some c → is_of c.kind (column r (suc i)) ≡ true
+pub typed : (db : Database) → IsBook db → (r : Row) → Has (db.trees session.tree) r
+    → (i : ℕ) (c : Column) → slice_get session.columns i ≡ Some c → is_of c.kind (column r (suc i))
+    ≡ true
 typed db book r h i c is =
     let rules = subst (λ schema. Keeps Datatype schema db.trees) book.schema
     (book.sound.obeys.rules Datatype) in
     let row : passes Datatype book_schema db.trees session r
     ≡ true = all_has (λ row. passes Datatype book_schema db.trees session row ≡ true)
-    (db.trees 8) r rules.1.1.1.1.0 h in
+    (db.trees session.tree) r rules.1.1.1.1.0 h in
     let strict : AreStrict session.columns = (
       refl,
       (
@@ -92,12 +93,12 @@ live_if : (v : Value) → is_of kind.Integer v ≡ true → equal Binary v (Int 
     → state_in v ≡ Live
 unfolding binary
 live_if Null h k = absurd (true≢false (sym k))
-live_if (Int n) h k = ap state_of (equal_int n (pos 0) k)
+live_if (Int n) h k = ap state_by_code (equal_int n (pos 0) k)
 live_if (Real x) h k = absurd (true≢false (sym h))
 live_if (Text t) h k = absurd (true≢false (sym h))
 live_if (Blob b) h k = absurd (true≢false (sym h))
 
-live_int : (n : ℤ) → state_of n ≡ Live → n ≡ pos 0
+live_int : (n : ℤ) → state_by_code n ≡ Live → n ≡ pos 0
 live_int (pos zero) h = refl
 live_int (pos (suc zero)) h = absurd cc
 live_int (pos (suc (suc n))) h = absurd cc
@@ -116,7 +117,7 @@ module _ (client : List ℕ) (old new : State) (count : ℕ) (book : IsBook old.
   params = Text client ∷ []
 
   abbrev met : Row → Bool
-  met = meets 8 close_filter close_project [] Null old.now.trees params
+  met = meets session.tree close_filter close_project [] Null old.now.trees params
 
   abbrev made : Row → Row
   made r = cast_row session (drop 1 (eval_all close_project (params ∷ r ∷ [])))
@@ -124,12 +125,12 @@ module _ (client : List ℕ) (old new : State) (count : ℕ) (book : IsBook old.
   abbrev step : Row → Row
   step r = cond (met r) (made r) r
 
-  mapped : IsMapped step (old.now.trees 8) (new.now.trees 8)
+  mapped : IsMapped step (old.now.trees session.tree) (new.now.trees session.tree)
   mapped = update_mapped book_schema Enforced session close_filter close_project Null old.now.trees
       new.now.trees params done.answer done.selects (λ r. refl) (λ r. refl) book.sessions
       done.applies
 
-  made_is : (r : Row) → Has (old.now.trees 8) r
+  made_is : (r : Row) → Has (old.now.trees session.tree) r
       → made r ≡ cast kind.Integer (column r 0) ∷ column r 1 ∷ column r 2 ∷ column r 3 ∷ column r 4
       ∷ column r 5 ∷ column r 6 ∷ column r 7 ∷ column r 8 ∷ column r 9 ∷ Int (pos 1) ∷ Int
       (pos 11) ∷ column r 12 ∷ column r 13 ∷ []
@@ -146,7 +147,7 @@ module _ (client : List ℕ) (old new : State) (count : ℕ) (book : IsBook old.
         cast_int (pos 11),
       ) refl
 
-  keeps : (key : Key) (r : Row) → Has (old.now.trees 8) r → is_session key (step r)
+  keeps : (key : Key) (r : Row) → Has (old.now.trees session.tree) r → is_session key (step r)
       ≡ is_session key r
   keeps key r h = go (met r)
     where
@@ -158,9 +159,9 @@ module _ (client : List ℕ) (old new : State) (count : ℕ) (book : IsBook old.
   state_at = closed_row
 
   -- a row that is met is live and the client's, and is closed
-  closed_met : (key : Key) (r : Row) → Has (old.now.trees 8) r → is_session key r ≡ true
-      → (b : Bool) → met r ≡ b → session_of (columns (cond b (made r) r))
-      ≡ closed_by client (session_of (columns r))
+  closed_met : (key : Key) (r : Row) → Has (old.now.trees session.tree) r → is_session key r ≡ true
+      → (b : Bool) → met r ≡ b → session_in_columns (columns (cond b (made r) r))
+      ≡ closed_by client (session_in_columns (columns r))
   closed_met key r h mine true is =
       let one = and_parts _ _ is in
       let two = and_parts _ _ one.1 in
@@ -169,11 +170,11 @@ module _ (client : List ℕ) (old new : State) (count : ℕ) (book : IsBook old.
       (bytes_eq-Decides client (bytes (column r 1))).1 (sym named) in
       let live : state_in (column r 10) ≡ Live = live_if (column r 10)
       (typed old.now book r h 9 _ refl) two.0 in
-      ap (λ r. session_of (columns r)) (made_is r h) ∙ rw (yours, live) refl
+      ap (λ r. session_in_columns (columns r)) (made_is r h) ∙ rw (yours, live) refl
   closed_met key r h mine false is = other (bytes_eq client (bytes (column r 1))) refl
     where
       whole : RowFacts
-      whole = session_of (columns r)
+      whole = session_in_columns (columns r)
 
       stays : (s : SessionState) → state_in (column r 10) ≡ s → (s ≡ Live → ⊥) → whole
           ≡ closed_row whole s
@@ -193,19 +194,20 @@ module _ (client : List ℕ) (old new : State) (count : ℕ) (book : IsBook old.
           stays (state_in (column r 10)) refl (λ live. true≢false
           (sym (and_from _ _ first (and_from _ _ (if_live (column r 10) live) refl)) ∙ is))
 
-  shown : (key : Key) (o : Option Row) → ((r : Row) → o ≡ Some r → Has (old.now.trees 8) r
-      × (is_session key r ≡ true))
-      → option_map (λ r. session_of (columns r)) (option_map step o)
-      ≡ option_map (closed_by client) (option_map (λ r. session_of (columns r)) o)
+  shown : (key : Key) (o : Option Row) → ((r : Row) → o ≡ Some r → Has (old.now.trees session.tree)
+      r × (is_session key r ≡ true))
+      → option_map (λ r. session_in_columns (columns r)) (option_map step o)
+      ≡ option_map (closed_by client) (option_map (λ r. session_in_columns (columns r)) o)
   shown key None h = refl
   shown key (Some r) h = ap Some (closed_met key r (h r refl).0 (h r refl).1 (met r) refl)
 
-  pub closed_rows : (key : Key) → option_map (λ r. session_of (columns r))
-      (find (is_session key) (new.now.trees 8)) ≡ option_map (closed_by client)
-      (option_map (λ r. session_of (columns r)) (find (is_session key) (old.now.trees 8)))
+  pub closed_rows : (key : Key) → option_map (λ r. session_in_columns (columns r))
+      (find (is_session key) (new.now.trees session.tree)) ≡ option_map (closed_by client)
+      (option_map (λ r. session_in_columns (columns r)) (find (is_session key)
+      (old.now.trees session.tree)))
   closed_rows key =
-      ap (option_map (λ r. session_of (columns r))) (find_mapped (is_session key) step
-      (old.now.trees 8) (new.now.trees 8) (one_session old.now book key) (λ r h. keeps key r h)
-      mapped)
-      ∙ shown key (find (is_session key) (old.now.trees 8))
-      (λ r is. find_has (is_session key) (old.now.trees 8) r is)
+      ap (option_map (λ r. session_in_columns (columns r))) (find_mapped (is_session key) step
+      (old.now.trees session.tree) (new.now.trees session.tree) (one_session old.now book key)
+      (λ r h. keeps key r h) mapped)
+      ∙ shown key (find (is_session key) (old.now.trees session.tree))
+      (λ r is. find_has (is_session key) (old.now.trees session.tree) r is)

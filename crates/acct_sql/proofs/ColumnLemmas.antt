@@ -17,12 +17,12 @@ use Rattle.sqlite_rules.proofs.ListLemmas.{all_has}
 use Rattle.acct_model.specs.Vouchers.{TopUpFacts}
 use Rattle.acct_book.specs.Row.{RowFacts}
 use Rattle.acct_book.specs.Content.{key_of}
-use Rattle.acct_sql.specs.Tables.{book_schema, account, session}
-use Rattle.acct_sql.specs.Columns.{session_of, topup_of, columns, count_in, int_in, state_in}
-use Rattle.acct_sql.specs.Columns.{cause_in, code_of, framed_in, framed_octets}
-use Rattle.acct_sql.specs.Content.{content_of, is_session, is_account, is_voucher}
-use Rattle.acct_sql.specs.Book.{IsBook}
+use Rattle.acct_sql.specs.Tables.{book_schema, account, session, voucher}
+use Rattle.acct_sql.specs.Columns.{session_in_columns, topup_in_columns, columns, count_in, int_in}
+use Rattle.acct_sql.specs.Columns.{state_in, cause_in, code_of, framed_in, framed_octets}
+use Rattle.acct_sql.specs.Content.{content_in_tables, is_session, is_account, is_voucher}
 use Rattle.acct_sql.specs.Kept.{KeepsSession, KeepsTopUp, KeepsBalance}
+use Rattle.acct_sql.specs.Book.{IsBook}
 use Rattle.acct_sql.proofs.FindLemmas.{find_has}
 use Rattle.acct_sql.proofs.ValueLemmas.{blob_is, text_is}
 use Rattle.acct_sql.proofs.KeyLemmas.{one_session, one_account, one_voucher}
@@ -114,19 +114,19 @@ was_found f (Some x) y h = let same : f x ≡ y = cc in (x, refl, sym same)
 
 pub keeps_session : (db : Database) (book : IsBook db) (facts : RowFacts) → facts.input < 2 ^ 64
     → facts.output < 2 ^ 64 → facts.seconds < 2 ^ 64 → facts.first < 2 ^ 64 → facts.last < 2 ^ 64
-    → facts.cause < 2 ^ 64 → (content_of db.trees).rows (key_of facts) ≡ Some facts
+    → facts.cause < 2 ^ 64 → (content_in_tables db.trees).rows (key_of facts) ≡ Some facts
     → KeepsSession facts db.trees
 keeps_session db book facts input output seconds first last cause kept =
-    let found = was_found (λ r. session_of (columns r)) (find (is_session (key_of facts))
-    (db.trees 8)) facts kept in
-    let here = find_has (is_session (key_of facts)) (db.trees 8) found.0 found.1 in
+    let found = was_found (λ r. session_in_columns (columns r)) (find (is_session (key_of facts))
+    (db.trees session.tree)) facts kept in
+    let here = find_has (is_session (key_of facts)) (db.trees session.tree) found.0 found.1 in
     let key = key_here (key_of facts) found.0 here.1 in
     let at = typed db book found.0 here.0 in
     let rules = subst (λ schema. Keeps NotNull schema db.trees) book.schema
     (book.sound.obeys.rules NotNull) in
     let present : passes NotNull book_schema db.trees session found.0
     ≡ true = all_has (λ row. passes NotNull book_schema db.trees session row ≡ true)
-    (db.trees 8) found.0 rules.1.1.1.1.0 here.0 in
+    (db.trees session.tree) found.0 rules.1.1.1.1.0 here.0 in
     let present_in = present_at session.columns 0 found.0 (
       refl,
       (
@@ -190,12 +190,12 @@ keeps_session db book facts input output seconds first last cause kept =
     }
 
 pub keeps_topup : (db : Database) (book : IsBook db) (facts : TopUpFacts) → facts.sum < 2 ^ 64
-    → facts.when < 2 ^ 64 → (content_of db.trees).topups facts.voucher ≡ Some facts
+    → facts.when < 2 ^ 64 → (content_in_tables db.trees).topups facts.voucher ≡ Some facts
     → KeepsTopUp facts db.trees
 keeps_topup db book facts sum when kept =
-    let found = was_found (λ r. topup_of (columns r)) (find (is_voucher facts.voucher)
-    (db.trees 6)) facts kept in
-    let here = find_has (is_voucher facts.voucher) (db.trees 6) found.0 found.1 in
+    let found = was_found (λ r. topup_in_columns (columns r)) (find (is_voucher facts.voucher)
+    (db.trees voucher.tree)) facts kept in
+    let here = find_has (is_voucher facts.voucher) (db.trees voucher.tree) found.0 found.1 in
     let paid = voucher_account db book found.0 here.0 in
     let account_is = paid.1 ∙ ap Blob (sym (ap bytes paid.1)
     ∙ sym (ap (λ (t : TopUpFacts). t.account) found.2)) in
@@ -215,21 +215,21 @@ keeps_topup db book facts sum when kept =
     }
 
 pub keeps_balance : (db : Database) (book : IsBook db) (name : List ℕ) (balance : ℤ)
-    → (content_of db.trees).balances name ≡ Some balance → KeepsBalance name balance db.trees
+    → (content_in_tables db.trees).balances name ≡ Some balance → KeepsBalance name balance db.trees
 keeps_balance db book name balance kept =
-    let found = was_found (λ r. int_in (column r 2)) (find (is_account name) (db.trees 4)) balance
-    kept in
-    let here = find_has (is_account name) (db.trees 4) found.0 found.1 in
+    let found = was_found (λ r. int_in (column r 2)) (find (is_account name)
+    (db.trees account.tree)) balance kept in
+    let here = find_has (is_account name) (db.trees account.tree) found.0 found.1 in
     let types = subst (λ schema. Keeps Datatype schema db.trees) book.schema
     (book.sound.obeys.rules Datatype) in
     let there = subst (λ schema. Keeps NotNull schema db.trees) book.schema
     (book.sound.obeys.rules NotNull) in
     let kinds : passes Datatype book_schema db.trees account found.0
     ≡ true = all_has (λ row. passes Datatype book_schema db.trees account row ≡ true)
-    (db.trees 4) found.0 types.1.1.0 here.0 in
+    (db.trees account.tree) found.0 types.1.1.0 here.0 in
     let present : passes NotNull book_schema db.trees account found.0
     ≡ true = all_has (λ row. passes NotNull book_schema db.trees account row ≡ true)
-    (db.trees 4) found.0 there.1.1.0 here.0 in
+    (db.trees account.tree) found.0 there.1.1.0 here.0 in
     let kind_is = subst (λ v. is_of kind.Integer v ≡ true) (shifted found.0 1)
     (typed_at account.columns 0 (drop 1 found.0) (refl, (refl, tt)) (and_parts _ _ kinds).0 1 _
     refl) in

@@ -11,9 +11,11 @@ use Rattle.sqlite.proofs.Callers.{survives_begin}
 use Rattle.acct_book.specs.Content.{Content}
 use Rattle.acct_book.specs.Book.{Writes}
 use Rattle.acct_book.specs.declared.book.Unavailable.{Unavailable}
-use Rattle.acct_sql.specs.Content.{content_of}
-use Rattle.acct_sql.specs.Book.{IsBook, IsResting, IsSettled, HasMade, HasFinished, content_at}
-use Rattle.acct_sql.specs.Book.{is_sound_at, is_open_at, is_steady_at, left_at, Wrote}
+use Rattle.acct_sql.specs.Content.{content_in_tables}
+use Rattle.acct_sql.specs.Book.{IsBook, IsResting, IsOpenBook, content_at, is_sound_at, is_open_at}
+use Rattle.acct_sql.specs.Book.{is_steady_at, left_at}
+use Rattle.acct_sql.specs.inner.Inside.{HasMade, HasFinished}
+use Rattle.acct_sql.specs.inner.AtRest.{Wrote}
 
 -- what holds of a value that is there
 pub of_ok : {T E : Type 0} {P : Type 0} (r : Result T E) → IsOk r → OnOk r P → P
@@ -30,7 +32,7 @@ module _ {S T E F : Type 0} (g : Ghosts S) (old end : Held S) (mid : State)
   last = state g end
 
   module _ (kept : HasCleanDisk mid → KeepsCommit begun mid)
-      (made : HasCleanDisk mid → OnOk done (HasMade begun mid change))
+      (made : HasCleanDisk mid → OnOk done (HasMade change begun mid))
       (inside : Survives begun mid (λ _. ⊥)) (finished : HasFinished done mid last result) where
     mid_clean : HasCleanDisk last → HasCleanDisk mid
     mid_clean clean = omega (arith, finished.survives.clean, clean)
@@ -39,7 +41,7 @@ module _ {S T E F : Type 0} (g : Ghosts S) (old end : Held S) (mid : State)
     old_clean clean = omega (arith, inside.clean, mid_clean clean)
 
     -- the whole change was made
-    has_made : HasCleanDisk last → IsOk done → HasMade begun mid change
+    has_made : HasCleanDisk last → IsOk done → HasMade change begun mid
     has_made clean is = of_ok done is (made (mid_clean clean))
 
     open_mode : (b : Bool) → b ≡ true → b ≡ false → ⊥
@@ -68,14 +70,14 @@ module _ {S T E F : Type 0} (g : Ghosts S) (old end : Held S) (mid : State)
         ((rolled clean err).was_open o)
 
     telling : HasCleanDisk last → (r : Result T E) → OnOk r
-        (IsOk done × Shows mid last mid.now mid.now false) → OnOk r (IsSettled last)
+        (IsOk done × Shows mid last mid.now mid.now false) → OnOk r (IsOpenBook last)
     telling clean (Ok x) ok = ((clean, ok.1.is_open), ok.1.now_is ∙ sym ok.1.committed_is)
     telling clean (Err e) ok = tt
 
     written : HasCleanDisk last → (r : Result T E) → OnOk r
         (IsOk done × Shows mid last mid.now mid.now false)
         → OnOk r (content_at g end ≡ change (content_at g old))
-    written clean (Ok x) ok = ap (λ (d : Database). content_of d.trees) ok.1.now_is
+    written clean (Ok x) ok = ap (λ (d : Database). content_in_tables d.trees) ok.1.now_is
         ∙ (has_made clean ok.0).content
     written clean (Err e) ok = tt
 
@@ -83,7 +85,7 @@ module _ {S T E F : Type 0} (g : Ghosts S) (old end : Held S) (mid : State)
         → OnErr r (IsRolledBack mid last ⊎ (IsOk done × (mid.in_transaction ≡ false)))
         → OnErr r (content_at g end ≡ content_at g old)
     unwritten clean o (Ok x) err = tt
-    unwritten clean o (Err e) err = ap (λ (d : Database). content_of d.trees)
+    unwritten clean o (Err e) err = ap (λ (d : Database). content_in_tables d.trees)
         (undone clean (rolled clean err) o)
 
     settled_by : HasCleanDisk last → IsTrue last.is_open → (r : Result T E)
@@ -113,7 +115,7 @@ module _ {S T E F : Type 0} (g : Ghosts S) (old end : Held S) (mid : State)
     }
 
     abbrev Whole : Trees → Type 0
-    Whole db = IsSettled (state g old) × (content_of db ≡ change (content_at g old))
+    Whole db = IsOpenBook (state g old) × (content_in_tables db ≡ change (content_at g old))
 
     crash : Survives (state g old) last Whole
     crash = survives_begin g old last Whole (survives_then begun mid last (λ _. ⊥)
@@ -123,7 +125,7 @@ module _ {S T E F : Type 0} (g : Ghosts S) (old end : Held S) (mid : State)
             (old_clean clean, m.shows.was_open),
             resting.settled (old_clean clean) m.shows.was_open,
           ),
-          ap content_of is.1 ∙ m.content,
+          ap content_in_tables is.1 ∙ m.content,
         ))
         inside finished.survives)
 

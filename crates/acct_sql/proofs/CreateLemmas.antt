@@ -5,75 +5,45 @@ use Rattle.std.proofs.Common.{refl, sym, ap, subst, ◌∙◌, arith}
 use Rattle.sqlite.specs.declared.types.Value.TheVariants.{Null, Int, Text}
 use Rattle.sqlite.specs.Order.{Row, column}
 use Rattle.sqlite.specs.Tree.{Trees}
-use Rattle.sqlite.specs.Term.{Term, lit, col}
-use Rattle.sqlite.specs.Source.TheVariants.{Values}
-use Rattle.sqlite.specs.Command.TheVariants.{Insert}
 use Rattle.sqlite.specs.Edit.{next_rowid}
 use Rattle.sqlite.specs.Effect.{Database}
 use Rattle.sqlite_schema.specs.declared.schema.Keys.TheVariants.{Enforced}
-use Rattle.sqlite_tied.specs.Compute.{everything}
-use Rattle.sqlite.specs.Listing.{understood}
 use Rattle.sqlite.specs.Store.{Ghosts}
 use Rattle.sqlite.specs.State.{State, HasCleanDisk, Survives, KeepsCommit, IsRolledBack, Shows}
 use Rattle.sqlite.specs.State.{ExecutesInside}
 use Rattle.sqlite.specs.Held.{Held, state}
-use Rattle.sqlite.proofs.Callers.{IsPlain, command_of, survives_begin}
+use Rattle.sqlite.proofs.Callers.{survives_begin}
 use Rattle.sqlite.proofs.StateLemmas.{survives_then}
 use Rattle.sqlite_rules.specs.Lists.{Has}
 use Rattle.sqlite_rules.proofs.ListLemmas.{has_either, has_left, has_right}
 use Rattle.acct_model.specs.declared.plan.Plan.{Plan}
 use Rattle.acct_book.specs.Content.{empty_content}
-use Rattle.acct_sql.specs.Tables.{book_schema, no_schema, meta, price_plan}
+use Rattle.acct_sql.specs.Tables.{book_schema, no_schema, meta, price_plan, account, voucher}
+use Rattle.acct_sql.specs.Tables.{session}
 use Rattle.acct_sql.specs.Tidy.{IsTidy}
-use Rattle.acct_sql.specs.Columns.{plan_columns, int_in, session_of, topup_of, columns}
-use Rattle.acct_sql.specs.Content.{content_of, is_session, is_account, is_voucher}
-use Rattle.acct_sql.specs.Book.{IsBook, IsSettled, HasFinished}
-use Rattle.acct_sql.specs.Make.{IsPlanRow, KeepsPlans, IsNew, GoesOn, HasTables, HasPlans}
+use Rattle.acct_sql.specs.Columns.{int_in, session_in_columns, topup_in_columns, columns}
+use Rattle.acct_sql.specs.Content.{content_in_tables, is_session, is_account, is_voucher}
+use Rattle.acct_sql.specs.Book.{IsBook, IsOpenBook}
+use Rattle.acct_sql.specs.Make.{IsPlanRow, KeepsPlans, IsNew}
+use Rattle.acct_sql.specs.inner.Columns.{plan_columns}
+use Rattle.acct_sql.specs.inner.Inside.{HasFinished}
+use Rattle.acct_sql.specs.inner.NewBook.{HasRun, GoesOn, HasTables, HasPlans}
+use Rattle.acct_sql.specs.declared.statements.TheConstants as texts
 use Rattle.acct_sql.proofs.MakeLemmas as m
+use Rattle.acct_sql.proofs.TextLemmas.{number_terms, number_is, number_plain, plan_terms}
+use Rattle.acct_sql.proofs.TextLemmas.{new_plan_is, new_plan_plain}
 use Rattle.acct_sql.proofs.StatementLemmas.{inserts, HasInserted}
 use Rattle.acct_sql.proofs.WriteLemmas.{inserted, insert_added}
 use Rattle.acct_sql.proofs.FindLemmas.{IsAdded}
 use Rattle.acct_sql.proofs.ValueLemmas.{cast_int, cast_null}
 use Rattle.acct_sql.proofs.CommitLemmas.{of_ok}
 
--- ---- the texts
-
-abbrev pub number_text : List ℕ
-number_text = codes "INSERT INTO meta (name, value) VALUES ('schema', 1)"
-
-abbrev pub number_terms : List Term
-number_terms = lit Null ∷ lit (Text (codes "schema")) ∷ lit (Int (pos 1)) ∷ []
-
-pub number_is : command_of (understood book_schema number_text) ≡ Insert 0 (Values number_terms 3)
-unfolding understood everything
-number_is = refl
-
-pub number_plain : IsPlain (understood book_schema number_text)
-unfolding understood everything
-number_plain = (refl, refl)
-
-abbrev pub new_plan_text : List ℕ
-new_plan_text = codes "INSERT INTO price_plan (class, block, unit) VALUES (?1, ?2, ?3)"
-
-abbrev pub plan_terms : List Term
-plan_terms = lit Null ∷ col 0 0 ∷ col 0 1 ∷ col 0 2 ∷ []
-
-pub new_plan_is : command_of (understood book_schema new_plan_text) ≡ Insert 1 (Values plan_terms 4)
-unfolding understood everything
-new_plan_is = refl
-
-pub new_plan_plain : IsPlain (understood book_schema new_plan_text)
-unfolding understood everything
-new_plan_plain = (refl, refl)
-
 -- ---- the tables
 
-abbrev Ran : List ℕ → State → State → Type 0
-Ran text old new = (n : ℕ) × ExecutesInside 0 text [] old new (Ok n)
-
-pub tables_made : (a b c d e f g h : State) → a.now.schema ≡ no_schema → Ran m.meta_text a b
-    → Ran m.plan_text b c → Ran m.account_text c d → Ran m.voucher_text d e
-    → Ran m.session_text e f → Ran m.by_account_text f g → Ran m.vouchers_text g h
+pub tables_made : (a b c d e f g h : State) → a.now.schema ≡ no_schema → HasRun texts.META_TABLE.now
+    a b → HasRun texts.PLAN_TABLE.now b c → HasRun texts.ACCOUNT_TABLE.now c d
+    → HasRun texts.VOUCHER_TABLE.now d e → HasRun texts.SESSION_TABLE.now e f
+    → HasRun texts.SESSION_ACCOUNT_INDEX.now f g → HasRun texts.VOUCHER_ACCOUNT_INDEX.now g h
     → HasTables a.committed h
 tables_made a b c d e f g h has one two three four five six seven = record {
   on = record {
@@ -95,26 +65,30 @@ no_rows rows none = subst IsTidy (sym none) (record {
   keyed = λ r s h k same. absurd h;
 })
 
-content_none : (db : Trees) → db 8 ≡ [] → db 4 ≡ [] → db 6 ≡ [] → content_of db ≡ empty_content
+content_none : (db : Trees) → db session.tree ≡ [] → db account.tree ≡ [] → db voucher.tree ≡ []
+    → content_in_tables db ≡ empty_content
 content_none db sessions accounts vouchers = λ i. record {
-  rows = λ key. option_map (λ row. session_of (columns row)) (find (is_session key) (sessions i));
+  rows = λ key. option_map (λ row. session_in_columns (columns row)) (find (is_session key)
+      (sessions i));
   balances = λ name. option_map (λ row. int_in (column row 2))
       (find (is_account name) (accounts i));
-  topups = λ number. option_map (λ row. topup_of (columns row))
+  topups = λ number. option_map (λ row. topup_in_columns (columns row))
       (find (is_voucher number) (vouchers i));
 }
 
-content_same : (old new : Trees) → new 8 ≡ old 8 → new 4 ≡ old 4 → new 6 ≡ old 6 → content_of new
-    ≡ content_of old
+content_same : (old new : Trees) → new session.tree ≡ old session.tree → new account.tree
+    ≡ old account.tree → new voucher.tree ≡ old voucher.tree → content_in_tables new
+    ≡ content_in_tables old
 content_same old new sessions accounts vouchers = λ i. record {
-  rows = λ key. option_map (λ row. session_of (columns row)) (find (is_session key) (sessions i));
+  rows = λ key. option_map (λ row. session_in_columns (columns row)) (find (is_session key)
+      (sessions i));
   balances = λ name. option_map (λ row. int_in (column row 2))
       (find (is_account name) (accounts i));
-  topups = λ number. option_map (λ row. topup_of (columns row))
+  topups = λ number. option_map (λ row. topup_in_columns (columns row))
       (find (is_voucher number) (vouchers i));
 }
 
-no_plans : (db : Trees) → db 2 ≡ [] → KeepsPlans [] db
+no_plans : (db : Trees) → db price_plan.tree ≡ [] → KeepsPlans [] db
 no_plans db none = record {
   each = λ plan h. absurd h;
   only = λ row h. absurd
@@ -134,19 +108,20 @@ goes_on c old new on shows = record {
 abbrev number_row : Row
 number_row = Text (codes "schema") ∷ Int (pos 1) ∷ []
 
-number_put : (old new : State) (done : HasInserted 0 meta.name 0 meta.columns (1 ∷ []) refl
+number_put : (old new : State) (done : HasInserted 0 meta.name meta.tree meta.columns (1 ∷ []) refl
     (λ db. refl) (λ taken news. refl) (Null ∷ number_row) old new)
     → inserted book_schema Enforced meta old.now.trees new.now.trees (Null ∷ number_row) refl
-    done.applies ≡ Int (next_rowid (old.now.trees 0)) ∷ number_row
+    done.applies ≡ Int (next_rowid (old.now.trees meta.tree)) ∷ number_row
 number_put old new done = rw (cast_null, cast_int (pos 1)) refl
 
-pub numbered : (c : Database) (old new : State) (n : ℕ) → ExecutesInside 0 number_text [] old new
-    (Ok n) → HasTables c old → HasPlans c [] new
+pub numbered : (c : Database) (old new : State) (n : ℕ)
+    → ExecutesInside 0 texts.NEW_SCHEMA_NUMBER.now [] old new (Ok n) → HasTables c old
+    → HasPlans c [] new
 numbered c old new n h t =
     let source = Null ∷ Text (codes "schema") ∷ Int (pos 1) ∷ [] in
-    let done = inserts 0 meta.name 0 meta.columns (1 ∷ []) refl (λ db. refl) (λ taken news. refl)
-    number_text number_terms 3 [] source old new n number_is number_plain refl t.empty.schema
-    h.0 in
+    let done = inserts 0 meta.name meta.tree meta.columns (1 ∷ []) refl (λ db. refl)
+    (λ taken news. refl) texts.NEW_SCHEMA_NUMBER.now number_terms 3 [] source old new n number_is
+    number_plain refl t.empty.schema h.0 in
     let plans = done.applies.tables.1.0 (λ e. absurd (omega (arith, e))) ∙ t.empty.plans in
     let accounts = done.applies.tables.1.1.0 (λ e. absurd (omega (arith, e))) ∙ t.empty.accounts in
     let vouchers = done.applies.tables.1.1.1.0 (λ e. absurd (omega (arith, e)))
@@ -190,7 +165,8 @@ numbered c old new n h t =
 -- ---- a plan
 
 one_more : (plans : List Plan) (plan : Plan) (put : Row) (old new : Trees) → IsPlanRow plan put
-    → IsAdded put (old 2) (new 2) → KeepsPlans plans old → KeepsPlans (plans ++ plan ∷ []) new
+    → IsAdded put (old price_plan.tree) (new price_plan.tree) → KeepsPlans plans old
+    → KeepsPlans (plans ++ plan ∷ []) new
 one_more plans plan put old new says added kept = record {
   each = λ p h. elim (has_either plans (plan ∷ []) p h) [
     | inl was ↦ let r = kept.each p was in (r.0, added.forth r.0 r.1, r.2)
@@ -213,23 +189,23 @@ one_more plans plan put old new says added kept = record {
   ];
 }
 
-plan_put : (plan : Plan) (old new : State) (done : HasInserted 1 price_plan.name 2
+plan_put : (plan : Plan) (old new : State) (done : HasInserted 1 price_plan.name price_plan.tree
     price_plan.columns (1 ∷ []) refl (λ db. refl) (λ taken news. refl) (Null ∷ plan_columns plan)
     old new)
     → inserted book_schema Enforced price_plan old.now.trees new.now.trees
-    (Null ∷ plan_columns plan) refl done.applies ≡ Int (next_rowid (old.now.trees 2)) ∷
-    plan_columns plan
+    (Null ∷ plan_columns plan) refl done.applies ≡ Int (next_rowid (old.now.trees price_plan.tree))
+    ∷ plan_columns plan
 plan_put plan old new done = rw (cast_null, cast_int (pos plan.block), cast_int (pos plan.unit))
     refl
 
 pub plan_added : (c : Database) (plans : List Plan) (plan : Plan) (old new : State) (n : ℕ)
-    → ExecutesInside 0 new_plan_text (plan_columns plan) old new (Ok n) → HasPlans c plans old
+    → ExecutesInside 0 texts.NEW_PLAN.now (plan_columns plan) old new (Ok n) → HasPlans c plans old
     → HasPlans c (plans ++ plan ∷ []) new
 plan_added c plans plan old new n h t =
     let params = plan_columns plan in
-    let done = inserts 1 price_plan.name 2 price_plan.columns (1 ∷ []) refl (λ db. refl)
-    (λ taken news. refl) new_plan_text plan_terms 4 params (Null ∷ params) old new n new_plan_is
-    new_plan_plain refl t.book.schema h.0 in
+    let done = inserts 1 price_plan.name price_plan.tree price_plan.columns (1 ∷ []) refl
+    (λ db. refl) (λ taken news. refl) texts.NEW_PLAN.now plan_terms 4 params (Null ∷ params) old new
+    n new_plan_is new_plan_plain refl t.book.schema h.0 in
     let metas = done.applies.tables.0 (λ e. absurd (omega (arith, e))) in
     let accounts = done.applies.tables.1.1.0 (λ e. absurd (omega (arith, e))) in
     let vouchers = done.applies.tables.1.1.1.0 (λ e. absurd (omega (arith, e))) in
@@ -285,11 +261,11 @@ module _ {S T E F : Type 0} (g : Ghosts S) (old end : Held S) (mid : State) (pla
     has clean is = of_ok done is (filled (mid_clean clean))
 
     settled_by : HasCleanDisk last → (r : Result T E) → OnOk r
-        (IsOk done × Shows mid last mid.now mid.now false) → OnOk r (IsSettled last)
+        (IsOk done × Shows mid last mid.now mid.now false) → OnOk r (IsOpenBook last)
     settled_by clean (Ok x) ok = ((clean, ok.1.is_open), ok.1.now_is ∙ sym ok.1.committed_is)
     settled_by clean (Err e) ok = tt
 
-    pub made_settled : HasCleanDisk last → OnOk result (IsSettled last)
+    pub made_settled : HasCleanDisk last → OnOk result (IsOpenBook last)
     made_settled clean = settled_by clean result (finished.ok clean)
 
     book_by : HasCleanDisk last → (r : Result T E) → OnOk r

@@ -1,5 +1,5 @@
 -- Rowids that ascend tell rows apart.
-use Rattle.std.proofs.Common.{◌≡◌, inl, inr, ℕ, ℤ, List, [], ◌∷◌, codes, true, false, Bool, map}
+use Rattle.std.proofs.Common.{◌≡◌, inl, inr, ℕ, ℤ, List, [], ◌∷◌, true, false, Bool, map}
 use Rattle.std.proofs.Common.{flat_map, refl, sym, ap, subst, ◌∙◌, Ordering, Less, Equal, Greater}
 use Rattle.std.proofs.Common.{true≢false, int_cmp}
 use Rattle.std.specs.Ordering.{is_eq, eq_by_cmp, ordering_reverse}
@@ -10,34 +10,24 @@ use Rattle.std.proofs.lemmas.Cmp.{tied_itself}
 use Rattle.std.proofs.lemmas.List.Sorted.{IsPermutation-sym}
 use Rattle.std.proofs.lemmas.Map.Keys.{IsDistinct-from_sorted, IsDistinct-IsPermutation}
 use Rattle.sqlite.specs.declared.types.Value.TheVariants.{Null, Int}
-use Rattle.sqlite_value.specs.declared.keys.Key.{Key as Direction}
 use Rattle.sqlite.specs.Order.{Row, column}
 use Rattle.sqlite.specs.Tree.{Trees, rowid}
 use Rattle.sqlite.specs.Edit.{id_in}
-use Rattle.sqlite.specs.Term.{Term, col, eval_all}
+use Rattle.sqlite.specs.Term.{eval_all}
 use Rattle.sqlite.specs.Query.{Query, Output, output, IsAnswerAs}
-use Rattle.sqlite.specs.Command.TheVariants.{Select}
-use Rattle.sqlite.specs.Program.{overlay}
-use Rattle.sqlite_tied.specs.Compute.{everything}
-use Rattle.sqlite.specs.Listing.{understood, reads_listing}
 use Rattle.sqlite.specs.Store.{Ghosts}
 use Rattle.sqlite.specs.Effect.{Database}
 use Rattle.sqlite.specs.Held.{Held, state}
 use Rattle.sqlite.specs.State.{State, IsUnchanged, Shown}
-use Rattle.sqlite.proofs.Callers.{IsPlain, command_of, reads_as}
 use Rattle.sqlite_rules.specs.Lists.{Has}
 use Rattle.sqlite_rules.proofs.ListLemmas.{all_has}
-use Rattle.acct_sql.specs.Tables.{book_schema}
+use Rattle.acct_sql.specs.Tables.{book_schema, account, voucher, session}
 use Rattle.acct_sql.specs.Tidy.{IsTidy}
-use Rattle.acct_sql.specs.Rising.{ShowsRising, shown_id}
-use Rattle.acct_sql.proofs.QueryLemmas.{over_table, all_rows, has_shown, seen_bare}
-use Rattle.acct_sql.proofs.NextLemmas.{rising}
-
-abbrev pub ids_shown : List Term
-ids_shown = col 1 0 ∷ []
-
-abbrev pub by_rowid : List (Term × Direction)
-by_rowid = (col 1 0, rising) ∷ []
+use Rattle.acct_sql.specs.inner.Rising.{ShowsRising, shown_id}
+use Rattle.acct_sql.specs.declared.statements.TheConstants as texts
+use Rattle.acct_sql.proofs.QueryLemmas.{over_table, all_rows, has_shown, answer_of}
+use Rattle.acct_sql.proofs.TextLemmas.{ids_shown, by_rowid, account_rowids, voucher_rowids}
+use Rattle.acct_sql.proofs.TextLemmas.{session_rowids}
 
 module _ {X K : Type 0} (e : K → K → Bool) (flips : (x y : K) → e x y ≡ e y x) (key : X → K) where
   apart : (x : X) (xs : List X) (y : X) → AllByRecursion (λ k. e (key x) k ≡ false) (map key xs)
@@ -139,79 +129,23 @@ module _ (t : ℕ) (db : Trees) (rows : List Row) (a : IsAnswerAs Null
         ∙ ap is_eq (tied_itself int_cmp_total (id_in (rowid r))));
   }
 
--- ---- the texts
-
-abbrev pub account_ids : List ℕ
-account_ids = codes "SELECT rowid FROM account ORDER BY rowid"
-
-abbrev pub voucher_ids : List ℕ
-voucher_ids = codes "SELECT rowid FROM voucher ORDER BY rowid"
-
-abbrev pub session_ids : List ℕ
-session_ids = codes "SELECT rowid FROM session ORDER BY rowid"
-
-account_ids_is : command_of (understood book_schema account_ids)
-    ≡ Select (record { lets = []; body = over_table 4 [] ids_shown by_rowid all_rows })
-    (codes "rowid" ∷ [])
-unfolding understood everything
-account_ids_is = refl
-
-account_ids_unlisted : reads_listing book_schema account_ids ≡ false
-unfolding understood everything
-account_ids_unlisted = refl
-
-pub account_ids_plain : IsPlain (understood book_schema account_ids)
-unfolding understood everything
-account_ids_plain = (refl, refl)
-
-voucher_ids_is : command_of (understood book_schema voucher_ids)
-    ≡ Select (record { lets = []; body = over_table 6 [] ids_shown by_rowid all_rows })
-    (codes "rowid" ∷ [])
-unfolding understood everything
-voucher_ids_is = refl
-
-voucher_ids_unlisted : reads_listing book_schema voucher_ids ≡ false
-unfolding understood everything
-voucher_ids_unlisted = refl
-
-pub voucher_ids_plain : IsPlain (understood book_schema voucher_ids)
-unfolding understood everything
-voucher_ids_plain = (refl, refl)
-
-session_ids_is : command_of (understood book_schema session_ids)
-    ≡ Select (record { lets = []; body = over_table 8 [] ids_shown by_rowid all_rows })
-    (codes "rowid" ∷ [])
-unfolding understood everything
-session_ids_is = refl
-
-session_ids_unlisted : reads_listing book_schema session_ids ≡ false
-unfolding understood everything
-session_ids_unlisted = refl
-
-pub session_ids_plain : IsPlain (understood book_schema session_ids)
-unfolding understood everything
-session_ids_plain = (refl, refl)
-
 module _ (old new : State) (rows : List Row) (has : old.now.schema ≡ book_schema)
     (ints : AllByRecursion (λ row. column row 0 ≡ Int (shown_id row)) rows)
     (sorted : IsStrictlySortedBy int_cmp (map shown_id rows)) where
-  accounts_tidy : Shown account_ids [] old new rows → IsTidy (old.now.trees 4)
-  accounts_tidy h = ids_tidy 4 old.now.trees rows (seen_bare 4 [] ids_shown by_rowid all_rows Null
-      (overlay old.now.trees []) old.now.trees [] rows refl
-      ((reads_as account_ids [] old new book_schema has _ account_ids_is account_ids_plain
-      account_ids_unlisted rows h).answer Null)) ints sorted
+  accounts_tidy : Shown texts.ACCOUNT_ROWIDS.now [] old new rows
+      → IsTidy (old.now.trees account.tree)
+  accounts_tidy h = ids_tidy account.tree old.now.trees rows (answer_of account_rowids [] old new
+      rows has h) ints sorted
 
-  vouchers_tidy : Shown voucher_ids [] old new rows → IsTidy (old.now.trees 6)
-  vouchers_tidy h = ids_tidy 6 old.now.trees rows (seen_bare 6 [] ids_shown by_rowid all_rows Null
-      (overlay old.now.trees []) old.now.trees [] rows refl
-      ((reads_as voucher_ids [] old new book_schema has _ voucher_ids_is voucher_ids_plain
-      voucher_ids_unlisted rows h).answer Null)) ints sorted
+  vouchers_tidy : Shown texts.VOUCHER_ROWIDS.now [] old new rows
+      → IsTidy (old.now.trees voucher.tree)
+  vouchers_tidy h = ids_tidy voucher.tree old.now.trees rows (answer_of voucher_rowids [] old new
+      rows has h) ints sorted
 
-  sessions_tidy : Shown session_ids [] old new rows → IsTidy (old.now.trees 8)
-  sessions_tidy h = ids_tidy 8 old.now.trees rows (seen_bare 8 [] ids_shown by_rowid all_rows Null
-      (overlay old.now.trees []) old.now.trees [] rows refl
-      ((reads_as session_ids [] old new book_schema has _ session_ids_is session_ids_plain
-      session_ids_unlisted rows h).answer Null)) ints sorted
+  sessions_tidy : Shown texts.SESSION_ROWIDS.now [] old new rows
+      → IsTidy (old.now.trees session.tree)
+  sessions_tidy h = ids_tidy session.tree old.now.trees rows (answer_of session_rowids [] old new
+      rows has h) ints sorted
 
 -- ---- rows that are read one at a time
 
@@ -221,17 +155,20 @@ module _ {S : Type 0} (g : Ghosts S) (old new : Held S)
       → (state g mid).now.schema ≡ book_schema
   has_then mid same = ap (λ (d : Database). d.schema) same.0.now_is ∙ has
 
-  pub accounts_rise : ShowsRising g account_ids old new → IsTidy ((state g old).now.trees 4)
-  accounts_rise h = subst (λ (d : Database). IsTidy (d.trees 4)) h.same.0.now_is
+  pub accounts_rise : ShowsRising g texts.ACCOUNT_ROWIDS.now old new
+      → IsTidy ((state g old).now.trees account.tree)
+  accounts_rise h = subst (λ (d : Database). IsTidy (d.trees account.tree)) h.same.0.now_is
       (accounts_tidy (state g h.before) (state g new) h.rows (has_then h.before h.same) h.rising.ids
       h.rising.sorted h.shown)
 
-  pub vouchers_rise : ShowsRising g voucher_ids old new → IsTidy ((state g old).now.trees 6)
-  vouchers_rise h = subst (λ (d : Database). IsTidy (d.trees 6)) h.same.0.now_is
+  pub vouchers_rise : ShowsRising g texts.VOUCHER_ROWIDS.now old new
+      → IsTidy ((state g old).now.trees voucher.tree)
+  vouchers_rise h = subst (λ (d : Database). IsTidy (d.trees voucher.tree)) h.same.0.now_is
       (vouchers_tidy (state g h.before) (state g new) h.rows (has_then h.before h.same) h.rising.ids
       h.rising.sorted h.shown)
 
-  pub sessions_rise : ShowsRising g session_ids old new → IsTidy ((state g old).now.trees 8)
-  sessions_rise h = subst (λ (d : Database). IsTidy (d.trees 8)) h.same.0.now_is
+  pub sessions_rise : ShowsRising g texts.SESSION_ROWIDS.now old new
+      → IsTidy ((state g old).now.trees session.tree)
+  sessions_rise h = subst (λ (d : Database). IsTidy (d.trees session.tree)) h.same.0.now_is
       (sessions_tidy (state g h.before) (state g new) h.rows (has_then h.before h.same) h.rising.ids
       h.rising.sorted h.shown)

@@ -35,41 +35,45 @@ one_row rows tidy places r s here there clash agrees =
     tidy.keyed r s here there (tidy.ints r here ∙ (ap Int (sym ids) ∙ sym (tidy.ints s there)))
 
 pub one_account : (db : Database) → IsBook db → (name : List ℕ)
-    → IsOne (is_account name) (db.trees 4)
+    → IsOne (is_account name) (db.trees account.tree)
 unfolding first_key
 one_account db book name r s here there first second =
     let rules = subst (λ schema. Keeps Unique schema db.trees) book.schema
     (book.sound.obeys.rules Unique) in
     let row : passes Unique book_schema db.trees account r
-    ≡ true = all_has (λ row. passes Unique book_schema db.trees account row ≡ true) (db.trees 4)
+    ≡ true = all_has (λ row. passes Unique book_schema db.trees account row
+    ≡ true) (db.trees account.tree)
     r rules.1.1.0 here in
     let agrees : agree plain (1 ∷ []) s (1 ∷ []) r ≡ true = rw
     (blob_is name (column s 1) second, blob_is name (column r 1) first, blob_equal name) refl in
-    one_row (db.trees 4) book.accounts (1 ∷ []) r s here there (not-true _ (and_parts _ _ row).0)
-    agrees
+    one_row (db.trees account.tree) book.accounts (1 ∷ []) r s here there (not-true _
+    (and_parts _ _ row).0) agrees
 
 pub one_voucher : (db : Database) → IsBook db → (number : List ℕ)
-    → IsOne (is_voucher number) (db.trees 6)
+    → IsOne (is_voucher number) (db.trees voucher.tree)
 unfolding first_key
 one_voucher db book number r s here there first second =
     let rules = subst (λ schema. Keeps Unique schema db.trees) book.schema
     (book.sound.obeys.rules Unique) in
     let row : passes Unique book_schema db.trees voucher r
-    ≡ true = all_has (λ row. passes Unique book_schema db.trees voucher row ≡ true) (db.trees 6)
+    ≡ true = all_has (λ row. passes Unique book_schema db.trees voucher row
+    ≡ true) (db.trees voucher.tree)
     r rules.1.1.1.0 here in
     let agrees : agree plain (1 ∷ []) s (1 ∷ []) r ≡ true = rw
     (text_is number (column s 1) second, text_is number (column r 1) first, text_equal number)
     refl in
-    one_row (db.trees 6) book.vouchers (1 ∷ []) r s here there (not-true _ (and_parts _ _ row).0)
-    agrees
+    one_row (db.trees voucher.tree) book.vouchers (1 ∷ []) r s here there (not-true _
+    (and_parts _ _ row).0) agrees
 
-pub one_session : (db : Database) → IsBook db → (key : Key) → IsOne (is_session key) (db.trees 8)
+pub one_session : (db : Database) → IsBook db → (key : Key) → IsOne (is_session key)
+    (db.trees session.tree)
 unfolding first_key
 one_session db book key r s here there first second =
     let rules = subst (λ schema. Keeps Unique schema db.trees) book.schema
     (book.sound.obeys.rules Unique) in
     let row : passes Unique book_schema db.trees session r
-    ≡ true = all_has (λ row. passes Unique book_schema db.trees session row ≡ true) (db.trees 8)
+    ≡ true = all_has (λ row. passes Unique book_schema db.trees session row
+    ≡ true) (db.trees session.tree)
     r rules.1.1.1.1.0 here in
     let f = and_parts _ _ first in
     let s' = and_parts _ _ second in
@@ -82,5 +86,5 @@ one_session db book key r s here there first second =
       text_equal key.client,
       blob_equal key.session,
     ) refl in
-    one_row (db.trees 8) book.sessions (1 ∷ 2 ∷ []) r s here there
+    one_row (db.trees session.tree) book.sessions (1 ∷ 2 ∷ []) r s here there
     (not-true _ (and_parts _ _ row).0) agrees

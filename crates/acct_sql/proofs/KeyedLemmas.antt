@@ -36,7 +36,7 @@ blob_there (Text t) h there = absurd (true≢false (sym h))
 blob_there (Blob b) h there = (b, refl)
 
 module _ (db : Database) (book : IsBook db) (r : Row) where
-  pub keyed_account : Has (db.trees 4) r → (name : List ℕ) × (is_account name r ≡ true)
+  pub keyed_account : Has (db.trees account.tree) r → (name : List ℕ) × (is_account name r ≡ true)
   keyed_account h =
       let types = subst (λ schema. Keeps Datatype schema db.trees) book.schema
       (book.sound.obeys.rules Datatype) in
@@ -44,17 +44,18 @@ module _ (db : Database) (book : IsBook db) (r : Row) where
       (book.sound.obeys.rules NotNull) in
       let typed : passes Datatype book_schema db.trees account r
       ≡ true = all_has (λ row. passes Datatype book_schema db.trees account row ≡ true)
-      (db.trees 4) r types.1.1.0 h in
+      (db.trees account.tree) r types.1.1.0 h in
       let present : passes NotNull book_schema db.trees account r
       ≡ true = all_has (λ row. passes NotNull book_schema db.trees account row ≡ true)
-      (db.trees 4) r there.1.1.0 h in
+      (db.trees account.tree) r there.1.1.0 h in
       let kind_is = subst (λ v. is_of kind.Blob v ≡ true) (shifted r 0)
       (typed_at account.columns 0 (drop 1 r) (refl, (refl, tt)) (and_parts _ _ typed).0 0 _
       refl) in
       let name = blob_there (column r 1) kind_is (and_parts _ _ present).0 in
       (name.0, ap (is_blob name.0) name.1 ∙ is_its_blob name.0)
 
-  pub keyed_voucher : Has (db.trees 6) r → (number : List ℕ) × (is_voucher number r ≡ true)
+  pub keyed_voucher : Has (db.trees voucher.tree) r → (number : List ℕ) × (is_voucher number r
+      ≡ true)
   keyed_voucher h =
       let types = subst (λ schema. Keeps Datatype schema db.trees) book.schema
       (book.sound.obeys.rules Datatype) in
@@ -62,17 +63,17 @@ module _ (db : Database) (book : IsBook db) (r : Row) where
       (book.sound.obeys.rules NotNull) in
       let typed : passes Datatype book_schema db.trees voucher r
       ≡ true = all_has (λ row. passes Datatype book_schema db.trees voucher row ≡ true)
-      (db.trees 6) r types.1.1.1.0 h in
+      (db.trees voucher.tree) r types.1.1.1.0 h in
       let present : passes NotNull book_schema db.trees voucher r
       ≡ true = all_has (λ row. passes NotNull book_schema db.trees voucher row ≡ true)
-      (db.trees 6) r there.1.1.1.0 h in
+      (db.trees voucher.tree) r there.1.1.1.0 h in
       let kind_is = subst (λ v. is_of kind.Text v ≡ true) (shifted r 0)
       (typed_at voucher.columns 0 (drop 1 r) (refl, (refl, (refl, (refl, tt))))
       (and_parts _ _ typed).0 0 _ refl) in
       let number = text_there (column r 1) kind_is (and_parts _ _ present).0 in
       (number.0, ap (is_text number.0) number.1 ∙ is_its_text number.0)
 
-  pub keyed_session : Has (db.trees 8) r → (key : Key) × (is_session key r ≡ true)
+  pub keyed_session : Has (db.trees session.tree) r → (key : Key) × (is_session key r ≡ true)
   keyed_session h =
       let types = subst (λ schema. Keeps Datatype schema db.trees) book.schema
       (book.sound.obeys.rules Datatype) in
@@ -80,10 +81,10 @@ module _ (db : Database) (book : IsBook db) (r : Row) where
       (book.sound.obeys.rules NotNull) in
       let typed : passes Datatype book_schema db.trees session r
       ≡ true = all_has (λ row. passes Datatype book_schema db.trees session row ≡ true)
-      (db.trees 8) r types.1.1.1.1.0 h in
+      (db.trees session.tree) r types.1.1.1.1.0 h in
       let present : passes NotNull book_schema db.trees session r
       ≡ true = all_has (λ row. passes NotNull book_schema db.trees session row ≡ true)
-      (db.trees 8) r there.1.1.1.1.0 h in
+      (db.trees session.tree) r there.1.1.1.1.0 h in
       let strict : AreStrict session.columns = (
         refl,
         (
@@ -125,7 +126,8 @@ module _ (db : Database) (book : IsBook db) (r : Row) where
       )
 
   -- the account that pays
-  pub session_account : Has (db.trees 8) r → (account : List ℕ) × (column r 3 ≡ Blob account)
+  pub session_account : Has (db.trees session.tree) r → (account : List ℕ) × (column r 3
+      ≡ Blob account)
   session_account h =
       let types = subst (λ schema. Keeps Datatype schema db.trees) book.schema
       (book.sound.obeys.rules Datatype) in
@@ -133,10 +135,10 @@ module _ (db : Database) (book : IsBook db) (r : Row) where
       (book.sound.obeys.rules NotNull) in
       let typed : passes Datatype book_schema db.trees session r
       ≡ true = all_has (λ row. passes Datatype book_schema db.trees session row ≡ true)
-      (db.trees 8) r types.1.1.1.1.0 h in
+      (db.trees session.tree) r types.1.1.1.1.0 h in
       let present : passes NotNull book_schema db.trees session r
       ≡ true = all_has (λ row. passes NotNull book_schema db.trees session row ≡ true)
-      (db.trees 8) r there.1.1.1.1.0 h in
+      (db.trees session.tree) r there.1.1.1.1.0 h in
       let strict : AreStrict session.columns = (
         refl,
         (
@@ -169,7 +171,8 @@ module _ (db : Database) (book : IsBook db) (r : Row) where
       (typed_at session.columns 0 (drop 1 r) strict (and_parts _ _ typed).0 2 _ refl) in
       blob_there (column r 3) kind_is (and_parts _ _ (and_parts _ _ (and_parts _ _ present).1).1).0
 
-  pub voucher_account : Has (db.trees 6) r → (account : List ℕ) × (column r 2 ≡ Blob account)
+  pub voucher_account : Has (db.trees voucher.tree) r → (account : List ℕ) × (column r 2
+      ≡ Blob account)
   voucher_account h =
       let types = subst (λ schema. Keeps Datatype schema db.trees) book.schema
       (book.sound.obeys.rules Datatype) in
@@ -177,10 +180,10 @@ module _ (db : Database) (book : IsBook db) (r : Row) where
       (book.sound.obeys.rules NotNull) in
       let typed : passes Datatype book_schema db.trees voucher r
       ≡ true = all_has (λ row. passes Datatype book_schema db.trees voucher row ≡ true)
-      (db.trees 6) r types.1.1.1.0 h in
+      (db.trees voucher.tree) r types.1.1.1.0 h in
       let present : passes NotNull book_schema db.trees voucher r
       ≡ true = all_has (λ row. passes NotNull book_schema db.trees voucher row ≡ true)
-      (db.trees 6) r there.1.1.1.0 h in
+      (db.trees voucher.tree) r there.1.1.1.0 h in
       let kind_is = subst (λ v. is_of kind.Blob v ≡ true) (shifted r 1)
       (typed_at voucher.columns 0 (drop 1 r) (refl, (refl, (refl, (refl, tt))))
       (and_parts _ _ typed).0 1 _ refl) in

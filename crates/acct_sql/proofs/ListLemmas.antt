@@ -1,6 +1,6 @@
 -- What the queries of an account's lists show of a book.
-use Rattle.std.proofs.Common.{◌≡◌, ℕ, ◌+◌, ◌-◌, ◌<◌, ◌≤◌, zero, suc, List, [], ◌∷◌, ◌++◌, codes}
-use Rattle.std.proofs.Common.{true, false, Option, Some, None, length, map, take, get_or, find}
+use Rattle.std.proofs.Common.{◌≡◌, ℕ, ◌+◌, ◌-◌, ◌<◌, ◌≤◌, zero, suc, List, [], ◌∷◌, ◌++◌}
+use Rattle.std.proofs.Common.{true, Option, Some, None, length, map, take, get_or, find}
 use Rattle.std.proofs.Common.{option_map, refl, sym, ap, subst, ◌∙◌, Ordering, Less, bytes_eq}
 use Rattle.std.proofs.Common.{IsTrue, arith}
 use Rattle.std.specs.Prelude.{◌↔◌, Contains}
@@ -16,14 +16,10 @@ use Rattle.sqlite.specs.Collation.TheVariants.{Binary}
 use Rattle.sqlite.specs.Order.{Row, column}
 use Rattle.sqlite.specs.Term.{Term, col}
 use Rattle.sqlite.specs.Query.{IsAnswerAs}
-use Rattle.sqlite.specs.Command.TheVariants.{Select}
 use Rattle.sqlite.specs.Program.{overlay}
-use Rattle.sqlite_tied.specs.Compute.{everything}
-use Rattle.sqlite.specs.Listing.{understood, reads_listing}
 use Rattle.sqlite.specs.Store.{Ghosts}
 use Rattle.sqlite.specs.Held.{Held, state}
 use Rattle.sqlite.specs.State.{State, Shown}
-use Rattle.sqlite.proofs.Callers.{IsPlain, command_of, reads_as}
 use Rattle.sqlite_schema.specs.Rules.{equal}
 use Rattle.sqlite_rules.specs.Lists.{Has}
 use Rattle.sqlite_rules.proofs.ListLemmas.{has_contained, contains_had}
@@ -32,12 +28,15 @@ use Rattle.acct_book.specs.Row.{RowFacts}
 use Rattle.acct_book.specs.Content.{key_of}
 use Rattle.acct_book.specs.Maps.{octets_cmp, key_cmp}
 use Rattle.acct_book.specs.Walk.{AreRowsOf, AreTopUpsOf}
-use Rattle.acct_sql.specs.Tables.{book_schema}
-use Rattle.acct_sql.specs.Columns.{session_of, topup_of, columns}
-use Rattle.acct_sql.specs.Content.{is_session, is_voucher, content_of}
-use Rattle.acct_sql.specs.Book.{IsBook, HasShown, content_at}
-use Rattle.acct_sql.proofs.TextLemmas.{is_equal, session_shown, session_names, topup_shown}
-use Rattle.acct_sql.proofs.QueryLemmas.{over_table, all_rows, shown_has, has_shown, seen_bare}
+use Rattle.acct_sql.specs.Tables.{voucher, session}
+use Rattle.acct_sql.specs.Columns.{session_in_columns, topup_in_columns, columns}
+use Rattle.acct_sql.specs.Content.{is_session, is_voucher, content_in_tables}
+use Rattle.acct_sql.specs.Book.{IsBook, content_at}
+use Rattle.acct_sql.specs.inner.AtRest.{HasShown}
+use Rattle.acct_sql.specs.declared.statements.TheConstants as texts
+use Rattle.acct_sql.proofs.TextLemmas.{session_shown, topup_shown, sessions_filter, topups_filter}
+use Rattle.acct_sql.proofs.TextLemmas.{by_key, by_name, sessions_of_account, topups_of_account}
+use Rattle.acct_sql.proofs.QueryLemmas.{over_table, all_rows, shown_has, has_shown, answer_of}
 use Rattle.acct_sql.proofs.QueryLemmas.{has_mapped, map_has}
 use Rattle.acct_sql.proofs.FindLemmas.{find_has, found_is}
 use Rattle.acct_sql.proofs.ValueLemmas.{equal_blob, blob_equal, text_is}
@@ -45,51 +44,6 @@ use Rattle.acct_sql.proofs.KeyLemmas.{one_session, one_voucher}
 use Rattle.acct_sql.proofs.KeyedLemmas.{keyed_session, keyed_voucher, session_account}
 use Rattle.acct_sql.proofs.KeyedLemmas.{voucher_account}
 use Rattle.acct_sql.proofs.SessionLemmas.{key_here}
-use Rattle.acct_sql.proofs.WalkLemmas.{by_key, by_name}
-
-abbrev pub sessions_text : List ℕ
-sessions_text = codes
-    "SELECT client, id, account, class, input, output, seconds, first_seen, last_seen, state, cause, calling, framed FROM session WHERE account = ?1 ORDER BY client, id"
-
-abbrev sessions_filter : List Term
-sessions_filter = is_equal 3 0 ∷ []
-
-sessions_is : command_of (understood book_schema sessions_text)
-    ≡ Select (record {
-      lets = [];
-      body = over_table 8 sessions_filter session_shown by_key all_rows;
-    }) session_names
-unfolding understood everything
-sessions_is = refl
-
-sessions_unlisted : reads_listing book_schema sessions_text ≡ false
-unfolding understood everything
-sessions_unlisted = refl
-
-pub sessions_plain : IsPlain (understood book_schema sessions_text)
-unfolding understood everything
-sessions_plain = (refl, refl)
-
-abbrev pub topups_text : List ℕ
-topups_text = codes
-    "SELECT number, account, amount, moment FROM voucher WHERE account = ?1 ORDER BY number"
-
-abbrev topups_filter : List Term
-topups_filter = is_equal 2 0 ∷ []
-
-topups_is : command_of (understood book_schema topups_text)
-    ≡ Select (record { lets = []; body = over_table 6 topups_filter topup_shown by_name all_rows })
-    (codes "number" ∷ codes "account" ∷ codes "amount" ∷ codes "moment" ∷ [])
-unfolding understood everything
-topups_is = refl
-
-topups_unlisted : reads_listing book_schema topups_text ≡ false
-unfolding understood everything
-topups_unlisted = refl
-
-pub topups_plain : IsPlain (understood book_schema topups_text)
-unfolding understood everything
-topups_plain = (refl, refl)
 
 found_row : {X : Type 0} (f : Row → X) (o : Option Row) (x : X) → option_map f o ≡ Some x
     → (r : Row) × (o ≡ Some r) × (f r ≡ x)
@@ -104,111 +58,109 @@ module _ (old new : State) (account : List ℕ) (shown : List Row) (book : IsBoo
   db = old.now.trees
 
   abbrev read_session : Row → RowFacts
-  read_session r = session_of (column r)
+  read_session r = session_in_columns (column r)
 
-  pub sessions_each : Shown sessions_text (Blob account ∷ []) old new shown → (member : RowFacts)
-      → Contains (map read_session shown) member ↔ (((content_of db).rows (key_of member)
-      ≡ Some member) × IsTrue (bytes_eq account member.account))
+  pub sessions_each : Shown texts.SESSIONS_OF_ACCOUNT.now (Blob account ∷ []) old new shown
+      → (member : RowFacts) → Contains (map read_session shown) member
+      ↔ (((content_in_tables db).rows (key_of member) ≡ Some member)
+      × IsTrue (bytes_eq account member.account))
   sessions_each h member = (listed, unlisted)
     where
-      answer : IsAnswerAs Null (over_table 8 sessions_filter session_shown by_key all_rows) db
-          params shown
-      answer = seen_bare 8 sessions_filter session_shown by_key all_rows Null (overlay db []) db
-          params shown refl
-          ((reads_as sessions_text params old new book_schema book.schema _ sessions_is
-          sessions_plain sessions_unlisted shown h).answer Null)
+      answer : IsAnswerAs Null (over_table session.tree sessions_filter session_shown by_key
+          all_rows) db params shown
+      answer = answer_of sessions_of_account params old new shown book.schema h
 
       listed : Contains (map read_session shown) member →
-          ((content_of db).rows (key_of member) ≡ Some member)
+          ((content_in_tables db).rows (key_of member) ≡ Some member)
           × IsTrue (bytes_eq account member.account)
       listed there =
           let at = has_mapped read_session shown member (has_contained (map read_session shown)
           member there) in
-          let r = shown_has 8 sessions_filter session_shown by_key Null db params shown answer at.0
-          at.1 in
-          let is : member ≡ session_of (columns r.0) = at.2 ∙ ap read_session r.3 in
+          let r = shown_has session.tree sessions_filter session_shown by_key Null db params shown
+          answer at.0 at.1 in
+          let is : member ≡ session_in_columns (columns r.0) = at.2 ∙ ap read_session r.3 in
           let k = keyed_session old.now book r.0 r.1 in
           let here = key_here k.0 r.0 k.1 in
-          let own : k.0 ≡ key_of (session_of (columns r.0)) = λ i. record
+          let own : k.0 ≡ key_of (session_in_columns (columns r.0)) = λ i. record
           { client = bytes (sym here.0 i); session = bytes (sym here.1 i) } in
-          let found = ap (option_map (λ r. session_of (columns r)))
-          (found_is (is_session k.0) (db 8) r.0 r.1 k.1
+          let found = ap (option_map (λ r. session_in_columns (columns r)))
+          (found_is (is_session k.0) (db session.tree) r.0 r.1 k.1
           (λ s there passes. one_session old.now book k.0 s r.0 there r.1 passes k.1)) in
           let payer : column r.0 3 ≡ Blob account = equal_blob (column r.0 3) account
           (and_parts _ _ r.2).0 in (
-            subst (λ m. (content_of db).rows (key_of m) ≡ Some m) (sym is)
-                (subst (λ key. (content_of db).rows key ≡ Some (session_of (columns r.0))) own found),
+            subst (λ m. (content_in_tables db).rows (key_of m) ≡ Some m) (sym is)
+                (subst (λ key. (content_in_tables db).rows key ≡ Some (session_in_columns
+                (columns r.0))) own found),
             (bytes_eq-Decides account member.account).1 (sym
                 (ap (λ (m : RowFacts). m.account) is ∙ ap bytes payer)),
           )
 
-      unlisted : ((content_of db).rows (key_of member) ≡ Some member)
+      unlisted : ((content_in_tables db).rows (key_of member) ≡ Some member)
           × IsTrue (bytes_eq account member.account) → Contains (map read_session shown) member
       unlisted there =
-          let r = found_row (λ r. session_of (columns r)) (find (is_session (key_of member)) (db 8))
-          member there.0 in
-          let here = find_has (is_session (key_of member)) (db 8) r.0 r.1 in
+          let r = found_row (λ r. session_in_columns (columns r)) (find (is_session (key_of member))
+          (db session.tree)) member there.0 in
+          let here = find_has (is_session (key_of member)) (db session.tree) r.0 r.1 in
           let payer = session_account old.now book r.0 here.0 in
           let same : account ≡ payer.0 = (bytes_eq-Decides account member.account).0 there.1
           ∙ (ap (λ (m : RowFacts). m.account) (sym r.2) ∙ ap bytes payer.1) in
           let passes : equal Binary (column r.0 3) (Blob account)
           ≡ true = subst (λ v. equal Binary v (Blob account) ≡ true)
           (ap Blob same ∙ sym payer.1) (blob_equal account) in
-          let row = has_shown 8 sessions_filter session_shown by_key Null db params shown answer r.0
-          here.0 (and_from _ _ passes refl) in
+          let row = has_shown session.tree sessions_filter session_shown by_key Null db params shown
+          answer r.0 here.0 (and_from _ _ passes refl) in
           contains_had (map read_session shown) member (subst (Has (map read_session shown)) r.2
           (map_has read_session shown _ row))
 
   abbrev read_topup : Row → TopUpFacts
-  read_topup r = topup_of (column r)
+  read_topup r = topup_in_columns (column r)
 
-  pub topups_each : Shown topups_text (Blob account ∷ []) old new shown → (member : TopUpFacts)
-      → Contains (map read_topup shown) member ↔ (((content_of db).topups member.voucher
-      ≡ Some member) × IsTrue (bytes_eq account member.account))
+  pub topups_each : Shown texts.TOPUPS_OF_ACCOUNT.now (Blob account ∷ []) old new shown
+      → (member : TopUpFacts) → Contains (map read_topup shown) member
+      ↔ (((content_in_tables db).topups member.voucher ≡ Some member)
+      × IsTrue (bytes_eq account member.account))
   topups_each h member = (listed, unlisted)
     where
-      answer : IsAnswerAs Null (over_table 6 topups_filter topup_shown by_name all_rows) db params
-          shown
-      answer = seen_bare 6 topups_filter topup_shown by_name all_rows Null (overlay db []) db params
-          shown refl
-          ((reads_as topups_text params old new book_schema book.schema _ topups_is topups_plain
-          topups_unlisted shown h).answer Null)
+      answer : IsAnswerAs Null (over_table voucher.tree topups_filter topup_shown by_name all_rows)
+          db params shown
+      answer = answer_of topups_of_account params old new shown book.schema h
 
-      listed : Contains (map read_topup shown) member → ((content_of db).topups member.voucher
-          ≡ Some member) × IsTrue (bytes_eq account member.account)
+      listed : Contains (map read_topup shown) member → ((content_in_tables db).topups
+          member.voucher ≡ Some member) × IsTrue (bytes_eq account member.account)
       listed there =
           let at = has_mapped read_topup shown member (has_contained (map read_topup shown) member
           there) in
-          let r = shown_has 6 topups_filter topup_shown by_name Null db params shown answer at.0
-          at.1 in
-          let is : member ≡ topup_of (columns r.0) = at.2 ∙ ap read_topup r.3 in
+          let r = shown_has voucher.tree topups_filter topup_shown by_name Null db params shown
+          answer at.0 at.1 in
+          let is : member ≡ topup_in_columns (columns r.0) = at.2 ∙ ap read_topup r.3 in
           let k = keyed_voucher old.now book r.0 r.1 in
           let own : k.0 ≡ bytes (column r.0 1) = sym (ap bytes (text_is k.0 (column r.0 1) k.1)) in
-          let found = ap (option_map (λ r. topup_of (columns r)))
-          (found_is (is_voucher k.0) (db 6) r.0 r.1 k.1
+          let found = ap (option_map (λ r. topup_in_columns (columns r)))
+          (found_is (is_voucher k.0) (db voucher.tree) r.0 r.1 k.1
           (λ s there passes. one_voucher old.now book k.0 s r.0 there r.1 passes k.1)) in
           let payer : column r.0 2 ≡ Blob account = equal_blob (column r.0 2) account
           (and_parts _ _ r.2).0 in (
-            subst (λ (m : TopUpFacts). (content_of db).topups m.voucher ≡ Some m) (sym is)
-                (subst (λ key. (content_of db).topups key ≡ Some (topup_of (columns r.0))) own found),
+            subst (λ (m : TopUpFacts). (content_in_tables db).topups m.voucher ≡ Some m) (sym is)
+                (subst (λ key. (content_in_tables db).topups key ≡ Some (topup_in_columns
+                (columns r.0))) own found),
             (bytes_eq-Decides account member.account).1 (sym
                 (ap (λ (m : TopUpFacts). m.account) is ∙ ap bytes payer)),
           )
 
-      unlisted : ((content_of db).topups member.voucher ≡ Some member)
+      unlisted : ((content_in_tables db).topups member.voucher ≡ Some member)
           × IsTrue (bytes_eq account member.account) → Contains (map read_topup shown) member
       unlisted there =
-          let r = found_row (λ r. topup_of (columns r)) (find (is_voucher member.voucher) (db 6))
-          member there.0 in
-          let here = find_has (is_voucher member.voucher) (db 6) r.0 r.1 in
+          let r = found_row (λ r. topup_in_columns (columns r)) (find (is_voucher member.voucher)
+          (db voucher.tree)) member there.0 in
+          let here = find_has (is_voucher member.voucher) (db voucher.tree) r.0 r.1 in
           let payer = voucher_account old.now book r.0 here.0 in
           let same : account ≡ payer.0 = (bytes_eq-Decides account member.account).0 there.1
           ∙ (ap (λ (m : TopUpFacts). m.account) (sym r.2) ∙ ap bytes payer.1) in
           let passes : equal Binary (column r.0 2) (Blob account)
           ≡ true = subst (λ v. equal Binary v (Blob account) ≡ true)
           (ap Blob same ∙ sym payer.1) (blob_equal account) in
-          let row = has_shown 6 topups_filter topup_shown by_name Null db params shown answer r.0
-          here.0 (and_from _ _ passes refl) in
+          let row = has_shown voucher.tree topups_filter topup_shown by_name Null db params shown
+          answer r.0 here.0 (and_from _ _ passes refl) in
           contains_had (map read_topup shown) member (subst (Has (map read_topup shown)) r.2
           (map_has read_topup shown _ row))
 
@@ -216,9 +168,9 @@ module _ (old new : State) (account : List ℕ) (shown : List Row) (book : IsBoo
 
 module _ {S : Type 0} (g : Ghosts S) (old : Held S) (book : IsBook (state g old).now)
     (account : List ℕ) (shown : List Row) where
-  pub rows_are : (rows : List RowFacts) → HasShown g old sessions_text (Blob account ∷ []) shown
-      → rows ≡ map (λ r. session_of (column r)) shown → IsStrictlySortedBy key_cmp (map key_of rows)
-      → AreRowsOf (content_at g old) account rows
+  pub rows_are : (rows : List RowFacts) → HasShown g old texts.SESSIONS_OF_ACCOUNT.now
+      (Blob account ∷ []) shown → rows ≡ map (λ r. session_in_columns (column r)) shown
+      → IsStrictlySortedBy key_cmp (map key_of rows) → AreRowsOf (content_at g old) account rows
   rows_are rows h is sorted = record {
     in_order = sorted;
     each = λ member. subst (λ rs. Contains rs member ↔ (((content_at g old).rows (key_of member)
@@ -227,8 +179,8 @@ module _ {S : Type 0} (g : Ghosts S) (old : Held S) (book : IsBook (state g old)
         book h.1 member);
   }
 
-  pub topups_are : (topups : List TopUpFacts) → HasShown g old topups_text (Blob account ∷ []) shown
-      → topups ≡ map (λ r. topup_of (column r)) shown
+  pub topups_are : (topups : List TopUpFacts) → HasShown g old texts.TOPUPS_OF_ACCOUNT.now
+      (Blob account ∷ []) shown → topups ≡ map (λ r. topup_in_columns (column r)) shown
       → IsStrictlySortedBy octets_cmp (map (λ (t : TopUpFacts). t.voucher) topups)
       → AreTopUpsOf (content_at g old) account topups
   topups_are topups h is sorted = record {

@@ -12,7 +12,8 @@ use Rattle.sqlite.proofs.StateLemmas.{survives_then, survives_weaker}
 use Rattle.sqlite_schema.specs.declared.command.Returning.{Returning}
 use Rattle.sqlite_resolve.specs.declared.compiled.Compiled.{Compiled}
 use Rattle.acct_sql.specs.Tables.{book_schema}
-use Rattle.acct_sql.specs.Look.{IsIdle, OnlyLooks, HasSchema}
+use Rattle.acct_sql.specs.Look.{IsIdle, LooksAtTables}
+use Rattle.acct_sql.specs.inner.Looked.{HasSchema}
 use Rattle.acct_sql.proofs.ReadLemmas.{shown_same}
 
 runs_quiet : (old new : State) (sql : List ℕ) (c : Compiled) (params : Row) (e : Error)
@@ -53,7 +54,7 @@ module _ (old new : State) (idle : IsIdle old)
   same_by clean o (inr rolled) = (rolled.undone o).0 ∙ sym
       (idle.settled (early clean) (rolled.was_open o))
 
-  pub looks : OnlyLooks old new
+  pub looks : LooksAtTables old new
   looks = record {
     idle = record {
       autocommit = mode idle.autocommit;
@@ -90,7 +91,7 @@ module _ (sql : List ℕ) (params : Row) (old new : State) {V : Type 0} (items :
       (plain_here sql params old new has plain survives clean) shown)
   quiet_by clean (Err e) shown failed = query_quiet sql params old new e failed
 
-  pub peeked : OnlyLooks old new
+  pub peeked : LooksAtTables old new
   peeked = looks old new idle (λ clean. quiet_by clean r (ok clean) (err clean)) mode
       (commits_nothing sql params old new has plain survives)
 
@@ -105,7 +106,7 @@ module _ (sql : List ℕ) (params : Row) (old new : State) {V : Type 0} (items :
 
 -- ---- one look after another
 
-pub looks_then : (a b c : State) → OnlyLooks a b → OnlyLooks b c → OnlyLooks a c
+pub looks_then : (a b c : State) → LooksAtTables a b → LooksAtTables b c → LooksAtTables a c
 looks_then a b c one two = record {
   idle = two.idle;
   was_open = λ clean o. one.was_open (omega (arith, two.survives.clean, clean))
@@ -116,8 +117,8 @@ looks_then a b c one two = record {
       one.survives two.survives;
 }
 
-pub has_after : (a b : State) → OnlyLooks a b → HasSchema a → (HasCleanDisk b → IsTrue b.is_open)
-    → HasSchema b
+pub has_after : (a b : State) → LooksAtTables a b → HasSchema a → (HasCleanDisk b
+    → IsTrue b.is_open) → HasSchema b
 has_after a b look has o clean = ap (λ (d : Database). d.schema) (look.same clean (o clean))
     ∙ has (omega (arith, look.survives.clean, clean))
 

@@ -1,6 +1,6 @@
 -- What the statements inside a transaction make of the content of a book.
 use Rattle.std.proofs.Common.{◌≡◌, ◌≢◌, ℕ, ℤ, List, [], ◌∷◌, drop, cond, Ok, IsTrue, Option, Some}
-use Rattle.std.proofs.Common.{option_map, refl, sym, ap, subst, ◌∙◌, arith, bytes_eq}
+use Rattle.std.proofs.Common.{inl, inr, option_map, refl, sym, ap, subst, ◌∙◌, arith, bytes_eq}
 use Rattle.std.specs.Map.{update}
 use Rattle.sqlite.specs.declared.types.Value.TheVariants.{Null, Int, Text, Blob}
 use Rattle.sqlite.specs.Order.{Row, column}
@@ -12,17 +12,21 @@ use Rattle.sqlite.specs.Command.TheVariants.{Update}
 use Rattle.sqlite.specs.Listing.{understood}
 use Rattle.sqlite.proofs.Callers.{IsPlain, command_of}
 use Rattle.acct_book.specs.declared.key.Key.{Key}
+use Rattle.acct_sql.specs.Tables.{book_schema, account, voucher, session}
 use Rattle.acct_sql.specs.Tidy.{IsTidy}
+use Rattle.acct_sql.specs.Columns.{session_columns, topup_columns, framed_in, framed_octets}
+use Rattle.acct_sql.specs.Content.{content_in_tables}
+use Rattle.acct_sql.specs.Book.{IsBook}
+use Rattle.acct_sql.specs.inner.Inside.{HasPut, with_row, with_balance, with_voucher, HasMade}
 use Rattle.acct_sql.proofs.QueryLemmas.{over_table, all_rows}
 use Rattle.sqlite.specs.State.{State, Executes, ExecutesInside}
+use Rattle.sqlite.specs.Store.{Ghosts}
+use Rattle.sqlite.specs.Held.{state}
 use Rattle.sqlite_schema.specs.declared.schema.Keys.TheVariants.{Enforced}
 use Rattle.acct_model.specs.Vouchers.{TopUpFacts}
 use Rattle.acct_book.specs.Row.{RowFacts}
 use Rattle.acct_book.specs.Content.{Content, same_key, key_of, with_closed, closed_by}
-use Rattle.acct_sql.specs.Tables.{book_schema, account, voucher, session}
-use Rattle.acct_sql.specs.Columns.{session_columns, topup_columns, framed_in, framed_octets}
-use Rattle.acct_sql.specs.Content.{content_of, with_row, with_balance, with_voucher}
-use Rattle.acct_sql.specs.Book.{IsBook, HasMade}
+use Rattle.acct_sql.specs.declared.statements.TheConstants as texts
 use Rattle.acct_sql.proofs.TextLemmas as t
 use Rattle.acct_sql.proofs.StatementLemmas.{updates, inserts}
 use Rattle.acct_sql.proofs.WriteLemmas.{update_tidy, insert_tidy}
@@ -34,7 +38,8 @@ use Rattle.acct_sql.proofs.VoucherLemmas as v
 -- ---- the tables that a statement does not write
 
 after_session : (old new : Database) → IsBook old → new.schema ≡ book_schema → IsDatabase new
-    → IsTidy (new.trees 8) → new.trees 4 ≡ old.trees 4 → new.trees 6 ≡ old.trees 6 → IsBook new
+    → IsTidy (new.trees session.tree) → new.trees account.tree ≡ old.trees account.tree
+    → new.trees voucher.tree ≡ old.trees voucher.tree → IsBook new
 after_session old new book schema sound tidy accounts vouchers =
     record {
       schema = schema;
@@ -45,7 +50,8 @@ after_session old new book schema sound tidy accounts vouchers =
     }
 
 after_account : (old new : Database) → IsBook old → new.schema ≡ book_schema → IsDatabase new
-    → IsTidy (new.trees 4) → new.trees 6 ≡ old.trees 6 → new.trees 8 ≡ old.trees 8 → IsBook new
+    → IsTidy (new.trees account.tree) → new.trees voucher.tree ≡ old.trees voucher.tree
+    → new.trees session.tree ≡ old.trees session.tree → IsBook new
 after_account old new book schema sound tidy vouchers sessions =
     record {
       schema = schema;
@@ -56,7 +62,8 @@ after_account old new book schema sound tidy vouchers sessions =
     }
 
 after_voucher : (old new : Database) → IsBook old → new.schema ≡ book_schema → IsDatabase new
-    → IsTidy (new.trees 6) → new.trees 4 ≡ old.trees 4 → new.trees 8 ≡ old.trees 8 → IsBook new
+    → IsTidy (new.trees voucher.tree) → new.trees account.tree ≡ old.trees account.tree
+    → new.trees session.tree ≡ old.trees session.tree → IsBook new
 after_voucher old new book schema sound tidy accounts sessions =
     record {
       schema = schema;
@@ -68,11 +75,11 @@ after_voucher old new book schema sound tidy accounts sessions =
 
 -- the content with other rows, other balances, other top-ups
 rows_changed : (old new : Trees) (f : Key → Option RowFacts)
-    → ((key : Key) → s.rows_in (new 8) key ≡ f key) → new 4 ≡ old 4 → new 6 ≡ old 6
-    → content_of new ≡ record {
+    → ((key : Key) → s.rows_in (new session.tree) key ≡ f key) → new account.tree ≡ old account.tree
+    → new voucher.tree ≡ old voucher.tree → content_in_tables new ≡ record {
       rows = f;
-      balances = (content_of old).balances;
-      topups = (content_of old).topups;
+      balances = (content_in_tables old).balances;
+      topups = (content_in_tables old).topups;
     }
 rows_changed old new f rows accounts vouchers = λ i. record {
   rows = λ key. rows key i;
@@ -81,11 +88,11 @@ rows_changed old new f rows accounts vouchers = λ i. record {
 }
 
 balances_changed : (old new : Trees) (f : List ℕ → Option ℤ)
-    → ((name : List ℕ) → a.balances_in (new 4) name ≡ f name) → new 6 ≡ old 6 → new 8 ≡ old 8
-    → content_of new ≡ record {
-      rows = (content_of old).rows;
+    → ((name : List ℕ) → a.balances_in (new account.tree) name ≡ f name) → new voucher.tree
+    ≡ old voucher.tree → new session.tree ≡ old session.tree → content_in_tables new ≡ record {
+      rows = (content_in_tables old).rows;
       balances = f;
-      topups = (content_of old).topups;
+      topups = (content_in_tables old).topups;
     }
 balances_changed old new f balances vouchers sessions = λ i. record {
   rows = s.rows_in (sessions i);
@@ -94,10 +101,10 @@ balances_changed old new f balances vouchers sessions = λ i. record {
 }
 
 topups_changed : (old new : Trees) (f : List ℕ → Option TopUpFacts)
-    → ((number : List ℕ) → v.topups_in (new 6) number ≡ f number) → new 4 ≡ old 4 → new 8 ≡ old 8
-    → content_of new ≡ record {
-      rows = (content_of old).rows;
-      balances = (content_of old).balances;
+    → ((number : List ℕ) → v.topups_in (new voucher.tree) number ≡ f number) → new account.tree
+    ≡ old account.tree → new session.tree ≡ old session.tree → content_in_tables new ≡ record {
+      rows = (content_in_tables old).rows;
+      balances = (content_in_tables old).balances;
       topups = f;
     }
 topups_changed old new f topups accounts sessions = λ i. record {
@@ -111,8 +118,8 @@ IsBookIf old = IsTrue old.is_open → IsBook old.now
 
 -- ---- one write after another
 
-pub made_then : (old mid new : State) (f g : Content → Content) → HasMade old mid f
-    → HasMade mid new g → HasMade old new (λ c. g (f c))
+pub made_then : (old mid new : State) (f g : Content → Content) → HasMade f old mid
+    → HasMade g mid new → HasMade (λ c. g (f c)) old new
 made_then old mid new f g first second = record {
   shows = record {
     was_open = first.shows.was_open;
@@ -130,16 +137,16 @@ made_then old mid new f g first second = record {
 session_updates : (text : List ℕ) (filter project : List Term) (params : Row) (old new : State)
     (count : ℕ)
     → command_of (understood book_schema text) ≡ Update 4
-    (record { lets = []; body = over_table 8 filter project [] all_rows })
+    (record { lets = []; body = over_table session.tree filter project [] all_rows })
     → IsPlain (understood book_schema text)
     → old.now.schema ≡ book_schema → Executes text params old new (Ok count)
     → s.IsUpdatedBy filter project params old new count
-session_updates = updates 4 session.name 8 session.columns (1 ∷ 2 ∷ []) refl (λ db. refl)
+session_updates = updates 4 session.name session.tree session.columns (1 ∷ 2 ∷ []) refl (λ db. refl)
     (λ taken news. refl)
 
 session_kept : (params : Row) (filter project : List Term) (old new : State) (count : ℕ)
-    → s.IsUpdatedBy filter project params old new count → (new.now.trees 4 ≡ old.now.trees 4)
-    × (new.now.trees 6 ≡ old.now.trees 6)
+    → s.IsUpdatedBy filter project params old new count → (new.now.trees account.tree
+    ≡ old.now.trees account.tree) × (new.now.trees voucher.tree ≡ old.now.trees voucher.tree)
 session_kept params filter project old new count done = (
   done.applies.tables.1.1.0
       (λ e. absurd (omega (arith, e))),
@@ -150,20 +157,20 @@ session_tidy : (filter project : List Term) (params : Row) (old new : State) (co
     (book : IsBook old.now) (done : s.IsUpdatedBy filter project params old new count)
     → ((r : Row) → rowid (eval_all project (params ∷ r ∷ [])) ≡ rowid r)
     → ((r : Row) → column (drop 1 (eval_all project (params ∷ r ∷ []))) 0 ≡ rowid r)
-    → IsTidy (new.now.trees 8)
+    → IsTidy (new.now.trees session.tree)
 session_tidy filter project params old new count book done first second =
     update_tidy book_schema Enforced session filter project Null old.now.trees new.now.trees params
     done.answer done.selects first second book.sessions done.applies
 
-pub made_row : (row : RowFacts) (old new : State) (count : ℕ) → IsBookIf old
+made_row : (row : RowFacts) (old new : State) (count : ℕ) → IsBookIf old
     → framed_in (framed_octets row.framed) ≡ row.framed → count ≢ 0
-    → ExecutesInside 0 t.set_session_text (session_columns row) old new (Ok count)
-    → HasMade old new (λ c. with_row c row)
+    → ExecutesInside 0 texts.SET_SESSION.now (session_columns row) old new (Ok count)
+    → HasMade (λ c. with_row c row) old new
 made_row row old new count books framed some h =
     let book = books h.1.was_open in
     let params = session_columns row in
-    let done = session_updates t.set_session_text t.session_filter t.session_project params old new
-    count t.set_session_is t.set_session_plain book.schema h.0 in
+    let done = session_updates texts.SET_SESSION.now t.session_filter t.session_project params old
+    new count t.set_session_is t.set_session_plain book.schema h.0 in
     let kept = session_kept params t.session_filter t.session_project old new count done in
     let tidy = session_tidy t.session_filter t.session_project params old new count book done
     (λ r. refl) (λ r. refl) in
@@ -171,32 +178,32 @@ made_row row old new count books framed some h =
       shows = h.1;
       book = after_session old.now new.now book done.schema done.sound tidy kept.0 kept.1;
       content = rows_changed old.now.trees new.now.trees
-          (update same_key (s.rows_in (old.now.trees 8)) (key_of row) (Some row))
+          (update same_key (s.rows_in (old.now.trees session.tree)) (key_of row) (Some row))
           (s.set_row row old new count book framed done some) kept.0 kept.1;
     }
 
-pub made_new_row : (row : RowFacts) (old mid new : State) (count more : ℕ) → IsBookIf old
+made_new_row : (row : RowFacts) (old mid new : State) (count more : ℕ) → IsBookIf old
     → framed_in (framed_octets row.framed) ≡ row.framed → count ≡ 0
-    → ExecutesInside 0 t.set_session_text (session_columns row) old mid (Ok count)
-    → ExecutesInside 0 t.new_session_text (session_columns row) mid new (Ok more)
-    → HasMade old new (λ c. with_row c row)
+    → ExecutesInside 0 texts.SET_SESSION.now (session_columns row) old mid (Ok count)
+    → ExecutesInside 0 texts.NEW_SESSION.now (session_columns row) mid new (Ok more)
+    → HasMade (λ c. with_row c row) old new
 made_new_row row old mid new count more books framed none first second =
     let book = books first.1.was_open in
     let params = session_columns row in
-    let done = session_updates t.set_session_text t.session_filter t.session_project params old mid
-    count t.set_session_is t.set_session_plain book.schema first.0 in
+    let done = session_updates texts.SET_SESSION.now t.session_filter t.session_project params old
+    mid count t.set_session_is t.set_session_plain book.schema first.0 in
     let kept = session_kept params t.session_filter t.session_project old mid count done in
     let tidy = session_tidy t.session_filter t.session_project params old mid count book done
     (λ r. refl) (λ r. refl) in
     let book' = after_session old.now mid.now book done.schema done.sound tidy kept.0 kept.1 in
-    let added = inserts 4 session.name 8 session.columns (1 ∷ 2 ∷ []) refl (λ db. refl)
-    (λ taken news. refl) t.new_session_text t.session_terms 14 params (Null ∷ params) mid new
+    let added = inserts 4 session.name session.tree session.columns (1 ∷ 2 ∷ []) refl (λ db. refl)
+    (λ taken news. refl) texts.NEW_SESSION.now t.session_terms 14 params (Null ∷ params) mid new
     more t.new_session_is t.new_session_plain refl book'.schema second.0 in
     let accounts = added.applies.tables.1.1.0 (λ e. absurd (omega (arith, e))) in
     let vouchers = added.applies.tables.1.1.1.0 (λ e. absurd (omega (arith, e))) in
     let fresh = s.none_kept row old mid count book framed done none in
     let tidy' = insert_tidy book_schema Enforced session mid.now.trees new.now.trees (Null ∷ params)
-    refl added.applies book'.sessions (next_rowid (mid.now.trees 8))
+    refl added.applies book'.sessions (next_rowid (mid.now.trees session.tree))
     (ap rowid (s.put_is row mid new book' framed added fresh)) in
     let same = s.set_none row old mid count book framed done none in
     record {
@@ -209,20 +216,20 @@ made_new_row row old mid new count more books framed none first second =
       };
       book = after_session mid.now new.now book' added.schema added.sound tidy' accounts vouchers;
       content = rows_changed old.now.trees new.now.trees
-          (update same_key (s.rows_in (old.now.trees 8)) (key_of row) (Some row))
+          (update same_key (s.rows_in (old.now.trees session.tree)) (key_of row) (Some row))
           (λ key. s.new_row row mid new book' framed added fresh key
           ∙ ap (λ o. cond (same_key (key_of row) key) (Some row) o) (same key))
           (accounts ∙ kept.0) (vouchers ∙ kept.1);
     }
 
 pub made_closed : (client : List ℕ) (old new : State) (count : ℕ) → IsBookIf old
-    → ExecutesInside 0 t.close_text (Text client ∷ []) old new (Ok count)
-    → HasMade old new (λ c. with_closed c client)
+    → ExecutesInside 0 texts.CLOSE_SESSIONS_OF_CLIENT.now (Text client ∷ []) old new (Ok count)
+    → HasMade (λ c. with_closed c client) old new
 made_closed client old new count books h =
     let book = books h.1.was_open in
     let params = Text client ∷ [] in
-    let done = session_updates t.close_text t.close_filter t.close_project params old new count
-    t.close_is t.close_plain book.schema h.0 in
+    let done = session_updates texts.CLOSE_SESSIONS_OF_CLIENT.now t.close_filter t.close_project
+    params old new count t.close_is t.close_plain book.schema h.0 in
     let kept = session_kept params t.close_filter t.close_project old new count done in
     let tidy = session_tidy t.close_filter t.close_project params old new count book done
     (λ r. refl) (λ r. refl) in
@@ -230,21 +237,21 @@ made_closed client old new count books h =
       shows = h.1;
       book = after_session old.now new.now book done.schema done.sound tidy kept.0 kept.1;
       content = rows_changed old.now.trees new.now.trees
-          (λ key. option_map (closed_by client) (s.rows_in (old.now.trees 8) key))
+          (λ key. option_map (closed_by client) (s.rows_in (old.now.trees session.tree) key))
           (c.closed_rows client old new count book done) kept.0 kept.1;
     }
 
 -- ---- account
 
 account_updates : (params : Row) (old new : State) (count : ℕ) → old.now.schema ≡ book_schema
-    → Executes t.set_balance_text params old new (Ok count) → a.IsUpdated params old new count
-account_updates params old new count = updates 2 account.name 4 account.columns (1 ∷ []) refl
-    (λ db. refl) (λ taken news. refl) t.set_balance_text t.name_filter t.balance_project params old
-    new count t.set_balance_is t.set_balance_plain
+    → Executes texts.SET_BALANCE.now params old new (Ok count) → a.IsUpdated params old new count
+account_updates params old new count = updates 2 account.name account.tree account.columns
+    (1 ∷ []) refl (λ db. refl) (λ taken news. refl) texts.SET_BALANCE.now t.name_filter
+    t.balance_project params old new count t.set_balance_is t.set_balance_plain
 
-pub made_balance : (name : List ℕ) (n : ℤ) (old new : State) (count : ℕ) → IsBookIf old → count ≢ 0
-    → ExecutesInside 0 t.set_balance_text (Blob name ∷ Int n ∷ []) old new (Ok count)
-    → HasMade old new (λ c. with_balance c name n)
+made_balance : (name : List ℕ) (n : ℤ) (old new : State) (count : ℕ) → IsBookIf old → count ≢ 0
+    → ExecutesInside 0 texts.SET_BALANCE.now (Blob name ∷ Int n ∷ []) old new (Ok count)
+    → HasMade (λ c. with_balance c name n) old new
 made_balance name n old new count books some h =
     let book = books h.1.was_open in
     let params = Blob name ∷ Int n ∷ [] in
@@ -258,15 +265,15 @@ made_balance name n old new count books some h =
       shows = h.1;
       book = after_account old.now new.now book done.schema done.sound tidy vouchers sessions;
       content = balances_changed old.now.trees new.now.trees
-          (update bytes_eq (a.balances_in (old.now.trees 4)) name (Some n))
+          (update bytes_eq (a.balances_in (old.now.trees account.tree)) name (Some n))
           (a.set_balance name n old new count book done some) vouchers sessions;
     }
 
-pub made_new_balance : (name : List ℕ) (n : ℤ) (old mid new : State) (count more : ℕ) → IsBookIf old
+made_new_balance : (name : List ℕ) (n : ℤ) (old mid new : State) (count more : ℕ) → IsBookIf old
     → count ≡ 0
-    → ExecutesInside 0 t.set_balance_text (Blob name ∷ Int n ∷ []) old mid (Ok count)
-    → ExecutesInside 0 t.new_balance_text (Blob name ∷ Int n ∷ []) mid new (Ok more)
-    → HasMade old new (λ c. with_balance c name n)
+    → ExecutesInside 0 texts.SET_BALANCE.now (Blob name ∷ Int n ∷ []) old mid (Ok count)
+    → ExecutesInside 0 texts.NEW_BALANCE.now (Blob name ∷ Int n ∷ []) mid new (Ok more)
+    → HasMade (λ c. with_balance c name n) old new
 made_new_balance name n old mid new count more books none first second =
     let book = books first.1.was_open in
     let params = Blob name ∷ Int n ∷ [] in
@@ -277,14 +284,14 @@ made_new_balance name n old mid new count more books none first second =
     old.now.trees mid.now.trees params done.answer done.selects (λ r. refl) (λ r. refl)
     book.accounts done.applies in
     let book' = after_account old.now mid.now book done.schema done.sound tidy vouchers sessions in
-    let added = inserts 2 account.name 4 account.columns (1 ∷ []) refl (λ db. refl)
-    (λ taken news. refl) t.new_balance_text t.balance_terms 3 params (Null ∷ params) mid new
+    let added = inserts 2 account.name account.tree account.columns (1 ∷ []) refl (λ db. refl)
+    (λ taken news. refl) texts.NEW_BALANCE.now t.balance_terms 3 params (Null ∷ params) mid new
     more t.new_balance_is t.new_balance_plain refl book'.schema second.0 in
     let vouchers' = added.applies.tables.1.1.1.0 (λ e. absurd (omega (arith, e))) in
     let sessions' = added.applies.tables.1.1.1.1.0 (λ e. absurd (omega (arith, e))) in
     let fresh = a.none_kept name n old mid count book done none in
     let tidy' = insert_tidy book_schema Enforced account mid.now.trees new.now.trees (Null ∷ params)
-    refl added.applies book'.accounts (next_rowid (mid.now.trees 4))
+    refl added.applies book'.accounts (next_rowid (mid.now.trees account.tree))
     (ap rowid (a.put_is name n mid new book' added fresh)) in
     let same = a.set_none name n old mid count book done none in
     record {
@@ -297,7 +304,7 @@ made_new_balance name n old mid new count more books none first second =
       };
       book = after_account mid.now new.now book' added.schema added.sound tidy' vouchers' sessions';
       content = balances_changed old.now.trees new.now.trees
-          (update bytes_eq (a.balances_in (old.now.trees 4)) name (Some n))
+          (update bytes_eq (a.balances_in (old.now.trees account.tree)) name (Some n))
           (λ key. a.new_balance name n mid new book' added fresh key
           ∙ ap (λ o. cond (bytes_eq name key) (Some n) o) (same key)) (vouchers' ∙ vouchers)
           (sessions' ∙ sessions);
@@ -306,14 +313,14 @@ made_new_balance name n old mid new count more books none first second =
 -- ---- voucher
 
 voucher_updates : (params : Row) (old new : State) (count : ℕ) → old.now.schema ≡ book_schema
-    → Executes t.set_topup_text params old new (Ok count) → v.IsUpdated params old new count
-voucher_updates params old new count = updates 3 voucher.name 6 voucher.columns (1 ∷ []) refl
-    (λ db. refl) (λ taken news. refl) t.set_topup_text t.name_filter t.topup_project params old new
-    count t.set_topup_is t.set_topup_plain
+    → Executes texts.SET_TOPUP.now params old new (Ok count) → v.IsUpdated params old new count
+voucher_updates params old new count = updates 3 voucher.name voucher.tree voucher.columns
+    (1 ∷ []) refl (λ db. refl) (λ taken news. refl) texts.SET_TOPUP.now t.name_filter
+    t.topup_project params old new count t.set_topup_is t.set_topup_plain
 
-pub made_topup : (topup : TopUpFacts) (old new : State) (count : ℕ) → IsBookIf old → count ≢ 0
-    → ExecutesInside 0 t.set_topup_text (topup_columns topup) old new (Ok count)
-    → HasMade old new (λ c. with_voucher c topup)
+made_topup : (topup : TopUpFacts) (old new : State) (count : ℕ) → IsBookIf old → count ≢ 0
+    → ExecutesInside 0 texts.SET_TOPUP.now (topup_columns topup) old new (Ok count)
+    → HasMade (λ c. with_voucher c topup) old new
 made_topup topup old new count books some h =
     let book = books h.1.was_open in
     let params = topup_columns topup in
@@ -327,15 +334,15 @@ made_topup topup old new count books some h =
       shows = h.1;
       book = after_voucher old.now new.now book done.schema done.sound tidy accounts sessions;
       content = topups_changed old.now.trees new.now.trees
-          (update bytes_eq (v.topups_in (old.now.trees 6)) topup.voucher (Some topup))
+          (update bytes_eq (v.topups_in (old.now.trees voucher.tree)) topup.voucher (Some topup))
           (v.set_topup topup old new count book done some) accounts sessions;
     }
 
-pub made_new_topup : (topup : TopUpFacts) (old mid new : State) (count more : ℕ) → IsBookIf old
+made_new_topup : (topup : TopUpFacts) (old mid new : State) (count more : ℕ) → IsBookIf old
     → count ≡ 0
-    → ExecutesInside 0 t.set_topup_text (topup_columns topup) old mid (Ok count)
-    → ExecutesInside 0 t.new_topup_text (topup_columns topup) mid new (Ok more)
-    → HasMade old new (λ c. with_voucher c topup)
+    → ExecutesInside 0 texts.SET_TOPUP.now (topup_columns topup) old mid (Ok count)
+    → ExecutesInside 0 texts.NEW_TOPUP.now (topup_columns topup) mid new (Ok more)
+    → HasMade (λ c. with_voucher c topup) old new
 made_new_topup topup old mid new count more books none first second =
     let book = books first.1.was_open in
     let params = topup_columns topup in
@@ -346,14 +353,14 @@ made_new_topup topup old mid new count more books none first second =
     old.now.trees mid.now.trees params done.answer done.selects (λ r. refl) (λ r. refl)
     book.vouchers done.applies in
     let book' = after_voucher old.now mid.now book done.schema done.sound tidy accounts sessions in
-    let added = inserts 3 voucher.name 6 voucher.columns (1 ∷ []) refl (λ db. refl)
-    (λ taken news. refl) t.new_topup_text t.topup_terms 5 params (Null ∷ params) mid new more
+    let added = inserts 3 voucher.name voucher.tree voucher.columns (1 ∷ []) refl (λ db. refl)
+    (λ taken news. refl) texts.NEW_TOPUP.now t.topup_terms 5 params (Null ∷ params) mid new more
     t.new_topup_is t.new_topup_plain refl book'.schema second.0 in
     let accounts' = added.applies.tables.1.1.0 (λ e. absurd (omega (arith, e))) in
     let sessions' = added.applies.tables.1.1.1.1.0 (λ e. absurd (omega (arith, e))) in
     let fresh = v.none_kept topup old mid count book done none in
     let tidy' = insert_tidy book_schema Enforced voucher mid.now.trees new.now.trees (Null ∷ params)
-    refl added.applies book'.vouchers (next_rowid (mid.now.trees 6))
+    refl added.applies book'.vouchers (next_rowid (mid.now.trees voucher.tree))
     (ap rowid (v.put_is topup mid new book' added fresh)) in
     let same = v.set_none topup old mid count book done none in
     record {
@@ -366,8 +373,33 @@ made_new_topup topup old mid new count more books none first second =
       };
       book = after_voucher mid.now new.now book' added.schema added.sound tidy' accounts' sessions';
       content = topups_changed old.now.trees new.now.trees
-          (update bytes_eq (v.topups_in (old.now.trees 6)) topup.voucher (Some topup))
+          (update bytes_eq (v.topups_in (old.now.trees voucher.tree)) topup.voucher (Some topup))
           (λ key. v.new_topup topup mid new book' added fresh key
           ∙ ap (λ o. cond (bytes_eq topup.voucher key) (Some topup) o) (same key))
           (accounts' ∙ accounts) (sessions' ∙ sessions);
     }
+
+-- ---- an UPDATE, and an INSERT where it met no row
+
+pub put_row : {S : Type 0} (g : Ghosts S) (row : RowFacts)
+    → framed_in (framed_octets row.framed) ≡ row.framed → (old new : State) → IsBookIf old
+    → HasPut g texts.SET_SESSION.now texts.NEW_SESSION.now (session_columns row) old new
+    → HasMade (λ c. with_row c row) old new
+put_row g row framed old new books (inl met) = made_row row old new met.0 books framed met.1 met.2
+put_row g row framed old new books (inr none) = made_new_row row old (state g none.0) new 0 none.1
+    books framed refl none.2 none.3
+
+pub put_balance : {S : Type 0} (g : Ghosts S) (name : List ℕ) (n : ℤ) (old new : State)
+    → IsBookIf old
+    → HasPut g texts.SET_BALANCE.now texts.NEW_BALANCE.now (Blob name ∷ Int n ∷ []) old new
+    → HasMade (λ c. with_balance c name n) old new
+put_balance g name n old new books (inl met) = made_balance name n old new met.0 books met.1 met.2
+put_balance g name n old new books (inr none) = made_new_balance name n old (state g none.0) new 0
+    none.1 books refl none.2 none.3
+
+pub put_topup : {S : Type 0} (g : Ghosts S) (topup : TopUpFacts) (old new : State) → IsBookIf old
+    → HasPut g texts.SET_TOPUP.now texts.NEW_TOPUP.now (topup_columns topup) old new
+    → HasMade (λ c. with_voucher c topup) old new
+put_topup g topup old new books (inl met) = made_topup topup old new met.0 books met.1 met.2
+put_topup g topup old new books (inr none) = made_new_topup topup old (state g none.0) new 0 none.1
+    books refl none.2 none.3

@@ -16,34 +16,9 @@ use Rattle.sqlite.specs.State.{State, mode_of, Writes, Executes}
 use Rattle.sqlite.proofs.Callers.{IsPlain, command_of, statement_of, runs_as}
 use Rattle.acct_sql.specs.Tables.{book_schema, no_schema, meta, price_plan, account, voucher}
 use Rattle.acct_sql.specs.Tables.{session, index_of}
-use Rattle.acct_sql.specs.Make.{AreEmpty}
+use Rattle.acct_sql.specs.inner.NewBook.{AreEmpty}
+use Rattle.acct_sql.specs.declared.statements.TheConstants as texts
 use Rattle.acct_sql.proofs.StatementLemmas.{went, same_value}
-
-abbrev pub meta_text : List ℕ
-meta_text = codes
-    "CREATE TABLE meta (name TEXT NOT NULL PRIMARY KEY, value INTEGER NOT NULL) STRICT"
-
-abbrev pub plan_text : List ℕ
-plan_text = codes
-    "CREATE TABLE price_plan (class BLOB NOT NULL PRIMARY KEY, block INTEGER NOT NULL, unit INTEGER NOT NULL) STRICT"
-
-abbrev pub account_text : List ℕ
-account_text = codes
-    "CREATE TABLE account (name BLOB NOT NULL PRIMARY KEY, balance INTEGER NOT NULL) STRICT"
-
-abbrev pub voucher_text : List ℕ
-voucher_text = codes
-    "CREATE TABLE voucher (number TEXT NOT NULL PRIMARY KEY, account BLOB NOT NULL, amount INTEGER NOT NULL, moment INTEGER NOT NULL) STRICT"
-
-abbrev pub session_text : List ℕ
-session_text = codes
-    "CREATE TABLE session (client TEXT NOT NULL, id BLOB NOT NULL, account BLOB NOT NULL, class BLOB NOT NULL, input INTEGER NOT NULL, output INTEGER NOT NULL, seconds INTEGER NOT NULL, first_seen INTEGER NOT NULL, last_seen INTEGER NOT NULL, state INTEGER NOT NULL, cause INTEGER NOT NULL, calling BLOB NOT NULL, framed BLOB NOT NULL, PRIMARY KEY (client, id)) STRICT"
-
-abbrev pub by_account_text : List ℕ
-by_account_text = codes "CREATE INDEX session_account ON session (account)"
-
-abbrev pub vouchers_text : List ℕ
-vouchers_text = codes "CREATE INDEX voucher_account ON voucher (account)"
 
 -- the first tables, each with the index of its key
 abbrev pub stage : ℕ → Schema
@@ -129,65 +104,73 @@ indexes schema after text at table index old new count is plain next has h =
 
 -- ---- the texts, each under the schema so far
 
-pub meta_is : (command_of (understood no_schema meta_text) ≡ CreateTable)
-    × (statement_of meta_text (understood no_schema meta_text) ≡ meta_text)
-    × (table_defined_by meta_text ≡ Ok (record meta { tree = 0 }))
+pub meta_is : (command_of (understood no_schema texts.META_TABLE.now) ≡ CreateTable)
+    × (statement_of texts.META_TABLE.now (understood no_schema texts.META_TABLE.now)
+    ≡ texts.META_TABLE.now) × (table_defined_by texts.META_TABLE.now ≡ Ok (record meta {
+      tree = 0;
+    }))
 unfolding understood everything
 meta_is = (refl, refl, refl)
 
-pub meta_plain : IsPlain (understood no_schema meta_text)
+pub meta_plain : IsPlain (understood no_schema texts.META_TABLE.now)
 unfolding understood everything
 meta_plain = (refl, refl)
 
 pub meta_next : created no_schema (record meta { tree = 0 }) ≡ stage 1
 meta_next = let one : decimal 1 ≡ codes "1" = decimal_digit 1 (omega arith) in rw one refl
 
-pub plan_is : (command_of (understood (stage 1) plan_text) ≡ CreateTable)
-    × (statement_of plan_text (understood (stage 1) plan_text) ≡ plan_text)
-    × (table_defined_by plan_text ≡ Ok (record price_plan { tree = 0 }))
+pub plan_is : (command_of (understood (stage 1) texts.PLAN_TABLE.now) ≡ CreateTable)
+    × (statement_of texts.PLAN_TABLE.now (understood (stage 1) texts.PLAN_TABLE.now)
+    ≡ texts.PLAN_TABLE.now) × (table_defined_by texts.PLAN_TABLE.now ≡ Ok (record price_plan {
+      tree
+          = 0;
+    }))
 unfolding understood everything
 plan_is = (refl, refl, refl)
 
-pub plan_plain : IsPlain (understood (stage 1) plan_text)
+pub plan_plain : IsPlain (understood (stage 1) texts.PLAN_TABLE.now)
 unfolding understood everything
 plan_plain = (refl, refl)
 
 pub plan_next : created (stage 1) (record price_plan { tree = 0 }) ≡ stage 2
 plan_next = let one : decimal 1 ≡ codes "1" = decimal_digit 1 (omega arith) in rw one refl
 
-pub account_is : (command_of (understood (stage 2) account_text) ≡ CreateTable)
-    × (statement_of account_text (understood (stage 2) account_text) ≡ account_text)
-    × (table_defined_by account_text ≡ Ok (record account { tree = 0 }))
+pub account_is : (command_of (understood (stage 2) texts.ACCOUNT_TABLE.now) ≡ CreateTable)
+    × (statement_of texts.ACCOUNT_TABLE.now (understood (stage 2) texts.ACCOUNT_TABLE.now)
+    ≡ texts.ACCOUNT_TABLE.now) × (table_defined_by texts.ACCOUNT_TABLE.now
+    ≡ Ok (record account { tree = 0 }))
 unfolding understood everything
 account_is = (refl, refl, refl)
 
-pub account_plain : IsPlain (understood (stage 2) account_text)
+pub account_plain : IsPlain (understood (stage 2) texts.ACCOUNT_TABLE.now)
 unfolding understood everything
 account_plain = (refl, refl)
 
 pub account_next : created (stage 2) (record account { tree = 0 }) ≡ stage 3
 account_next = let one : decimal 1 ≡ codes "1" = decimal_digit 1 (omega arith) in rw one refl
 
-pub voucher_is : (command_of (understood (stage 3) voucher_text) ≡ CreateTable)
-    × (statement_of voucher_text (understood (stage 3) voucher_text) ≡ voucher_text)
-    × (table_defined_by voucher_text ≡ Ok (record voucher { tree = 0 }))
+pub voucher_is : (command_of (understood (stage 3) texts.VOUCHER_TABLE.now) ≡ CreateTable)
+    × (statement_of texts.VOUCHER_TABLE.now (understood (stage 3) texts.VOUCHER_TABLE.now)
+    ≡ texts.VOUCHER_TABLE.now) × (table_defined_by texts.VOUCHER_TABLE.now
+    ≡ Ok (record voucher { tree = 0 }))
 unfolding understood everything
 voucher_is = (refl, refl, refl)
 
-pub voucher_plain : IsPlain (understood (stage 3) voucher_text)
+pub voucher_plain : IsPlain (understood (stage 3) texts.VOUCHER_TABLE.now)
 unfolding understood everything
 voucher_plain = (refl, refl)
 
 pub voucher_next : created (stage 3) (record voucher { tree = 0 }) ≡ stage 4
 voucher_next = let one : decimal 1 ≡ codes "1" = decimal_digit 1 (omega arith) in rw one refl
 
-pub session_is : (command_of (understood (stage 4) session_text) ≡ CreateTable)
-    × (statement_of session_text (understood (stage 4) session_text) ≡ session_text)
-    × (table_defined_by session_text ≡ Ok (record session { tree = 0 }))
+pub session_is : (command_of (understood (stage 4) texts.SESSION_TABLE.now) ≡ CreateTable)
+    × (statement_of texts.SESSION_TABLE.now (understood (stage 4) texts.SESSION_TABLE.now)
+    ≡ texts.SESSION_TABLE.now) × (table_defined_by texts.SESSION_TABLE.now
+    ≡ Ok (record session { tree = 0 }))
 unfolding understood everything
 session_is = (refl, refl, refl)
 
-pub session_plain : IsPlain (understood (stage 4) session_text)
+pub session_plain : IsPlain (understood (stage 4) texts.SESSION_TABLE.now)
 unfolding understood everything
 session_plain = (refl, refl)
 
@@ -195,55 +178,57 @@ pub session_next : created (stage 4) (record session { tree = 0 }) ≡ stage 5
 session_next = let one : decimal 1 ≡ codes "1" = decimal_digit 1 (omega arith) in rw one refl
 
 abbrev by_account : Index
-by_account = index_of (codes "session_account") 0 8 (3 ∷ []) false
+by_account = index_of (codes "session_account") 0 session.tree (3 ∷ []) false
 
 abbrev vouchers : Index
-vouchers = index_of (codes "voucher_account") 0 6 (2 ∷ []) false
+vouchers = index_of (codes "voucher_account") 0 voucher.tree (2 ∷ []) false
 
-pub by_account_is : (command_of (understood (stage 5) by_account_text) ≡ CreateIndex 4)
-    × (statement_of by_account_text (understood (stage 5) by_account_text) ≡ by_account_text)
-    × (slice_get (stage 5).tables 4 ≡ Some session) × (index_defined_by session by_account_text
-    ≡ Ok by_account)
+pub by_account_is : (command_of (understood (stage 5) texts.SESSION_ACCOUNT_INDEX.now)
+    ≡ CreateIndex 4) × (statement_of texts.SESSION_ACCOUNT_INDEX.now (understood
+    (stage 5) texts.SESSION_ACCOUNT_INDEX.now) ≡ texts.SESSION_ACCOUNT_INDEX.now)
+    × (slice_get (stage 5).tables 4 ≡ Some session) × (index_defined_by session
+    texts.SESSION_ACCOUNT_INDEX.now ≡ Ok by_account)
 unfolding understood everything
 by_account_is = (refl, refl, refl, refl)
 
-pub by_account_plain : IsPlain (understood (stage 5) by_account_text)
+pub by_account_plain : IsPlain (understood (stage 5) texts.SESSION_ACCOUNT_INDEX.now)
 unfolding understood everything
 by_account_plain = (refl, refl)
 
-pub vouchers_is : (command_of (understood six vouchers_text) ≡ CreateIndex 3)
-    × (statement_of vouchers_text (understood six vouchers_text) ≡ vouchers_text)
-    × (slice_get six.tables 3 ≡ Some voucher) × (index_defined_by voucher vouchers_text
-    ≡ Ok vouchers)
+pub vouchers_is : (command_of (understood six texts.VOUCHER_ACCOUNT_INDEX.now) ≡ CreateIndex 3)
+    × (statement_of texts.VOUCHER_ACCOUNT_INDEX.now (understood six texts.VOUCHER_ACCOUNT_INDEX.now)
+    ≡ texts.VOUCHER_ACCOUNT_INDEX.now) × (slice_get six.tables 3 ≡ Some voucher)
+    × (index_defined_by voucher texts.VOUCHER_ACCOUNT_INDEX.now ≡ Ok vouchers)
 unfolding understood everything
 vouchers_is = (refl, refl, refl, refl)
 
-pub vouchers_plain : IsPlain (understood six vouchers_text)
+pub vouchers_plain : IsPlain (understood six texts.VOUCHER_ACCOUNT_INDEX.now)
 unfolding understood everything
 vouchers_plain = (refl, refl)
 
 -- ---- all of them
 
 pub all_made : (a b c d e f g h : State) (i j k l m n o : ℕ) → a.now.schema ≡ no_schema
-    → Executes meta_text [] a b (Ok i) → Executes plan_text [] b c (Ok j)
-    → Executes account_text [] c d (Ok k) → Executes voucher_text [] d e (Ok l)
-    → Executes session_text [] e f (Ok m)
-    → Executes by_account_text [] f g (Ok n) → Executes vouchers_text [] g h (Ok o) → AreEmpty h.now
+    → Executes texts.META_TABLE.now [] a b (Ok i) → Executes texts.PLAN_TABLE.now [] b c (Ok j)
+    → Executes texts.ACCOUNT_TABLE.now [] c d (Ok k) → Executes texts.VOUCHER_TABLE.now [] d e
+    (Ok l) → Executes texts.SESSION_TABLE.now [] e f (Ok m)
+    → Executes texts.SESSION_ACCOUNT_INDEX.now [] f g (Ok n)
+    → Executes texts.VOUCHER_ACCOUNT_INDEX.now [] g h (Ok o) → AreEmpty h.now
 all_made a b c d e f g h i j k l m n o has one two three four five six' seven =
-    let x1 = defines no_schema (stage 1) meta_text (record meta { tree = 0 }) a b i meta_is
-    meta_plain meta_next refl has one in
-    let x2 = defines (stage 1) (stage 2) plan_text (record price_plan { tree = 0 }) b c j plan_is
-    plan_plain plan_next refl x1.listed two in
-    let x3 = defines (stage 2) (stage 3) account_text (record account { tree = 0 }) c d k account_is
-    account_plain account_next refl x2.listed three in
-    let x4 = defines (stage 3) (stage 4) voucher_text (record voucher { tree = 0 }) d e l voucher_is
-    voucher_plain voucher_next refl x3.listed four in
-    let x5 = defines (stage 4) (stage 5) session_text (record session { tree = 0 }) e f m session_is
-    session_plain session_next refl x4.listed five in
-    let x6 = indexes (stage 5) six by_account_text 4 session by_account f g n by_account_is
-    by_account_plain refl x5.listed six' in
-    let x7 = indexes six book_schema vouchers_text 3 voucher vouchers g h o vouchers_is
-    vouchers_plain refl x6.listed seven in
+    let x1 = defines no_schema (stage 1) texts.META_TABLE.now (record meta { tree = 0 }) a b i
+    meta_is meta_plain meta_next refl has one in
+    let x2 = defines (stage 1) (stage 2) texts.PLAN_TABLE.now (record price_plan { tree = 0 }) b c j
+    plan_is plan_plain plan_next refl x1.listed two in
+    let x3 = defines (stage 2) (stage 3) texts.ACCOUNT_TABLE.now (record account { tree = 0 }) c d k
+    account_is account_plain account_next refl x2.listed three in
+    let x4 = defines (stage 3) (stage 4) texts.VOUCHER_TABLE.now (record voucher { tree = 0 }) d e l
+    voucher_is voucher_plain voucher_next refl x3.listed four in
+    let x5 = defines (stage 4) (stage 5) texts.SESSION_TABLE.now (record session { tree = 0 }) e f m
+    session_is session_plain session_next refl x4.listed five in
+    let x6 = indexes (stage 5) six texts.SESSION_ACCOUNT_INDEX.now 4 session by_account f g n
+    by_account_is by_account_plain refl x5.listed six' in
+    let x7 = indexes six book_schema texts.VOUCHER_ACCOUNT_INDEX.now 3 voucher vouchers g h o
+    vouchers_is vouchers_plain refl x6.listed seven in
     record {
       schema = x7.listed;
       sound = x7.sound;

@@ -18,7 +18,7 @@ use Rattle.sqlite_rules.proofs.ListLemmas.{contains_had}
 use Rattle.sqlite_sql.proofs.QueryLemmas.{output_cmp_total}
 use Rattle.acct_sql.proofs.QueryLemmas.{over_table, meets, ordered_has, has_ordered}
 use Rattle.acct_sql.proofs.FindLemmas.{IsOne, not_true, found_is, none_is}
-use Rattle.acct_sql.specs.Next.{IsLeast}
+use Rattle.acct_sql.specs.inner.Next.{IsLeast}
 
 abbrev pub one_row : Term
 one_row = lit (Int (pos 1))

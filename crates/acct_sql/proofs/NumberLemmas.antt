@@ -1,84 +1,56 @@
 -- What the query for the schema number shows.
-use Rattle.std.proofs.Common.{◌≡◌, inl, inr, ℕ, ℤ, List, [], ◌∷◌, codes}
-use Rattle.std.proofs.Common.{true, false}
+use Rattle.std.proofs.Common.{◌≡◌, inl, inr, ℤ, List, [], ◌∷◌, codes}
+use Rattle.std.proofs.Common.{true}
 use Rattle.std.proofs.Common.{refl, sym, ap, subst, ◌∙◌}
 use Rattle.std.proofs.lemmas.Bool.{and_parts}
 use Rattle.sqlite.specs.declared.types.Value.{Value}
-use Rattle.sqlite.specs.declared.types.Value.TheVariants.{Null, Int, Text}
-use Rattle.sqlite.specs.Collation.TheVariants.{Binary}
-use Rattle.sqlite_sql.specs.declared.ops.BinaryOp.TheVariants.{Compare}
-use Rattle.sqlite_sql.specs.declared.ops.CompareOp.TheVariants.{Eq}
+use Rattle.sqlite.specs.declared.types.Value.TheVariants.{Null, Int}
 use Rattle.sqlite.specs.Order.{Row, column}
 use Rattle.sqlite.specs.Tree.{Trees}
-use Rattle.sqlite.specs.Term.{Term, lit, col, op2, eval_all}
+use Rattle.sqlite.specs.Term.{eval_all}
 use Rattle.sqlite.specs.Query.{IsAnswerAs}
-use Rattle.sqlite_schema.specs.declared.program.Program.{Program}
-use Rattle.sqlite.specs.Command.TheVariants.{Select}
-use Rattle.sqlite.specs.Program.{overlay}
-use Rattle.sqlite_tied.specs.Compute.{everything}
 use Rattle.sqlite.specs.Effect.{Database}
-use Rattle.sqlite.specs.Listing.{understood, reads_listing}
 use Rattle.sqlite.specs.State.{State, Shown}
-use Rattle.sqlite.proofs.Callers.{IsPlain, command_of, reads_as}
 use Rattle.sqlite_rules.specs.Lists.{Has}
 use Rattle.acct_model.specs.declared.plan.Plan.{Plan}
 use Rattle.acct_sql.specs.declared.sql_book_error.SqlBookError.{SqlBookError}
 use Rattle.acct_sql.specs.declared.sql_book_error.SqlBookError.TheVariants.{NotABook, PlansDiffer}
-use Rattle.acct_sql.specs.declared.sql_book_error.SqlBookError.TheVariants.{WrongSchema, Unavailable}
-use Rattle.acct_sql.specs.Tables.{book_schema}
+use Rattle.acct_sql.specs.declared.sql_book_error.SqlBookError.TheVariants.{WrongSchema}
+use Rattle.acct_sql.specs.declared.sql_book_error.SqlBookError.TheVariants.{Unavailable}
+use Rattle.acct_sql.specs.Tables.{book_schema, meta}
 use Rattle.acct_sql.specs.Make.{HasNumber}
-use Rattle.acct_sql.specs.Look.{IsNumber, HasNone, IsNumberFault, HasNumberAlone, IsRefusedAs}
-use Rattle.acct_sql.proofs.QueryLemmas.{over_table, all_rows, meets, shown_has, has_shown, seen_bare}
+use Rattle.acct_sql.specs.Look.{HasNumberAlone, IsRefusedAs}
+use Rattle.acct_sql.specs.inner.Looked.{IsSchemaNumber, HasNone, IsSchemaNumberFault}
+use Rattle.acct_sql.specs.declared.statements.TheConstants as texts
+use Rattle.acct_sql.proofs.QueryLemmas.{over_table, all_rows, meets, shown_has, has_shown}
+use Rattle.acct_sql.proofs.QueryLemmas.{answer_of}
+use Rattle.acct_sql.proofs.TextLemmas.{schema_filter, value_shown, schema_number}
+use Rattle.acct_sql.proofs.QueryLemmas.{over_table, all_rows, meets, shown_has, has_shown}
+use Rattle.acct_sql.proofs.QueryLemmas.{answer_of}
+use Rattle.acct_sql.proofs.TextLemmas.{schema_filter, value_shown, schema_number}
 use Rattle.acct_sql.proofs.ValueLemmas.{equal_text, text_equal}
-
-abbrev pub schema_text : List ℕ
-schema_text = codes "SELECT value FROM meta WHERE name = 'schema'"
-
-abbrev schema_filter : List Term
-schema_filter = op2 (Compare Eq Binary) (col 1 1) (lit (Text (codes "schema"))) ∷ []
-
-abbrev value_shown : List Term
-value_shown = col 1 2 ∷ []
-
-abbrev schema_query : Program
-schema_query = record { lets = []; body = over_table 0 schema_filter value_shown [] all_rows }
-
-schema_is : command_of (understood book_schema schema_text) ≡ Select schema_query
-    (codes "value" ∷ [])
-unfolding understood everything
-schema_is = refl
-
-schema_unlisted : reads_listing book_schema schema_text ≡ false
-unfolding understood everything
-schema_unlisted = refl
-
-pub schema_plain : IsPlain (understood book_schema schema_text)
-unfolding understood everything
-schema_plain = (refl, refl)
 
 -- ---- what it shows
 
 -- the answer tells of the number in the table
 pub record Tells (db : Trees) (rows : List Row) : Type 0 where
   pub none : HasNone rows → (n : ℤ) → ¬ (HasNumber n db)
-  pub one : (n : ℤ) → IsNumber n rows → HasNumberAlone n db
+  pub one : (n : ℤ) → IsSchemaNumber n rows → HasNumberAlone n db
 
 int_is : (m n : ℤ) → ◌≡◌ {A = Value} (Int m) (Int n) → m ≡ n
 int_is m n e = cc
 
 module _ (old new : State) (rows : List Row) (has : old.now.schema ≡ book_schema)
-    (h : Shown schema_text [] old new rows) where
-  answer : IsAnswerAs Null (over_table 0 schema_filter value_shown [] all_rows) old.now.trees []
-      rows
-  answer = seen_bare 0 schema_filter value_shown [] all_rows Null (overlay old.now.trees [])
-      old.now.trees [] rows refl
-      ((reads_as schema_text [] old new book_schema has _ schema_is schema_plain schema_unlisted
-      rows h).answer Null)
+    (h : Shown texts.SCHEMA_NUMBER.now [] old new rows) where
+  answer : IsAnswerAs Null (over_table meta.tree schema_filter value_shown [] all_rows)
+      old.now.trees [] rows
+  answer = answer_of schema_number [] old new rows has h
 
   shown_number : (n : ℤ) (row : Row) → Has rows row → column row 0 ≡ Int n
       → HasNumber n old.now.trees
   shown_number n row there is =
-      let r = shown_has 0 schema_filter value_shown [] Null old.now.trees [] rows answer row there in (
+      let r = shown_has meta.tree schema_filter value_shown [] Null old.now.trees [] rows answer row
+      there in (
         r.0,
         r.1,
         equal_text (column r.0 1) (codes "schema") (and_parts _ _ r.2).0,
@@ -88,15 +60,15 @@ module _ (old new : State) (rows : List Row) (has : old.now.schema ≡ book_sche
   number_shown : (n : ℤ) → HasNumber n old.now.trees → (row : Row) × Has rows row
       × (column row 0 ≡ Int n)
   number_shown n it =
-      let passes : meets 0 schema_filter value_shown [] Null old.now.trees [] it.0 ≡ true = rw
-      (it.2, text_equal (codes "schema")) refl in (
+      let passes : meets meta.tree schema_filter value_shown [] Null old.now.trees [] it.0
+      ≡ true = rw (it.2, text_equal (codes "schema")) refl in (
         eval_all value_shown ([] ∷ it.0 ∷ []),
-        has_shown 0 schema_filter value_shown [] Null old.now.trees [] rows answer it.0 it.1
+        has_shown meta.tree schema_filter value_shown [] Null old.now.trees [] rows answer it.0 it.1
             passes,
         it.3,
       )
 
-  number_alone : (n : ℤ) → IsNumber n rows → HasNumberAlone n old.now.trees
+  number_alone : (n : ℤ) → IsSchemaNumber n rows → HasNumberAlone n old.now.trees
   number_alone n it = record {
     has = shown_number n it.0 (subst (λ rows. Has rows it.0) (sym it.1) (inl refl)) it.2;
     alone = λ m other.
@@ -115,7 +87,7 @@ module _ (old new : State) (rows : List Row) (has : old.now.schema ≡ book_sche
   }
 
 pub number_refused : (plans : List Plan) (db : Database) (rows : List Row) (e : SqlBookError)
-    → (db.schema ≡ book_schema → Tells db.trees rows) → IsNumberFault rows e
+    → (db.schema ≡ book_schema → Tells db.trees rows) → IsSchemaNumberFault rows e
     → IsRefusedAs plans db e
 number_refused plans db rows NotABook told none = λ has. (told has).none none
 number_refused plans db rows (WrongSchema n) told other = (other.1, λ has. (told has).one n other.0)

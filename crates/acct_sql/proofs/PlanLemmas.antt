@@ -1,53 +1,30 @@
 -- What the query for the plans shows.
-use Rattle.std.proofs.Common.{◌≡◌, ℕ, List, [], ◌∷◌, codes, true, false, IsTrue, length, get_or}
+use Rattle.std.proofs.Common.{◌≡◌, List, [], ◌∷◌, true, false, IsTrue, length, get_or}
 use Rattle.std.proofs.Common.{◌≤◌, refl, sym, ap, subst, ◌∙◌, arith}
 use Rattle.sqlite.specs.declared.types.Value.TheVariants.{Null}
 use Rattle.sqlite.specs.Order.{Row}
-use Rattle.sqlite.specs.Term.{Term, col, eval_all}
+use Rattle.sqlite.specs.Term.{eval_all}
 use Rattle.sqlite.specs.Query.{IsAnswerAs}
-use Rattle.sqlite.specs.Command.TheVariants.{Select}
-use Rattle.sqlite.specs.Program.{overlay}
-use Rattle.sqlite_tied.specs.Compute.{everything}
-use Rattle.sqlite.specs.Listing.{understood, reads_listing}
 use Rattle.sqlite.specs.Store.{Ghosts}
 use Rattle.sqlite.specs.Held.{Held, state}
 use Rattle.sqlite.specs.State.{State, HasCleanDisk, IsRolledBack, Survives, Shown}
 use Rattle.sqlite.proofs.StateLemmas.{survives_then}
-use Rattle.sqlite.proofs.Callers.{IsPlain, command_of, reads_as, survives_begin}
+use Rattle.sqlite.proofs.Callers.{survives_begin}
 use Rattle.sqlite_rules.proofs.ListLemmas.{all_has, all_from}
 use Rattle.acct_model.specs.declared.plan.Plan.{Plan}
-use Rattle.acct_sql.specs.Tables.{book_schema}
+use Rattle.acct_sql.specs.Tables.{book_schema, price_plan}
 use Rattle.acct_sql.specs.Make.{KeepsPlans, IsPlanRow}
-use Rattle.acct_sql.specs.Look.{ShowsPlan, IsShownIn, IsPlanIn, AreShown, IsIdle, OnlyLooks}
-use Rattle.acct_sql.proofs.QueryLemmas.{over_table, all_rows, shown_has, has_shown, seen_bare}
+use Rattle.acct_sql.specs.Look.{IsIdle, LooksAtTables}
+use Rattle.acct_sql.specs.inner.Looked.{ShowsPlan, IsShownIn, IsPlanIn, AreShown}
+use Rattle.acct_sql.specs.declared.statements.TheConstants as texts
+use Rattle.acct_sql.proofs.QueryLemmas.{over_table, all_rows, shown_has, has_shown, answer_of}
+use Rattle.acct_sql.proofs.TextLemmas.{plan_shown, plan_rows}
 
-abbrev pub plans_text : List ℕ
-plans_text = codes "SELECT class, block, unit FROM price_plan"
-
-abbrev plan_shown : List Term
-plan_shown = col 1 1 ∷ col 1 2 ∷ col 1 3 ∷ []
-
-plans_is : command_of (understood book_schema plans_text)
-    ≡ Select (record { lets = []; body = over_table 2 [] plan_shown [] all_rows })
-    (codes "class" ∷ codes "block" ∷ codes "unit" ∷ [])
-unfolding understood everything
-plans_is = refl
-
-plans_unlisted : reads_listing book_schema plans_text ≡ false
-unfolding understood everything
-plans_unlisted = refl
-
-pub plans_plain : IsPlain (understood book_schema plans_text)
-unfolding understood everything
-plans_plain = (refl, refl)
-
-module _ (old new : State) (rows : List Row) (plans : List Plan) (has : old.now.schema ≡ book_schema)
-    (h : Shown plans_text [] old new rows) where
-  answer : IsAnswerAs Null (over_table 2 [] plan_shown [] all_rows) old.now.trees [] rows
-  answer = seen_bare 2 [] plan_shown [] all_rows Null (overlay old.now.trees []) old.now.trees []
-      rows refl
-      ((reads_as plans_text [] old new book_schema has _ plans_is plans_plain plans_unlisted rows
-      h).answer Null)
+module _ (old new : State) (rows : List Row) (plans : List Plan) (has : old.now.schema
+    ≡ book_schema) (h : Shown texts.PLANS.now [] old new rows) where
+  answer : IsAnswerAs Null (over_table price_plan.tree [] plan_shown [] all_rows) old.now.trees []
+      rows
+  answer = answer_of plan_rows [] old new rows has h
 
   says : (plan : Plan) (r : Row) → ShowsPlan plan (eval_all plan_shown ([] ∷ r ∷ []))
       → IsPlanRow plan r
@@ -61,11 +38,13 @@ module _ (old new : State) (rows : List Row) (plans : List Plan) (has : old.now.
   plans_shown shown = record {
     each = λ plan there.
         let row = all_has (IsShownIn rows) plans plan shown.0 there in
-        let r = shown_has 2 [] plan_shown [] Null old.now.trees [] rows answer row.0 row.1 in
+        let r = shown_has price_plan.tree [] plan_shown [] Null old.now.trees [] rows answer row.0
+        row.1 in
         (r.0, r.1, says plan r.0 (subst (ShowsPlan plan) r.3 row.2));
     only = λ r there.
         let plan = all_has (IsPlanIn plans) rows (eval_all plan_shown ([] ∷ r ∷ [])) shown.1
-        (has_shown 2 [] plan_shown [] Null old.now.trees [] rows answer r there refl) in
+        (has_shown price_plan.tree [] plan_shown [] Null old.now.trees [] rows answer r there refl)
+        in
         (plan.0, plan.1, says plan.0 r plan.2);
   }
 
@@ -74,11 +53,12 @@ module _ (old new : State) (rows : List Row) (plans : List Plan) (has : old.now.
     all_from (IsShownIn rows) plans (λ plan there.
         let r = kept.each plan there in (
           eval_all plan_shown ([] ∷ r.0 ∷ []),
-          has_shown 2 [] plan_shown [] Null old.now.trees [] rows answer r.0 r.1 refl,
+          has_shown price_plan.tree [] plan_shown [] Null old.now.trees [] rows answer r.0 r.1 refl,
           is_said plan r.0 r.2,
         )),
     all_from (IsPlanIn plans) rows (λ row there.
-        let r = shown_has 2 [] plan_shown [] Null old.now.trees [] rows answer row there in
+        let r = shown_has price_plan.tree [] plan_shown [] Null old.now.trees [] rows answer row
+        there in
         let plan = kept.only r.0 r.1 in
         (plan.0, plan.1, subst (ShowsPlan plan.0) (sym r.3) (is_said plan.0 r.0 plan.2))),
   )
@@ -98,7 +78,7 @@ pub let_fall : {S : Type 0} (g : Ghosts S) (old end : Held S) (mid : State) → 
     → Survives mid (state g end) (λ _. ⊥) → (HasCleanDisk (state g end)
     → IsRolledBack mid (state g end)) → (state g end).in_transaction ≡ false
     → (HasCleanDisk mid → IsTrue mid.is_open → IsTrue (state g old).is_open
-    × (mid.committed ≡ (state g old).committed)) → OnlyLooks (state g old) (state g end)
+    × (mid.committed ≡ (state g old).committed)) → LooksAtTables (state g old) (state g end)
 let_fall g old end mid idle inside undone rolled ended kept = record {
   idle = record {
     autocommit = ended;

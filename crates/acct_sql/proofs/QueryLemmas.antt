@@ -5,15 +5,21 @@ use Rattle.std.specs.List.{list_all}
 use Rattle.std.specs.List.Sorted.{IsPermutation}
 use Rattle.std.proofs.lemmas.List.Sorted.{IsPermutation-sym}
 use Rattle.sqlite_value.specs.declared.value.Value.{Value}
-use Rattle.sqlite_value.specs.declared.value.Value.TheVariants.{Int}
+use Rattle.sqlite_value.specs.declared.value.Value.TheVariants.{Null, Int}
 use Rattle.sqlite_value.specs.declared.keys.Key.{Key}
 use Rattle.sqlite.specs.Order.{Row}
 use Rattle.sqlite.specs.Tree.{Trees}
 use Rattle.sqlite.specs.Term.{Term, Env, lit, eval_all, holds}
 use Rattle.sqlite.specs.Query.{Query, Output, inner, end, output, matches_as, IsAnswerAs}
+use Rattle.sqlite.specs.Command.TheVariants.{Select}
+use Rattle.sqlite.specs.Program.{overlay}
+use Rattle.sqlite.specs.Listing.{understood, reads_listing}
+use Rattle.sqlite.specs.State.{State, Shown}
+use Rattle.sqlite.proofs.Callers.{IsPlain, command_of, reads_as}
 use Rattle.sqlite_rules.specs.Lists.{Has}
 use Rattle.sqlite_rules.proofs.ListLemmas.{all_has, all_from, has_either, has_left, has_right}
 use Rattle.sqlite_trees.proofs.ListLemmas.{all-permutation}
+use Rattle.acct_sql.specs.Tables.{book_schema}
 
 pub has_mapped : {A B : Type 0} (f : A → B) (xs : List A) (y : B) → Has (map f xs) y → (x : A)
     × Has xs x × (y ≡ f x)
@@ -141,3 +147,25 @@ seen_bare t filter project order limit lost seen db params rows same a =
       sorted = a.sorted;
       shown = a.shown;
     }
+
+-- ---- a statement that is such a query
+
+-- under the schema of the book the text means this query, and nothing besides
+pub record IsQuery (text : List ℕ) (t : ℕ) (filter project : List Term) (order : List (Term × Key))
+    (limit : Term) : Type 0 where
+  pub names : List (List ℕ)
+  pub is : command_of (understood book_schema text)
+      ≡ Select (record { lets = []; body = over_table t filter project order limit }) names
+  pub unlisted : reads_listing book_schema text ≡ false
+  pub plain : IsPlain (understood book_schema text)
+  pub bare : (db : Trees) → overlay db [] t ≡ db t
+
+-- what was shown is an answer of the query
+pub answer_of : {text : List ℕ} {t : ℕ} {filter project : List Term} {order : List (Term × Key)}
+    {limit : Term} → IsQuery text t filter project order limit → (params : Row) (old new : State)
+    (rows : List Row) → old.now.schema ≡ book_schema → Shown text params old new rows
+    → IsAnswerAs Null (over_table t filter project order limit) old.now.trees params rows
+answer_of {text} {t} {filter} {project} {order} {limit} query params old new rows has h =
+    seen_bare t filter project order limit Null (overlay old.now.trees []) old.now.trees params rows
+    (query.bare old.now.trees) ((reads_as text params old new book_schema has _ query.is query.plain
+    query.unlisted rows h).answer Null)

@@ -6,7 +6,6 @@ use Rattle.std.proofs.lemmas.Bool.{and_parts}
 use Rattle.sqlite.specs.declared.types.Value.TheVariants.{Null, Text, Blob}
 use Rattle.sqlite.specs.declared.error.Error.{Error}
 use Rattle.sqlite.specs.Order.{Row, column}
-use Rattle.sqlite.specs.Program.{overlay}
 use Rattle.sqlite.specs.Query.{IsAnswerAs}
 use Rattle.sqlite.specs.Effect.{Database}
 use Rattle.sqlite.specs.Store.{Ghosts}
@@ -14,7 +13,7 @@ use Rattle.sqlite.specs.Held.{Held, state}
 use Rattle.sqlite.specs.State.{State, IsUnchanged, KeepsCommit, Fails, Shown, ShowsRows}
 use Rattle.sqlite.specs.State.{FailsToQuery, FailsToShow, IsNotRun, IsTooLate}
 use Rattle.sqlite.specs.Listing.{understood}
-use Rattle.sqlite.proofs.Callers.{reads_as, IsPlain}
+use Rattle.sqlite.proofs.Callers.{IsPlain}
 use Rattle.sqlite_schema.specs.declared.command.Returning.{Returning}
 use Rattle.sqlite_resolve.specs.declared.compiled.Compiled.{Compiled}
 use Rattle.acct_book.specs.declared.key.Key.{Key}
@@ -22,16 +21,18 @@ use Rattle.acct_book.specs.Row.{RowFacts}
 use Rattle.acct_model.specs.Vouchers.{TopUpFacts}
 use Rattle.acct_book.specs.Book.{Reads}
 use Rattle.acct_book.specs.declared.book.Unavailable.{Unavailable}
-use Rattle.acct_sql.specs.Tables.{book_schema}
-use Rattle.acct_sql.specs.Columns.{session_of, topup_of, columns, int_in}
-use Rattle.acct_sql.specs.Content.{is_session, is_account, is_voucher, content_of}
-use Rattle.acct_sql.specs.Book.{IsBook, IsResting, IsSettled, HasMade, HasRead, HasShown, HasFirst}
-use Rattle.acct_sql.specs.Book.{first_row, Wrote, content_at, is_sound_at, is_open_at, is_steady_at}
-use Rattle.acct_sql.specs.Book.{left_at}
+use Rattle.acct_sql.specs.Tables.{book_schema, account, voucher, session}
+use Rattle.acct_sql.specs.Columns.{session_in_columns, topup_in_columns, columns, int_in}
+use Rattle.acct_sql.specs.Content.{is_session, is_account, is_voucher, content_in_tables}
+use Rattle.acct_sql.specs.Book.{IsBook, IsResting, IsOpenBook, content_at, is_sound_at, is_open_at}
+use Rattle.acct_sql.specs.Book.{is_steady_at, left_at}
+use Rattle.acct_sql.specs.inner.Inside.{HasMade}
+use Rattle.acct_sql.specs.inner.AtRest.{HasReadBook, HasShown, HasFirst, row_found, Wrote}
+use Rattle.acct_sql.specs.declared.statements.TheConstants as texts
 use Rattle.acct_sql.proofs.CommitLemmas.{of_ok, unavailable}
 use Rattle.acct_sql.proofs.TextLemmas as t
 use Rattle.acct_sql.proofs.QueryLemmas.{over_table, all_rows, meets, shown_has, has_shown}
-use Rattle.acct_sql.proofs.QueryLemmas.{seen_bare}
+use Rattle.acct_sql.proofs.QueryLemmas.{answer_of}
 use Rattle.acct_sql.proofs.FindLemmas.{not_true, found_is, none_is}
 use Rattle.acct_sql.proofs.ValueLemmas.{equal_blob, blob_equal, equal_text, text_equal, is_its_text}
 use Rattle.acct_sql.proofs.ValueLemmas.{is_its_blob, blob_is, text_is}
@@ -42,28 +43,27 @@ use Rattle.acct_sql.proofs.StepLemmas.{rolled_keeps, unchanged_keeps}
 -- ---- what is shown
 
 pub session_found : (key : Key) (old new : State) (rows : List Row) → IsBook old.now
-    → Shown t.session_text (Text key.client ∷ Blob key.session ∷ []) old new rows
-    → first_row (λ r. session_of (column r)) rows ≡ (content_of old.now.trees).rows key
+    → Shown texts.SESSION_OF_KEY.now (Text key.client ∷ Blob key.session ∷ []) old new rows
+    → row_found (λ r. session_in_columns (column r)) rows ≡ (content_in_tables old.now.trees).rows
+    key
 session_found key old new rows book h =
-    let params = Text key.client ∷ Blob key.session ∷ [] in
-    let read = reads_as t.session_text params old new book_schema book.schema _ t.session_is
-    t.session_plain t.session_unlisted rows h in
-    go rows (seen_bare 8 t.session_filter t.session_shown [] all_rows Null
-    (overlay old.now.trees []) old.now.trees params rows refl (read.answer Null))
+    go rows (answer_of t.session_of_key (Text key.client ∷ Blob key.session ∷ []) old new rows
+    book.schema h)
   where
-    go : (shown : List Row) → IsAnswerAs Null (over_table 8 t.session_filter t.session_shown []
-        all_rows) old.now.trees (Text key.client ∷ Blob key.session ∷ []) shown
-        → first_row (λ r. session_of (column r)) shown ≡ (content_of old.now.trees).rows key
-    go [] a = sym (ap (option_map (λ r. session_of (columns r)))
-        (none_is (is_session key) (old.now.trees 8) (λ r there. not_true _ (λ mine.
+    go : (shown : List Row) → IsAnswerAs Null (over_table session.tree t.session_filter
+        t.session_shown [] all_rows) old.now.trees (Text key.client ∷ Blob key.session ∷ []) shown
+        → row_found (λ r. session_in_columns (column r)) shown
+        ≡ (content_in_tables old.now.trees).rows key
+    go [] a = sym (ap (option_map (λ r. session_in_columns (columns r)))
+        (none_is (is_session key) (old.now.trees session.tree) (λ r there. not_true _ (λ mine.
         let k = key_here key r mine in
-        let passes : meets 8 t.session_filter t.session_shown [] Null old.now.trees
+        let passes : meets session.tree t.session_filter t.session_shown [] Null old.now.trees
         (Text key.client ∷ Blob key.session ∷ []) r ≡ true = rw
         (k.0, k.1, text_equal key.client, blob_equal key.session) refl in
-        has_shown 8 t.session_filter t.session_shown [] Null old.now.trees
+        has_shown session.tree t.session_filter t.session_shown [] Null old.now.trees
         (Text key.client ∷ Blob key.session ∷ []) [] a r there passes))))
     go (row ∷ more) a =
-        let r = shown_has 8 t.session_filter t.session_shown [] Null old.now.trees
+        let r = shown_has session.tree t.session_filter t.session_shown [] Null old.now.trees
         (Text key.client ∷ Blob key.session ∷ []) (row ∷ more) a row (inl refl) in
         let one = and_parts _ _ r.2 in
         let two = and_parts _ _ one.1 in
@@ -75,68 +75,64 @@ session_found key old new rows book h =
           is_its_text key.client,
           is_its_blob key.session,
         ) refl in
-        let found = found_is (is_session key) (old.now.trees 8) r.0 r.1 mine
+        let found = found_is (is_session key) (old.now.trees session.tree) r.0 r.1 mine
         (λ s there passes. one_session old.now book key s r.0 there r.1 passes mine) in
-        ap (λ x. Some (session_of (column x))) r.3 ∙ sym
-        (ap (option_map (λ r. session_of (columns r))) found)
+        ap (λ x. Some (session_in_columns (column x))) r.3 ∙ sym
+        (ap (option_map (λ r. session_in_columns (columns r))) found)
 
 pub balance_found : (name : List ℕ) (old new : State) (rows : List Row) → IsBook old.now
-    → Shown t.balance_text (Blob name ∷ []) old new rows
-    → first_row (λ r. int_in (column r 0)) rows ≡ (content_of old.now.trees).balances name
+    → Shown texts.BALANCE_OF_ACCOUNT.now (Blob name ∷ []) old new rows
+    → row_found (λ r. int_in (column r 0)) rows ≡ (content_in_tables old.now.trees).balances name
 balance_found name old new rows book h =
-    let params = Blob name ∷ [] in
-    let read = reads_as t.balance_text params old new book_schema book.schema _ t.balance_is
-    t.balance_plain t.balance_unlisted rows h in
-    go rows (seen_bare 4 t.name_filter t.balance_shown [] all_rows Null (overlay old.now.trees [])
-    old.now.trees params rows refl (read.answer Null))
+    go rows (answer_of t.balance_of_account (Blob name ∷ []) old new rows book.schema h)
   where
-    go : (shown : List Row) → IsAnswerAs Null (over_table 4 t.name_filter t.balance_shown []
-        all_rows) old.now.trees (Blob name ∷ []) shown
-        → first_row (λ r. int_in (column r 0)) shown ≡ (content_of old.now.trees).balances name
+    go : (shown : List Row) → IsAnswerAs Null (over_table account.tree t.name_filter t.balance_shown
+        [] all_rows) old.now.trees (Blob name ∷ []) shown
+        → row_found (λ r. int_in (column r 0)) shown ≡ (content_in_tables old.now.trees).balances
+        name
     go [] a = sym (ap (option_map (λ r. int_in (column r 2)))
-        (none_is (is_account name) (old.now.trees 4) (λ r there. not_true _ (λ mine.
-        let passes : meets 4 t.name_filter t.balance_shown [] Null old.now.trees (Blob name ∷ []) r
-        ≡ true = rw (blob_is name (column r 1) mine, blob_equal name) refl in
-        has_shown 4 t.name_filter t.balance_shown [] Null old.now.trees (Blob name ∷ []) [] a r
-        there passes))))
+        (none_is (is_account name) (old.now.trees account.tree) (λ r there. not_true _ (λ mine.
+        let passes : meets account.tree t.name_filter t.balance_shown [] Null old.now.trees
+        (Blob name ∷ []) r ≡ true = rw (blob_is name (column r 1) mine, blob_equal name) refl in
+        has_shown account.tree t.name_filter t.balance_shown [] Null old.now.trees
+        (Blob name ∷ []) [] a r there passes))))
     go (row ∷ more) a =
-        let r = shown_has 4 t.name_filter t.balance_shown [] Null old.now.trees (Blob name ∷ [])
-        (row ∷ more) a row (inl refl) in
+        let r = shown_has account.tree t.name_filter t.balance_shown [] Null old.now.trees
+        (Blob name ∷ []) (row ∷ more) a row (inl refl) in
         let named = equal_blob (column r.0 1) name (and_parts _ _ r.2).0 in
         let mine : is_account name r.0 ≡ true = rw (named, is_its_blob name) refl in
-        let found = found_is (is_account name) (old.now.trees 4) r.0 r.1 mine
+        let found = found_is (is_account name) (old.now.trees account.tree) r.0 r.1 mine
         (λ s there passes. one_account old.now book name s r.0 there r.1 passes mine) in
         ap (λ x. Some (int_in (column x 0))) r.3 ∙ sym (ap (option_map (λ r. int_in (column r 2)))
         found)
 
 pub topup_found : (number : List ℕ) (old new : State) (rows : List Row) → IsBook old.now
-    → Shown t.topup_text (Text number ∷ []) old new rows
-    → first_row (λ r. topup_of (column r)) rows ≡ (content_of old.now.trees).topups number
+    → Shown texts.TOPUP_OF_NUMBER.now (Text number ∷ []) old new rows
+    → row_found (λ r. topup_in_columns (column r)) rows ≡ (content_in_tables old.now.trees).topups
+    number
 topup_found number old new rows book h =
-    let params = Text number ∷ [] in
-    let read = reads_as t.topup_text params old new book_schema book.schema _ t.topup_is
-    t.topup_plain t.topup_unlisted rows h in
-    go rows (seen_bare 6 t.name_filter t.topup_shown [] all_rows Null (overlay old.now.trees [])
-    old.now.trees params rows refl (read.answer Null))
+    go rows (answer_of t.topup_of_number (Text number ∷ []) old new rows book.schema h)
   where
-    go : (shown : List Row) → IsAnswerAs Null (over_table 6 t.name_filter t.topup_shown [] all_rows)
-        old.now.trees (Text number ∷ []) shown
-        → first_row (λ r. topup_of (column r)) shown ≡ (content_of old.now.trees).topups number
-    go [] a = sym (ap (option_map (λ r. topup_of (columns r)))
-        (none_is (is_voucher number) (old.now.trees 6) (λ r there. not_true _ (λ mine.
-        let passes : meets 6 t.name_filter t.topup_shown [] Null old.now.trees (Text number ∷ []) r
-        ≡ true = rw (text_is number (column r 1) mine, text_equal number) refl in
-        has_shown 6 t.name_filter t.topup_shown [] Null old.now.trees (Text number ∷ []) [] a r
-        there passes))))
+    go : (shown : List Row) → IsAnswerAs Null (over_table voucher.tree t.name_filter t.topup_shown
+        [] all_rows) old.now.trees (Text number ∷ []) shown
+        → row_found (λ r. topup_in_columns (column r)) shown
+        ≡ (content_in_tables old.now.trees).topups number
+    go [] a = sym (ap (option_map (λ r. topup_in_columns (columns r)))
+        (none_is (is_voucher number) (old.now.trees voucher.tree) (λ r there. not_true _ (λ mine.
+        let passes : meets voucher.tree t.name_filter t.topup_shown [] Null old.now.trees
+        (Text number ∷ []) r ≡ true = rw (text_is number (column r 1) mine, text_equal number) refl
+        in
+        has_shown voucher.tree t.name_filter t.topup_shown [] Null old.now.trees (Text number ∷ [])
+        [] a r there passes))))
     go (row ∷ more) a =
-        let r = shown_has 6 t.name_filter t.topup_shown [] Null old.now.trees (Text number ∷ [])
-        (row ∷ more) a row (inl refl) in
+        let r = shown_has voucher.tree t.name_filter t.topup_shown [] Null old.now.trees
+        (Text number ∷ []) (row ∷ more) a row (inl refl) in
         let named = equal_text (column r.0 1) number (and_parts _ _ r.2).0 in
         let mine : is_voucher number r.0 ≡ true = rw (named, is_its_text number) refl in
-        let found = found_is (is_voucher number) (old.now.trees 6) r.0 r.1 mine
+        let found = found_is (is_voucher number) (old.now.trees voucher.tree) r.0 r.1 mine
         (λ s there passes. one_voucher old.now book number s r.0 there r.1 passes mine) in
-        ap (λ x. Some (topup_of (column x))) r.3 ∙ sym (ap (option_map (λ r. topup_of (columns r)))
-        found)
+        ap (λ x. Some (topup_in_columns (column x))) r.3 ∙ sym (ap (option_map
+        (λ r. topup_in_columns (columns r))) found)
 
 -- ---- a query in a transaction that is rolled back
 
@@ -195,7 +191,7 @@ shown_same sql params old new rows plain h = rows_same old new sql h.0 _ rows h.
 pub look_made : (sql : List ℕ) (params : Row) (old new : State) (rows : List Row)
     → (IsTrue old.is_open → IsBook old.now) → IsPlain (understood book_schema sql)
     → IsTrue old.in_transaction
-    → Shown sql params old new rows → HasMade old new (λ c. c)
+    → Shown sql params old new rows → HasMade (λ c. c) old new
 look_made sql params old new rows books plain on h =
     let book = books (shown_open sql params old new rows h).0 in
     let same = shown_same sql params old new rows (subst (λ schema. IsPlain (understood schema sql))
@@ -209,7 +205,7 @@ look_made sql params old new rows books plain on h =
         mode = same.0.mode ∙ on;
       };
       book = subst IsBook (sym same.0.now_is) book;
-      content = ap (λ (d : Database). content_of d.trees) same.0.now_is;
+      content = ap (λ (d : Database). content_in_tables d.trees) same.0.now_is;
     }
 
 pub look_kept : (sql : List ℕ) (params : Row) (old new : State) {V : Type 0} (items : V → List Row)
@@ -231,7 +227,7 @@ answered (Err e) f p = tt
 pub read_of : {S T E : Type 0} (g : Ghosts S) (old new : Held S) (result : Result T E)
     → IsResting (state g old) → (IsTrue (state g old).is_open
     → (state g old).may_leave (state g old).committed.trees)
-    → Wrote g old new (λ c. c) result → HasRead g old new result
+    → Wrote g old new (λ c. c) result → HasReadBook g old new result
 read_of {T = T} {E = E} g old new result resting stays w = record {
   was_sound = w.was_sound;
   was_open = w.was_open;
@@ -244,12 +240,12 @@ read_of {T = T} {E = E} g old new result resting stays w = record {
       (state g old).committed.trees,
       stays same.0.0.1,
       same.1
-          ∙ ap (λ (d : Database). content_of d.trees) same.0.1,
+          ∙ ap (λ (d : Database). content_in_tables d.trees) same.0.1,
     )
   ];
 }
   where
-    same_by : IsSettled (state g new) → (r : Result T E)
+    same_by : IsOpenBook (state g new) → (r : Result T E)
         → OnOk r (content_at g new ≡ content_at g old) → OnErr r
         (content_at g new ≡ content_at g old) → content_at g new ≡ content_at g old
     same_by o (Ok x) ok err = ok
@@ -257,7 +253,7 @@ read_of {T = T} {E = E} g old new result resting stays w = record {
 
 -- what is made of the rows changes nothing either
 pub read_on : {S T U E F : Type 0} (g : Ghosts S) (old new : Held S) (rows : Result T E)
-    (result : Result U F) → IsOk rows → HasRead g old new rows → HasRead g old new result
+    (result : Result U F) → IsOk rows → HasReadBook g old new rows → HasReadBook g old new result
 read_on {U = U} {F = F} g old new rows result is h = record {
   was_sound = h.was_sound;
   was_open = h.was_open;
@@ -273,11 +269,11 @@ read_on {U = U} {F = F} g old new rows result is h = record {
 
 -- the same read, told by the book's error
 pub read_told : {S T U E : Type 0} (g : Ghosts S) (old inside new : Held S) (r : Result T E)
-    → inside ≡ old → HasRead g inside new r
+    → inside ≡ old → HasReadBook g inside new r
     → Reads {T = U} {E = Unavailable} (content_at g) (is_sound_at g) (is_open_at g) (is_steady_at g)
     (left_at g) old new (Err unavailable)
 read_told {U = U} g old inside new r same w =
-    let h = subst (λ k. HasRead g k new r) same w in
+    let h = subst (λ k. HasReadBook g k new r) same w in
     record {
       was_sound = h.was_sound;
       was_open = h.was_open;
@@ -294,44 +290,44 @@ if_same (Err e) d P same h = tt
 
 -- what was read of the first row, or of none
 pub first_is : {X : Type 0} (read : Row → X) (rows front : List Row) (o : Option Row)
-    (target : Option X) → front ≡ rows → o ≡ slice_get front 0 → first_row read rows ≡ target
+    (target : Option X) → front ≡ rows → o ≡ slice_get front 0 → row_found read rows ≡ target
     → option_map read o ≡ target
 first_is read rows front o target same first found = ap (option_map read)
     (first ∙ ap (λ (l : List Row). slice_get l 0) same) ∙ found
 
 module _ {S : Type 0} (g : Ghosts S) (old : Held S) where
   pub session_shown : (key : Key) (rows : List Row) → IsBook (state g old).now
-      → HasShown g old t.session_text (Text key.client ∷ Blob key.session ∷ []) rows
-      → first_row (λ r. session_of (column r)) rows ≡ (content_at g old).rows key
+      → HasShown g old texts.SESSION_OF_KEY.now (Text key.client ∷ Blob key.session ∷ []) rows
+      → row_found (λ r. session_in_columns (column r)) rows ≡ (content_at g old).rows key
   session_shown key rows book h = session_found key (state g (record old { in_transaction = true }))
       (state g h.0) rows book h.1
 
   pub balance_shown : (name : List ℕ) (rows : List Row) → IsBook (state g old).now
-      → HasShown g old t.balance_text (Blob name ∷ []) rows
-      → first_row (λ r. int_in (column r 0)) rows ≡ (content_at g old).balances name
+      → HasShown g old texts.BALANCE_OF_ACCOUNT.now (Blob name ∷ []) rows
+      → row_found (λ r. int_in (column r 0)) rows ≡ (content_at g old).balances name
   balance_shown name rows book h = balance_found name (state g
       (record old { in_transaction = true })) (state g h.0) rows book h.1
 
   pub topup_shown : (number : List ℕ) (rows : List Row) → IsBook (state g old).now
-      → HasShown g old t.topup_text (Text number ∷ []) rows
-      → first_row (λ r. topup_of (column r)) rows ≡ (content_at g old).topups number
+      → HasShown g old texts.TOPUP_OF_NUMBER.now (Text number ∷ []) rows
+      → row_found (λ r. topup_in_columns (column r)) rows ≡ (content_at g old).topups number
   topup_shown number rows book h = topup_found number (state g
       (record old { in_transaction = true })) (state g h.0) rows book h.1
 
   pub session_first : (key : Key) (o : Option RowFacts) → IsBook (state g old).now
-      → HasFirst g old t.session_text (Text key.client ∷ Blob key.session ∷ [])
-      (λ r. session_of (column r)) o → o ≡ (content_at g old).rows key
+      → HasFirst g old texts.SESSION_OF_KEY.now (Text key.client ∷ Blob key.session ∷ [])
+      (λ r. session_in_columns (column r)) o → o ≡ (content_at g old).rows key
   session_first key o book h = sym h.2 ∙ session_shown key h.0 book h.1
 
   pub topup_first : (number : List ℕ) (o : Option TopUpFacts) → IsBook (state g old).now
-      → HasFirst g old t.topup_text (Text number ∷ []) (λ r. topup_of (column r)) o → o
-      ≡ (content_at g old).topups number
+      → HasFirst g old texts.TOPUP_OF_NUMBER.now (Text number ∷ []) (λ r. topup_in_columns
+      (column r)) o → o ≡ (content_at g old).topups number
   topup_first number o book h = sym h.2 ∙ topup_shown number h.0 book h.1
 
 -- one read after another
 pub read_then : {S T U E F : Type 0} (g : Ghosts S) (old mid new : Held S) (first : Result T E)
-    (second : Result U F) → HasRead g old mid first → HasRead g mid new second
-    → HasRead g old new second
+    (second : Result U F) → HasReadBook g old mid first → HasReadBook g mid new second
+    → HasReadBook g old new second
 read_then g old mid new first second a b = record {
   was_sound = λ s. a.was_sound (b.was_sound s);
   was_open = λ o. a.was_open (b.was_open o);

@@ -18,8 +18,9 @@ use Rattle.sqlite.specs.Listing.{understood}
 use Rattle.sqlite.proofs.Callers.{IsPlain, begun_plain, unchanged_then}
 use Rattle.sqlite_trees.proofs.ListLemmas.{all-append}
 use Rattle.acct_sql.specs.Tables.{book_schema}
-use Rattle.acct_sql.specs.Look.{IsIdle, OnlyLooks, HasSchema}
-use Rattle.acct_sql.specs.Rising.{AreRising, IsAbove, ShowsRising, shown_id}
+use Rattle.acct_sql.specs.Look.{IsIdle, LooksAtTables}
+use Rattle.acct_sql.specs.inner.Looked.{HasSchema}
+use Rattle.acct_sql.specs.inner.Rising.{AreRising, IsAbove, ShowsRising, shown_id}
 use Rattle.acct_sql.proofs.ListLemmas.{ascends}
 use Rattle.acct_sql.proofs.LookLemmas.{looks, looks_then, commits_nothing, plain_here}
 
@@ -75,7 +76,7 @@ module _ (rows : List Row) (row : Row) (id : ℤ) (is : column row 0 ≡ Int id)
 module _ {S : Type 0} (g : Ghosts S) (sql : List ℕ) where
   -- it has given rows whose ids rise up to this one, and nothing has changed
   pub record HasRisen (old now : Held S) (last : Option ℤ) : Type 0 where
-    pub looks : OnlyLooks (state g old) (state g now)
+    pub looks : LooksAtTables (state g old) (state g now)
     pub same : HasCleanDisk (state g now) → IsUnchanged (state g old) (state g now)
     pub given : HasCleanDisk (state g now) → (rows : List Row) × HasGiven g sql [] now rows
         × AreRising rows × EndsAt last rows
@@ -103,13 +104,13 @@ module _ {S : Type 0} (g : Ghosts S) (sql : List ℕ) where
     early clean = omega (arith, survives.clean, clean)
 
     pub looks_on : (HasCleanDisk (state g new) → IsUnchanged (state g now) (state g new)
-        ⊎ IsRolledBack (state g now) (state g new)) → OnlyLooks (state g old) (state g new)
+        ⊎ IsRolledBack (state g now) (state g new)) → LooksAtTables (state g old) (state g new)
     looks_on quiet = looks_then (state g old) (state g now) (state g new) so_far.looks
         (looks (state g now) (state g new) so_far.looks.idle quiet mode survives)
 
     pub failed_looks : (e : Error) → (HasCleanDisk (state g new)
         → Fails (state g now) (state g new) ⊥ e ⊎ IsUnchanged (state g now) (state g new))
-        → OnlyLooks (state g old) (state g new)
+        → LooksAtTables (state g old) (state g new)
     failed_looks e failed = looks_on (λ clean. turned (failed clean))
       where
         turned : Fails (state g now) (state g new) ⊥ e ⊎ IsUnchanged (state g now) (state g new)

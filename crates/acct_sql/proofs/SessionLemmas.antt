@@ -19,7 +19,7 @@ use Rattle.acct_book.specs.Row.{RowFacts}
 use Rattle.acct_book.specs.Content.{same_key, key_of}
 use Rattle.acct_book.proofs.Keys.{key_is, key_refl}
 use Rattle.acct_sql.specs.Tables.{book_schema, session}
-use Rattle.acct_sql.specs.Columns.{session_columns, session_of, columns, state_in, code_of}
+use Rattle.acct_sql.specs.Columns.{session_columns, session_in_columns, columns, state_in, code_of}
 use Rattle.acct_sql.specs.Columns.{cause_in, framed_in, framed_octets}
 use Rattle.acct_sql.specs.Content.{is_session}
 use Rattle.acct_sql.specs.Book.{IsBook}
@@ -34,15 +34,16 @@ use Rattle.acct_sql.proofs.ValueLemmas.{is_its_text, blob_is, is_its_blob, cast_
 use Rattle.acct_sql.proofs.KeyLemmas.{one_session}
 
 abbrev pub IsUpdatedBy : List Term → List Term → Row → State → State → ℕ → Type 0
-IsUpdatedBy filter project params old new count = HasUpdated 4 session.name 8 session.columns
-    (1 ∷ 2 ∷ []) refl (λ db. refl) (λ taken news. refl) filter project params old new count
+IsUpdatedBy filter project params old new count = HasUpdated 4 session.name session.tree
+    session.columns (1 ∷ 2 ∷ []) refl (λ db. refl) (λ taken news. refl) filter project params old
+    new count
 
 abbrev pub IsUpdated : Row → State → State → ℕ → Type 0
 IsUpdated params old new count = IsUpdatedBy session_filter session_project params old new count
 
 abbrev pub IsInserted : Row → State → State → Type 0
-IsInserted source old new = HasInserted 4 session.name 8 session.columns (1 ∷ 2 ∷ []) refl
-    (λ db. refl) (λ taken news. refl) source old new
+IsInserted source old new = HasInserted 4 session.name session.tree session.columns
+    (1 ∷ 2 ∷ []) refl (λ db. refl) (λ taken news. refl) source old new
 
 state_back : (state : SessionState) → state_in (Int (pos (code_of state))) ≡ state
 state_back Live = refl
@@ -57,7 +58,7 @@ cause_back Stopped cause = refl
 
 -- the columns of a row read back as it
 pub read_back : (row : RowFacts) (id : _) → framed_in (framed_octets row.framed) ≡ row.framed
-    → session_of (columns (id ∷ session_columns row)) ≡ row
+    → session_in_columns (columns (id ∷ session_columns row)) ≡ row
 read_back row id framed = rw (state_back row.state, cause_back row.state row.cause, framed) refl
 
 -- the row that has a key is found by it alone
@@ -88,7 +89,7 @@ one_key a b r h k =
     λ i. record { client = client i; session = id i }
 
 abbrev pub rows_in : List Row → Key → Option RowFacts
-rows_in rows key = option_map (λ r. session_of (columns r)) (find (is_session key) rows)
+rows_in rows key = option_map (λ r. session_in_columns (columns r)) (find (is_session key) rows)
 
 module _ (row : RowFacts) (old new : State) (count : ℕ) (book : IsBook old.now)
     (framed : framed_in (framed_octets row.framed) ≡ row.framed)
@@ -97,7 +98,7 @@ module _ (row : RowFacts) (old new : State) (count : ℕ) (book : IsBook old.now
   params = session_columns row
 
   abbrev met : Row → Bool
-  met = meets 8 session_filter session_project [] Null old.now.trees params
+  met = meets session.tree session_filter session_project [] Null old.now.trees params
 
   abbrev made : Row → Row
   made r = cast_row session (drop 1 (eval_all session_project (params ∷ r ∷ [])))
@@ -105,7 +106,7 @@ module _ (row : RowFacts) (old new : State) (count : ℕ) (book : IsBook old.now
   abbrev step : Row → Row
   step r = cond (met r) (made r) r
 
-  mapped : IsMapped step (old.now.trees 8) (new.now.trees 8)
+  mapped : IsMapped step (old.now.trees session.tree) (new.now.trees session.tree)
   mapped = update_mapped book_schema Enforced session session_filter session_project Null
       old.now.trees new.now.trees params done.answer done.selects (λ r. refl) (λ r. refl)
       book.sessions done.applies
@@ -151,40 +152,40 @@ module _ (row : RowFacts) (old new : State) (count : ℕ) (book : IsBook old.now
           ap (is_session key) (made_is r mine) ∙ rw (k.0, k.1) refl
       go false is = refl
 
-  found : (key : Key) → find (is_session key) (new.now.trees 8)
-      ≡ option_map step (find (is_session key) (old.now.trees 8))
-  found key = find_mapped (is_session key) step (old.now.trees 8) (new.now.trees 8)
-      (one_session old.now book key) (λ r h. keeps key r) mapped
+  found : (key : Key) → find (is_session key) (new.now.trees session.tree)
+      ≡ option_map step (find (is_session key) (old.now.trees session.tree))
+  found key = find_mapped (is_session key) step (old.now.trees session.tree)
+      (new.now.trees session.tree) (one_session old.now book key) (λ r h. keeps key r) mapped
 
   -- other sessions stay
-  pub set_other : (key : Key) → same_key (key_of row) key ≡ false → rows_in (new.now.trees 8) key
-      ≡ rows_in (old.now.trees 8) key
+  pub set_other : (key : Key) → same_key (key_of row) key ≡ false
+      → rows_in (new.now.trees session.tree) key ≡ rows_in (old.now.trees session.tree) key
   set_other key apart =
-      ap (option_map (λ r. session_of (columns r))) (found key
-      ∙ unchanged step (find (is_session key) (old.now.trees 8)) (λ r is.
-      let here = find_has (is_session key) (old.now.trees 8) r is in
+      ap (option_map (λ r. session_in_columns (columns r))) (found key
+      ∙ unchanged step (find (is_session key) (old.now.trees session.tree)) (λ r is.
+      let here = find_has (is_session key) (old.now.trees session.tree) r is in
       let unmet = not_true (met r) (λ h. true≢false (sym (key_refl key)
       ∙ (ap (λ k. same_key k key) (sym (one_key (key_of row) key r (met_key r h) here.1))
       ∙ apart))) in
       ap (λ b. cond b (made r) r) unmet))
 
-  unmet : count ≡ 0 → (r : Row) → Has (old.now.trees 8) r → met r ≡ false
+  unmet : count ≡ 0 → (r : Row) → Has (old.now.trees session.tree) r → met r ≡ false
   unmet nothing r h = not_true (met r) (λ passes. none_shown done.answer count done.counted nothing
-      _ (has_shown 8 session_filter session_project [] Null old.now.trees params done.answer
-      done.selects r h passes))
+      _ (has_shown session.tree session_filter session_project [] Null old.now.trees params
+      done.answer done.selects r h passes))
 
   -- no row was met, and nothing has changed
-  pub set_none : count ≡ 0 → (key : Key) → rows_in (new.now.trees 8) key
-      ≡ rows_in (old.now.trees 8) key
+  pub set_none : count ≡ 0 → (key : Key) → rows_in (new.now.trees session.tree) key
+      ≡ rows_in (old.now.trees session.tree) key
   set_none nothing key =
-      ap (option_map (λ r. session_of (columns r))) (found key
-      ∙ unchanged step (find (is_session key) (old.now.trees 8)) (λ r is.
-      ap (λ b. cond b (made r) r) (unmet nothing r (find_has (is_session key) (old.now.trees 8) r
-      is).0)))
+      ap (option_map (λ r. session_in_columns (columns r))) (found key
+      ∙ unchanged step (find (is_session key) (old.now.trees session.tree)) (λ r is.
+      ap (λ b. cond b (made r) r) (unmet nothing r (find_has (is_session key)
+      (old.now.trees session.tree) r is).0)))
 
   -- no row has the key
-  pub none_kept : count ≡ 0 → (r : Row) → Has (new.now.trees 8) r → is_session (key_of row) r
-      ≡ false
+  pub none_kept : count ≡ 0 → (r : Row) → Has (new.now.trees session.tree) r
+      → is_session (key_of row) r ≡ false
   none_kept nothing r h = not_true _ (λ passes.
       let b = mapped.back r h in
       let was : is_session (key_of row) b.0 ≡ true = sym (keeps (key_of row) b.0)
@@ -192,37 +193,40 @@ module _ (row : RowFacts) (old new : State) (count : ℕ) (book : IsBook old.now
       true≢false (sym (key_met b.0 was) ∙ unmet nothing b.0 b.1))
 
   -- a row was met, so it is the new one
-  pub set_row : count ≢ 0 → (key : Key) → rows_in (new.now.trees 8) key
-      ≡ update same_key (rows_in (old.now.trees 8)) (key_of row) (Some row) key
+  pub set_row : count ≢ 0 → (key : Key) → rows_in (new.now.trees session.tree) key
+      ≡ update same_key (rows_in (old.now.trees session.tree)) (key_of row) (Some row) key
   set_row some key = go (same_key (key_of row) key) refl
       (some_shown done.answer count done.counted some)
     where
       go : (b : Bool) → same_key (key_of row) key ≡ b → (r : Row) × Has done.answer r
-          → rows_in (new.now.trees 8) key ≡ cond b (Some row) (rows_in (old.now.trees 8) key)
+          → rows_in (new.now.trees session.tree) key ≡ cond b (Some row) (rows_in
+          (old.now.trees session.tree) key)
       go true is shown =
-          let r = shown_has 8 session_filter session_project [] Null old.now.trees params
+          let r = shown_has session.tree session_filter session_project [] Null old.now.trees params
           done.answer done.selects shown.0 shown.1 in
           let mine = met_key r.0 r.2 in
-          let at = found_is (is_session (key_of row)) (old.now.trees 8) r.0 r.1 mine
+          let at = found_is (is_session (key_of row)) (old.now.trees session.tree) r.0 r.1 mine
           (λ s h passes. one_session old.now book (key_of row) s r.0 h r.1 passes mine) in
           let made_here : step r.0 ≡ cast kind.Integer (column r.0 0) ∷ session_columns row = ap
           (λ b. cond b (made r.0) r.0) r.2 ∙ made_is r.0 mine in
-          let here : rows_in (new.now.trees 8) (key_of row) ≡ Some row =
-          ap (option_map (λ r. session_of (columns r)))
+          let here : rows_in (new.now.trees session.tree) (key_of row) ≡ Some row =
+          ap (option_map (λ r. session_in_columns (columns r)))
           (found (key_of row) ∙ (ap (option_map step) at ∙ ap Some made_here))
           ∙ ap Some (read_back row (cast kind.Integer (column r.0 0)) framed) in
-          subst (λ k. rows_in (new.now.trees 8) k ≡ Some row) (key_is (key_of row) key is) here
+          subst (λ k. rows_in (new.now.trees session.tree) k ≡ Some row) (key_is
+          (key_of row) key is) here
       go false is shown = set_other key is
 
 module _ (row : RowFacts) (old new : State) (book : IsBook old.now)
     (framed : framed_in (framed_octets row.framed) ≡ row.framed)
     (done : IsInserted (Null ∷ session_columns row) old new)
-    (fresh : (r : Row) → Has (old.now.trees 8) r → is_session (key_of row) r ≡ false) where
+    (fresh : (r : Row) → Has (old.now.trees session.tree) r → is_session (key_of row) r
+    ≡ false) where
   abbrev put : Row
   put = inserted book_schema Enforced session old.now.trees new.now.trees
       (Null ∷ session_columns row) refl done.applies
 
-  pub put_is : put ≡ Int (next_rowid (old.now.trees 8)) ∷ session_columns row
+  pub put_is : put ≡ Int (next_rowid (old.now.trees session.tree)) ∷ session_columns row
   put_is = rw (
     cast_null,
     cast_int (pos row.input),
@@ -234,31 +238,31 @@ module _ (row : RowFacts) (old new : State) (book : IsBook old.now)
     cast_int (pos row.cause),
   ) refl
 
-  added : IsAdded put (old.now.trees 8) (new.now.trees 8)
+  added : IsAdded put (old.now.trees session.tree) (new.now.trees session.tree)
   added = insert_added book_schema Enforced session old.now.trees new.now.trees
       (Null ∷ session_columns row) refl done.applies
 
   put_key : (key : Key) → is_session key put ≡ same_key (key_of row) key
   put_key key = ap (is_session key) put_is
 
-  found_now : (key : Key) → find (is_session key) (new.now.trees 8)
-      ≡ cond (is_session key put) (Some put) (find (is_session key) (old.now.trees 8))
-  found_now key = find_added (is_session key) put (old.now.trees 8) (new.now.trees 8)
-      (one_session old.now book key)
+  found_now : (key : Key) → find (is_session key) (new.now.trees session.tree)
+      ≡ cond (is_session key put) (Some put) (find (is_session key) (old.now.trees session.tree))
+  found_now key = find_added (is_session key) put (old.now.trees session.tree)
+      (new.now.trees session.tree) (one_session old.now book key)
       (λ is r h. subst (λ k. is_session k r ≡ false) (key_is (key_of row) key
       (sym (put_key key) ∙ is)) (fresh r h)) added
 
-  shown_if : (b : Bool) (x : Row) (o : Option Row) → session_of (columns x) ≡ row
-      → option_map (λ r. session_of (columns r)) (cond b (Some x) o)
-      ≡ cond b (Some row) (option_map (λ r. session_of (columns r)) o)
+  shown_if : (b : Bool) (x : Row) (o : Option Row) → session_in_columns (columns x) ≡ row
+      → option_map (λ r. session_in_columns (columns r)) (cond b (Some x) o)
+      ≡ cond b (Some row) (option_map (λ r. session_in_columns (columns r)) o)
   shown_if true x o is = ap Some is
   shown_if false x o is = refl
 
-  pub new_row : (key : Key) → rows_in (new.now.trees 8) key
-      ≡ update same_key (rows_in (old.now.trees 8)) (key_of row) (Some row) key
+  pub new_row : (key : Key) → rows_in (new.now.trees session.tree) key
+      ≡ update same_key (rows_in (old.now.trees session.tree)) (key_of row) (Some row) key
   new_row key =
-      ap (option_map (λ r. session_of (columns r))) (found_now key)
-      ∙ (shown_if (is_session key put) put (find (is_session key) (old.now.trees 8))
-      (ap (λ r. session_of (columns r)) put_is ∙ read_back row
-      (Int (next_rowid (old.now.trees 8))) framed)
-      ∙ ap (λ b. cond b (Some row) (rows_in (old.now.trees 8) key)) (put_key key))
+      ap (option_map (λ r. session_in_columns (columns r))) (found_now key)
+      ∙ (shown_if (is_session key put) put (find (is_session key) (old.now.trees session.tree))
+      (ap (λ r. session_in_columns (columns r)) put_is ∙ read_back row
+      (Int (next_rowid (old.now.trees session.tree))) framed)
+      ∙ ap (λ b. cond b (Some row) (rows_in (old.now.trees session.tree) key)) (put_key key))

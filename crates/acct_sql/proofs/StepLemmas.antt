@@ -1,12 +1,16 @@
 -- Statements one after another inside a transaction.
 use Rattle.std.proofs.Common.{◌≡◌, inl, inr, ℕ, List, Bool, true, false, Ok, Err, Result, IsTrue}
-use Rattle.std.proofs.Common.{refl, sym, subst, ◌∙◌}
+use Rattle.std.proofs.Common.{refl, sym, subst, ◌∙◌, arith}
+use Rattle.std.specs.Borrow.{MutBor}
 use Rattle.std.proofs.lemmas.Bool.{cases_Bool}
 use Rattle.sqlite.specs.Order.{Row}
 use Rattle.sqlite.specs.Store.{Ghosts}
 use Rattle.sqlite.specs.Held.{Held, state}
 use Rattle.sqlite.specs.declared.error.Error.{Error}
 use Rattle.sqlite.specs.State.{State, ExecutesInside, KeepsCommit, IsRolledBack, IsUnchanged}
+use Rattle.sqlite.specs.State.{HasCleanDisk, Survives}
+use Rattle.sqlite.proofs.StateLemmas.{survives_then}
+use Rattle.acct_sql.specs.inner.Inside.{CommitsNothing}
 
 pub is_inside : {X : Type 0} (b : Bool) (x : X) (r : Result X Error) (e : Error) → r ≡ Ok x
     → (b ≡ false → r ≡ Err e) → IsTrue b
@@ -53,3 +57,27 @@ execute_keeps g sql params old new r out inside = elim (cases_Bool (state g old)
   | inr off ↦
       same_keeps g old new (out off)
 ]
+
+-- ---- a call that commits nothing
+
+pub execute_quiet : {S : Type 0} (g : Ghosts S) (sql : List ℕ) (params : Row)
+    (old new : MutBor (Held S)) (r : Result ℕ Error) → new.ghost_name ≡ old.ghost_name
+    → ((state g old.now).in_transaction ≡ false → new.now ≡ old.now)
+    → (HasCleanDisk (state g new.now) → IsTrue (state g old.now).in_transaction
+    → ExecutesInside 0 sql params (state g old.now) (state g new.now) r)
+    → Survives (state g old.now) (state g new.now) (λ _. ⊥) → CommitsNothing g old new
+execute_quiet g sql params old new r same out inside survives = record {
+  same_reference = same;
+  kept = λ clean. execute_keeps g sql params old.now new.now r out (inside clean);
+  survives = survives;
+}
+
+pub quiet_then : {S : Type 0} (g : Ghosts S) (a b c : MutBor (Held S)) → CommitsNothing g a b
+    → CommitsNothing g b c → CommitsNothing g a c
+quiet_then g a b c one two = record {
+  same_reference = two.same_reference ∙ one.same_reference;
+  kept = λ clean. keeps_then (state g a.now) (state g b.now) (state g c.now)
+      (one.kept (omega (arith, two.survives.clean, clean))) (two.kept clean);
+  survives = survives_then (state g a.now) (state g b.now) (state g c.now) (λ _. ⊥) (λ _. ⊥)
+      (λ _. ⊥) (λ _ db none. none) (λ _ db none. none) one.survives two.survives;
+}

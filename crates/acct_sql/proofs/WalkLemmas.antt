@@ -1,5 +1,5 @@
 -- What the queries of the walks show of a book.
-use Rattle.std.proofs.Common.{◌≡◌, ◌⊎◌, inl, inr, ℕ, ℤ, List, [], ◌∷◌, codes, true, false, Bool}
+use Rattle.std.proofs.Common.{◌≡◌, ◌⊎◌, inl, inr, ℕ, ℤ, List, [], ◌∷◌, true, Bool}
 use Rattle.std.proofs.Common.{Option, Some, None, option_map, refl, sym, ap, ap₂, subst, ◌∙◌}
 use Rattle.std.proofs.Common.{Ordering, Less, Equal, Greater, true≢false}
 use Rattle.std.specs.Ordering.{is_gt, ordering_then, ordering_reverse}
@@ -20,188 +20,34 @@ use Rattle.sqlite.specs.Order.{Row, column, value_cmp}
 use Rattle.sqlite.specs.Tree.{Trees}
 use Rattle.sqlite.specs.Term.{Term, lit, col, op2, eval_all}
 use Rattle.sqlite.specs.Query.{Query, IsAnswerAs}
-use Rattle.sqlite.specs.Command.TheVariants.{Select}
 use Rattle.sqlite.specs.Program.{overlay}
 use Rattle.sqlite.specs.Effect.{Database}
-use Rattle.sqlite_tied.specs.Compute.{everything}
-use Rattle.sqlite.specs.Listing.{understood, reads_listing}
 use Rattle.sqlite.specs.Store.{Ghosts}
 use Rattle.sqlite.specs.Held.{Held, state}
 use Rattle.sqlite.specs.State.{State, Shown}
-use Rattle.sqlite.proofs.Callers.{IsPlain, command_of, reads_as}
 use Rattle.acct_book.specs.declared.key.Key.{Key}
 use Rattle.acct_book.specs.Content.{key_of}
 use Rattle.acct_book.specs.Row.{RowFacts}
 use Rattle.acct_model.specs.Vouchers.{TopUpFacts}
 use Rattle.acct_book.specs.Maps.{octets_cmp, key_cmp}
 use Rattle.acct_book.specs.Walk.{IsPast, IsNext, IsNextRow, IsNextBalance, IsNextTopUp}
-use Rattle.acct_sql.specs.Tables.{book_schema}
-use Rattle.acct_sql.specs.Columns.{session_of, topup_of, columns, int_in, account_of}
-use Rattle.acct_sql.specs.Content.{is_session, is_account, is_voucher, content_of}
-use Rattle.acct_sql.specs.Book.{IsBook, HasFirst, first_row, content_at}
-use Rattle.acct_sql.specs.Next.{IsLeast, IsWithin, IsBeyond}
-use Rattle.acct_sql.proofs.TextLemmas.{is_equal, session_shown, session_names, topup_shown}
-use Rattle.acct_sql.proofs.QueryLemmas.{over_table, meets, seen_bare}
-use Rattle.acct_sql.proofs.NextLemmas.{one_row, rising, none_next, some_next}
+use Rattle.acct_sql.specs.Tables.{account, voucher, session}
+use Rattle.acct_sql.specs.Columns.{session_in_columns, topup_in_columns, columns, int_in}
+use Rattle.acct_sql.specs.Content.{is_session, is_account, is_voucher, content_in_tables}
+use Rattle.acct_sql.specs.Book.{IsBook, content_at}
+use Rattle.acct_sql.specs.inner.Columns.{account_in_columns}
+use Rattle.acct_sql.specs.inner.AtRest.{HasFirst, row_found}
+use Rattle.acct_sql.specs.inner.Next.{IsLeast, IsWithin, IsBeyond}
+use Rattle.acct_sql.specs.declared.statements.TheConstants as texts
+use Rattle.acct_sql.proofs.TextLemmas as t
+use Rattle.acct_sql.proofs.TextLemmas.{session_shown, topup_shown, account_shown, within_filter}
+use Rattle.acct_sql.proofs.TextLemmas.{is_after, by_name, by_key, by_id}
+use Rattle.acct_sql.proofs.QueryLemmas.{over_table, meets, answer_of}
+use Rattle.acct_sql.proofs.NextLemmas.{one_row, none_next, some_next}
 use Rattle.acct_sql.proofs.ValueLemmas.{equal_text, text_equal, blob_is, text_is}
 use Rattle.acct_sql.proofs.KeyLemmas.{one_session, one_account, one_voucher}
 use Rattle.acct_sql.proofs.KeyedLemmas.{keyed_session, keyed_account, keyed_voucher}
 use Rattle.acct_sql.proofs.SessionLemmas.{key_here}
-
--- ---- the texts
-
-abbrev is_after : ℕ → ℕ → Term
-is_after at param = op2 (Compare Gt Binary) (col 1 at) (col 0 param)
-
-abbrev pub by_name : List (Term × Direction)
-by_name = (col 1 1, rising) ∷ []
-
-abbrev pub by_key : List (Term × Direction)
-by_key = (col 1 1, rising) ∷ (col 1 2, rising) ∷ []
-
-abbrev by_id : List (Term × Direction)
-by_id = (col 1 2, rising) ∷ []
-
-abbrev pub account_shown : List Term
-account_shown = col 1 1 ∷ col 1 2 ∷ []
-
-abbrev pub first_account_text : List ℕ
-first_account_text = codes "SELECT name, balance FROM account ORDER BY name LIMIT 1"
-
-abbrev pub next_account_text : List ℕ
-next_account_text = codes "SELECT name, balance FROM account WHERE name > ?1 ORDER BY name LIMIT 1"
-
-abbrev pub first_topup_text : List ℕ
-first_topup_text = codes
-    "SELECT number, account, amount, moment FROM voucher ORDER BY number LIMIT 1"
-
-abbrev pub next_topup_text : List ℕ
-next_topup_text = codes
-    "SELECT number, account, amount, moment FROM voucher WHERE number > ?1 ORDER BY number LIMIT 1"
-
-abbrev pub first_session_text : List ℕ
-first_session_text = codes
-    "SELECT client, id, account, class, input, output, seconds, first_seen, last_seen, state, cause, calling, framed FROM session ORDER BY client, id LIMIT 1"
-
-abbrev pub within_text : List ℕ
-within_text = codes
-    "SELECT client, id, account, class, input, output, seconds, first_seen, last_seen, state, cause, calling, framed FROM session WHERE client = ?1 AND id > ?2 ORDER BY id LIMIT 1"
-
-abbrev pub beyond_text : List ℕ
-beyond_text = codes
-    "SELECT client, id, account, class, input, output, seconds, first_seen, last_seen, state, cause, calling, framed FROM session WHERE client > ?1 ORDER BY client, id LIMIT 1"
-
-first_account_is : command_of (understood book_schema first_account_text)
-    ≡ Select (record { lets = []; body = over_table 4 [] account_shown by_name one_row })
-    (codes "name" ∷ codes "balance" ∷ [])
-unfolding understood everything
-first_account_is = refl
-
-first_account_unlisted : reads_listing book_schema first_account_text ≡ false
-unfolding understood everything
-first_account_unlisted = refl
-
-pub first_account_plain : IsPlain (understood book_schema first_account_text)
-unfolding understood everything
-first_account_plain = (refl, refl)
-
-next_account_is : command_of (understood book_schema next_account_text)
-    ≡ Select (record {
-      lets = [];
-      body = over_table 4 (is_after 1 0 ∷ []) account_shown by_name
-          one_row;
-    }) (codes "name" ∷ codes "balance" ∷ [])
-unfolding understood everything
-next_account_is = refl
-
-next_account_unlisted : reads_listing book_schema next_account_text ≡ false
-unfolding understood everything
-next_account_unlisted = refl
-
-pub next_account_plain : IsPlain (understood book_schema next_account_text)
-unfolding understood everything
-next_account_plain = (refl, refl)
-
-abbrev topup_names : List (List ℕ)
-topup_names = codes "number" ∷ codes "account" ∷ codes "amount" ∷ codes "moment" ∷ []
-
-first_topup_is : command_of (understood book_schema first_topup_text)
-    ≡ Select (record { lets = []; body = over_table 6 [] topup_shown by_name one_row }) topup_names
-unfolding understood everything
-first_topup_is = refl
-
-first_topup_unlisted : reads_listing book_schema first_topup_text ≡ false
-unfolding understood everything
-first_topup_unlisted = refl
-
-pub first_topup_plain : IsPlain (understood book_schema first_topup_text)
-unfolding understood everything
-first_topup_plain = (refl, refl)
-
-next_topup_is : command_of (understood book_schema next_topup_text)
-    ≡ Select (record {
-      lets = [];
-      body = over_table 6 (is_after 1 0 ∷ []) topup_shown by_name
-          one_row;
-    }) topup_names
-unfolding understood everything
-next_topup_is = refl
-
-next_topup_unlisted : reads_listing book_schema next_topup_text ≡ false
-unfolding understood everything
-next_topup_unlisted = refl
-
-pub next_topup_plain : IsPlain (understood book_schema next_topup_text)
-unfolding understood everything
-next_topup_plain = (refl, refl)
-
-first_session_is : command_of (understood book_schema first_session_text)
-    ≡ Select (record { lets = []; body = over_table 8 [] session_shown by_key one_row })
-    session_names
-unfolding understood everything
-first_session_is = refl
-
-first_session_unlisted : reads_listing book_schema first_session_text ≡ false
-unfolding understood everything
-first_session_unlisted = refl
-
-pub first_session_plain : IsPlain (understood book_schema first_session_text)
-unfolding understood everything
-first_session_plain = (refl, refl)
-
-abbrev within_filter : List Term
-within_filter = is_equal 1 0 ∷ is_after 2 1 ∷ []
-
-within_is : command_of (understood book_schema within_text)
-    ≡ Select (record { lets = []; body = over_table 8 within_filter session_shown by_id one_row })
-    session_names
-unfolding understood everything
-within_is = refl
-
-within_unlisted : reads_listing book_schema within_text ≡ false
-unfolding understood everything
-within_unlisted = refl
-
-pub within_plain : IsPlain (understood book_schema within_text)
-unfolding understood everything
-within_plain = (refl, refl)
-
-beyond_is : command_of (understood book_schema beyond_text)
-    ≡ Select (record {
-      lets = [];
-      body = over_table 8 (is_after 1 0 ∷ []) session_shown by_key
-          one_row;
-    }) session_names
-unfolding understood everything
-beyond_is = refl
-
-beyond_unlisted : reads_listing book_schema beyond_text ≡ false
-unfolding understood everything
-beyond_unlisted = refl
-
-pub beyond_plain : IsPlain (understood book_schema beyond_text)
-unfolding understood everything
-beyond_plain = (refl, refl)
 
 -- ---- SQL's > on texts and blobs
 
@@ -267,64 +113,69 @@ next_is cmp at after (Some (k, x)) h = h
 -- ---- accounts
 
 abbrev pub account_in : Row → List ℕ × ℤ
-account_in r = account_of (column r)
+account_in r = account_in_columns (column r)
 
 module _ (db : Database) (book : IsBook db) (filter : List Term) (params : Row)
     (ahead : List ℕ → Type 0)
     (met_ahead : (k : List ℕ) (r : Row) → is_account k r ≡ true
-    → meets 4 filter account_shown by_name Null db.trees params r ≡ true → ahead k)
+    → meets account.tree filter account_shown by_name Null db.trees params r ≡ true → ahead k)
     (ahead_met : (k : List ℕ) (r : Row) → is_account k r ≡ true → ahead k
-    → meets 4 filter account_shown by_name Null db.trees params r ≡ true) where
-  account_least : (rows : List Row) → IsAnswerAs Null (over_table 4 filter account_shown by_name
-      one_row) db.trees params rows → IsLeast octets_cmp (content_of db.trees).balances ahead
-      (first_row account_in rows)
-  account_least [] a = none_next octets_cmp is_account (λ r. int_in (column r 2)) 4 filter
-      account_shown by_name db.trees params ahead (keyed_account db book) (one_account db book)
-      met_ahead ahead_met
+    → meets account.tree filter account_shown by_name Null db.trees params r ≡ true) where
+  account_least : (rows : List Row) → IsAnswerAs Null (over_table account.tree filter account_shown
+      by_name one_row) db.trees params rows → IsLeast octets_cmp (content_in_tables
+      db.trees).balances ahead (row_found account_in rows)
+  account_least [] a = none_next octets_cmp is_account (λ r. int_in (column r 2)) account.tree
+      filter account_shown by_name db.trees params ahead (keyed_account db book)
+      (one_account db book) met_ahead ahead_met
       (λ j k r s mine yours later far. blobs_ranked j k _ _ (blob_is j (column r 1) mine)
       (blob_is k (column s 1) yours)) a
   account_least (row ∷ rest) a =
-      let it = some_next octets_cmp is_account (λ r. int_in (column r 2)) 4 filter account_shown
-      by_name db.trees params ahead (keyed_account db book) (one_account db book) met_ahead
-      ahead_met
+      let it = some_next octets_cmp is_account (λ r. int_in (column r 2)) account.tree filter
+      account_shown by_name db.trees params ahead (keyed_account db book) (one_account db book)
+      met_ahead ahead_met
       (λ j k r s mine yours later far. blobs_ranked j k _ _ (blob_is j (column r 1) mine)
       (blob_is k (column s 1) yours)) row rest a in
       let name : bytes (column it.1 1) ≡ it.0 = ap bytes (blob_is it.0 (column it.1 1) it.3) in
       let shown : account_in row ≡ (it.0, int_in (column it.1 2)) = ap account_in it.4
       ∙ ap (λ n. (n, int_in (column it.1 2))) name in
-      subst (λ o. IsLeast octets_cmp (content_of db.trees).balances ahead (Some o)) (sym shown) it.5
+      subst (λ o. IsLeast octets_cmp (content_in_tables db.trees).balances ahead (Some o))
+      (sym shown) it.5
 
 -- ---- top-ups
 
 module _ (db : Database) (book : IsBook db) (filter : List Term) (params : Row)
     (ahead : List ℕ → Type 0)
     (met_ahead : (k : List ℕ) (r : Row) → is_voucher k r ≡ true
-    → meets 6 filter topup_shown by_name Null db.trees params r ≡ true → ahead k)
+    → meets voucher.tree filter topup_shown by_name Null db.trees params r ≡ true → ahead k)
     (ahead_met : (k : List ℕ) (r : Row) → is_voucher k r ≡ true → ahead k
-    → meets 6 filter topup_shown by_name Null db.trees params r ≡ true) where
+    → meets voucher.tree filter topup_shown by_name Null db.trees params r ≡ true) where
   abbrev numbered : TopUpFacts → List ℕ × TopUpFacts
   numbered t = (t.voucher, t)
 
-  topup_least : (rows : List Row) → IsAnswerAs Null (over_table 6 filter topup_shown by_name
-      one_row) db.trees params rows
-      → IsLeast octets_cmp (content_of db.trees).topups ahead
-      (option_map numbered (first_row (λ r. topup_of (column r)) rows))
-  topup_least [] a = none_next octets_cmp is_voucher (λ r. topup_of (columns r)) 6 filter
-      topup_shown by_name db.trees params ahead (keyed_voucher db book) (one_voucher db book)
-      met_ahead ahead_met
+  topup_least : (rows : List Row) → IsAnswerAs Null (over_table voucher.tree filter topup_shown
+      by_name one_row) db.trees params rows
+      → IsLeast octets_cmp (content_in_tables db.trees).topups ahead
+      (option_map numbered (row_found (λ r. topup_in_columns (column r)) rows))
+  topup_least [] a = none_next octets_cmp is_voucher (λ r. topup_in_columns
+      (columns r)) voucher.tree filter topup_shown by_name db.trees params ahead (keyed_voucher db
+      book) (one_voucher db book) met_ahead ahead_met
       (λ j k r s mine yours later far. texts_ranked j k _ _ (text_is j (column r 1) mine)
       (text_is k (column s 1) yours)) a
   topup_least (row ∷ rest) a =
-      let it = some_next octets_cmp is_voucher (λ r. topup_of (columns r)) 6 filter topup_shown
-      by_name db.trees params ahead (keyed_voucher db book) (one_voucher db book) met_ahead
-      ahead_met
+      let it = some_next octets_cmp is_voucher (λ r. topup_in_columns (columns r)) voucher.tree
+      filter topup_shown by_name db.trees params ahead (keyed_voucher db book) (one_voucher db book)
+      met_ahead ahead_met
       (λ j k r s mine yours later far. texts_ranked j k _ _ (text_is j (column r 1) mine)
       (text_is k (column s 1) yours)) row rest a in
       let number : bytes (column it.1 1) ≡ it.0 = ap bytes (text_is it.0 (column it.1 1) it.3) in
-      let shown : numbered (topup_of (column row)) ≡ (it.0, topup_of (columns it.1)) = ap
-      (λ r. numbered (topup_of (column r))) it.4 ∙ ap (λ n. (n, topup_of (columns it.1)))
-      number in
-      subst (λ o. IsLeast octets_cmp (content_of db.trees).topups ahead (Some o)) (sym shown) it.5
+      let shown : numbered (topup_in_columns (column row)) ≡ (
+        it.0,
+        topup_in_columns
+            (columns it.1),
+      ) = ap (λ r. numbered (topup_in_columns (column r))) it.4
+      ∙ ap (λ n. (n, topup_in_columns (columns it.1))) number in
+      subst (λ o. IsLeast octets_cmp (content_in_tables db.trees).topups ahead (Some o))
+      (sym shown) it.5
 
 -- ---- sessions
 
@@ -334,34 +185,37 @@ keyed_row row = (key_of row, row)
 module _ (db : Database) (book : IsBook db) (filter : List Term) (order : List (Term × Direction))
     (params : Row) (ahead : Key → Type 0)
     (met_ahead : (k : Key) (r : Row) → is_session k r ≡ true
-    → meets 8 filter session_shown order Null db.trees params r ≡ true → ahead k)
+    → meets session.tree filter session_shown order Null db.trees params r ≡ true → ahead k)
     (ahead_met : (k : Key) (r : Row) → is_session k r ≡ true → ahead k
-    → meets 8 filter session_shown order Null db.trees params r ≡ true)
+    → meets session.tree filter session_shown order Null db.trees params r ≡ true)
     (ranked : (j k : Key) (r s : Row) → is_session j r ≡ true → is_session k s ≡ true → ahead j
     → ahead k
-    → Rattle.sqlite.specs.Query.output_cmp (over_table 8 filter session_shown order one_row)
-    (Rattle.sqlite.specs.Query.output (over_table 8 filter session_shown order one_row)
-    (params ∷ r ∷ []))
-    (Rattle.sqlite.specs.Query.output (over_table 8 filter session_shown order one_row)
+    → Rattle.sqlite.specs.Query.output_cmp (over_table session.tree filter session_shown order
+    one_row) (Rattle.sqlite.specs.Query.output (over_table session.tree filter session_shown order
+    one_row) (params ∷ r ∷ []))
+    (Rattle.sqlite.specs.Query.output (over_table session.tree filter session_shown order one_row)
     (params ∷ s ∷ [])) ≡ key_cmp j k) where
-  session_least : (rows : List Row) → IsAnswerAs Null (over_table 8 filter session_shown order
-      one_row) db.trees params rows
-      → IsLeast key_cmp (content_of db.trees).rows ahead
-      (option_map keyed_row (first_row (λ r. session_of (column r)) rows))
-  session_least [] a = none_next key_cmp is_session (λ r. session_of (columns r)) 8 filter
-      session_shown order db.trees params ahead (keyed_session db book) (one_session db book)
-      met_ahead ahead_met ranked a
+  session_least : (rows : List Row) → IsAnswerAs Null (over_table session.tree filter session_shown
+      order one_row) db.trees params rows
+      → IsLeast key_cmp (content_in_tables db.trees).rows ahead
+      (option_map keyed_row (row_found (λ r. session_in_columns (column r)) rows))
+  session_least [] a = none_next key_cmp is_session (λ r. session_in_columns
+      (columns r)) session.tree filter session_shown order db.trees params ahead (keyed_session db
+      book) (one_session db book) met_ahead ahead_met ranked a
   session_least (row ∷ rest) a =
-      let it = some_next key_cmp is_session (λ r. session_of (columns r)) 8 filter session_shown
-      order db.trees params ahead (keyed_session db book) (one_session db book) met_ahead
-      ahead_met ranked row rest a in
+      let it = some_next key_cmp is_session (λ r. session_in_columns (columns r)) session.tree
+      filter session_shown order db.trees params ahead (keyed_session db book) (one_session db book)
+      met_ahead ahead_met ranked row rest a in
       let k = key_here it.0 it.1 it.3 in
-      let own : key_of (session_of (columns it.1)) ≡ it.0 = λ i. record
+      let own : key_of (session_in_columns (columns it.1)) ≡ it.0 = λ i. record
       { client = bytes (k.0 i); session = bytes (k.1 i) } in
-      let shown : keyed_row (session_of (column row)) ≡ (it.0, session_of (columns it.1)) = ap
-      (λ r. keyed_row (session_of (column r))) it.4 ∙ ap (λ n. (n, session_of (columns it.1)))
-      own in
-      subst (λ o. IsLeast key_cmp (content_of db.trees).rows ahead (Some o)) (sym shown) it.5
+      let shown : keyed_row (session_in_columns (column row)) ≡ (
+        it.0,
+        session_in_columns
+            (columns it.1),
+      ) = ap (λ r. keyed_row (session_in_columns (column r))) it.4
+      ∙ ap (λ n. (n, session_in_columns (columns it.1))) own in
+      subst (λ o. IsLeast key_cmp (content_in_tables db.trees).rows ahead (Some o)) (sym shown) it.5
 
 by_both : (j k : Key) (r s : Row) → is_session j r ≡ true → is_session k s ≡ true
     → ordering_then (value_cmp (column r 1) (column s 1))
@@ -385,81 +239,65 @@ by_ids after j k r s mine yours near far = blobs_ranked j.session k.session _ _
 -- ---- what was shown
 
 module _ (old new : State) (rows : List Row) (book : IsBook old.now) where
-  pub first_account : Shown first_account_text [] old new rows
-      → IsNext octets_cmp (content_of old.now.trees).balances None (first_row account_in rows)
+  pub first_account : Shown texts.FIRST_ACCOUNT.now [] old new rows
+      → IsNext octets_cmp (content_in_tables old.now.trees).balances None (row_found account_in
+      rows)
   first_account h =
-      let read = reads_as first_account_text [] old new book_schema book.schema _ first_account_is
-      first_account_plain first_account_unlisted rows h in
-      next_is octets_cmp (content_of old.now.trees).balances None (first_row account_in rows)
+      next_is octets_cmp (content_in_tables old.now.trees).balances None (row_found account_in rows)
       (account_least old.now book [] [] (λ k. Unit {0}) (λ k r mine met. tt) (λ k r mine far. refl)
-      rows (seen_bare 4 [] account_shown by_name one_row Null (overlay old.now.trees [])
-      old.now.trees [] rows refl (read.answer Null)))
+      rows (answer_of t.first_account [] old new rows book.schema h))
 
-  pub next_account : (after : List ℕ) → Shown next_account_text (Blob after ∷ []) old new rows
-      → IsNext octets_cmp (content_of old.now.trees).balances (Some after)
-      (first_row account_in rows)
+  pub next_account : (after : List ℕ) → Shown texts.ACCOUNT_AFTER.now (Blob after ∷ []) old new rows
+      → IsNext octets_cmp (content_in_tables old.now.trees).balances (Some after)
+      (row_found account_in rows)
   next_account after h =
       let params = Blob after ∷ [] in
-      let read = reads_as next_account_text params old new book_schema book.schema _ next_account_is
-      next_account_plain next_account_unlisted rows h in
-      next_is octets_cmp (content_of old.now.trees).balances (Some after)
-      (first_row account_in rows)
+      next_is octets_cmp (content_in_tables old.now.trees).balances (Some after)
+      (row_found account_in rows)
       (account_least old.now book (is_after 1 0 ∷ []) params (λ k. octets_cmp after k ≡ Less)
       (λ k r mine met. blob_above k after (subst (λ v. above v (Blob after) ≡ true)
       (blob_is k (column r 1) mine) (and_parts _ _ met).0))
       (λ k r mine far. and_from _ _ (subst (λ v. above v (Blob after) ≡ true)
       (sym (blob_is k (column r 1) mine)) (above_blob k after far)) refl)
-      rows (seen_bare 4 (is_after 1 0 ∷ []) account_shown by_name one_row Null
-      (overlay old.now.trees []) old.now.trees params rows refl (read.answer Null)))
+      rows (answer_of t.account_after params old new rows book.schema h))
 
-  pub first_topup : Shown first_topup_text [] old new rows
-      → IsNext octets_cmp (content_of old.now.trees).topups None
-      (option_map (λ t. (t.voucher, t)) (first_row (λ r. topup_of (column r)) rows))
+  pub first_topup : Shown texts.FIRST_TOPUP.now [] old new rows
+      → IsNext octets_cmp (content_in_tables old.now.trees).topups None
+      (option_map (λ t. (t.voucher, t)) (row_found (λ r. topup_in_columns (column r)) rows))
   first_topup h =
-      let read = reads_as first_topup_text [] old new book_schema book.schema _ first_topup_is
-      first_topup_plain first_topup_unlisted rows h in
-      next_is octets_cmp (content_of old.now.trees).topups None _
+      next_is octets_cmp (content_in_tables old.now.trees).topups None _
       (topup_least old.now book [] [] (λ k. Unit {0}) (λ k r mine met. tt) (λ k r mine far. refl)
-      rows (seen_bare 6 [] topup_shown by_name one_row Null (overlay old.now.trees [])
-      old.now.trees [] rows refl (read.answer Null)))
+      rows (answer_of t.first_topup [] old new rows book.schema h))
 
-  pub next_topup : (after : List ℕ) → Shown next_topup_text (Text after ∷ []) old new rows
-      → IsNext octets_cmp (content_of old.now.trees).topups (Some after)
-      (option_map (λ t. (t.voucher, t)) (first_row (λ r. topup_of (column r)) rows))
+  pub next_topup : (after : List ℕ) → Shown texts.TOPUP_AFTER.now (Text after ∷ []) old new rows
+      → IsNext octets_cmp (content_in_tables old.now.trees).topups (Some after)
+      (option_map (λ t. (t.voucher, t)) (row_found (λ r. topup_in_columns (column r)) rows))
   next_topup after h =
       let params = Text after ∷ [] in
-      let read = reads_as next_topup_text params old new book_schema book.schema _ next_topup_is
-      next_topup_plain next_topup_unlisted rows h in
-      next_is octets_cmp (content_of old.now.trees).topups (Some after) _
+      next_is octets_cmp (content_in_tables old.now.trees).topups (Some after) _
       (topup_least old.now book (is_after 1 0 ∷ []) params (λ k. octets_cmp after k ≡ Less)
       (λ k r mine met. text_above k after (subst (λ v. above v (Text after) ≡ true)
       (text_is k (column r 1) mine) (and_parts _ _ met).0))
       (λ k r mine far. and_from _ _ (subst (λ v. above v (Text after) ≡ true)
       (sym (text_is k (column r 1) mine)) (above_text k after far)) refl)
-      rows (seen_bare 6 (is_after 1 0 ∷ []) topup_shown by_name one_row Null
-      (overlay old.now.trees []) old.now.trees params rows refl (read.answer Null)))
+      rows (answer_of t.topup_after params old new rows book.schema h))
 
   abbrev shown_row : Option (Key × RowFacts)
-  shown_row = option_map keyed_row (first_row (λ r. session_of (column r)) rows)
+  shown_row = option_map keyed_row (row_found (λ r. session_in_columns (column r)) rows)
 
-  pub first_session : Shown first_session_text [] old new rows
-      → IsNext key_cmp (content_of old.now.trees).rows None shown_row
+  pub first_session : Shown texts.FIRST_SESSION.now [] old new rows
+      → IsNext key_cmp (content_in_tables old.now.trees).rows None shown_row
   first_session h =
-      let read = reads_as first_session_text [] old new book_schema book.schema _ first_session_is
-      first_session_plain first_session_unlisted rows h in
-      next_is key_cmp (content_of old.now.trees).rows None shown_row
+      next_is key_cmp (content_in_tables old.now.trees).rows None shown_row
       (session_least old.now book [] by_key [] (λ k. Unit {0}) (λ k r mine met. tt)
       (λ k r mine far. refl) (λ j k r s mine yours near far. by_both j k r s mine yours)
-      rows (seen_bare 8 [] session_shown by_key one_row Null (overlay old.now.trees [])
-      old.now.trees [] rows refl (read.answer Null)))
+      rows (answer_of t.first_session [] old new rows book.schema h))
 
-  pub session_within : (after : Key) → Shown within_text
+  pub session_within : (after : Key) → Shown texts.LATER_SESSION_OF_CLIENT.now
       (Text after.client ∷ Blob after.session ∷ []) old new rows
-      → IsLeast key_cmp (content_of old.now.trees).rows (IsWithin after) shown_row
+      → IsLeast key_cmp (content_in_tables old.now.trees).rows (IsWithin after) shown_row
   session_within after h =
       let params = Text after.client ∷ Blob after.session ∷ [] in
-      let read = reads_as within_text params old new book_schema book.schema _ within_is
-      within_plain within_unlisted rows h in
       session_least old.now book within_filter by_id params (IsWithin after)
       (λ k r mine met.
       let one = and_parts _ _ met in
@@ -476,23 +314,20 @@ module _ (old new : State) (rows : List Row) (book : IsBook old.now) where
       (and_from _ _ (subst (λ v. above v (Blob after.session) ≡ true) (sym at.1)
       (above_blob k.session after.session near.1)) refl))
       (by_ids after)
-      rows (seen_bare 8 within_filter session_shown by_id one_row Null (overlay old.now.trees [])
-      old.now.trees params rows refl (read.answer Null))
+      rows (answer_of t.later_session_of_client params old new rows book.schema h)
 
-  pub session_beyond : (after : List ℕ) → Shown beyond_text (Text after ∷ []) old new rows
-      → IsLeast key_cmp (content_of old.now.trees).rows (IsBeyond after) shown_row
+  pub session_beyond : (after : List ℕ) → Shown texts.SESSION_OF_LATER_CLIENT.now (Text after ∷ [])
+      old new rows → IsLeast key_cmp (content_in_tables old.now.trees).rows
+      (IsBeyond after) shown_row
   session_beyond after h =
       let params = Text after ∷ [] in
-      let read = reads_as beyond_text params old new book_schema book.schema _ beyond_is
-      beyond_plain beyond_unlisted rows h in
       session_least old.now book (is_after 1 0 ∷ []) by_key params (IsBeyond after)
       (λ k r mine met. text_above k.client after (subst (λ v. above v (Text after) ≡ true)
       (key_here k r mine).0 (and_parts _ _ met).0))
       (λ k r mine far. and_from _ _ (subst (λ v. above v (Text after) ≡ true)
       (sym (key_here k r mine).0) (above_text k.client after far)) refl)
       (λ j k r s mine yours near far. by_both j k r s mine yours)
-      rows (seen_bare 8 (is_after 1 0 ∷ []) session_shown by_key one_row Null
-      (overlay old.now.trees []) old.now.trees params rows refl (read.answer Null))
+      rows (answer_of t.session_of_later_client params old new rows book.schema h)
 
 -- ---- the same client's later sessions, and then later clients
 
@@ -524,7 +359,8 @@ within_next at after k row h = (
     | inl near ↦ h.2 j near less
     | inr far ↦ absurd (let never : Greater ≡ Less = sym (ap
         (λ o. ordering_then o (octets_cmp j.session k.session))
-        (back k.client j.client (subst (λ c. octets_cmp c j.client ≡ Less) h.1.0 far))) ∙ less in cc)
+        (back k.client j.client (subst (λ c. octets_cmp c j.client ≡ Less) h.1.0 far)))
+        ∙ less in cc)
   ],
 )
 
@@ -548,53 +384,55 @@ module _ {S : Type 0} (g : Ghosts S) (old : Held S) (book : IsBook (state g old)
   begun = state g (record old { in_transaction = true })
 
   pub is_first_account : (kept : Option (List ℕ × ℤ)) (after : Option (List ℕ)) → after ≡ None
-      → HasFirst g old first_account_text [] (λ r. account_of (column r)) kept
+      → HasFirst g old texts.FIRST_ACCOUNT.now [] (λ r. account_in_columns (column r)) kept
       → IsNextBalance (content_at g old) after kept
   is_first_account kept after none h =
       subst (λ k. IsNextBalance (content_at g old) after k) h.2
-      (subst (λ a. IsNextBalance (content_at g old) a (first_row account_in h.0)) (sym none)
+      (subst (λ a. IsNextBalance (content_at g old) a (row_found account_in h.0)) (sym none)
       (first_account begun (state g h.1.0) h.0 book h.1.1))
 
   pub is_next_account : (kept : Option (List ℕ × ℤ)) (after : Option (List ℕ)) (name : List ℕ)
-      → after ≡ Some name → HasFirst g old next_account_text (Blob name ∷ [])
-      (λ r. account_of (column r)) kept → IsNextBalance (content_at g old) after kept
+      → after ≡ Some name → HasFirst g old texts.ACCOUNT_AFTER.now (Blob name ∷ [])
+      (λ r. account_in_columns (column r)) kept → IsNextBalance (content_at g old) after kept
   is_next_account kept after name some h =
       subst (λ k. IsNextBalance (content_at g old) after k) h.2
-      (subst (λ a. IsNextBalance (content_at g old) a (first_row account_in h.0)) (sym some)
+      (subst (λ a. IsNextBalance (content_at g old) a (row_found account_in h.0)) (sym some)
       (next_account begun (state g h.1.0) h.0 book name h.1.1))
 
   pub is_first_topup : (topup : Option TopUpFacts) (after : Option (List ℕ)) → after ≡ None
-      → HasFirst g old first_topup_text [] (λ r. topup_of (column r)) topup
+      → HasFirst g old texts.FIRST_TOPUP.now [] (λ r. topup_in_columns (column r)) topup
       → IsNextTopUp (content_at g old) after topup
   is_first_topup topup after none h =
       subst (λ t. IsNextTopUp (content_at g old) after t) h.2
-      (subst (λ a. IsNextTopUp (content_at g old) a (first_row (λ r. topup_of (column r)) h.0))
-      (sym none) (first_topup begun (state g h.1.0) h.0 book h.1.1))
+      (subst (λ a. IsNextTopUp (content_at g old) a (row_found (λ r. topup_in_columns
+      (column r)) h.0)) (sym none) (first_topup begun (state g h.1.0) h.0 book h.1.1))
 
   pub is_next_topup : (topup : Option TopUpFacts) (after : Option (List ℕ)) (number : List ℕ)
-      → after ≡ Some number → HasFirst g old next_topup_text (Text number ∷ [])
-      (λ r. topup_of (column r)) topup → IsNextTopUp (content_at g old) after topup
+      → after ≡ Some number → HasFirst g old texts.TOPUP_AFTER.now (Text number ∷ [])
+      (λ r. topup_in_columns (column r)) topup → IsNextTopUp (content_at g old) after topup
   is_next_topup topup after number some h =
       subst (λ t. IsNextTopUp (content_at g old) after t) h.2
-      (subst (λ a. IsNextTopUp (content_at g old) a (first_row (λ r. topup_of (column r)) h.0))
-      (sym some) (next_topup begun (state g h.1.0) h.0 book number h.1.1))
+      (subst (λ a. IsNextTopUp (content_at g old) a (row_found (λ r. topup_in_columns
+      (column r)) h.0)) (sym some) (next_topup begun (state g h.1.0) h.0 book number h.1.1))
 
   pub is_first_session : (row : Option RowFacts) (after : Option Key) → after ≡ None
-      → HasFirst g old first_session_text [] (λ r. session_of (column r)) row
+      → HasFirst g old texts.FIRST_SESSION.now [] (λ r. session_in_columns (column r)) row
       → IsNextRow (content_at g old) after row
   is_first_session row after none h =
       subst (λ r. IsNextRow (content_at g old) after r) h.2
-      (subst (λ a. IsNextRow (content_at g old) a (first_row (λ r. session_of (column r)) h.0))
-      (sym none) (first_session begun (state g h.1.0) h.0 book h.1.1))
+      (subst (λ a. IsNextRow (content_at g old) a (row_found (λ r. session_in_columns
+      (column r)) h.0)) (sym none) (first_session begun (state g h.1.0) h.0 book h.1.1))
 
-  pub is_within : (row : Option RowFacts) (after : Key) → HasFirst g old within_text
-      (Text after.client ∷ Blob after.session ∷ []) (λ r. session_of (column r)) row
-      → IsLeast key_cmp (content_at g old).rows (IsWithin after) (option_map keyed_row row)
+  pub is_within : (row : Option RowFacts) (after : Key)
+      → HasFirst g old texts.LATER_SESSION_OF_CLIENT.now (Text after.client ∷ Blob after.session ∷
+      []) (λ r. session_in_columns (column r)) row → IsLeast key_cmp (content_at g old).rows
+      (IsWithin after) (option_map keyed_row row)
   is_within row after h = subst (λ r. IsLeast key_cmp (content_at g old).rows (IsWithin after)
       (option_map keyed_row r)) h.2 (session_within begun (state g h.1.0) h.0 book after h.1.1)
 
   pub is_beyond : (row : Option RowFacts) (after : List ℕ)
-      → HasFirst g old beyond_text (Text after ∷ []) (λ r. session_of (column r)) row
-      → IsLeast key_cmp (content_at g old).rows (IsBeyond after) (option_map keyed_row row)
+      → HasFirst g old texts.SESSION_OF_LATER_CLIENT.now (Text after ∷ []) (λ r. session_in_columns
+      (column r)) row → IsLeast key_cmp (content_at g old).rows (IsBeyond after)
+      (option_map keyed_row row)
   is_beyond row after h = subst (λ r. IsLeast key_cmp (content_at g old).rows (IsBeyond after)
       (option_map keyed_row r)) h.2 (session_beyond begun (state g h.1.0) h.0 book after h.1.1)

@@ -6,7 +6,6 @@ use Rattle.sqlite.specs.declared.types.Value.TheVariants.{Null, Int, Real, Text,
 use Rattle.sqlite.specs.Order.{Row, column}
 use Rattle.sqlite_value.specs.Order.{bytes}
 use Rattle.acct_model.specs.Vouchers.{TopUpFacts}
-use Rattle.acct_model.specs.declared.plan.Plan.{Plan}
 use Rattle.acct_book.specs.declared.row.SessionState.{SessionState}
 use Rattle.acct_book.specs.declared.row.SessionState.TheVariants.{Live, Closed, Stopped}
 use Rattle.acct_book.specs.Row.{RowFacts}
@@ -45,16 +44,16 @@ count_in (Real x) = 2 ^ 64
 count_in (Text t) = 2 ^ 64
 count_in (Blob b) = 2 ^ 64
 
-abbrev pub state_of : ℤ → SessionState
-state_of (pos zero) = Live
-state_of (pos (suc zero)) = Closed
-state_of (pos (suc (suc n))) = Stopped
-state_of (negsuc n) = Stopped
+abbrev pub state_by_code : ℤ → SessionState
+state_by_code (pos zero) = Live
+state_by_code (pos (suc zero)) = Closed
+state_by_code (pos (suc (suc n))) = Stopped
+state_by_code (negsuc n) = Stopped
 
 -- 0 is open, 1 closed and 2 stopped
 abbrev pub state_in : Value → SessionState
 state_in Null = Stopped
-state_in (Int n) = state_of n
+state_in (Int n) = state_by_code n
 state_in (Real x) = Stopped
 state_in (Text t) = Stopped
 state_in (Blob b) = Stopped
@@ -82,8 +81,8 @@ framed_in (octet ∷ octets) = Some (octet ∷ octets)
 
 -- a session by its columns: client, id, account, class, input, output, seconds, first_seen,
 -- last_seen, state, cause, calling, framed
-abbrev pub session_of : (ℕ → Value) → RowFacts
-session_of at = record {
+abbrev pub session_in_columns : (ℕ → Value) → RowFacts
+session_in_columns at = record {
   client = bytes (at 0);
   session = bytes (at 1);
   account = bytes (at 2);
@@ -100,17 +99,13 @@ session_of at = record {
 }
 
 -- a top-up by its columns: number, account, amount, moment
-abbrev pub topup_of : (ℕ → Value) → TopUpFacts
-topup_of at = record {
+abbrev pub topup_in_columns : (ℕ → Value) → TopUpFacts
+topup_in_columns at = record {
   voucher = bytes (at 0);
   account = bytes (at 1);
   sum = count_in (at 2);
   when = count_in (at 3);
 }
-
--- an account and its balance by their columns
-abbrev pub account_of : (ℕ → Value) → List ℕ × ℤ
-account_of at = (bytes (at 0), int_in (at 1))
 
 -- the columns of a row, which come after its rowid
 abbrev pub columns : Row → ℕ → Value
@@ -137,6 +132,3 @@ session_columns row =
 abbrev pub topup_columns : TopUpFacts → Row
 topup_columns topup = Text topup.voucher ∷ Blob topup.account ∷ Int (pos topup.sum) ∷ Int
     (pos topup.when) ∷ []
-
-abbrev pub plan_columns : Plan → Row
-plan_columns plan = Blob plan.class ∷ Int (pos plan.block) ∷ Int (pos plan.unit) ∷ []

@@ -12,9 +12,10 @@ use Rattle.std.proofs.lemmas.Slice.Eq.{bytes_eq-Decides}
 use Rattle.acct_model.specs.Vouchers.{TopUpFacts}
 use Rattle.acct_book.specs.declared.key.Key.{Key}
 use Rattle.acct_book.specs.Content.{Content, HasOwnKeys, key_of}
-use Rattle.acct_sql.specs.Columns.{session_of, topup_of, columns, is_text, is_blob}
-use Rattle.acct_sql.specs.Content.{is_session, is_voucher, content_of}
+use Rattle.acct_sql.specs.Columns.{session_in_columns, topup_in_columns, columns, is_text, is_blob}
+use Rattle.acct_sql.specs.Content.{is_session, is_voucher, content_in_tables}
 use Rattle.sqlite_rules.specs.Lists.{Has}
+use Rattle.acct_sql.specs.Tables.{voucher, session}
 
 -- what was found passes, and is there
 find_has : {X : Type 0} (p : X → Bool) (xs : List X) (r : X) → find p xs ≡ Some r → Has xs r
@@ -53,16 +54,18 @@ was_found : {X Y : Type 0} (f : X → Y) (o : Option X) (y : Y) → option_map f
 was_found f None y h = absurd cc
 was_found f (Some x) y h = let same : f x ≡ y = cc in (x, refl, sym same)
 
-pub own_keys : (db : Trees) → HasOwnKeys (content_of db)
+pub own_keys : (db : Trees) → HasOwnKeys (content_in_tables db)
 own_keys db = record {
   rows = λ key row is.
-      let found = was_found (λ r. session_of (columns r)) (find (is_session key) (db 8)) row is in
-      let here = find_has (is_session key) (db 8) found.0 found.1 in
+      let found = was_found (λ r. session_in_columns (columns r)) (find (is_session key)
+      (db session.tree)) row is in
+      let here = find_has (is_session key) (db session.tree) found.0 found.1 in
       let k = key_here key found.0 here.1 in
       ap key_of found.2 ∙ (λ i. record { client = bytes (k.0 i); session = bytes (k.1 i) });
   topups = λ number topup is.
-      let found = was_found (λ r. topup_of (columns r)) (find (is_voucher number) (db 6)) topup is in
-      let here = find_has (is_voucher number) (db 6) found.0 found.1 in
+      let found = was_found (λ r. topup_in_columns (columns r)) (find (is_voucher number)
+      (db voucher.tree)) topup is in
+      let here = find_has (is_voucher number) (db voucher.tree) found.0 found.1 in
       ap (λ (t : TopUpFacts). t.voucher) found.2 ∙ ap bytes
       (text_is number (column found.0 1) here.1);
 }
@@ -70,6 +73,7 @@ own_keys db = record {
 -- while the store is open, a crash leaves the last commit, which is the content
 pub open_settled : {now committed : Database} {may_leave : Trees → Type 0}
     → ((db : Trees) → may_leave db → db ≡ committed.trees) → now ≡ committed
-    → (c : Content) → (db : Trees) × may_leave db × (c ≡ content_of db) → c ≡ content_of now.trees
-open_settled law same c left = left.2 ∙ (ap content_of (law left.0 left.1)
-    ∙ ap (λ (d : Database). content_of d.trees) (sym same))
+    → (c : Content) → (db : Trees) × may_leave db × (c ≡ content_in_tables db) → c
+    ≡ content_in_tables now.trees
+open_settled law same c left = left.2 ∙ (ap content_in_tables (law left.0 left.1)
+    ∙ ap (λ (d : Database). content_in_tables d.trees) (sym same))

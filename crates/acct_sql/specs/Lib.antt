@@ -4,8 +4,7 @@ pub mod Columns
 pub mod Content
 pub mod Kept
 pub mod Book
-pub mod Next
-pub mod Rising
 pub mod Make
 pub mod Look
 pub mod Laws
+pub mod inner

@@ -75,13 +75,13 @@ session = table_of (codes "session") 8 (column_of (codes "client") Text ∷ colu
 abbrev pub book_schema : Schema
 book_schema = record {
   tables = meta ∷ price_plan ∷ account ∷ voucher ∷ session ∷ [];
-  indexes = index_of (codes "sqlite_autoindex_meta_1") 1 0 (1 ∷ []) true ∷ index_of
-      (codes "sqlite_autoindex_price_plan_1") 3 2 (1 ∷ []) true
-      ∷ index_of (codes "sqlite_autoindex_account_1") 5 4 (1 ∷ []) true ∷ index_of
-      (codes "sqlite_autoindex_voucher_1") 7 6 (1 ∷ []) true
-      ∷ index_of (codes "sqlite_autoindex_session_1") 9 8 (1 ∷ 2 ∷ []) true
-      ∷ index_of (codes "session_account") 10 8 (3 ∷ []) false ∷ index_of (codes "voucher_account")
-      11 6 (2 ∷ []) false ∷ [];
+  indexes = index_of (codes "sqlite_autoindex_meta_1") 1 meta.tree (1 ∷ []) true ∷ index_of
+      (codes "sqlite_autoindex_price_plan_1") 3 price_plan.tree (1 ∷ []) true
+      ∷ index_of (codes "sqlite_autoindex_account_1") 5 account.tree (1 ∷ []) true ∷ index_of
+      (codes "sqlite_autoindex_voucher_1") 7 voucher.tree (1 ∷ []) true
+      ∷ index_of (codes "sqlite_autoindex_session_1") 9 session.tree (1 ∷ 2 ∷ []) true
+      ∷ index_of (codes "session_account") 10 session.tree (3 ∷ []) false ∷ index_of
+      (codes "voucher_account") 11 voucher.tree (2 ∷ []) false ∷ [];
   views = [];
 }
 

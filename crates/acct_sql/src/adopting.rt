@@ -2,42 +2,37 @@
 ghost use Rattle.std.specs.Prelude.{◌≡◌, ◌≢◌, ◌↔◌, ℤ, pos, [], IsTrue, IfOk, IfErr, OnOk};
 ghost use Rattle.std.specs.Prelude.{List, MatchOption};
 ghost use Rattle.std.specs.List.{AllByRecursion};
-ghost use Rattle.sqlite.specs.State.{HasCleanDisk, Shown};
+ghost use Rattle.sqlite.specs.State.{Shown};
 ghost use Rattle.sqlite.specs.Held.{state};
 ghost use Rattle.sqlite.specs.Given.{IsPlain};
 ghost use Rattle.sqlite.specs.Listing.{understood};
 ghost use Rattle.sqlite_value.specs.Order.{column};
 ghost use Rattle.sqlite_value.specs.Value.{owned};
 ghost use Rattle.sqlite_value.specs.declared.value.Value.TheVariants.{Int, Blob};
-ghost use Rattle.acct_sql.specs.Tables.{book_schema};
-ghost use Rattle.acct_sql.specs.Tidy.{IsTidy};
 ghost use Rattle.acct_model.specs.declared.plan.Plan.{Plan};
-ghost use Rattle.acct_sql.specs.Book.{IsBook};
+ghost use Rattle.acct_sql.specs.Tables.{book_schema};
+ghost use Rattle.acct_sql.specs.Book.{is_sound_at};
 ghost use Rattle.acct_sql.specs.Make.{KeepsPlans};
-ghost use Rattle.acct_sql.specs.Look.{IsIdle, OnlyLooks, HasSchema, ShowsPlan, IsShownIn, IsPlanIn};
-ghost use Rattle.acct_sql.specs.Look.{AreShown, IsNumber, IsNumberFault, IsPlanFault, IsRefusedAs};
-ghost use Rattle.acct_sql.specs.Look.{HasNumberAlone, is_failure};
+ghost use Rattle.acct_sql.specs.Look.{IsIdle, LooksAtTables, HasNumberAlone, IsRefusedAs};
+ghost use Rattle.acct_sql.specs.inner.Looked.{IsIdleBook, IsBookWith, HasRowsOf, tables_at};
+ghost use Rattle.acct_sql.specs.inner.Looked.{Peeks, Examines, ShowsPlan, IsShownIn, IsPlanIn};
+ghost use Rattle.acct_sql.specs.inner.Looked.{AreShown, IsSchemaNumber, IsSchemaNumberFault};
+ghost use Rattle.acct_sql.specs.inner.Looked.{IsPlanFault, is_failure};
 
 use crate::book_schema::is_book_schema;
 use crate::rowids::check_rowids;
 use crate::sql_book_error::SqlBookError;
+use crate::statements::{PLANS, SCHEMA_NUMBER};
 use acct_model::{Plan, Plans};
 use sqlite::types::ValueRef;
 use sqlite::{Alter, Connection, Error, ErrorCode};
 
-const NUMBER: &str = "SELECT value FROM meta WHERE name = 'schema'";
-
-const PLANS: &str = "SELECT class, block, unit FROM price_plan";
-
 // What a query shows of the tables of a book.
 fn peek<S: Alter>(conn: &mut Connection<S>, sql: &str) -> Result<Vec<sqlite::Row>, SqlBookError>
-    requires idle { IsIdle (state S.Store conn.old) }
-    requires has { HasSchema (state S.Store conn.old) }
+    requires book { IsIdleBook S.Store conn.old }
     requires plain { IsPlain (understood book_schema sql.now) }
-    ensures looks { OnlyLooks (state S.Store conn.old) (state S.Store conn.new) }
-    ensures open { HasCleanDisk (state S.Store conn.new)
-        → OnOk result (IsTrue (state S.Store conn.new).is_open) }
-    ensures shown { HasCleanDisk (state S.Store conn.new)
+    ensures looks { Peeks S.Store conn.old conn.new result }
+    ensures shown { is_sound_at S.Store conn.new
         → IfOk result (λ rows. Shown sql.now [] (state S.Store conn.old) (state S.Store conn.new)
         rows.items) }
     ensures fault { IfErr result (λ e. e ≡ SqlBookError.Unavailable) }
@@ -72,17 +67,11 @@ fn value_at(row: &sqlite::Row, at: usize) -> ValueRef<'_>
 /// Whether a database is the book of these plans, by the tests in their order.
 pub(crate) fn examine<S: Alter>(conn: &mut Connection<S>, plans: &Plans) -> Result<(), SqlBookError>
     requires { IsIdle (state S.Store conn.old) }
-    ensures looks { OnlyLooks (state S.Store conn.old) (state S.Store conn.new) }
-    ensures open { HasCleanDisk (state S.Store conn.new)
-        → OnOk result (IsTrue (state S.Store conn.new).is_open) }
-    ensures book { HasCleanDisk (state S.Store conn.new)
-        → OnOk result (IsBook (state S.Store conn.new).now) }
-    ensures number { HasCleanDisk (state S.Store conn.new)
-        → OnOk result (HasNumberAlone (pos 1) (state S.Store conn.new).now.trees) }
-    ensures plans { HasCleanDisk (state S.Store conn.new)
-        → OnOk result (KeepsPlans plans.now (state S.Store conn.new).now.trees) }
-    ensures refused { HasCleanDisk (state S.Store conn.new)
-        → IfErr result (IsRefusedAs plans.now (state S.Store conn.old).now) }
+    ensures looks { Peeks S.Store conn.old conn.new result }
+    ensures adopted { is_sound_at S.Store conn.new
+        → OnOk result (IsBookWith plans.now (tables_at S.Store conn.new)) }
+    ensures refused { is_sound_at S.Store conn.new
+        → IfErr result (IsRefusedAs plans.now (tables_at S.Store conn.old)) }
 {
     if is_book_schema(conn.schema()) {
         examine_book(conn, plans.list())
@@ -93,23 +82,10 @@ pub(crate) fn examine<S: Alter>(conn: &mut Connection<S>, plans: &Plans) -> Resu
 
 // The same of a database that has the tables of a book.
 fn examine_book<S: Alter>(conn: &mut Connection<S>, plans: &[Plan]) -> Result<(), SqlBookError>
-    requires idle { IsIdle (state S.Store conn.old) }
-    requires has { HasSchema (state S.Store conn.old) }
-    ensures looks { OnlyLooks (state S.Store conn.old) (state S.Store conn.new) }
-    ensures open { HasCleanDisk (state S.Store conn.new)
-        → OnOk result (IsTrue (state S.Store conn.new).is_open) }
-    ensures number { HasCleanDisk (state S.Store conn.new)
-        → OnOk result (HasNumberAlone (pos 1) (state S.Store conn.old).now.trees) }
-    ensures plans { HasCleanDisk (state S.Store conn.new)
-        → OnOk result (KeepsPlans plans.now (state S.Store conn.old).now.trees) }
-    ensures accounts { HasCleanDisk (state S.Store conn.new)
-        → OnOk result (IsTidy ((state S.Store conn.old).now.trees 4)) }
-    ensures vouchers { HasCleanDisk (state S.Store conn.new)
-        → OnOk result (IsTidy ((state S.Store conn.old).now.trees 6)) }
-    ensures sessions { HasCleanDisk (state S.Store conn.new)
-        → OnOk result (IsTidy ((state S.Store conn.old).now.trees 8)) }
-    ensures refused { HasCleanDisk (state S.Store conn.new)
-        → IfErr result (IsRefusedAs plans.now (state S.Store conn.old).now) }
+    requires { IsIdleBook S.Store conn.old }
+    ensures rows { Examines S.Store conn.old conn.new (HasRowsOf plans.now) result }
+    ensures refused { is_sound_at S.Store conn.new
+        → IfErr result (IsRefusedAs plans.now (tables_at S.Store conn.old)) }
 {
     check_number(conn)?;
     check_plans(conn, plans)?;
@@ -118,24 +94,19 @@ fn examine_book<S: Alter>(conn: &mut Connection<S>, plans: &[Plan]) -> Result<()
 
 // Refuses another schema number than 1, and tables that have none.
 fn check_number<S: Alter>(conn: &mut Connection<S>) -> Result<(), SqlBookError>
-    requires idle { IsIdle (state S.Store conn.old) }
-    requires has { HasSchema (state S.Store conn.old) }
-    ensures looks { OnlyLooks (state S.Store conn.old) (state S.Store conn.new) }
-    ensures open { HasCleanDisk (state S.Store conn.new)
-        → OnOk result (IsTrue (state S.Store conn.new).is_open) }
-    ensures number { HasCleanDisk (state S.Store conn.new)
-        → OnOk result (HasNumberAlone (pos 1) (state S.Store conn.old).now.trees) }
-    ensures refused { HasCleanDisk (state S.Store conn.new) → IfErr result
-        (λ e. (plans : List Plan) → IsRefusedAs plans (state S.Store conn.old).now e) }
+    requires { IsIdleBook S.Store conn.old }
+    ensures number { Examines S.Store conn.old conn.new (HasNumberAlone (pos 1)) result }
+    ensures refused { is_sound_at S.Store conn.new → IfErr result
+        (λ e. (plans : List Plan) → IsRefusedAs plans (tables_at S.Store conn.old) e) }
 {
-    let rows = peek(conn, NUMBER)?;
+    let rows = peek(conn, SCHEMA_NUMBER)?;
     judge_number(&rows)
 }
 
 // Judges the answer of the query for the schema number: one row, which has the number 1.
 fn judge_number(rows: &[sqlite::Row]) -> Result<(), SqlBookError>
-    ensures ok { OnOk result (IsNumber (pos 1) rows.now) }
-    ensures err { IfErr result (IsNumberFault rows.now) }
+    ensures ok { OnOk result (IsSchemaNumber (pos 1) rows.now) }
+    ensures err { IfErr result (IsSchemaNumberFault rows.now) }
 {
     let [row] = rows else {
         return Err(fault_of_many(rows));
@@ -149,7 +120,7 @@ fn judge_number(rows: &[sqlite::Row]) -> Result<(), SqlBookError>
 
 // The same of an answer that isn't one row.
 fn fault_of_many(rows: &[sqlite::Row]) -> SqlBookError
-    ensures { IsNumberFault rows.now result }
+    ensures { IsSchemaNumberFault rows.now result }
 {
     if rows.is_empty() {
         SqlBookError::NotABook
@@ -160,15 +131,10 @@ fn fault_of_many(rows: &[sqlite::Row]) -> SqlBookError
 
 // Refuses a book that was made with other plans.
 fn check_plans<S: Alter>(conn: &mut Connection<S>, plans: &[Plan]) -> Result<(), SqlBookError>
-    requires idle { IsIdle (state S.Store conn.old) }
-    requires has { HasSchema (state S.Store conn.old) }
-    ensures looks { OnlyLooks (state S.Store conn.old) (state S.Store conn.new) }
-    ensures open { HasCleanDisk (state S.Store conn.new)
-        → OnOk result (IsTrue (state S.Store conn.new).is_open) }
-    ensures plans { HasCleanDisk (state S.Store conn.new)
-        → OnOk result (KeepsPlans plans.now (state S.Store conn.old).now.trees) }
-    ensures fault { HasCleanDisk (state S.Store conn.new)
-        → IfErr result (IsPlanFault plans.now (state S.Store conn.old).now.trees) }
+    requires { IsIdleBook S.Store conn.old }
+    ensures plans { Examines S.Store conn.old conn.new (KeepsPlans plans.now) result }
+    ensures fault { is_sound_at S.Store conn.new
+        → IfErr result (IsPlanFault plans.now (tables_at S.Store conn.old).trees) }
 {
     let rows = peek(conn, PLANS)?;
     if are_kept(plans, &rows) {
@@ -181,10 +147,10 @@ fn check_plans<S: Alter>(conn: &mut Connection<S>, plans: &[Plan]) -> Result<(),
 // Why a database with other tables is no book: it has another schema number than 1, or it is none.
 fn fault_of_other<S: Alter>(conn: &mut Connection<S>) -> SqlBookError
     requires idle { IsIdle (state S.Store conn.old) }
-    requires other { (state S.Store conn.old).now.schema ≢ book_schema }
-    ensures looks { OnlyLooks (state S.Store conn.old) (state S.Store conn.new) }
-    ensures refused { HasCleanDisk (state S.Store conn.new)
-        → (plans : List Plan) → IsRefusedAs plans (state S.Store conn.old).now result }
+    requires other { (tables_at S.Store conn.old).schema ≢ book_schema }
+    ensures looks { LooksAtTables (state S.Store conn.old) (state S.Store conn.new) }
+    ensures refused { is_sound_at S.Store conn.new
+        → (plans : List Plan) → IsRefusedAs plans (tables_at S.Store conn.old) result }
 {
     match glance(conn) {
         Err(error) if is_failure(&error) => SqlBookError::Unavailable,
@@ -199,10 +165,10 @@ fn fault_of_other<S: Alter>(conn: &mut Connection<S>) -> SqlBookError
 // What the query for the schema number shows under any tables. What it might do is undone.
 fn glance<S: Alter>(conn: &mut Connection<S>) -> Result<Vec<sqlite::Row>, Error>
     requires { IsIdle (state S.Store conn.old) }
-    ensures { OnlyLooks (state S.Store conn.old) (state S.Store conn.new) }
+    ensures { LooksAtTables (state S.Store conn.old) (state S.Store conn.new) }
 {
     let mut tx = conn.transaction();
-    tx.query_all(NUMBER, &[])
+    tx.query_all(SCHEMA_NUMBER, &[])
 }
 
 // The store or memory failed, or the limit on steps was met.

@@ -1,5 +1,5 @@
 //! Whether a database has exactly the tables and the indices of a book.
-ghost use Rattle.std.specs.Prelude.{◌≡◌, ◌↔◌, None, false, [], ◌∷◌, IsTrue, drop};
+ghost use Rattle.std.specs.Prelude.{◌≡◌, ◌↔◌, None, true, false, [], ◌∷◌, IsTrue, drop};
 ghost use Rattle.sqlite_value.specs.Keys.{plain};
 ghost use Rattle.acct_sql.specs.Tables.{book_schema, meta, price_plan, account, voucher, session};
 ghost use Rattle.acct_sql.specs.Tables.{column_of, table_of, index_of};
@@ -232,16 +232,9 @@ fn are_indexes(indexes: &[Index]) -> bool
     let [meta, price_plan, account, later @ ..] = indexes else {
         return false;
     };
-    is_index(meta, b"sqlite_autoindex_meta_1", 1, 0, &[1], true)
-        && is_index(
-            price_plan,
-            b"sqlite_autoindex_price_plan_1",
-            3,
-            2,
-            &[1],
-            true,
-        )
-        && is_index(account, b"sqlite_autoindex_account_1", 5, 4, &[1], true)
+    is_key_index(meta, b"sqlite_autoindex_meta_1", 1, 0, &[1])
+        && is_key_index(price_plan, b"sqlite_autoindex_price_plan_1", 3, 2, &[1])
+        && is_key_index(account, b"sqlite_autoindex_account_1", 5, 4, &[1])
         && are_later_indexes(later)
 }
 
@@ -252,8 +245,8 @@ fn are_later_indexes(indexes: &[Index]) -> bool
     let [voucher, session, later @ ..] = indexes else {
         return false;
     };
-    is_index(voucher, b"sqlite_autoindex_voucher_1", 7, 6, &[1], true)
-        && is_index(session, b"sqlite_autoindex_session_1", 9, 8, &[1, 2], true)
+    is_key_index(voucher, b"sqlite_autoindex_voucher_1", 7, 6, &[1])
+        && is_key_index(session, b"sqlite_autoindex_session_1", 9, 8, &[1, 2])
         && are_account_indexes(later)
 }
 
@@ -264,25 +257,35 @@ fn are_account_indexes(indexes: &[Index]) -> bool
     let [session_account, voucher_account] = indexes else {
         return false;
     };
-    is_index(session_account, b"session_account", 10, 8, &[3], false)
-        && is_index(voucher_account, b"voucher_account", 11, 6, &[2], false)
+    is_search_index(session_account, b"session_account", 10, 8, &[3])
+        && is_search_index(voucher_account, b"voucher_account", 11, 6, &[2])
 }
 
-fn is_index(
-    index: &Index,
-    name: &[u8],
-    tree: u32,
-    table: u32,
-    columns: &[usize],
-    is_unique: bool,
-) -> bool
-    ensures only { IsTrue result → index.now ≡ index_of name.now tree table columns.now is_unique }
-    ensures each { index.now ≡ index_of name.now tree table columns.now is_unique → IsTrue result }
+// The index of a PRIMARY KEY, in which no two rows are alike.
+fn is_key_index(index: &Index, name: &[u8], tree: u32, table: u32, columns: &[usize]) -> bool
+    ensures only { IsTrue result → index.now ≡ index_of name.now tree table columns.now true }
+    ensures each { index.now ≡ index_of name.now tree table columns.now true → IsTrue result }
+{
+    is_index(index, name, tree, table, columns) && index.is_unique
+}
+
+// An index that queries go by, in which rows may be alike.
+fn is_search_index(index: &Index, name: &[u8], tree: u32, table: u32, columns: &[usize]) -> bool
+    ensures only { IsTrue result → index.now ≡ index_of name.now tree table columns.now false }
+    ensures each { index.now ≡ index_of name.now tree table columns.now false → IsTrue result }
+{
+    is_index(index, name, tree, table, columns) && !index.is_unique
+}
+
+fn is_index(index: &Index, name: &[u8], tree: u32, table: u32, columns: &[usize]) -> bool
+    ensures only { IsTrue result
+        → index.now ≡ index_of name.now tree table columns.now index.now.is_unique }
+    ensures each { index.now ≡ index_of name.now tree table columns.now index.now.is_unique
+        → IsTrue result }
 {
     index.name.as_slice() == name
         && index.tree == tree
         && index.table == table
         && index.columns.as_slice() == columns
         && index.order.digits == 0
-        && index.is_unique == is_unique
 }

@@ -1,10 +1,11 @@
 //! Rows of the tables, as the values of their columns.
-ghost use Rattle.std.specs.Prelude.{◌≡◌, ◌+◌, ◌<◌, ◌^◌, pos, IfOk};
+ghost use Rattle.std.specs.Prelude.{◌≡◌, ◌+◌, ◌<◌, ◌^◌, pos, Some, IfOk};
 ghost use Rattle.sqlite.specs.Values.{bound};
 ghost use Rattle.sqlite_value.specs.Order.{column, bytes};
-ghost use Rattle.acct_sql.specs.Columns.{session_columns, topup_columns, plan_columns, account_of};
-ghost use Rattle.acct_sql.specs.Columns.{framed_octets, framed_in, code_of, count_in, state_in};
-ghost use Rattle.acct_sql.specs.Columns.{int_in, cause_in, session_of, topup_of};
+ghost use Rattle.acct_sql.specs.Columns.{session_columns, topup_columns, framed_octets, framed_in};
+ghost use Rattle.acct_sql.specs.Columns.{code_of, count_in, int_in, state_in, cause_in};
+ghost use Rattle.acct_sql.specs.Columns.{session_in_columns, topup_in_columns};
+ghost use Rattle.acct_sql.specs.inner.Columns.{account_in_columns, plan_columns};
 
 use crate::refused::Refused;
 use acct_book::{Row, SessionState};
@@ -12,18 +13,21 @@ use acct_model::{Octets, Plan, Text, TopUp};
 use sqlite::types::ValueRef;
 use std::alloc::Global;
 
-// Four octets, or none, are told apart by their number.
-fn reads_back(framed: Option<[u8; 4]>)
-    ensures { framed_in (framed_octets framed) ≡ framed }
+// The octets of an address, of which there is one at least.
+fn address_octets(address: &[u8; 4]) -> &[u8]
+    ensures value { result.now ≡ address.now }
+    ensures back { framed_in address.now ≡ Some address.now }
 {
-    if let Some([_, _, _, _]) = framed {}
+    address.as_slice()
 }
 
+// The octets of a session's address, or none where it has none.
 fn framed_octets(row: &Row) -> &[u8]
-    ensures { result.now ≡ framed_octets row.now.framed }
+    ensures value { result.now ≡ framed_octets row.now.framed }
+    ensures back { framed_in (framed_octets row.now.framed) ≡ row.now.framed }
 {
     match &row.framed {
-        Some(octets) => octets.as_slice(),
+        Some(address) => address_octets(address),
         None => &[],
     }
 }
@@ -44,7 +48,6 @@ pub(crate) fn session_values(row: &Row) -> [ValueRef<'_>; 13]
     ensures value { bound result ≡ session_columns row.now }
     ensures back { framed_in (framed_octets row.now.framed) ≡ row.now.framed }
 {
-    reads_back(row.framed);
     [
         ValueRef::Text(row.client.as_str().as_bytes()),
         ValueRef::Blob(row.session.as_slice()),
@@ -172,7 +175,7 @@ fn counters_at(columns: &sqlite::Row) -> Result<(u64, u64), Refused>
 
 /// The session of a row of the table, where it keeps the bounds.
 pub(crate) fn session_at(columns: &sqlite::Row) -> Result<Row, Refused>
-    ensures { IfOk result (λ row. row ≡ session_of (column columns.now)) }
+    ensures { IfOk result (λ row. row ≡ session_in_columns (column columns.now)) }
 {
     // The numbers come first, so that no text is held where one of them is refused.
     let (input, output) = counters_at(columns)?;
@@ -200,7 +203,7 @@ pub(crate) fn session_at(columns: &sqlite::Row) -> Result<Row, Refused>
 
 /// The top-up of a row of the table, where it keeps the bounds.
 pub(crate) fn topup_at(alloc: Global, columns: &sqlite::Row) -> Result<TopUp, Refused>
-    ensures { IfOk result (λ topup. topup ≡ topup_of (column columns.now)) }
+    ensures { IfOk result (λ topup. topup ≡ topup_in_columns (column columns.now)) }
 {
     let number = text_at(columns, 0)?;
     let account = octets_at(columns, 1)?;
@@ -218,7 +221,8 @@ pub(crate) fn balance_at(columns: &sqlite::Row) -> Result<i64, Refused>
 
 /// The account and the balance of a row that has these two.
 pub(crate) fn account_at(columns: &sqlite::Row) -> Result<(Vec<u8>, i64), Refused>
-    ensures { IfOk result (λ kept. (kept.0.items, kept.1) ≡ account_of (column columns.now)) }
+    ensures { IfOk result (λ kept. (kept.0.items, kept.1)
+        ≡ account_in_columns (column columns.now)) }
 {
     let name: Vec<u8> = columns.get(0)?;
     let balance: i64 = columns.get(1)?;

@@ -23,6 +23,7 @@ mod refused;
 mod rowids;
 mod sql_book;
 mod sql_book_error;
+mod statements;
 mod writing;
 
 pub use sql_book::SqlBook;

@@ -2,30 +2,24 @@
 ghost use Rattle.std.specs.Prelude.{◌≡◌, ℕ, List, IsTrue, IfOk, map};
 ghost use Rattle.std.specs.declared.cmp.Ordering.TheVariants.{Less};
 ghost use Rattle.std.specs.List.Sorted.{IsStrictlySortedBy};
-ghost use Rattle.sqlite.specs.Held.{state};
 ghost use Rattle.sqlite_value.specs.Order.{column};
 ghost use Rattle.acct_model.specs.Vouchers.{TopUpFacts};
 ghost use Rattle.acct_book.specs.Content.{key_of};
 ghost use Rattle.acct_book.specs.Maps.{octets_cmp, key_cmp};
 ghost use Rattle.acct_book.specs.Walk.{AreRowsOf, AreTopUpsOf};
-ghost use Rattle.acct_sql.specs.Columns.{session_of, topup_of};
-ghost use Rattle.acct_sql.specs.Book.{IsResting, HasRead, content_at, is_open_at};
+ghost use Rattle.acct_sql.specs.Columns.{session_in_columns, topup_in_columns};
+ghost use Rattle.acct_sql.specs.Book.{content_at, is_open_at};
+ghost use Rattle.acct_sql.specs.inner.AtRest.{IsAtRest, ReadsAtRest};
 
 use crate::columns::{session_at, topup_at};
 use crate::reading::ask;
 use crate::refused::Refused;
+use crate::statements::{SESSIONS_OF_ACCOUNT, TOPUPS_OF_ACCOUNT};
 use acct_book::Row;
 use acct_model::TopUp;
 use sqlite::{Alter, Connection, params};
 use std::alloc::Global;
 use std::cmp::Ordering;
-
-const SESSIONS: &str = "\
-    SELECT client, id, account, class, input, output, seconds, first_seen, last_seen, state, \
-    cause, calling, framed FROM session WHERE account = ?1 ORDER BY client, id";
-
-const TOPUPS: &str = "\
-    SELECT number, account, amount, moment FROM voucher WHERE account = ?1 ORDER BY number";
 
 /// All rows of an account, in the order of their keys. A table that shows a key twice is refused.
 pub(crate) fn read_sessions<S: Alter>(
@@ -33,13 +27,12 @@ pub(crate) fn read_sessions<S: Alter>(
     conn: &mut Connection<S>,
     account: &[u8],
 ) -> Result<Vec<Row>, Refused>
-    requires { IsResting (state S.Store conn.old) }
-    ensures resting { IsResting (state S.Store conn.new) }
-    ensures read { HasRead S.Store conn.old conn.new result }
+    requires { IsAtRest S.Store conn.old }
+    ensures read { ReadsAtRest S.Store conn.old conn.new result }
     ensures found { is_open_at S.Store conn.new → IfOk result
         (λ rows. AreRowsOf (content_at S.Store conn.old) account.now rows.items) }
 {
-    let shown = ask(conn, SESSIONS, params![account])?;
+    let shown = ask(conn, SESSIONS_OF_ACCOUNT, params![account])?;
     let rows = sessions_in(alloc, &shown)?;
     if sessions_ascend(&rows) {
         Ok(rows)
@@ -55,13 +48,12 @@ pub(crate) fn read_topups<S: Alter>(
     conn: &mut Connection<S>,
     account: &[u8],
 ) -> Result<Vec<TopUp>, Refused>
-    requires { IsResting (state S.Store conn.old) }
-    ensures resting { IsResting (state S.Store conn.new) }
-    ensures read { HasRead S.Store conn.old conn.new result }
+    requires { IsAtRest S.Store conn.old }
+    ensures read { ReadsAtRest S.Store conn.old conn.new result }
     ensures found { is_open_at S.Store conn.new → IfOk result
         (λ topups. AreTopUpsOf (content_at S.Store conn.old) account.now topups.items) }
 {
-    let shown = ask(conn, TOPUPS, params![account])?;
+    let shown = ask(conn, TOPUPS_OF_ACCOUNT, params![account])?;
     let topups = topups_in(alloc, &shown)?;
     if topups_ascend(&topups) {
         Ok(topups)
@@ -71,7 +63,8 @@ pub(crate) fn read_topups<S: Alter>(
 }
 
 fn sessions_in(alloc: Global, shown: &[sqlite::Row]) -> Result<Vec<Row>, Refused>
-    ensures { IfOk result (λ rows. rows.items ≡ map (λ r. session_of (column r)) shown.now) }
+    ensures { IfOk result (λ rows. rows.items
+        ≡ map (λ r. session_in_columns (column r)) shown.now) }
 {
     let mut rows = Vec::new(alloc);
     for columns in shown {
@@ -81,7 +74,8 @@ fn sessions_in(alloc: Global, shown: &[sqlite::Row]) -> Result<Vec<Row>, Refused
 }
 
 fn topups_in(alloc: Global, shown: &[sqlite::Row]) -> Result<Vec<TopUp>, Refused>
-    ensures { IfOk result (λ topups. topups.items ≡ map (λ r. topup_of (column r)) shown.now) }
+    ensures { IfOk result (λ topups. topups.items
+        ≡ map (λ r. topup_in_columns (column r)) shown.now) }
 {
     let mut topups = Vec::new(alloc);
     for columns in shown {

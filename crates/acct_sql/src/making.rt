@@ -1,49 +1,27 @@
 //! The tables of a new book, made in one transaction.
-ghost use Rattle.std.specs.Prelude.{◌≡◌, ◌↔◌, ℕ, false, [], ◌∷◌, ◌++◌, Ok, List, IsTrue, OnOk};
+ghost use Rattle.std.specs.Prelude.{◌≡◌, ◌↔◌, false, [], ◌∷◌, ◌++◌, List, IsTrue, OnOk};
 ghost use Rattle.std.specs.Prelude.{OnErr};
-ghost use Rattle.sqlite.specs.State.{HasCleanDisk, KeepsCommit, Survives, ExecutesInside};
+ghost use Rattle.sqlite.specs.State.{Survives};
 ghost use Rattle.sqlite.specs.Held.{state};
 ghost use Rattle.sqlite.specs.Effect.{Database};
 ghost use Rattle.acct_model.specs.declared.plan.Plan.{Plan};
 ghost use Rattle.acct_sql.specs.Tables.{no_schema};
-ghost use Rattle.acct_sql.specs.Book.{IsBook, IsSettled};
-ghost use Rattle.acct_sql.specs.Make.{HasTables, HasPlans, IsNew};
+ghost use Rattle.acct_sql.specs.Book.{is_sound_at};
+ghost use Rattle.acct_sql.specs.Make.{IsNew};
+ghost use Rattle.acct_sql.specs.inner.Inside.{RunsInside};
+ghost use Rattle.acct_sql.specs.inner.NewBook.{HasRun, HasTables, HasPlans, IsNewBook};
+ghost use Rattle.acct_sql.specs.inner.Looked.{tables_at};
 
 use crate::columns::plan_values;
 use crate::refused::Refused;
+use crate::statements::{
+    ACCOUNT_TABLE, META_TABLE, NEW_PLAN, NEW_SCHEMA_NUMBER, PLAN_TABLE, SESSION_ACCOUNT_INDEX,
+    SESSION_TABLE, VOUCHER_ACCOUNT_INDEX, VOUCHER_TABLE,
+};
 use crate::writing::finish;
 use acct_model::{Plan, Plans};
 use sqlite::{Alter, Connection, Transaction};
 use sqlite_schema::schema::Schema;
-
-const META: &str = "\
-    CREATE TABLE meta (name TEXT NOT NULL PRIMARY KEY, value INTEGER NOT NULL) STRICT";
-
-const PRICE_PLAN: &str = "\
-    CREATE TABLE price_plan (class BLOB NOT NULL PRIMARY KEY, block INTEGER NOT NULL, unit \
-    INTEGER NOT NULL) STRICT";
-
-const ACCOUNT: &str = "\
-    CREATE TABLE account (name BLOB NOT NULL PRIMARY KEY, balance INTEGER NOT NULL) STRICT";
-
-const VOUCHER: &str = "\
-    CREATE TABLE voucher (number TEXT NOT NULL PRIMARY KEY, account BLOB NOT NULL, amount INTEGER \
-    NOT NULL, moment INTEGER NOT NULL) STRICT";
-
-const SESSION: &str = "\
-    CREATE TABLE session (client TEXT NOT NULL, id BLOB NOT NULL, account BLOB NOT NULL, class \
-    BLOB NOT NULL, input INTEGER NOT NULL, output INTEGER NOT NULL, seconds INTEGER NOT NULL, \
-    first_seen INTEGER NOT NULL, last_seen INTEGER NOT NULL, state INTEGER NOT NULL, cause \
-    INTEGER NOT NULL, calling BLOB NOT NULL, framed BLOB NOT NULL, PRIMARY KEY (client, id)) \
-    STRICT";
-
-const SESSION_ACCOUNT: &str = "CREATE INDEX session_account ON session (account)";
-
-const VOUCHER_ACCOUNT: &str = "CREATE INDEX voucher_account ON voucher (account)";
-
-const NEW_NUMBER: &str = "INSERT INTO meta (name, value) VALUES ('schema', 1)";
-
-const NEW_PLAN: &str = "INSERT INTO price_plan (class, block, unit) VALUES (?1, ?2, ?3)";
 
 /// Nothing was made in the database yet.
 pub(crate) fn is_bare(schema: &Schema) -> bool
@@ -55,16 +33,12 @@ pub(crate) fn is_bare(schema: &Schema) -> bool
 /// Makes the tables, the schema number and the plans, all of it or nothing.
 pub(crate) fn make_book<S: Alter>(conn: &mut Connection<S>, plans: &Plans) -> Result<(), Refused>
     requires idle { (state S.Store conn.old).in_transaction ≡ false }
-    requires bare { (state S.Store conn.old).now.schema ≡ no_schema }
+    requires bare { (tables_at S.Store conn.old).schema ≡ no_schema }
     ensures idle { (state S.Store conn.new).in_transaction ≡ false }
-    ensures settled { HasCleanDisk (state S.Store conn.new)
-        → OnOk result (IsSettled (state S.Store conn.new)) }
-    ensures book { HasCleanDisk (state S.Store conn.new)
-        → OnOk result (IsBook (state S.Store conn.new).now) }
-    ensures made { HasCleanDisk (state S.Store conn.new)
-        → OnOk result (IsNew plans.now (state S.Store conn.new).now.trees) }
-    ensures undone { HasCleanDisk (state S.Store conn.new) → IsTrue (state S.Store conn.new).is_open
-        → OnErr result ((state S.Store conn.new).now ≡ (state S.Store conn.old).now) }
+    ensures made { is_sound_at S.Store conn.new
+        → OnOk result (IsNewBook plans.now (state S.Store conn.new)) }
+    ensures undone { is_sound_at S.Store conn.new → IsTrue (state S.Store conn.new).is_open
+        → OnErr result (tables_at S.Store conn.new ≡ tables_at S.Store conn.old) }
     ensures survives { Survives (state S.Store conn.old) (state S.Store conn.new)
         (IsNew plans.now) }
 {
@@ -76,15 +50,9 @@ pub(crate) fn make_book<S: Alter>(conn: &mut Connection<S>, plans: &Plans) -> Re
 }
 
 fn fill<S: Alter>(tx: &mut Transaction<'_, S>, plans: &[Plan]) -> Result<(), Refused>
-    requires { (state S.Store tx.old.conn.now).now.schema ≡ no_schema }
-    ensures same_reference { tx.new.conn.ghost_name ≡ tx.old.conn.ghost_name }
-    ensures filled { HasCleanDisk (state S.Store tx.new.conn.now)
-        → OnOk result (HasPlans (state S.Store tx.old.conn.now).committed plans.now
-        (state S.Store tx.new.conn.now)) }
-    ensures kept { HasCleanDisk (state S.Store tx.new.conn.now)
-        → KeepsCommit (state S.Store tx.old.conn.now) (state S.Store tx.new.conn.now) }
-    ensures survives { Survives (state S.Store tx.old.conn.now) (state S.Store tx.new.conn.now)
-        (λ _. ⊥) }
+    requires { (tables_at S.Store tx.old.conn.now).schema ≡ no_schema }
+    ensures { RunsInside S.Store tx.old.conn tx.new.conn
+        (λ old new. HasPlans old.committed plans.now new) result }
 {
     define_tables(tx)?;
     set_number(tx)?;
@@ -92,62 +60,37 @@ fn fill<S: Alter>(tx: &mut Transaction<'_, S>, plans: &[Plan]) -> Result<(), Ref
 }
 
 fn define_tables<S: Alter>(tx: &mut Transaction<'_, S>) -> Result<(), Refused>
-    requires { (state S.Store tx.old.conn.now).now.schema ≡ no_schema }
-    ensures same_reference { tx.new.conn.ghost_name ≡ tx.old.conn.ghost_name }
-    ensures made { HasCleanDisk (state S.Store tx.new.conn.now)
-        → OnOk result (HasTables (state S.Store tx.old.conn.now).committed
-        (state S.Store tx.new.conn.now)) }
-    ensures kept { HasCleanDisk (state S.Store tx.new.conn.now)
-        → KeepsCommit (state S.Store tx.old.conn.now) (state S.Store tx.new.conn.now) }
-    ensures survives { Survives (state S.Store tx.old.conn.now) (state S.Store tx.new.conn.now)
-        (λ _. ⊥) }
+    requires { (tables_at S.Store tx.old.conn.now).schema ≡ no_schema }
+    ensures { RunsInside S.Store tx.old.conn tx.new.conn
+        (λ old new. HasTables old.committed new) result }
 {
-    define(tx, META)?;
-    define(tx, PRICE_PLAN)?;
-    define(tx, ACCOUNT)?;
-    define(tx, VOUCHER)?;
-    define(tx, SESSION)?;
-    define(tx, SESSION_ACCOUNT)?;
-    define(tx, VOUCHER_ACCOUNT)
+    define(tx, META_TABLE)?;
+    define(tx, PLAN_TABLE)?;
+    define(tx, ACCOUNT_TABLE)?;
+    define(tx, VOUCHER_TABLE)?;
+    define(tx, SESSION_TABLE)?;
+    define(tx, SESSION_ACCOUNT_INDEX)?;
+    define(tx, VOUCHER_ACCOUNT_INDEX)
 }
 
 fn define<S: Alter>(tx: &mut Transaction<'_, S>, text: &str) -> Result<(), Refused>
-    ensures same_reference { tx.new.conn.ghost_name ≡ tx.old.conn.ghost_name }
-    ensures ran { HasCleanDisk (state S.Store tx.new.conn.now)
-        → OnOk result ((n : ℕ) × ExecutesInside 0 text.now [] (state S.Store tx.old.conn.now)
-        (state S.Store tx.new.conn.now) (Ok n)) }
-    ensures kept { HasCleanDisk (state S.Store tx.new.conn.now)
-        → KeepsCommit (state S.Store tx.old.conn.now) (state S.Store tx.new.conn.now) }
-    ensures survives { Survives (state S.Store tx.old.conn.now) (state S.Store tx.new.conn.now)
-        (λ _. ⊥) }
+    ensures { RunsInside S.Store tx.old.conn tx.new.conn (HasRun text.now) result }
 {
     tx.execute(text, &[])?;
     Ok(())
 }
 
 fn set_number<S: Alter>(tx: &mut Transaction<'_, S>) -> Result<(), Refused>
-    ensures same_reference { tx.new.conn.ghost_name ≡ tx.old.conn.ghost_name }
-    ensures numbered { HasCleanDisk (state S.Store tx.new.conn.now)
-        → OnOk result ((c : Database) → HasTables c (state S.Store tx.old.conn.now)
-        → HasPlans c [] (state S.Store tx.new.conn.now)) }
-    ensures kept { HasCleanDisk (state S.Store tx.new.conn.now)
-        → KeepsCommit (state S.Store tx.old.conn.now) (state S.Store tx.new.conn.now) }
-    ensures survives { Survives (state S.Store tx.old.conn.now) (state S.Store tx.new.conn.now)
-        (λ _. ⊥) }
+    ensures { RunsInside S.Store tx.old.conn tx.new.conn
+        (λ old new. (c : Database) → HasTables c old → HasPlans c [] new) result }
 {
-    tx.execute(NEW_NUMBER, &[])?;
+    tx.execute(NEW_SCHEMA_NUMBER, &[])?;
     Ok(())
 }
 
 fn add_plans<S: Alter>(tx: &mut Transaction<'_, S>, plans: &[Plan]) -> Result<(), Refused>
-    ensures same_reference { tx.new.conn.ghost_name ≡ tx.old.conn.ghost_name }
-    ensures added { HasCleanDisk (state S.Store tx.new.conn.now)
-        → OnOk result ((c : Database) → HasPlans c [] (state S.Store tx.old.conn.now)
-        → HasPlans c plans.now (state S.Store tx.new.conn.now)) }
-    ensures kept { HasCleanDisk (state S.Store tx.new.conn.now)
-        → KeepsCommit (state S.Store tx.old.conn.now) (state S.Store tx.new.conn.now) }
-    ensures survives { Survives (state S.Store tx.old.conn.now) (state S.Store tx.new.conn.now)
-        (λ _. ⊥) }
+    ensures { RunsInside S.Store tx.old.conn tx.new.conn
+        (λ old new. (c : Database) → HasPlans c [] old → HasPlans c plans.now new) result }
 {
     for plan in plans {
         add_plan(tx, plan)?;
@@ -156,15 +99,9 @@ fn add_plans<S: Alter>(tx: &mut Transaction<'_, S>, plans: &[Plan]) -> Result<()
 }
 
 fn add_plan<S: Alter>(tx: &mut Transaction<'_, S>, plan: &Plan) -> Result<(), Refused>
-    ensures same_reference { tx.new.conn.ghost_name ≡ tx.old.conn.ghost_name }
-    ensures added { HasCleanDisk (state S.Store tx.new.conn.now)
-        → OnOk result ((c : Database) (plans : List Plan)
-        → HasPlans c plans (state S.Store tx.old.conn.now)
-        → HasPlans c (plans ++ plan.now ∷ []) (state S.Store tx.new.conn.now)) }
-    ensures kept { HasCleanDisk (state S.Store tx.new.conn.now)
-        → KeepsCommit (state S.Store tx.old.conn.now) (state S.Store tx.new.conn.now) }
-    ensures survives { Survives (state S.Store tx.old.conn.now) (state S.Store tx.new.conn.now)
-        (λ _. ⊥) }
+    ensures { RunsInside S.Store tx.old.conn tx.new.conn
+        (λ old new. (c : Database) (plans : List Plan) → HasPlans c plans old
+        → HasPlans c (plans ++ plan.now ∷ []) new) result }
 {
     if plan.block >= 1 << 63 || plan.unit >= 1 << 63 {
         return Err(Refused);

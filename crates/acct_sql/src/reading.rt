@@ -2,76 +2,42 @@
 ghost use Rattle.std.specs.Prelude.{◌≡◌, None, Some, IsTrue, IsOk, IfOk, OnOk, option_map};
 ghost use Rattle.std.specs.Option.{option_copied};
 ghost use Rattle.sqlite_value.specs.Order.{column};
-ghost use Rattle.acct_book.specs.Walk.{IsNextRow, IsNextBalance, IsNextTopUp};
-ghost use Rattle.acct_sql.specs.Columns.{session_of, topup_of, account_of};
-ghost use Rattle.sqlite.specs.State.{HasCleanDisk, KeepsCommit, Survives, Shown};
+ghost use Rattle.sqlite.specs.State.{Shown};
 ghost use Rattle.sqlite.specs.Held.{state};
 ghost use Rattle.sqlite.specs.Given.{IsPlain};
 ghost use Rattle.sqlite.specs.Listing.{understood};
 ghost use Rattle.sqlite.specs.Values.{bound};
 ghost use Rattle.acct_book.specs.Content.{kept_balance};
+ghost use Rattle.acct_book.specs.Walk.{IsNextRow, IsNextBalance, IsNextTopUp};
 ghost use Rattle.acct_sql.specs.Tables.{book_schema};
-ghost use Rattle.acct_sql.specs.Book.{IsBook, IsResting, HasMade, HasFinished, HasRead, HasShown};
-ghost use Rattle.acct_sql.specs.Book.{HasFirst, Wrote, content_at, is_open_at};
+ghost use Rattle.acct_sql.specs.Columns.{session_in_columns, topup_in_columns};
+ghost use Rattle.acct_sql.specs.Book.{content_at, is_sound_at, is_open_at};
+ghost use Rattle.acct_sql.specs.inner.Columns.{account_in_columns};
+ghost use Rattle.acct_sql.specs.inner.Inside.{HoldsBook, HasMade, RunsInside, HasFinished};
+ghost use Rattle.acct_sql.specs.inner.AtRest.{IsAtRest, ReadsAtRest, HasShown, HasFirst};
 
 use crate::columns::{account_at, balance_at, session_at, topup_at};
 use crate::refused::Refused;
+use crate::statements::{
+    ACCOUNT_AFTER, BALANCE_OF_ACCOUNT, FIRST_ACCOUNT, FIRST_SESSION, FIRST_TOPUP,
+    LATER_SESSION_OF_CLIENT, SESSION_OF_KEY, SESSION_OF_LATER_CLIENT, TOPUP_AFTER, TOPUP_OF_NUMBER,
+};
 use acct_book::{Key, Row};
 use acct_model::TopUp;
 use sqlite::types::ValueRef;
 use sqlite::{Alter, Connection, Transaction, params};
 use std::alloc::Global;
 
-const FIRST_SESSION: &str = "\
-    SELECT client, id, account, class, input, output, seconds, first_seen, last_seen, state, \
-    cause, calling, framed FROM session ORDER BY client, id LIMIT 1";
-
-const NEXT_ID: &str = "\
-    SELECT client, id, account, class, input, output, seconds, first_seen, last_seen, state, \
-    cause, calling, framed FROM session WHERE client = ?1 AND id > ?2 ORDER BY id LIMIT 1";
-
-const NEXT_CLIENT: &str = "\
-    SELECT client, id, account, class, input, output, seconds, first_seen, last_seen, state, \
-    cause, calling, framed FROM session WHERE client > ?1 ORDER BY client, id LIMIT 1";
-
-const FIRST_ACCOUNT: &str = "SELECT name, balance FROM account ORDER BY name LIMIT 1";
-
-const NEXT_ACCOUNT: &str = "\
-    SELECT name, balance FROM account WHERE name > ?1 ORDER BY name LIMIT 1";
-
-const FIRST_TOPUP: &str = "\
-    SELECT number, account, amount, moment FROM voucher ORDER BY number LIMIT 1";
-
-const NEXT_TOPUP: &str = "\
-    SELECT number, account, amount, moment FROM voucher WHERE number > ?1 ORDER BY number LIMIT 1";
-
-const SESSION: &str = "\
-    SELECT client, id, account, class, input, output, seconds, first_seen, last_seen, state, \
-    cause, calling, framed FROM session WHERE client = ?1 AND id = ?2";
-
-const BALANCE: &str = "SELECT balance FROM account WHERE name = ?1";
-
-const VOUCHER: &str = "SELECT number, account, amount, moment FROM voucher WHERE number = ?1";
-
 fn look<S: Alter>(
     tx: &mut Transaction<'_, S>,
     sql: &str,
     params: &[ValueRef<'_>],
 ) -> Result<Vec<sqlite::Row>, Refused>
-    requires book { HasCleanDisk (state S.Store tx.old.conn.now)
-        → IsTrue (state S.Store tx.old.conn.now).is_open
-        → IsBook (state S.Store tx.old.conn.now).now }
+    requires book { HoldsBook S.Store tx.old.conn.now }
     requires inside { IsTrue (state S.Store tx.old.conn.now).in_transaction }
     requires plain { IsPlain (understood book_schema sql.now) }
-    ensures same_reference { tx.new.conn.ghost_name ≡ tx.old.conn.ghost_name }
-    ensures made { HasCleanDisk (state S.Store tx.new.conn.now)
-        → OnOk result (HasMade (state S.Store tx.old.conn.now) (state S.Store tx.new.conn.now)
-        (λ c. c)) }
-    ensures kept { HasCleanDisk (state S.Store tx.new.conn.now)
-        → KeepsCommit (state S.Store tx.old.conn.now) (state S.Store tx.new.conn.now) }
-    ensures survives { Survives (state S.Store tx.old.conn.now) (state S.Store tx.new.conn.now)
-        (λ _. ⊥) }
-    ensures shown { HasCleanDisk (state S.Store tx.new.conn.now)
+    ensures looks { RunsInside S.Store tx.old.conn tx.new.conn (HasMade (λ c. c)) result }
+    ensures shown { is_sound_at S.Store tx.new.conn.now
         → IfOk result (λ rows. Shown sql.now (bound params.now) (state S.Store tx.old.conn.now)
         (state S.Store tx.new.conn.now) rows.items) }
 {
@@ -101,11 +67,10 @@ pub(crate) fn ask<S: Alter>(
     sql: &str,
     params: &[ValueRef<'_>],
 ) -> Result<Vec<sqlite::Row>, Refused>
-    requires resting { IsResting (state S.Store conn.old) }
+    requires resting { IsAtRest S.Store conn.old }
     requires plain { IsPlain (understood book_schema sql.now) }
-    ensures resting { IsResting (state S.Store conn.new) }
-    ensures read { HasRead S.Store conn.old conn.new result }
-    ensures shown { HasCleanDisk (state S.Store conn.new)
+    ensures read { ReadsAtRest S.Store conn.old conn.new result }
+    ensures shown { is_sound_at S.Store conn.new
         → IfOk result (λ rows. HasShown S.Store conn.old sql.now (bound params.now) rows.items) }
 {
     let mut tx = conn.transaction();
@@ -119,13 +84,12 @@ fn first_session<S: Alter>(
     sql: &str,
     params: &[ValueRef<'_>],
 ) -> Result<Option<Row>, Refused>
-    requires resting { IsResting (state S.Store conn.old) }
+    requires resting { IsAtRest S.Store conn.old }
     requires plain { IsPlain (understood book_schema sql.now) }
-    ensures resting { IsResting (state S.Store conn.new) }
-    ensures read { HasRead S.Store conn.old conn.new result }
-    ensures first { HasCleanDisk (state S.Store conn.new)
+    ensures read { ReadsAtRest S.Store conn.old conn.new result }
+    ensures first { is_sound_at S.Store conn.new
         → IfOk result (HasFirst S.Store conn.old sql.now (bound params.now)
-        (λ r. session_of (column r))) }
+        (λ r. session_in_columns (column r))) }
 {
     let rows = ask(conn, sql, params)?;
     match rows.first() {
@@ -141,13 +105,12 @@ fn first_topup<S: Alter>(
     sql: &str,
     params: &[ValueRef<'_>],
 ) -> Result<Option<TopUp>, Refused>
-    requires resting { IsResting (state S.Store conn.old) }
+    requires resting { IsAtRest S.Store conn.old }
     requires plain { IsPlain (understood book_schema sql.now) }
-    ensures resting { IsResting (state S.Store conn.new) }
-    ensures read { HasRead S.Store conn.old conn.new result }
-    ensures first { HasCleanDisk (state S.Store conn.new)
+    ensures read { ReadsAtRest S.Store conn.old conn.new result }
+    ensures first { is_sound_at S.Store conn.new
         → IfOk result (HasFirst S.Store conn.old sql.now (bound params.now)
-        (λ r. topup_of (column r))) }
+        (λ r. topup_in_columns (column r))) }
 {
     let rows = ask(conn, sql, params)?;
     match rows.first() {
@@ -162,13 +125,12 @@ fn first_account<S: Alter>(
     sql: &str,
     params: &[ValueRef<'_>],
 ) -> Result<Option<(Vec<u8>, i64)>, Refused>
-    requires resting { IsResting (state S.Store conn.old) }
+    requires resting { IsAtRest S.Store conn.old }
     requires plain { IsPlain (understood book_schema sql.now) }
-    ensures resting { IsResting (state S.Store conn.new) }
-    ensures read { HasRead S.Store conn.old conn.new result }
-    ensures first { HasCleanDisk (state S.Store conn.new)
+    ensures read { ReadsAtRest S.Store conn.old conn.new result }
+    ensures first { is_sound_at S.Store conn.new
         → IfOk result (λ kept. HasFirst S.Store conn.old sql.now (bound params.now)
-        (λ r. account_of (column r)) (option_map (λ k. (k.0.items, k.1)) kept)) }
+        (λ r. account_in_columns (column r)) (option_map (λ k. (k.0.items, k.1)) kept)) }
 {
     let rows = ask(conn, sql, params)?;
     match rows.first() {
@@ -182,15 +144,14 @@ pub(crate) fn read_session<S: Alter>(
     conn: &mut Connection<S>,
     key: &Key,
 ) -> Result<Option<Row>, Refused>
-    requires { IsResting (state S.Store conn.old) }
-    ensures resting { IsResting (state S.Store conn.new) }
-    ensures read { HasRead S.Store conn.old conn.new result }
+    requires { IsAtRest S.Store conn.old }
+    ensures read { ReadsAtRest S.Store conn.old conn.new result }
     ensures found { is_open_at S.Store conn.new → IfOk result
         (λ row. row ≡ (content_at S.Store conn.old).rows key.now) }
 {
     first_session(
         conn,
-        SESSION,
+        SESSION_OF_KEY,
         params![key.client.as_str(), key.session.as_slice()],
     )
 }
@@ -200,13 +161,12 @@ pub(crate) fn read_balance<S: Alter>(
     conn: &mut Connection<S>,
     account: &[u8],
 ) -> Result<i64, Refused>
-    requires { IsResting (state S.Store conn.old) }
-    ensures resting { IsResting (state S.Store conn.new) }
-    ensures read { HasRead S.Store conn.old conn.new result }
+    requires { IsAtRest S.Store conn.old }
+    ensures read { ReadsAtRest S.Store conn.old conn.new result }
     ensures found { is_open_at S.Store conn.new → IfOk result
         (λ balance. balance ≡ kept_balance (content_at S.Store conn.old) account.now) }
 {
-    let rows = ask(conn, BALANCE, params![account])?;
+    let rows = ask(conn, BALANCE_OF_ACCOUNT, params![account])?;
     match rows.first() {
         None => Ok(0),
         Some(row) => balance_at(row),
@@ -219,13 +179,12 @@ pub(crate) fn read_voucher<S: Alter>(
     conn: &mut Connection<S>,
     number: &str,
 ) -> Result<Option<TopUp>, Refused>
-    requires { IsResting (state S.Store conn.old) }
-    ensures resting { IsResting (state S.Store conn.new) }
-    ensures read { HasRead S.Store conn.old conn.new result }
+    requires { IsAtRest S.Store conn.old }
+    ensures read { ReadsAtRest S.Store conn.old conn.new result }
     ensures found { is_open_at S.Store conn.new → IfOk result
         (λ topup. topup ≡ (content_at S.Store conn.old).topups number.now) }
 {
-    first_topup(alloc, conn, VOUCHER, params![number])
+    first_topup(alloc, conn, TOPUP_OF_NUMBER, params![number])
 }
 
 /// The row at the least key after the given one, or at the least of all.
@@ -233,9 +192,8 @@ pub(crate) fn read_next_session<S: Alter>(
     conn: &mut Connection<S>,
     after: Option<&Key>,
 ) -> Result<Option<Row>, Refused>
-    requires { IsResting (state S.Store conn.old) }
-    ensures resting { IsResting (state S.Store conn.new) }
-    ensures read { HasRead S.Store conn.old conn.new result }
+    requires { IsAtRest S.Store conn.old }
+    ensures read { ReadsAtRest S.Store conn.old conn.new result }
     ensures found { is_open_at S.Store conn.new → IfOk result
         (IsNextRow (content_at S.Store conn.old) (option_copied after.entry)) }
 {
@@ -247,17 +205,20 @@ pub(crate) fn read_next_session<S: Alter>(
 
 // The same client's later sessions come first, and then those of later clients.
 fn session_after<S: Alter>(conn: &mut Connection<S>, key: &Key) -> Result<Option<Row>, Refused>
-    requires { IsResting (state S.Store conn.old) }
-    ensures resting { IsResting (state S.Store conn.new) }
-    ensures read { HasRead S.Store conn.old conn.new result }
+    requires { IsAtRest S.Store conn.old }
+    ensures read { ReadsAtRest S.Store conn.old conn.new result }
     ensures found { is_open_at S.Store conn.new → IfOk result
         (IsNextRow (content_at S.Store conn.old) (Some key.now)) }
 {
     let client = key.client.as_str();
-    let row = first_session(conn, NEXT_ID, params![client, key.session.as_slice()])?;
+    let row = first_session(
+        conn,
+        LATER_SESSION_OF_CLIENT,
+        params![client, key.session.as_slice()],
+    )?;
     match row {
         Some(row) => Ok(Some(row)),
-        None => first_session(conn, NEXT_CLIENT, params![client]),
+        None => first_session(conn, SESSION_OF_LATER_CLIENT, params![client]),
     }
 }
 
@@ -266,16 +227,15 @@ pub(crate) fn read_next_account<S: Alter>(
     conn: &mut Connection<S>,
     after: Option<&[u8]>,
 ) -> Result<Option<(Vec<u8>, i64)>, Refused>
-    requires { IsResting (state S.Store conn.old) }
-    ensures resting { IsResting (state S.Store conn.new) }
-    ensures read { HasRead S.Store conn.old conn.new result }
+    requires { IsAtRest S.Store conn.old }
+    ensures read { ReadsAtRest S.Store conn.old conn.new result }
     ensures found { is_open_at S.Store conn.new → IfOk result
         (λ kept. IsNextBalance (content_at S.Store conn.old) (option_copied after.entry)
         (option_map (λ k. (k.0.items, k.1)) kept)) }
 {
     match after {
         None => first_account(conn, FIRST_ACCOUNT, &[]),
-        Some(name) => first_account(conn, NEXT_ACCOUNT, params![name]),
+        Some(name) => first_account(conn, ACCOUNT_AFTER, params![name]),
     }
 }
 
@@ -285,14 +245,13 @@ pub(crate) fn read_next_topup<S: Alter>(
     conn: &mut Connection<S>,
     after: Option<&str>,
 ) -> Result<Option<TopUp>, Refused>
-    requires { IsResting (state S.Store conn.old) }
-    ensures resting { IsResting (state S.Store conn.new) }
-    ensures read { HasRead S.Store conn.old conn.new result }
+    requires { IsAtRest S.Store conn.old }
+    ensures read { ReadsAtRest S.Store conn.old conn.new result }
     ensures found { is_open_at S.Store conn.new → IfOk result
         (IsNextTopUp (content_at S.Store conn.old) (option_copied after.entry)) }
 {
     match after {
         None => first_topup(alloc, conn, FIRST_TOPUP, &[]),
-        Some(number) => first_topup(alloc, conn, NEXT_TOPUP, params![number]),
+        Some(number) => first_topup(alloc, conn, TOPUP_AFTER, params![number]),
     }
 }

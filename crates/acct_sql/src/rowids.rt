@@ -1,40 +1,25 @@
 //! Rowids that tell the rows of a table apart.
-ghost use Rattle.std.specs.Prelude.{◌≡◌, IsTrue, IfOk, IfErr, OnOk};
-ghost use Rattle.sqlite.specs.State.{HasCleanDisk};
-ghost use Rattle.sqlite.specs.Held.{state};
+ghost use Rattle.std.specs.Prelude.{◌≡◌, IfOk, IfErr, OnOk};
 ghost use Rattle.sqlite.specs.Given.{IsPlain};
 ghost use Rattle.sqlite.specs.Listing.{understood};
 ghost use Rattle.sqlite_value.specs.Order.{column};
 ghost use Rattle.sqlite_value.specs.declared.value.Value.TheVariants.{Int};
-ghost use Rattle.acct_sql.specs.Tables.{book_schema};
+ghost use Rattle.acct_sql.specs.Tables.{book_schema, account, voucher, session};
 ghost use Rattle.acct_sql.specs.Tidy.{IsTidy};
-ghost use Rattle.acct_sql.specs.Look.{IsIdle, OnlyLooks, HasSchema};
-ghost use Rattle.acct_sql.specs.Rising.{IsAbove, ShowsRising};
+ghost use Rattle.acct_sql.specs.Book.{is_sound_at};
+ghost use Rattle.acct_sql.specs.inner.Looked.{IsIdleBook, Peeks, Examines, AreTidy};
+ghost use Rattle.acct_sql.specs.inner.Rising.{IsAbove, ShowsRising};
 
 use crate::adopting::id_of;
 use crate::refused::Refused;
 use crate::sql_book_error::SqlBookError;
+use crate::statements::{ACCOUNT_ROWIDS, SESSION_ROWIDS, VOUCHER_ROWIDS};
 use sqlite::{Alter, Connection};
-
-const ACCOUNT_IDS: &str = "SELECT rowid FROM account ORDER BY rowid";
-
-const VOUCHER_IDS: &str = "SELECT rowid FROM voucher ORDER BY rowid";
-
-const SESSION_IDS: &str = "SELECT rowid FROM session ORDER BY rowid";
 
 /// Refuses tables in which two rows have one rowid. It reads each rowid once, and keeps one.
 pub(crate) fn check_rowids<S: Alter>(conn: &mut Connection<S>) -> Result<(), SqlBookError>
-    requires idle { IsIdle (state S.Store conn.old) }
-    requires has { HasSchema (state S.Store conn.old) }
-    ensures looks { OnlyLooks (state S.Store conn.old) (state S.Store conn.new) }
-    ensures open { HasCleanDisk (state S.Store conn.new)
-        → OnOk result (IsTrue (state S.Store conn.new).is_open) }
-    ensures accounts { HasCleanDisk (state S.Store conn.new)
-        → OnOk result (IsTidy ((state S.Store conn.old).now.trees 4)) }
-    ensures vouchers { HasCleanDisk (state S.Store conn.new)
-        → OnOk result (IsTidy ((state S.Store conn.old).now.trees 6)) }
-    ensures sessions { HasCleanDisk (state S.Store conn.new)
-        → OnOk result (IsTidy ((state S.Store conn.old).now.trees 8)) }
+    requires { IsIdleBook S.Store conn.old }
+    ensures tidy { Examines S.Store conn.old conn.new AreTidy result }
     ensures fault { IfErr result (λ e. e ≡ SqlBookError.Unavailable) }
 {
     check_accounts(conn)?;
@@ -43,48 +28,33 @@ pub(crate) fn check_rowids<S: Alter>(conn: &mut Connection<S>) -> Result<(), Sql
 }
 
 fn check_accounts<S: Alter>(conn: &mut Connection<S>) -> Result<(), SqlBookError>
-    requires idle { IsIdle (state S.Store conn.old) }
-    requires has { HasSchema (state S.Store conn.old) }
-    ensures looks { OnlyLooks (state S.Store conn.old) (state S.Store conn.new) }
-    ensures open { HasCleanDisk (state S.Store conn.new)
-        → OnOk result (IsTrue (state S.Store conn.new).is_open) }
-    ensures tidy { HasCleanDisk (state S.Store conn.new)
-        → OnOk result (IsTidy ((state S.Store conn.old).now.trees 4)) }
+    requires { IsIdleBook S.Store conn.old }
+    ensures tidy { Examines S.Store conn.old conn.new (λ db. IsTidy (db account.tree)) result }
     ensures fault { IfErr result (λ e. e ≡ SqlBookError.Unavailable) }
 {
-    match check_ids(conn, ACCOUNT_IDS) {
+    match check_ids(conn, ACCOUNT_ROWIDS) {
         Ok(()) => Ok(()),
         Err(_) => Err(SqlBookError::Unavailable),
     }
 }
 
 fn check_vouchers<S: Alter>(conn: &mut Connection<S>) -> Result<(), SqlBookError>
-    requires idle { IsIdle (state S.Store conn.old) }
-    requires has { HasSchema (state S.Store conn.old) }
-    ensures looks { OnlyLooks (state S.Store conn.old) (state S.Store conn.new) }
-    ensures open { HasCleanDisk (state S.Store conn.new)
-        → OnOk result (IsTrue (state S.Store conn.new).is_open) }
-    ensures tidy { HasCleanDisk (state S.Store conn.new)
-        → OnOk result (IsTidy ((state S.Store conn.old).now.trees 6)) }
+    requires { IsIdleBook S.Store conn.old }
+    ensures tidy { Examines S.Store conn.old conn.new (λ db. IsTidy (db voucher.tree)) result }
     ensures fault { IfErr result (λ e. e ≡ SqlBookError.Unavailable) }
 {
-    match check_ids(conn, VOUCHER_IDS) {
+    match check_ids(conn, VOUCHER_ROWIDS) {
         Ok(()) => Ok(()),
         Err(_) => Err(SqlBookError::Unavailable),
     }
 }
 
 fn check_sessions<S: Alter>(conn: &mut Connection<S>) -> Result<(), SqlBookError>
-    requires idle { IsIdle (state S.Store conn.old) }
-    requires has { HasSchema (state S.Store conn.old) }
-    ensures looks { OnlyLooks (state S.Store conn.old) (state S.Store conn.new) }
-    ensures open { HasCleanDisk (state S.Store conn.new)
-        → OnOk result (IsTrue (state S.Store conn.new).is_open) }
-    ensures tidy { HasCleanDisk (state S.Store conn.new)
-        → OnOk result (IsTidy ((state S.Store conn.old).now.trees 8)) }
+    requires { IsIdleBook S.Store conn.old }
+    ensures tidy { Examines S.Store conn.old conn.new (λ db. IsTidy (db session.tree)) result }
     ensures fault { IfErr result (λ e. e ≡ SqlBookError.Unavailable) }
 {
-    match check_ids(conn, SESSION_IDS) {
+    match check_ids(conn, SESSION_ROWIDS) {
         Ok(()) => Ok(()),
         Err(_) => Err(SqlBookError::Unavailable),
     }
@@ -92,13 +62,10 @@ fn check_sessions<S: Alter>(conn: &mut Connection<S>) -> Result<(), SqlBookError
 
 // Refuses a query whose rows do not each begin with an id above that of the row before.
 fn check_ids<S: Alter>(conn: &mut Connection<S>, sql: &str) -> Result<(), Refused>
-    requires idle { IsIdle (state S.Store conn.old) }
-    requires has { HasSchema (state S.Store conn.old) }
+    requires book { IsIdleBook S.Store conn.old }
     requires plain { IsPlain (understood book_schema sql.now) }
-    ensures looks { OnlyLooks (state S.Store conn.old) (state S.Store conn.new) }
-    ensures open { HasCleanDisk (state S.Store conn.new)
-        → OnOk result (IsTrue (state S.Store conn.new).is_open) }
-    ensures shown { HasCleanDisk (state S.Store conn.new)
+    ensures looks { Peeks S.Store conn.old conn.new result }
+    ensures shown { is_sound_at S.Store conn.new
         → OnOk result (ShowsRising S.Store sql.now conn.old conn.new) }
 {
     let mut rows = conn.query(sql, &[])?;

@@ -47,8 +47,8 @@ impl<S: Alter> SqlBook<S> {
     ghost use Rattle.sqlite.specs.State.{HasCleanDisk, Survives};
     ghost use Rattle.acct_sql.specs.Tables.{no_schema};
     ghost use Rattle.acct_sql.specs.Make.{IsNew, KeepsPlans};
-    ghost use Rattle.acct_sql.specs.Look.{OnlyLooks, HasNumberAlone, IsRefusedAs};
-    ghost use Rattle.acct_sql.specs.Book.{IsSettled, IsResting, IsBookOver};
+    ghost use Rattle.acct_sql.specs.Look.{LooksAtTables, HasNumberAlone, IsRefusedAs};
+    ghost use Rattle.acct_sql.specs.Book.{IsOpenBook, IsResting, IsBookOver};
 
     /// Makes an empty database an empty book that is kept by these plans: the five tables, their
     /// two indices, the schema number 1 and a row for each plan, in one transaction. It is handed
@@ -69,7 +69,7 @@ impl<S: Alter> SqlBook<S> {
         ensures other { IfErr result (λ e. (e.0 ≡ SqlBookError.NotABook)
             ⊎ (e.0 ≡ SqlBookError.Unavailable)) }
         ensures made { IfOk result (λ book. HasCleanDisk (state S.Store book)
-            → IsSettled (state S.Store book) × IsNew plans.now (state S.Store book).now.trees) }
+            → IsOpenBook (state S.Store book) × IsNew plans.now (state S.Store book).now.trees) }
         ensures tables { IfOk result (IsBookOver S.Store ⟦<SqlBook<S> as Book>⟧.content
             ⟦<SqlBook<S> as Book>⟧.is_sound ⟦<SqlBook<S> as Book>⟧.is_open
             ⟦<SqlBook<S> as Book>⟧.left) }
@@ -108,7 +108,7 @@ impl<S: Alter> SqlBook<S> {
     ) -> Result<SqlBook<S>, (SqlBookError, Connection<S>)>
         requires { (state S.Store conn).in_transaction ≡ false }
         ensures adopted { IfOk result (λ book. HasCleanDisk (state S.Store book)
-            → IsSettled (state S.Store book)) }
+            → IsOpenBook (state S.Store book)) }
         ensures number { IfOk result (λ book. HasCleanDisk (state S.Store book)
             → HasNumberAlone (pos 1) (state S.Store book).now.trees) }
         ensures plans { IfOk result (λ book. HasCleanDisk (state S.Store book)
@@ -118,8 +118,10 @@ impl<S: Alter> SqlBook<S> {
             ⟦<SqlBook<S> as Book>⟧.left) }
         ensures refused { IfErr result (λ e. HasCleanDisk (state S.Store e.1)
             → IsRefusedAs plans.now (state S.Store conn).now e.0) }
-        ensures looks { IfOk result (λ book. OnlyLooks (state S.Store conn) (state S.Store book)) }
-        ensures looks_err { IfErr result (λ e. OnlyLooks (state S.Store conn) (state S.Store e.1)) }
+        ensures looks { IfOk result (λ book. LooksAtTables (state S.Store conn)
+            (state S.Store book)) }
+        ensures looks_err { IfErr result (λ e. LooksAtTables (state S.Store conn)
+            (state S.Store e.1)) }
     {
         let is_idle = conn.is_autocommit();
         prove!(is_idle);

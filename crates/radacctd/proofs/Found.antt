@@ -11,7 +11,7 @@ use Rattle.sqlite.specs.Held.{Held}
 use Rattle.sqlite.specs.State.{HasCleanDisk, Survives}
 use Rattle.sqlite.specs.Files.{file_state}
 use Rattle.acct_model.specs.declared.plan.Plan.{Plan}
-use Rattle.acct_sql.specs.Look.{OnlyLooks}
+use Rattle.acct_sql.specs.Look.{LooksAtTables}
 use Rattle.acct_commands.specs.declared.fault.Fault.{Fault}
 use Rattle.radacctd.specs.declared.left.Left.{Left}
 use Rattle.radacctd.specs.declared.left.Left.TheVariants as left
@@ -58,7 +58,7 @@ module _ {D : Type 0} {g : Ghosts D} where
         subst (AreHeldIn image) (sym is) (record { holds = it.1.holds; found = it.1.reads })
 
     module _ (last : Held (FileStore D g))
-        (looks : OnlyLooks (file_state first) (file_state last)) where
+        (looks : LooksAtTables (file_state first) (file_state last)) where
       pub was_clean : HasCleanDisk (file_state last) → HasCleanDisk (file_state first)
       was_clean clean = omega (arith, looks.survives.clean, clean)
 

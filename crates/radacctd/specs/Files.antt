@@ -14,7 +14,7 @@ use Rattle.sqlite.specs.Start.{FindsIn}
 use Rattle.sqlite.specs.Closing.{IsCopied}
 use Rattle.acct_model.specs.declared.plan.Plan.{Plan}
 use Rattle.acct_sql.specs.declared.sql_book_error.SqlBookError.{SqlBookError}
-use Rattle.acct_sql.specs.Book.{IsSettled}
+use Rattle.acct_sql.specs.Book.{IsOpenBook}
 use Rattle.acct_sql.specs.Look.{HasNumberAlone, IsRefusedAs}
 use Rattle.acct_sql.specs.Make.{IsNew, KeepsPlans}
 use Rattle.acct_sql.specs.Tables.{no_schema}
@@ -47,7 +47,7 @@ module _ {D : Type 0} {g : Ghosts D} where
   -- the book that the files held: it is kept by these plans, and has the schema number 1
   pub record IsBookOf (image : Image) (plans : List Plan) (book : Held (FileStore D g)) : Type 0
     where
-      pub settled : IsSettled (file_state book)
+      pub settled : IsOpenBook (file_state book)
       pub held : AreHeldIn image (file_state book).now.trees
       pub number : HasNumberAlone (pos 1) (file_state book).now.trees
       pub plans_kept : KeepsPlans plans (file_state book).now.trees
@@ -55,7 +55,7 @@ module _ {D : Type 0} {g : Ghosts D} where
   -- an empty book of these plans, where the files held no table, index or view
   pub record IsMadeIn (image : Image) (plans : List Plan) (book : Held (FileStore D g)) : Type 0
     where
-      pub settled : IsSettled (file_state book)
+      pub settled : IsOpenBook (file_state book)
       pub fresh : IsNew plans (file_state book).now.trees
       pub held : Database
       pub was_held : WasHeldIn image held

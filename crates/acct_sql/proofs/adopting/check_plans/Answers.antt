@@ -1,26 +1,31 @@
-use Rattle.std.proofs.Common.{arith, subst, sym, ◌∙◌, true≢false}
+use Rattle.std.proofs.Common.{rules, arith, subst, sym, ◌∙◌, true≢false}
 use Rattle.sqlite.specs.State.{HasCleanDisk}
 use Rattle.sqlite.specs.Held.{state}
-use Rattle.acct_sql.specs.Look.{AreShown}
-use Rattle.acct_sql.proofs.PlanLemmas.{plans_plain, plans_shown, shown_plans}
+use Rattle.acct_sql.specs.inner.Looked.{AreShown}
+use Rattle.acct_sql.proofs.PlanLemmas.{plans_shown, shown_plans}
+use Rattle.acct_sql.proofs.TextLemmas as t
 use Rattle.acct_sql.proofs.adopting.check_plans.Goals as goal
 
 pub peek-requires-clause-plain : goal.peek-requires-clause-plain
-peek-requires-clause-plain g c = plans_plain
+peek-requires-clause-plain g c = t.plan_rows.plain
 
 pub returns-then-are_kept-clause-plans : goal.returns-then-are_kept-clause-plans
-returns-then-are_kept-clause-plans g c clean =
-    let early : HasCleanDisk (state g.S.Store c.args.conn.now) = omega
-    (arith, c.in_ok-rows.ensures.looks.survives.clean, clean) in
-    plans_shown (state g.S.Store c.args.conn.now) _ c.in_ok-rows.rows.items c.args.plans.now
-    (c.requires.has early) (c.in_ok-rows.ensures.shown clean)
-    (subst (AreShown c.args.plans.now) c.deref.ensures.value
-    (c.are_kept.ensures.0 c.if-are_kept.true))
+returns-then-are_kept-clause-plans g c = record {
+  looks = c.in_ok-rows.ensures.looks.looks;
+  stays_open = search rules;
+  holds = λ clean.
+      let early : HasCleanDisk (state g.S.Store c.args.conn.now) = omega
+      (arith, c.in_ok-rows.ensures.looks.looks.survives.clean, clean) in
+      plans_shown (state g.S.Store c.args.conn.now) _ c.in_ok-rows.rows.items c.args.plans.now
+      (c.requires.has early) (c.in_ok-rows.ensures.shown clean)
+      (subst (AreShown c.args.plans.now) c.deref.ensures.value
+      (c.are_kept.ensures.0 c.if-are_kept.true));
+}
 
 pub returns-clause-fault : goal.returns-clause-fault
 returns-clause-fault g c clean = λ kept.
     let early : HasCleanDisk (state g.S.Store c.args.conn.now) = omega
-    (arith, c.in_ok-rows.ensures.looks.survives.clean, clean) in
+    (arith, c.in_ok-rows.ensures.looks.looks.survives.clean, clean) in
     let shown = shown_plans (state g.S.Store c.args.conn.now) _ c.in_ok-rows.rows.items
     c.args.plans.now (c.requires.has early) (c.in_ok-rows.ensures.shown clean) kept in
     true≢false (sym (c.are_kept.ensures.1 (subst (AreShown c.args.plans.now)

@@ -1,6 +1,6 @@
 use Rattle.std.proofs.Common.{rules, ◌≡◌, subst, refl, true}
 use Rattle.sqlite.specs.Held.{state}
-use Rattle.acct_sql.specs.Look.{OnlyLooks}
+use Rattle.acct_sql.specs.Look.{LooksAtTables}
 use Rattle.acct_sql.proofs.ReadLemmas.{look_kept}
 use Rattle.acct_sql.proofs.PlanLemmas.{let_fall}
 use Rattle.acct_sql.proofs.adopting.glance.Goals as goal
@@ -11,7 +11,7 @@ returns g c =
     let inside = rw c.transaction-tx.ensures.begun at c.query_all.ensures.survives in
     let ok = rw c.transaction-tx.ensures.begun at c.query_all.ensures.ok in
     let err = rw c.transaction-tx.ensures.begun at c.query_all.ensures.err in
-    subst (λ h. OnlyLooks (state g.S.Store c.args.conn.now) (state g.S.Store h)) same
+    subst (λ h. LooksAtTables (state g.S.Store c.args.conn.now) (state g.S.Store h)) same
     (let_fall g.S.Store c.args.conn.now c.drop-tx.new.self.0
     (state g.S.Store c.query_all.new.self.conn.now) c.requires inside
     c.drop-tx.ensures.survives c.drop-tx.ensures.undone c.drop-tx.ensures.ended

@@ -2,7 +2,7 @@ use Rattle.std.proofs.Common.{rules, arith, subst, sym, ◌∙◌, true≢false}
 use Rattle.std.specs.List.{AllByRecursion}
 use Rattle.std.proofs.lemmas.List.{take_all}
 use Rattle.sqlite_rules.proofs.ListLemmas.{all_has, all_more, has_at}
-use Rattle.acct_sql.specs.Look.{ShowsPlan}
+use Rattle.acct_sql.specs.inner.Looked.{ShowsPlan}
 use Rattle.acct_sql.proofs.adopting.is_plan.Goals as goal
 
 pub returns-then-shows_plan : goal.returns-then-shows_plan
@@ -29,5 +29,6 @@ returns c = (
       let none = subst (AllByRecursion (λ plan. ¬ (ShowsPlan plan c.args.row.now)))
       (take_all c.loop-plan.plan-index c.args.plans.now (omega (arith, c.loop-plan-test.false)))
       c.loop-plan.invariant in
-      absurd (all_has (λ plan. ¬ (ShowsPlan plan c.args.row.now)) c.args.plans.now found.0 none found.1 found.2),
+      absurd (all_has (λ plan. ¬ (ShowsPlan plan c.args.row.now)) c.args.plans.now found.0 none
+      found.1 found.2),
 )

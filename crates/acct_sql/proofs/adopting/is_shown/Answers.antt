@@ -2,7 +2,7 @@ use Rattle.std.proofs.Common.{rules, arith, subst, sym, ◌∙◌, true≢false}
 use Rattle.std.specs.List.{AllByRecursion}
 use Rattle.std.proofs.lemmas.List.{take_all}
 use Rattle.sqlite_rules.proofs.ListLemmas.{all_has, all_more, has_at}
-use Rattle.acct_sql.specs.Look.{ShowsPlan}
+use Rattle.acct_sql.specs.inner.Looked.{ShowsPlan}
 use Rattle.acct_sql.proofs.adopting.is_shown.Goals as goal
 
 pub returns-then-shows_plan : goal.returns-then-shows_plan
@@ -29,5 +29,6 @@ returns c = (
       let none = subst (AllByRecursion (λ row. ¬ (ShowsPlan c.args.plan.now row)))
       (take_all c.loop-row.row-index c.args.rows.now (omega (arith, c.loop-row-test.false)))
       c.loop-row.invariant in
-      absurd (all_has (λ row. ¬ (ShowsPlan c.args.plan.now row)) c.args.rows.now found.0 none found.1 found.2),
+      absurd (all_has (λ row. ¬ (ShowsPlan c.args.plan.now row)) c.args.rows.now found.0 none
+      found.1 found.2),
 )

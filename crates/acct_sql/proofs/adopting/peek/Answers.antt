@@ -4,21 +4,24 @@ use Rattle.acct_sql.proofs.LookLemmas.{peeked, peeked_open}
 use Rattle.acct_sql.proofs.adopting.peek.Goals as goal
 
 pub returns-in-Err-clause-looks : goal.returns-in-Err-clause-looks
-returns-in-Err-clause-looks g c = peeked _ _ (state g.S.Store c.args.conn.now)
-    (state g.S.Store c.query_all.new.self) (λ rows. rows.items) c.query_all.result c.requires.idle
-    c.requires.has c.requires.plain c.query_all.ensures.ok c.query_all.ensures.err
-    c.query_all.ensures.mode c.query_all.ensures.survives
+returns-in-Err-clause-looks g c = record {
+  looks = peeked _ _ (state g.S.Store c.args.conn.now)
+      (state g.S.Store c.query_all.new.self) (λ rows. rows.items) c.query_all.result
+      c.requires.book.idle c.requires.book.has c.requires.plain c.query_all.ensures.ok
+      c.query_all.ensures.err c.query_all.ensures.mode c.query_all.ensures.survives;
+  stays_open = λ clean. tt;
+}
 
 pub returns-in-Ok-clause-looks : goal.returns-in-Ok-clause-looks
-returns-in-Ok-clause-looks g c = peeked _ _ (state g.S.Store c.args.conn.now)
-    (state g.S.Store c.query_all.new.self) (λ rows. rows.items) c.query_all.result c.requires.idle
-    c.requires.has c.requires.plain c.query_all.ensures.ok c.query_all.ensures.err
-    c.query_all.ensures.mode c.query_all.ensures.survives
-
-pub returns-in-Ok-clause-open : goal.returns-in-Ok-clause-open
-returns-in-Ok-clause-open g c clean = subst (λ r. OnOk r
-    (IsTrue (state g.S.Store c.query_all.new.self).is_open)) c.in-Ok.is
-    (peeked_open _ _ (state g.S.Store c.args.conn.now) (state g.S.Store c.query_all.new.self)
-    (λ rows. rows.items) c.query_all.result c.requires.idle c.requires.has c.requires.plain
-    c.query_all.ensures.ok c.query_all.ensures.err c.query_all.ensures.mode
-    c.query_all.ensures.survives clean)
+returns-in-Ok-clause-looks g c = record {
+  looks = peeked _ _ (state g.S.Store c.args.conn.now)
+      (state g.S.Store c.query_all.new.self) (λ rows. rows.items) c.query_all.result
+      c.requires.book.idle c.requires.book.has c.requires.plain c.query_all.ensures.ok
+      c.query_all.ensures.err c.query_all.ensures.mode c.query_all.ensures.survives;
+  stays_open = λ clean. subst (λ r. OnOk r (IsTrue (state g.S.Store c.query_all.new.self).is_open))
+      c.in-Ok.is
+      (peeked_open _ _ (state g.S.Store c.args.conn.now) (state g.S.Store c.query_all.new.self)
+      (λ rows. rows.items) c.query_all.result c.requires.book.idle c.requires.book.has
+      c.requires.plain c.query_all.ensures.ok c.query_all.ensures.err c.query_all.ensures.mode
+      c.query_all.ensures.survives clean);
+}

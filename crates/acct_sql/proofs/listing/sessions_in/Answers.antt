@@ -3,7 +3,7 @@ use Rattle.std.proofs.Common.{take, sym, ap, ◌∙◌}
 use Rattle.std.proofs.lemmas.List.{map_more}
 use Rattle.sqlite_value.specs.Order.{Row, column}
 use Rattle.acct_book.specs.Row.{RowFacts}
-use Rattle.acct_sql.specs.Columns.{session_of}
+use Rattle.acct_sql.specs.Columns.{session_in_columns}
 use Rattle.acct_sql.proofs.listing.sessions_in.Goals as goal
 
 -- one more row, whatever is made of it
@@ -19,7 +19,7 @@ one_more f rows at row lt is made before facts told new pushed =
 
 pub loop-columns-preserved : goal.loop-columns-preserved
 loop-columns-preserved c =
-    one_more (λ r. session_of (column r)) c.args.shown.now c.loop-columns.columns-index
+    one_more (λ r. session_in_columns (column r)) c.args.shown.now c.loop-columns.columns-index
     c.columns-item.result c.loop-columns-test.true c.columns-item.is c.loop-columns.rows.items
     c.loop-columns.invariant c.in_ok-session_at.field-0 c.in_ok-session_at.ensures
     c.push.new.self.items c.in_ok-push.ensures.items

@@ -1,21 +1,31 @@
-use Rattle.std.proofs.Common.{arith}
+use Rattle.std.proofs.Common.{rules, arith}
 use Rattle.sqlite.specs.State.{HasCleanDisk}
 use Rattle.sqlite.specs.Held.{state}
 use Rattle.acct_sql.proofs.ReadLemmas.{look_made, look_kept}
 use Rattle.acct_sql.proofs.reading.look.Goals as goal
 
-pub returns-in_err-query_all-clause-kept : goal.returns-in_err-query_all-clause-kept
-returns-in_err-query_all-clause-kept g c clean = look_kept _ _ _ _ (λ rows. rows.items)
-    c.query_all.result c.requires.inside (c.query_all.ensures.ok clean)
-    (c.query_all.ensures.err clean)
+pub returns-in_err-query_all-clause-looks : goal.returns-in_err-query_all-clause-looks
+returns-in_err-query_all-clause-looks g c = record {
+  quiet = record {
+    same_reference = c.query_all.ensures.same_reference;
+    kept = λ clean. look_kept _ _ _ _ (λ rows. rows.items) c.query_all.result c.requires.inside
+        (c.query_all.ensures.ok clean) (c.query_all.ensures.err clean);
+    survives = c.query_all.ensures.survives;
+  };
+  done = λ clean. search rules;
+}
 
-pub returns-clause-made : goal.returns-clause-made
-returns-clause-made g c clean =
-    let early : HasCleanDisk (state g.S.Store c.args.tx.now.conn.now) = omega
-    (arith, c.query_all.ensures.survives.clean, clean) in
-    look_made _ _ _ _ _ (c.requires.book early) c.requires.plain c.requires.inside
-    (c.in_ok-query_all.ensures.ok clean)
-
-pub returns-clause-kept : goal.returns-clause-kept
-returns-clause-kept g c clean = look_kept _ _ _ _ (λ rows. rows.items) c.query_all.result
-    c.requires.inside (c.query_all.ensures.ok clean) (c.query_all.ensures.err clean)
+pub returns-clause-looks : goal.returns-clause-looks
+returns-clause-looks g c = record {
+  quiet = record {
+    same_reference = c.query_all.ensures.same_reference;
+    kept = λ clean. look_kept _ _ _ _ (λ rows. rows.items) c.query_all.result c.requires.inside
+        (c.query_all.ensures.ok clean) (c.query_all.ensures.err clean);
+    survives = c.query_all.ensures.survives;
+  };
+  done = λ clean.
+      let early : HasCleanDisk (state g.S.Store c.args.tx.now.conn.now) = omega
+      (arith, c.query_all.ensures.survives.clean, clean) in
+      look_made _ _ _ _ _ (c.requires.book early) c.requires.plain c.requires.inside
+      (c.in_ok-query_all.ensures.ok clean);
+}

@@ -1,15 +1,16 @@
 use Rattle.std.proofs.Common.{ap}
 use Rattle.std.specs.Option.{option_copied}
 use Rattle.std.proofs.lemmas.Result.{IfOk-weaker}
-use Rattle.acct_sql.proofs.WalkLemmas.{first_session_plain, is_first_session}
+use Rattle.acct_sql.proofs.WalkLemmas.{is_first_session}
+use Rattle.acct_sql.proofs.TextLemmas as t
 use Rattle.acct_sql.proofs.reading.read_next_session.Goals as goal
 
 pub first_session-requires-clause-plain : goal.first_session-requires-clause-plain
-first_session-requires-clause-plain g c = first_session_plain
+first_session-requires-clause-plain g c = t.first_session.plain
 
 pub returns-in-None-clause-found : goal.returns-in-None-clause-found
 returns-in-None-clause-found g c o =
-    let early = c.first_session.ensures.read.was_open o in
+    let early = c.first_session.ensures.read.read.was_open o in
     IfOk-weaker c.first_session.result _ _ (λ row h. is_first_session g.S.Store c.args.conn.now
     (c.requires.book early.0.0 early.0.1) row (option_copied c.args.after)
     (ap option_copied c.in-None.is) h) (c.first_session.ensures.first o.0.0)

@@ -1,14 +1,14 @@
 use Rattle.std.proofs.lemmas.Result.{IfOk-weaker}
-use Rattle.acct_sql.proofs.TextLemmas.{session_plain}
 use Rattle.acct_sql.proofs.ReadLemmas.{session_first}
+use Rattle.acct_sql.proofs.TextLemmas as t
 use Rattle.acct_sql.proofs.reading.read_session.Goals as goal
 
 pub first_session-requires-clause-plain : goal.first_session-requires-clause-plain
-first_session-requires-clause-plain g c = session_plain
+first_session-requires-clause-plain g c = t.session_of_key.plain
 
 pub returns-clause-found : goal.returns-clause-found
 returns-clause-found g c o =
-    let early = c.first_session.ensures.read.was_open o in
+    let early = c.first_session.ensures.read.read.was_open o in
     let shown = rw (
       c.params-to_sql.ensures,
       c.params-to_sql-2.ensures,

@@ -3,20 +3,21 @@ use Rattle.std.proofs.lemmas.Result.{IfOk-weaker}
 use Rattle.acct_book.specs.Content.{Content}
 use Rattle.acct_book.specs.Maps.{key_cmp}
 use Rattle.acct_sql.specs.Book.{content_at}
-use Rattle.acct_sql.specs.Next.{IsLeast, IsWithin, IsBeyond}
-use Rattle.acct_sql.proofs.WalkLemmas.{within_plain, beyond_plain, is_within, is_beyond}
+use Rattle.acct_sql.specs.inner.Next.{IsLeast, IsWithin, IsBeyond}
+use Rattle.acct_sql.proofs.WalkLemmas.{is_within, is_beyond}
 use Rattle.acct_sql.proofs.WalkLemmas.{within_next, beyond_next, keyed_row}
+use Rattle.acct_sql.proofs.TextLemmas as t
 use Rattle.acct_sql.proofs.reading.session_after.Goals as goal
 
 pub first_session-requires-clause-plain : goal.first_session-requires-clause-plain
-first_session-requires-clause-plain g c = within_plain
+first_session-requires-clause-plain g c = t.later_session_of_client.plain
 
 pub first_session-requires-in-None-clause-plain : goal.first_session-requires-in-None-clause-plain
-first_session-requires-in-None-clause-plain g c = beyond_plain
+first_session-requires-in-None-clause-plain g c = t.session_of_later_client.plain
 
 pub returns-in-Some-clause-found : goal.returns-in-Some-clause-found
 returns-in-Some-clause-found g c o =
-    let early = c.in_ok-row.ensures.read.was_open o in
+    let early = c.in_ok-row.ensures.read.read.was_open o in
     let shown = rw (
       c.params-to_sql.ensures,
       c.params-to_sql-2.ensures,
@@ -31,9 +32,9 @@ returns-in-Some-clause-found g c o =
 
 pub returns-in-None-clause-found : goal.returns-in-None-clause-found
 returns-in-None-clause-found g c o =
-    let mid = c.first_session-in-None.ensures.read.was_open o in
-    let early = c.in_ok-row.ensures.read.was_open mid in
-    let same = c.in_ok-row.ensures.read.same mid in
+    let mid = c.first_session-in-None.ensures.read.read.was_open o in
+    let early = c.in_ok-row.ensures.read.read.was_open mid in
+    let same = c.in_ok-row.ensures.read.read.same mid in
     let first = rw (
       c.params-to_sql.ensures,
       c.params-to_sql-2.ensures,
@@ -51,4 +52,4 @@ returns-in-None-clause-found g c o =
     (option_map keyed_row row) none
     (subst (λ (content : Content). IsLeast key_cmp content.rows (IsBeyond c.args.key.now.client)
     (option_map keyed_row row)) same (is_beyond g.S.Store c.first_session.new.conn
-    (c.in_ok-row.ensures.resting.book mid.0.0 mid.0.1) row c.args.key.now.client h))) second
+    (c.in_ok-row.ensures.read.resting.book mid.0.0 mid.0.1) row c.args.key.now.client h))) second

@@ -10,17 +10,20 @@ returns-in_err-rows-clause-looks g c =
     let old = state g.S.Store c.args.conn.now in
     let new = state g.S.Store c.query.follows.lender-at-none in
     let held = rw c.in_err-rows.was at c.query.follows.holds-at-none in
-    looks old new c.requires.idle
-    (λ clean. query_quiet c.args.sql.now [] old new _ (held.err clean))
-    held.mode (commits_nothing c.args.sql.now [] old new c.requires.has c.requires.plain
-    held.survives)
+    record {
+      looks = looks old new c.requires.book.idle
+          (λ clean. query_quiet c.args.sql.now [] old new _ (held.err clean)) held.mode
+          (commits_nothing c.args.sql.now [] old new c.requires.book.has c.requires.plain
+          held.survives);
+      stays_open = λ clean. search rules;
+    }
 
 pub rows-init : goal.rows-init
 rows-init g c =
     let made = c.in_ok-rows.ensures in (
       refl,
-      risen_first g.S.Store c.args.sql.now c.args.conn.now _ c.requires.idle c.requires.has
-          c.requires.plain made.begun made.mode made.survives,
+      risen_first g.S.Store c.args.sql.now c.args.conn.now _ c.requires.book.idle
+          c.requires.book.has c.requires.plain made.begun made.mode made.survives,
     )
 
 pub returns-in_err-row-clause-looks : goal.returns-in_err-row-clause-looks
@@ -37,15 +40,6 @@ returns-in_default-clause-looks g c =
     let new = c.next.follows.lender-at-none.conn.now in
     let seen = looks_on g.S.Store c.args.sql.now c.args.conn.now _ new _ c.rows.invariant.1
     moved.mode moved.survives (λ clean. inl (rw c.in_ok-row.was at (moved.same clean))) in
-    search rules
-
-pub returns-in_default-clause-open : goal.returns-in_default-clause-open
-returns-in_default-clause-open g c clean =
-    let moved = c.next.follows.holds-at-none in
-    let new = c.next.follows.lender-at-none.conn.now in
-    let late : HasCleanDisk (state g.S.Store new) = search rules in
-    let same = rw c.in_ok-row.was at (moved.same late) in
-    let opened = same.0.is_open in
     search rules
 
 pub returns-in_default-clause-shown : goal.returns-in_default-clause-shown

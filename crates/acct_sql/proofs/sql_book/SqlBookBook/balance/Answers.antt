@@ -3,4 +3,4 @@ use Rattle.acct_sql.proofs.sql_book.SqlBookBook.balance.Goals as goal
 
 pub returns-in-Err-clause-reads : goal.returns-in-Err-clause-reads
 returns-in-Err-clause-reads g c = read_told g.S.Store c.args.self.now c.self.inside.conn
-    c.read_balance.new.conn c.read_balance.result c.self.view_is c.read_balance.ensures.read
+    c.read_balance.new.conn c.read_balance.result c.self.view_is c.read_balance.ensures.read.read

@@ -1,5 +1,5 @@
 use Rattle.acct_book.specs.Content.{with_closed}
-use Rattle.acct_sql.specs.Book.{Wrote}
+use Rattle.acct_sql.specs.inner.AtRest.{Wrote}
 use Rattle.acct_sql.proofs.CommitLemmas.{wrote_told}
 use Rattle.acct_sql.proofs.sql_book.SqlBookBook.close_client.Goals as goal
 

@@ -4,4 +4,4 @@ use Rattle.acct_sql.proofs.sql_book.SqlBookBook.next_topup.Goals as goal
 pub returns-in-Err-clause-reads : goal.returns-in-Err-clause-reads
 returns-in-Err-clause-reads g c = read_told g.S.Store c.args.self.now c.self.inside.conn
     c.read_next_topup.new.conn c.read_next_topup.result c.self.view_is
-    c.read_next_topup.ensures.read
+    c.read_next_topup.ensures.read.read

@@ -1,7 +1,7 @@
 use Rattle.std.proofs.Common.{w64}
 use Rattle.std.proofs.lemmas.Int.{to_z-of_z}
 use Rattle.acct_book.specs.Content.{with_session}
-use Rattle.acct_sql.specs.Book.{Wrote}
+use Rattle.acct_sql.specs.inner.AtRest.{Wrote}
 use Rattle.acct_sql.proofs.CommitLemmas.{wrote_told}
 use Rattle.acct_sql.proofs.sql_book.SqlBookBook.put_session.Goals as goal
 

@@ -3,4 +3,4 @@ use Rattle.acct_sql.proofs.sql_book.SqlBookBook.voucher.Goals as goal
 
 pub returns-in-Err-clause-reads : goal.returns-in-Err-clause-reads
 returns-in-Err-clause-reads g c = read_told g.S.Store c.args.self.now c.self.inside.conn
-    c.read_voucher.new.conn c.read_voucher.result c.self.view_is c.read_voucher.ensures.read
+    c.read_voucher.new.conn c.read_voucher.result c.self.view_is c.read_voucher.ensures.read.read

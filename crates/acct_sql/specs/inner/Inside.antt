@@ -1,0 +1,85 @@
+-- What a call does inside a transaction, and what the end of the transaction makes of it.
+use Rattle.std.specs.Prelude.{◌≡◌, ◌≢◌, ◌⊎◌, ℕ, ℤ, List, false, true, bytes_eq, Some, Ok}
+use Rattle.std.specs.Prelude.{Result, IsTrue, IsOk, OnOk, OnErr}
+use Rattle.std.specs.Borrow.{MutBor}
+use Rattle.std.specs.Map.{update}
+use Rattle.sqlite.specs.Store.{Ghosts}
+use Rattle.sqlite.specs.Held.{Held, state}
+use Rattle.sqlite.specs.Order.{Row}
+use Rattle.sqlite.specs.State.{State, HasCleanDisk, Shows, KeepsCommit, IsRolledBack, Survives}
+use Rattle.sqlite.specs.State.{ExecutesInside}
+use Rattle.acct_model.specs.Vouchers.{TopUpFacts}
+use Rattle.acct_book.specs.Row.{RowFacts}
+use Rattle.acct_book.specs.Content.{Content, same_key, key_of}
+use Rattle.acct_sql.specs.Content.{content_in_tables}
+use Rattle.acct_sql.specs.Book.{IsBook}
+
+-- ---- the parts of a write
+
+-- with this row
+abbrev pub with_row : Content → RowFacts → Content
+with_row content row = record {
+  rows = update same_key content.rows (key_of row) (Some row);
+  balances = content.balances;
+  topups = content.topups;
+}
+
+-- with this balance of an account
+abbrev pub with_balance : Content → List ℕ → ℤ → Content
+with_balance content name balance = record {
+  rows = content.rows;
+  balances = update bytes_eq content.balances name (Some balance);
+  topups = content.topups;
+}
+
+-- with this voucher
+abbrev pub with_voucher : Content → TopUpFacts → Content
+with_voucher content topup = record {
+  rows = content.rows;
+  balances = content.balances;
+  topups = update bytes_eq content.topups topup.voucher (Some topup);
+}
+
+-- ---- the call
+
+-- while it is open its tables are those of a book
+abbrev pub HoldsBook : {S : Type 0} → Ghosts S → Held S → Type 0
+HoldsBook g conn = HasCleanDisk (state g conn) → IsTrue (state g conn).is_open
+    → IsBook (state g conn).now
+
+-- the content was changed and nothing was committed
+pub record HasMade (change : Content → Content) (old new : State) : Type 0 where
+  pub shows : Shows old new new.now old.committed true
+  pub book : IsBook new.now
+  pub content : content_in_tables new.now.trees ≡ change (content_in_tables old.now.trees)
+
+-- an UPDATE met a row, or it met none and an INSERT followed
+abbrev pub HasPut : {S : Type 0} → Ghosts S → List ℕ → List ℕ → Row → State → State → Type 0
+HasPut {S} g update insert params old new =
+    ((count : ℕ) × (count ≢ 0) × ExecutesInside 0 update params old new (Ok count))
+    ⊎ ((mid : Held S) × (more : ℕ) × ExecutesInside 0 update params old (state g mid) (Ok 0)
+    × ExecutesInside 0 insert params (state g mid) new (Ok more))
+
+-- a call committed nothing, whatever came of it
+pub record CommitsNothing {S : Type 0} (g : Ghosts S) (old new : MutBor (Held S)) : Type 0 where
+  pub same_reference : new.ghost_name ≡ old.ghost_name
+  pub kept : HasCleanDisk (state g new.now) → KeepsCommit (state g old.now) (state g new.now)
+  pub survives : Survives (state g old.now) (state g new.now) (λ _. ⊥)
+
+-- It committed nothing, and where it succeeded, this holds of what the connection showed before and
+-- shows now.
+pub record RunsInside {S T E : Type 0} (g : Ghosts S) (old new : MutBor (Held S))
+    (Done : State → State → Type 0) (result : Result T E) : Type 0 where
+  pub quiet : CommitsNothing g old new
+  pub done : HasCleanDisk (state g new.now) → OnOk result (Done (state g old.now) (state g new.now))
+
+-- ---- the end
+
+-- how a transaction ended whose statements gave this
+pub record HasFinished {T E F : Type 0} (done : Result T F) (mid end : State) (result : Result T E)
+    : Type 0 where
+  pub ended : end.in_transaction ≡ false
+  pub ok : HasCleanDisk end → OnOk result (IsOk done × Shows mid end mid.now mid.now false)
+  pub err : HasCleanDisk end → OnErr result (IsRolledBack mid end
+      ⊎ (IsOk done × (mid.in_transaction ≡ false)))
+  pub survives : Survives mid end (λ db. IsOk done × (db ≡ mid.now.trees))

@@ -1,0 +1,124 @@
+-- What the looks at a database that may be a book tell of it.
+use Rattle.std.specs.Prelude.{◌≡◌, ◌≢◌, ℤ, pos, Bool, true, false, List, [], ◌∷◌, Result, IsTrue}
+use Rattle.std.specs.Prelude.{OnOk}
+use Rattle.std.specs.List.{AllByRecursion}
+use Rattle.sqlite.specs.declared.types.Value.TheVariants.{Int, Blob}
+use Rattle.sqlite.specs.declared.error.Error.{Error}
+use Rattle.sqlite.specs.declared.error.Error.TheVariants.{SqliteFailure}
+use Rattle.sqlite.specs.declared.error.ErrorCode.TheVariants as code
+use Rattle.sqlite.specs.Order.{Row, column}
+use Rattle.sqlite.specs.Tree.{Trees}
+use Rattle.sqlite.specs.Effect.{Database}
+use Rattle.sqlite.specs.Store.{Ghosts}
+use Rattle.sqlite.specs.Held.{Held, state}
+use Rattle.sqlite.specs.State.{State, HasCleanDisk}
+use Rattle.acct_model.specs.declared.plan.Plan.{Plan}
+use Rattle.sqlite_rules.specs.Lists.{Has}
+use Rattle.acct_sql.specs.declared.sql_book_error.SqlBookError.{SqlBookError}
+use Rattle.acct_sql.specs.declared.sql_book_error.SqlBookError.TheVariants.{NotABook, PlansDiffer}
+use Rattle.acct_sql.specs.declared.sql_book_error.SqlBookError.TheVariants.{WrongSchema}
+use Rattle.acct_sql.specs.declared.sql_book_error.SqlBookError.TheVariants.{Unavailable}
+use Rattle.acct_sql.specs.Tables.{book_schema, account, voucher, session}
+use Rattle.acct_sql.specs.Tidy.{IsTidy}
+use Rattle.acct_sql.specs.Book.{IsBook}
+use Rattle.acct_sql.specs.Make.{KeepsPlans}
+use Rattle.acct_sql.specs.Look.{IsIdle, LooksAtTables, HasNumberAlone}
+
+-- it has the tables of a book
+abbrev pub HasSchema : State → Type 0
+HasSchema s = HasCleanDisk s → s.now.schema ≡ book_schema
+
+-- the rowids of its accounts, vouchers and sessions tell their rows apart
+pub record AreTidy (db : Trees) : Type 0 where
+  pub accounts : IsTidy (db account.tree)
+  pub vouchers : IsTidy (db voucher.tree)
+  pub sessions : IsTidy (db session.tree)
+
+-- its rows are those of a book of these plans
+pub record HasRowsOf (plans : List Plan) (db : Trees) : Type 0 where
+  pub number : HasNumberAlone (pos 1) db
+  pub plans_kept : KeepsPlans plans db
+  pub tidy : AreTidy db
+
+-- it is the book of these plans
+pub record IsBookWith (plans : List Plan) (db : Database) : Type 0 where
+  pub book : IsBook db
+  pub number : HasNumberAlone (pos 1) db.trees
+  pub plans_kept : KeepsPlans plans db.trees
+
+-- ---- the calls
+
+module _ {S : Type 0} (g : Ghosts S) where
+  -- the database that a connection shows
+  abbrev pub tables_at : Held S → Database
+  tables_at conn = (state g conn).now
+
+  -- outside a transaction, over a database that has the tables of a book
+  pub record IsIdleBook (conn : Held S) : Type 0 where
+    pub idle : IsIdle (state g conn)
+    pub has : HasSchema (state g conn)
+
+  -- a look that changes nothing: where it succeeds, the database is open
+  pub record Peeks {T E : Type 0} (old new : Held S) (result : Result T E) : Type 0 where
+    pub looks : LooksAtTables (state g old) (state g new)
+    pub stays_open : HasCleanDisk (state g new) → OnOk result (IsTrue (state g new).is_open)
+
+  -- a look that changes nothing: where it succeeds, the database is open and its rows are such
+  pub record Examines {T E : Type 0} (old new : Held S) (Holds : Trees → Type 0)
+      (result : Result T E) : Type 0 where
+    pub looks : LooksAtTables (state g old) (state g new)
+    pub stays_open : HasCleanDisk (state g new) → OnOk result (IsTrue (state g new).is_open)
+    pub holds : HasCleanDisk (state g new) → OnOk result (Holds (tables_at old).trees)
+
+-- ---- what an answer says
+
+-- a row of an answer says this plan: class, block, unit
+pub record ShowsPlan (plan : Plan) (row : Row) : Type 0 where
+  pub class : column row 0 ≡ Blob plan.class
+  pub block : column row 1 ≡ Int (pos plan.block)
+  pub unit : column row 2 ≡ Int (pos plan.unit)
+
+-- a row of the answer says the plan
+abbrev pub IsShownIn : List Row → Plan → Type 0
+IsShownIn rows plan = (row : Row) × Has rows row × ShowsPlan plan row
+
+-- the row says one of the plans
+abbrev pub IsPlanIn : List Plan → Row → Type 0
+IsPlanIn plans row = (plan : Plan) × Has plans plan × ShowsPlan plan row
+
+-- the answer says these plans and nothing else
+abbrev pub AreShown : List Plan → List Row → Type 0
+AreShown plans rows = AllByRecursion (IsShownIn rows) plans × AllByRecursion (IsPlanIn plans) rows
+
+-- the answer is one number
+abbrev pub IsSchemaNumber : ℤ → List Row → Type 0
+IsSchemaNumber n rows = (row : Row) × (rows ≡ row ∷ []) × (column row 0 ≡ Int n)
+
+-- the answer has no number
+abbrev pub HasNone : List Row → Type 0
+HasNone rows = (row : Row) (n : ℤ) → Has rows row → column row 0 ≢ Int n
+
+-- what the answer is instead of the number 1
+abbrev pub IsSchemaNumberFault : List Row → SqlBookError → Type 0
+IsSchemaNumberFault rows NotABook = HasNone rows
+IsSchemaNumberFault rows (WrongSchema n) = IsSchemaNumber n rows × (n ≢ pos 1)
+IsSchemaNumberFault rows PlansDiffer = ⊥
+IsSchemaNumberFault rows Unavailable = Unit {0}
+
+-- the store or memory failed, or the limit on steps was met
+abbrev pub is_failure : Error → Bool
+is_failure (SqliteFailure code.OutOfMemory) = true
+is_failure (SqliteFailure code.SystemIoFailure) = true
+is_failure (SqliteFailure code.DatabaseCorrupt) = true
+is_failure (SqliteFailure code.DiskFull) = true
+is_failure (SqliteFailure code.Closed) = true
+is_failure (SqliteFailure code.TooBig) = true
+is_failure (SqliteFailure code.OperationInterrupted) = true
+is_failure _ = false
+
+-- the kept plans are not these
+abbrev pub IsPlanFault : List Plan → Trees → SqlBookError → Type 0
+IsPlanFault plans db NotABook = ⊥
+IsPlanFault plans db (WrongSchema n) = ⊥
+IsPlanFault plans db PlansDiffer = ¬ (KeepsPlans plans db)
+IsPlanFault plans db Unavailable = Unit {0}
