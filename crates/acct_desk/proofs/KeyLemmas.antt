@@ -1,9 +1,9 @@
 -- The faults of keys, and the places of their tokens.
 use Rattle.std.proofs.Common.{◌≡◌, ℕ, suc, ◌+◌, ◌-◌, ◌<◌, ◌≤◌, Bool, true, false, cond, ◌||◌, List}
-use Rattle.std.proofs.Common.{[], ◌∷◌, ◌++◌, length, take, drop, get_or, refl, sym, ◌∙◌, ap, subst}
-use Rattle.std.proofs.Common.{arith, length-take}
-use Rattle.std.proofs.lemmas.List.{drop_more, take_more, drop_all}
-use Rattle.std.specs.Prelude.{Result, Ok, Err, OnOk, is_err, Option, Some, None, is_some, Vec}
+use Rattle.std.proofs.Common.{[], ◌∷◌, ◌++◌, length, get_or, refl, sym, ◌∙◌, ap, subst}
+use Rattle.std.proofs.Common.{arith}
+use Rattle.std.specs.Prelude.{Result, Ok, Err, OnOk, OnErr, is_err, Option, Some, None, is_some}
+use Rattle.std.specs.Prelude.{Vec}
 use Rattle.std.specs.Prelude.{bytes_eq}
 use Rattle.std.specs.Global.{Global}
 use Rattle.std.specs.List.{list_any, find, position_from}
@@ -18,11 +18,11 @@ use Rattle.std.proofs.lemmas.Map.Text.{is_eq-slice_cmp}
 use Rattle.acct_book.specs.Maps.{octets_cmp}
 use Rattle.acct_book.proofs.Keys.{octets_are, octets_sym}
 use Rattle.acct_book.proofs.MapSteps.{vec_cmp}
+use Rattle.acct_model.proofs.Faults.{faultless_more}
 use Rattle.acct_desk.specs.declared.keys.DeskKey.{DeskKey}
-use Rattle.acct_desk.specs.declared.keys.KeysError.{KeysError}
 use Rattle.acct_desk.specs.declared.keys.KeysError.TheVariants.{TwiceKeyed}
 use Rattle.acct_desk.specs.Keys.{has_token, is_token_text}
-use Rattle.acct_desk.specs.KeyFaults.{key_fault, place_at, ArePlaces}
+use Rattle.acct_desk.specs.KeyFaults.{key_fault, fault_of, place_at, ArePlaces}
 
 -- ---- faults
 
@@ -176,24 +176,39 @@ nothing : (o : Option ℕ) → is_some o ≡ false → o ≡ None
 nothing None e = refl
 nothing (Some n) e = absurd (cc)
 
--- a fresh token's place, behind the keys before it
-pub places-more : (m n : BTreeMap (Vec ℕ Global) ℕ) (keys : List DeskKey) (i : ℕ) (key : DeskKey)
-    (bs : List ℕ) → i < length keys → key ≡ get_or keys i key → bs ≡ key.token
-    → ArePlaces m (take i keys) → is_some (place_at m key.token) ≡ false
-    → tree.UpdatesBy vec_cmp (λ k. octets_cmp bs k.items) m n (Some i)
-    → ArePlaces n (take (i + 1) keys)
-places-more m n keys i key bs within is token placed fresh updates cs =
-    let front : take (i + 1) keys ≡ take i keys ++ key ∷ [] = take_more keys i key within
-    ∙ ap (λ c. take i keys ++ c ∷ []) (sym is) in
-    let count : 0 + length (take i keys) ≡ i = omega (arith, length-take {A = DeskKey}) in
+-- a new token's place, behind the keys before it
+pub places-more : (m n : BTreeMap (Vec ℕ Global) ℕ) (keys : List DeskKey) (key : DeskKey)
+    (bs : List ℕ) (place : ℕ) → bs ≡ key.token → place ≡ length keys → ArePlaces m keys
+    → list_any (has_token key.token) keys ≡ false
+    → tree.UpdatesBy vec_cmp (λ k. octets_cmp bs k.items) m n (Some place)
+    → ArePlaces n (keys ++ key ∷ [])
+places-more m n keys key bs place token behind placed new updates cs =
     let same : bytes_eq bs cs ≡ has_token cs key = octets_sym bs cs ∙ ap (bytes_eq cs) token in
+    let fresh = ap is_some (placed key.token) ∙ is_some-position_from (has_token key.token) 0 keys
+    ∙ new in
     let absent : bytes_eq bs cs ≡ true
     → place_at m cs ≡ None = λ e. ap (place_at m) (sym (octets_are bs cs e) ∙ token)
     ∙ nothing (place_at m key.token) fresh in
-    place-updates m n bs (Some i) updates cs
+    let count : place ≡ 0 + length keys = omega arith in
+    place-updates m n bs (Some place) updates cs
     ∙ place_by (bytes_eq bs cs) (has_token cs key) (place_at m cs)
-    (position_from (has_token cs) 0 (take i keys)) (Some i) same absent (placed cs)
-    ∙ ap (λ k. option_or (position_from (has_token cs) 0 (take i keys))
-    (cond (has_token cs key) (Some k) None)) (sym count)
-    ∙ sym (position_from-more (has_token cs) 0 (take i keys) key)
-    ∙ ap (position_from (has_token cs) 0) (sym front)
+    (position_from (has_token cs) 0 keys) (Some place) same absent (placed cs)
+    ∙ ap (λ k. option_or (position_from (has_token cs) 0 keys)
+    (cond (has_token cs key) (Some k) None)) count
+    ∙ sym (position_from-more (has_token cs) 0 keys key)
+
+-- where one more key was pushed, or none, there is still no fault
+pub faultless_still : {T E : Type 0} (r : Result T E) (old new : List DeskKey) (key : DeskKey)
+    → OnOk r (new ≡ old ++ key ∷ []) → OnErr r (new ≡ old) → fault_of old ≡ None
+    → key_fault old key ≡ None → fault_of new ≡ None
+faultless_still (Ok x) old new key pushed same none alone =
+    subst (λ keys. fault_of keys ≡ None) (sym pushed)
+    (faultless_more key_fault old key none alone)
+faultless_still (Err e) old new key pushed same none alone =
+    subst (λ keys. fault_of keys ≡ None) (sym same) none
+
+-- where nothing of a map has changed, the places are the same
+pub places-kept : (m n : BTreeMap (Vec ℕ Global) ℕ) (keys : List DeskKey)
+    → tree.IsUnchanged m n → ArePlaces m keys → ArePlaces n keys
+places-kept m n keys same placed cs =
+    ap (λ entries. lookup (is_at (λ k. octets_cmp cs k.items)) entries) same ∙ placed cs

@@ -1,9 +1,10 @@
 //! The keys of the desk: who may ask what.
-ghost use Rattle.std.specs.Prelude.{◌≡◌, None, IfOk, IfErr, OnOk};
-ghost use Rattle.std.specs.List.{list_all};
+ghost use Rattle.std.specs.Prelude.{◌≡◌, ◌++◌, [], ◌∷◌, None, false, IfOk, IfErr, OnOk, OnErr};
+ghost use Rattle.std.specs.List.{list_all, list_any};
 ghost use Rattle.std.specs.Option.{option_copied};
-ghost use Rattle.acct_desk.specs.Keys.{is_token_octet, is_token_text, role_at};
-ghost use Rattle.acct_desk.specs.KeyFaults.{fault_of, IsKeysError, ArePlaces};
+ghost use Rattle.acct_model.specs.Faults.{fault_or};
+ghost use Rattle.acct_desk.specs.Keys.{is_token_octet, is_token_text, has_token, role_at};
+ghost use Rattle.acct_desk.specs.KeyFaults.{key_fault, fault_of, IsKeysError, ArePlaces};
 ghost use Rattle.acct_desk.specs.Routes.{endpoint_of};
 
 use crate::routes::{Endpoint, endpoint_at, router};
@@ -110,6 +111,25 @@ impl Model for Keys {
 }
 
 impl Keys {
+    /// No keys, with the desk's paths.
+    ///
+    /// # Errors
+    ///
+    /// Only where memory is refused.
+    pub fn none(alloc: Global) -> Result<Keys, KeysError>
+        ensures none { IfOk result (λ keys. keys ≡ []) }
+        ensures refused { IfErr result (λ error. error ≡ KeysError.Memory) }
+    {
+        match router(alloc) {
+            Ok(router) => Ok(Keys {
+                list: Vec::new(alloc),
+                places: BTreeMap::new(alloc),
+                router,
+            }),
+            Err(_) => Err(KeysError::Memory),
+        }
+    }
+
     /// The keys as they are given, if they have no fault.
     ///
     /// # Errors
@@ -121,15 +141,31 @@ impl Keys {
         ensures faultless { OnOk result (fault_of list.items ≡ None) }
         ensures refused { IfErr result (IsKeysError (fault_of list.items)) }
     {
-        let places = places_of(alloc, &list)?;
-        match router(alloc) {
-            Ok(router) => Ok(Keys {
-                list,
-                places,
-                router,
-            }),
-            Err(_) => Err(KeysError::Memory),
+        let mut keys = Keys::none(alloc)?;
+        for key in list {
+            keys.push(alloc, key)?;
         }
+        Ok(keys)
+    }
+
+    /// Puts a key at the end, if it has no fault among those before it. Its cost grows with the
+    /// logarithm of their number.
+    ///
+    /// # Errors
+    ///
+    /// The first of `BadToken` and `TwiceKeyed` that holds, and `Memory` only where neither does.
+    /// The keys are then as before.
+    pub fn push(&mut self, alloc: Global, key: DeskKey) -> Result<(), KeysError>
+        ensures pushed { OnOk result (self.new ≡ self.old ++ key ∷ []) }
+        ensures faultless { OnOk result (key_fault self.old key ≡ None) }
+        ensures refused { IfErr result (λ error.
+            error ≡ fault_or KeysError.Memory (key_fault self.old key)) }
+        ensures unchanged { OnErr result (self.new ≡ self.old) }
+    {
+        if let Some(fault) = self.fault_after(&key) {
+            return Err(fault);
+        }
+        place(alloc, &mut self.list, &mut self.places, key)
     }
 
     /// The keys in the order in which they were given.
@@ -137,6 +173,20 @@ impl Keys {
         ensures { result.now ≡ self.now }
     {
         &self.list
+    }
+
+    // What is wrong with a key that comes after these.
+    fn fault_after(&self, key: &DeskKey) -> Option<KeysError>
+        ensures { result ≡ key_fault self.now key.now }
+    {
+        let token = key.token.as_str();
+        if !is_token(token) {
+            return Some(KeysError::BadToken);
+        }
+        if self.places.contains_key(token.as_bytes()) {
+            return Some(KeysError::TwiceKeyed);
+        }
+        None
     }
 
     // The role of the key that has a token. Its cost grows with the logarithm of the number of
@@ -158,27 +208,32 @@ impl Keys {
     }
 }
 
-// The place of each token in the list, if the keys have no fault.
-fn places_of(alloc: Global, list: &[DeskKey]) -> Result<BTreeMap<Vec<u8>, usize>, KeysError>
-    ensures placed { IfOk result (λ places. ArePlaces places list.now) }
-    ensures faultless { OnOk result (fault_of list.now ≡ None) }
-    ensures refused { IfErr result (IsKeysError (fault_of list.now)) }
+// Puts a key whose token is new at the end of a list, and its place to those of the other tokens.
+// Where memory is refused both stay as they were.
+fn place(
+    alloc: Global,
+    list: &mut Vec<DeskKey>,
+    places: &mut BTreeMap<Vec<u8>, usize>,
+    key: DeskKey,
+) -> Result<(), KeysError>
+    requires placed { ArePlaces places.old list.old.items }
+    requires new { list_any (has_token key.token) list.old.items ≡ false }
+    ensures pushed { OnOk result (list.new.items ≡ list.old.items ++ key ∷ []) }
+    ensures unchanged { OnErr result (list.new.items ≡ list.old.items) }
+    ensures placed { ArePlaces places.new list.new.items }
+    ensures refused { IfErr result (λ error. error ≡ KeysError.Memory) }
 {
-    let mut places = BTreeMap::new(alloc);
-    for i in 0..list.len() {
-        let token = list[i].token.as_str();
-        if !is_token(token) {
-            return Err(KeysError::BadToken);
-        }
-        if places.contains_key(token.as_bytes()) {
-            return Err(KeysError::TwiceKeyed);
-        }
-        let token = owned(alloc, token.as_bytes())?;
-        if places.insert(token, i).is_err() {
-            return Err(KeysError::Memory);
-        }
+    let token = owned(alloc, key.token.as_str().as_bytes())?;
+    let place = list.len();
+    if list.push(key).is_err() {
+        return Err(KeysError::Memory);
     }
-    Ok(places)
+    if places.insert(token, place).is_err() {
+        // A key without a place could not be found.
+        let _ = list.pop();
+        return Err(KeysError::Memory);
+    }
+    Ok(())
 }
 
 // A copy of octets.

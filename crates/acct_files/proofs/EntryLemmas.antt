@@ -1,16 +1,18 @@
 -- Entries of an array of tables, one more at a time.
 use Rattle.std.proofs.Common.{◌≡◌, ℕ, ◌+◌, ◌<◌, List, [], ◌∷◌, ◌++◌, length, map, take, get_or}
-use Rattle.std.proofs.Common.{Option, Some, None, option_map, zero, suc, refl, sym}
+use Rattle.std.proofs.Common.{Option, Some, None, option_map, zero, suc, inl, inr, refl}
 use Rattle.std.proofs.Common.{◌∙◌, ap, slice_get}
+use Rattle.std.specs.Prelude.{◌⊎◌, Result, Ok, Err, IfErr, IsErrAnd}
 use Rattle.std.proofs.lemmas.Option.{slice_get_read, get_or_from_slice_get}
-use Rattle.std.proofs.lemmas.List.{length-map, take_more, append-nil, append_assoc}
-use Rattle.std.specs.Option.{option_or}
+use Rattle.std.proofs.lemmas.List.{length-map, take_more}
 use Rattle.toml.specs.Data.{Data}
 use Rattle.toml.specs.View.{view}
 use Rattle.toml.specs.declared.value.Value.{Value}
-use Rattle.acct_model.specs.Faults.{first_fault_after}
-use Rattle.acct_model.proofs.Faults.{first_none, second_none}
-use Rattle.acct_files.specs.Entries.{Spells, EachSpells, AreEntries}
+use Rattle.acct_model.specs.Faults.{fault_or}
+use Rattle.acct_model.proofs.Faults.{faultless_more}
+use Rattle.acct_files.specs.declared.config_error.ConfigKind.{ConfigKind}
+use Rattle.acct_files.specs.declared.config_error.ConfigKind.TheVariants.{Memory}
+use Rattle.acct_files.specs.Entries.{Spells, EachSpells, AreEntries, IsUnspelled, IsRefused}
 
 -- ---- the data of values
 
@@ -39,19 +41,6 @@ viewed_more values i value within is =
 
 -- ---- entries
 
-module _ {X E : Type 0} (fault : List X → X → Option E) where
-  -- where nothing is wrong, nor with one more that comes after all, nothing is wrong
-  pub faultless_after : (earlier xs : List X) (x : X) → first_fault_after fault earlier xs ≡ None
-      → fault (earlier ++ xs) x ≡ None → first_fault_after fault earlier (xs ++ x ∷ []) ≡ None
-  faultless_after earlier [] x none alone =
-      ap (λ o. option_or o None) (ap (λ front. fault front x) (sym (append-nil earlier)) ∙ alone)
-  faultless_after earlier (y ∷ xs) x none alone =
-      ap (λ o. option_or o (first_fault_after fault (earlier ++ y ∷ []) (xs ++ x ∷ [])))
-      (first_none (fault earlier y) (first_fault_after fault (earlier ++ y ∷ []) xs) none)
-      ∙ faultless_after (earlier ++ y ∷ []) xs x
-      (second_none (fault earlier y) (first_fault_after fault (earlier ++ y ∷ []) xs) none)
-      (ap (λ front. fault front x) (append_assoc earlier (y ∷ []) xs) ∙ alone)
-
 module _ {V X E : Type 0} (values_of : Data → Option V) (Says : V → X → Type 0)
     (fault : List X → X → Option E) where
   each_more : (tables : List Data) (entries : List X) (element : Data) (entry : X)
@@ -72,5 +61,46 @@ module _ {V X E : Type 0} (values_of : Data → Option V) (Says : V → X → Ty
   more_entries tables entries element entry are spells alone =
       record {
         spelled = each_more tables entries element entry are.spelled spells;
-        faultless = faultless_after fault [] entries entry are.faultless alone;
+        faultless = faultless_more fault entries entry are.faultless alone;
       }
+
+  -- what spells no entry is refused, whatever comes before it
+  pub unspelled : {T : Type 0} (bad : ConfigKind) (kind_of : E → ConfigKind) (earlier : List X)
+      (element : Data) (kind : ConfigKind) (result : Result T ConfigKind)
+      → IsErrAnd result (λ why. why ≡ kind) → IsUnspelled values_of Says fault bad element kind
+      → IfErr result (λ why. (why ≡ Memory)
+      ⊎ IsRefused values_of Says fault bad kind_of earlier element why)
+  unspelled bad kind_of earlier element kind (Ok x) told why = tt
+  unspelled bad kind_of earlier element kind (Err e) told (inl memory) = inl (told ∙ memory)
+  unspelled bad kind_of earlier element kind (Err e) told (inr (inl shape)) =
+      inr (inl (told ∙ shape.0, shape.1))
+  unspelled bad kind_of earlier element kind (Err e) told (inr (inr none)) =
+      inr (inr (inl (told ∙ none.0, none.1)))
+
+  told_by : (bad : ConfigKind) (kind_of : E → ConfigKind) (memory error : E) (earlier : List X)
+      (element : Data) (entry : X) (kind : ConfigKind) (found : Option E)
+      → fault earlier entry ≡ found → Spells values_of Says fault element entry
+      → error ≡ fault_or memory found → kind_of memory ≡ Memory → kind ≡ kind_of error
+      → (kind ≡ Memory) ⊎ IsRefused values_of Says fault bad kind_of earlier element kind
+  told_by bad kind_of memory error earlier element entry kind None is spells what none told =
+      inl (told ∙ ap kind_of what ∙ none)
+  told_by bad kind_of memory error earlier element entry kind (Some why) is spells what none told =
+      inr (inr (inr (record {
+        entry = entry;
+        spelled = spells;
+        why = why;
+        found = is;
+        told = told ∙ ap kind_of what;
+      })))
+
+  -- so is what spells an entry that has a fault
+  pub faulty : {T : Type 0} (bad : ConfigKind) (kind_of : E → ConfigKind) (memory error : E)
+      (earlier : List X) (element : Data) (entry : X) (result : Result T ConfigKind)
+      → IsErrAnd result (λ why. why ≡ kind_of error) → Spells values_of Says fault element entry
+      → error ≡ fault_or memory (fault earlier entry) → kind_of memory ≡ Memory
+      → IfErr result (λ why. (why ≡ Memory)
+      ⊎ IsRefused values_of Says fault bad kind_of earlier element why)
+  faulty bad kind_of memory error earlier element entry (Ok x) told spells what none = tt
+  faulty bad kind_of memory error earlier element entry (Err e) told spells what none =
+      told_by bad kind_of memory error earlier element entry e (fault earlier entry) refl spells
+      what none told

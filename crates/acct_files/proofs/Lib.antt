@@ -9,6 +9,5 @@ pub mod EntryLemmas
 pub mod TableLemmas
 pub mod ClientLemmas
 pub mod PlanLemmas
-pub mod KeyTableLemmas
 pub mod ConfigLemmas
 pub mod CutExports

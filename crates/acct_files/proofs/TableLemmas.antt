@@ -1,23 +1,34 @@
 -- A table of `toml` beside what is read of it.
-use Rattle.std.proofs.Common.{◌≡◌, ◌<◌, ◌≤◌, ℕ, Bool, false, ◌&&◌, List, [], ◌∷◌, length, map}
-use Rattle.std.proofs.Common.{Some, None, String, Global, string_bytes, refl, ap}
+use Rattle.std.proofs.Common.{◌≡◌, ◌<◌, ◌≤◌, ℕ, false, ◌&&◌, ◌||◌, List, [], ◌∷◌, length, map}
+use Rattle.std.proofs.Common.{Some, None, String, Global, string_bytes, refl, ◌∙◌, ap, Bor}
 use Rattle.std.proofs.Common.{arith, le-leb}
 use Rattle.std.proofs.lemmas.Bool.Decides.{nat_tests}
-use Rattle.std.specs.Prelude.{nat_le}
-use Rattle.std.specs.List.{list_all}
+use Rattle.std.specs.Prelude.{nat_le, bytes_eq}
+use Rattle.std.specs.List.{list_all, list_any}
 use Rattle.std.specs.Map.{keys_of}
 use Rattle.toml.specs.Data.{Data, table, string, integer, float, boolean, datetime, array}
 use Rattle.toml.specs.Data.{as_array, Items}
 use Rattle.toml.specs.View.{view, members_view, items_view}
 use Rattle.toml.specs.declared.value.Value.{Value}
-use Rattle.acct_files.specs.Tables.{names_of, elements, elements_at, at_most}
+use Rattle.acct_files.specs.Tables.{is_one_of, has_only, elements, elements_at, at_most}
+
+-- whether a name is one of some words
+any_now : (name : List ℕ) (words : List (Bor (List ℕ)))
+    → list_any (λ word. bytes_eq name word.now) words
+    ≡ is_one_of (map (λ word. word.now) words) name
+any_now name [] = refl
+any_now name (word ∷ words) = ap (λ b. bytes_eq name word.now || b) (any_now name words)
 
 -- a test of each name of a table
-pub names_all : (test : List ℕ → Bool) (es : List (String Global × Value))
-    → list_all (λ k. test (string_bytes k)) (keys_of es)
-    ≡ list_all test (names_of (members_view es))
-names_all test [] = refl
-names_all test (e ∷ es) = ap (λ b. test (string_bytes e.0) && b) (names_all test es)
+pub names_all : (words : List (Bor (List ℕ))) (es : List (String Global × Value))
+    → list_all (λ k. list_any (λ word. bytes_eq (string_bytes k) word.now) words) (keys_of es)
+    ≡ has_only (map (λ word. word.now) words) (members_view es)
+names_all words [] = refl
+names_all words (e ∷ es) =
+    ap (λ b. b && list_all (λ k. list_any (λ word. bytes_eq (string_bytes k) word.now) words)
+    (keys_of es)) (any_now (string_bytes e.0) words)
+    ∙ ap (λ b. is_one_of (map (λ word. word.now) words) (string_bytes e.0) && b)
+    (names_all words es)
 
 -- the elements of an array as data
 pub elements-view : (values : List Value) → elements (items_view values) ≡ map view values

@@ -1,23 +1,25 @@
 -- The tables of clients.
-use Rattle.std.specs.Prelude.{◌≡◌, ◌⊎◌, ℕ, Bool, true, ◌&&◌, ◌||◌, ◌==◌, nat_le, List, length}
-use Rattle.std.specs.Prelude.{if◌then◌else◌, Option, None, bytes_eq, codes}
+use Rattle.std.specs.Prelude.{◌≡◌, ℕ, Bool, true, ◌&&◌, ◌||◌, ◌==◌, nat_le, List, [], ◌∷◌}
+use Rattle.std.specs.Prelude.{length, Option, option_and_then, codes}
 use Rattle.std.specs.List.{list_all}
 use Rattle.std.specs.Net.Grammar.{IsDotted}
-use Rattle.toml.specs.Data.{Data, table, Members}
+use Rattle.toml.specs.Data.{Data, Members}
 use Rattle.acct_wire.specs.declared.client.Client.{Client}
+use Rattle.acct_wire.specs.declared.client.ClientError.{ClientError}
+use Rattle.acct_wire.specs.declared.client.ClientError.TheVariants.{TwiceNamed, TwiceAddressed}
+use Rattle.acct_wire.specs.declared.client.ClientError.TheVariants as fault
 use Rattle.acct_wire.specs.ClientFaults.{client_fault}
 use Rattle.acct_files.specs.declared.config_error.ConfigKind.{ConfigKind}
-use Rattle.acct_files.specs.declared.config_error.ConfigKind.TheVariants.{BadShape, BadClient}
+use Rattle.acct_files.specs.declared.config_error.ConfigKind.TheVariants.{BadClient}
 use Rattle.acct_files.specs.declared.config_error.ConfigKind.TheVariants.{TwiceClient, Memory}
 use Rattle.acct_files.specs.declared.config_error.ConfigTable.TheVariants as place
 use Rattle.acct_files.specs.declared.config_error.ConfigError.{ConfigError}
-use Rattle.acct_files.specs.Tables.{has_only, text_at, three}
+use Rattle.acct_files.specs.Tables.{table_of, text_at, three}
 use Rattle.acct_files.specs.Entries as entries
 
 -- the names of a client's table
-abbrev pub is_client_name : List ℕ → Bool
-is_client_name name = bytes_eq name (codes "name") || bytes_eq name (codes "address")
-    || bytes_eq name (codes "secret")
+abbrev pub client_names : List (List ℕ)
+client_names = codes "name" ∷ codes "address" ∷ codes "secret" ∷ []
 
 -- the name, the address and the secret of a client's table
 abbrev pub ClientTexts : Type 0
@@ -25,14 +27,11 @@ ClientTexts = List ℕ × List ℕ × List ℕ
 
 abbrev pub texts_in : Members → Option ClientTexts
 texts_in members =
-    if has_only is_client_name members
-    then three (text_at (codes "name") members) (text_at (codes "address") members)
+    three (text_at (codes "name") members) (text_at (codes "address") members)
     (text_at (codes "secret") members)
-    else None
 
 abbrev pub client_texts : Data → Option ClientTexts
-client_texts (table members) = texts_in members
-client_texts _ = None
+client_texts value = option_and_then texts_in (table_of client_names value)
 
 -- A to Z, a to z, 0 to 9, `.`, `-` or `_`
 abbrev pub is_name_octet : ℕ → Bool
@@ -65,15 +64,18 @@ AreClientTables = entries.AreEntries client_texts SaysClient client_fault
 
 -- why a table is no client, or memory was refused
 abbrev pub IsNoClient : Data → ConfigKind → Type 0
-IsNoClient value kind = (kind ≡ Memory)
-    ⊎ ((kind ≡ BadShape) × (client_texts value ≡ None))
-    ⊎ ((kind ≡ BadClient) × entries.SpellsNone client_texts SaysClient client_fault value)
+IsNoClient = entries.IsUnspelled client_texts SaysClient client_fault BadClient
+
+-- how a client's fault is told
+abbrev pub client_kind : ClientError → ConfigKind
+client_kind TwiceNamed = TwiceClient
+client_kind TwiceAddressed = TwiceClient
+client_kind fault.Memory = Memory
 
 -- why a table after these clients is refused
 abbrev pub IsClientRefused : List Client → Data → ConfigKind → Type 0
-IsClientRefused = entries.IsRefused client_texts SaysClient client_fault BadClient TwiceClient
+IsClientRefused = entries.IsRefused client_texts SaysClient client_fault BadClient client_kind
 
 -- the error tells the first client's table that is refused
 abbrev pub FirstClientRefused : List Data → ConfigError → Type 0
-FirstClientRefused =
-    entries.FirstRefused client_texts SaysClient client_fault place.Client BadClient TwiceClient
+FirstClientRefused = entries.FirstRefused AreClientTables IsClientRefused place.Client

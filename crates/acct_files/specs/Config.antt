@@ -1,6 +1,6 @@
 -- The configuration that a text spells, or the first fault of the text.
-use Rattle.std.specs.Prelude.{◌≡◌, ◌⊎◌, ℕ, Bool, true, ◌||◌, List, if◌then◌else◌, Option, None}
-use Rattle.std.specs.Prelude.{Some, bytes_eq, codes}
+use Rattle.std.specs.Prelude.{◌≡◌, ◌⊎◌, ℕ, true, List, [], ◌∷◌, Option, None, Some, codes}
+use Rattle.std.specs.Prelude.{option_and_then}
 use Rattle.toml.specs.Data.{Data, Members}
 use Rattle.toml.specs.Parse.{parse_document}
 use Rattle.acct_model.specs.declared.plan.Plan.{Plan}
@@ -9,27 +9,28 @@ use Rattle.acct_site.specs.declared.config.Config.{Config}
 use Rattle.acct_files.specs.declared.config_error.ConfigKind.TheVariants.{NotToml, BadShape}
 use Rattle.acct_files.specs.declared.config_error.ConfigKind.TheVariants.{Memory}
 use Rattle.acct_files.specs.declared.config_error.ConfigError.{ConfigError}
-use Rattle.acct_files.specs.Tables.{has_only, array_at, three, top_error}
+use Rattle.acct_files.specs.Tables.{only, array_at, three, top_error}
 use Rattle.acct_files.specs.ClientTables.{AreClientTables, FirstClientRefused}
 use Rattle.acct_files.specs.PlanTables.{ArePlanTables, has_default, FirstPlanRefused, LacksDefault}
 use Rattle.acct_files.specs.KeyTables.{AreKeyTables, FirstKeyRefused}
 
 -- the names of the top level
-abbrev pub is_top_name : List ℕ → Bool
-is_top_name name = bytes_eq name (codes "client") || bytes_eq name (codes "plan")
-    || bytes_eq name (codes "key")
+abbrev pub top_names : List (List ℕ)
+top_names = codes "client" ∷ codes "plan" ∷ codes "key" ∷ []
 
 -- what stands in the arrays of the clients, of the plans and of the keys
 abbrev pub Arrays : Type 0
 Arrays = List Data × List Data × List Data
 
--- the arrays of a document whose top level has its shape
-abbrev pub arrays_in : Members → Option Arrays
-arrays_in top =
-    if has_only is_top_name top
-    then three (array_at (codes "client") 1024 top) (array_at (codes "plan") 256 top)
+-- the arrays of a document
+abbrev pub arrays_at : Members → Option Arrays
+arrays_at top =
+    three (array_at (codes "client") 1024 top) (array_at (codes "plan") 256 top)
     (array_at (codes "key") 4096 top)
-    else None
+
+-- the same of a document that has no names but these three
+abbrev pub arrays_in : Members → Option Arrays
+arrays_in top = option_and_then arrays_at (only top_names top)
 
 -- the text is a document that spells this configuration
 pub record IsConfig (text : List ℕ) (config : Config) : Type 0 where

@@ -1,10 +1,9 @@
--- The entries that an array of tables spells, and the first one that is refused.
-use Rattle.std.specs.Prelude.{◌≡◌, ◌⊎◌, ⊤, true, List, [], ◌∷◌, take, slice_get, Option}
-use Rattle.std.specs.Prelude.{Some, None, is_some}
+-- The entries that an array of tables spells, and the first table that is refused.
+use Rattle.std.specs.Prelude.{◌≡◌, ◌⊎◌, ⊤, List, [], ◌∷◌, take, slice_get, Option, Some, None}
 use Rattle.toml.specs.Data.{Data}
 use Rattle.acct_model.specs.Faults.{first_fault}
 use Rattle.acct_files.specs.declared.config_error.ConfigKind.{ConfigKind}
-use Rattle.acct_files.specs.declared.config_error.ConfigKind.TheVariants.{BadShape}
+use Rattle.acct_files.specs.declared.config_error.ConfigKind.TheVariants.{BadShape, Memory}
 use Rattle.acct_files.specs.declared.config_error.ConfigTable.{ConfigTable}
 use Rattle.acct_files.specs.declared.config_error.ConfigError.{ConfigError}
 
@@ -36,25 +35,38 @@ module _ {V X E : Type 0} (values_of : Data → Option V) (Says : V → X → Ty
     pub shape : values_of element ≡ Some values
     pub none : (entry : X) → Says values entry → ⊥
 
-  -- the element spells an entry that cannot come after the earlier ones
-  pub record SpellsTwice (earlier : List X) (element : Data) : Type 0 where
+  -- why an element spells no entry, its shape or its values, or that memory was refused
+  abbrev pub IsUnspelled : ConfigKind → Data → ConfigKind → Type 0
+  IsUnspelled bad element kind =
+      (kind ≡ Memory)
+      ⊎ ((kind ≡ BadShape) × (values_of element ≡ None))
+      ⊎ ((kind ≡ bad) × SpellsNone element)
+
+  -- the element spells an entry with a fault among the earlier ones, which this kind tells
+  pub record SpellsFaulty (kind_of : E → ConfigKind) (earlier : List X) (element : Data)
+      (kind : ConfigKind) : Type 0 where
     pub entry : X
     pub spelled : Spells element entry
-    pub twice : is_some (fault earlier entry) ≡ true
+    pub why : E
+    pub found : fault earlier entry ≡ Some why
+    pub told : kind ≡ kind_of why
 
-  -- why an element after these entries is refused: its shape, its rules, or an earlier entry
-  abbrev pub IsRefused : ConfigKind → ConfigKind → List X → Data → ConfigKind → Type 0
-  IsRefused bad twice earlier element kind =
+  -- why an element after these entries is refused: its shape, its values, or a fault of its entry
+  abbrev pub IsRefused : ConfigKind → (E → ConfigKind) → List X → Data → ConfigKind → Type 0
+  IsRefused bad kind_of earlier element kind =
       ((kind ≡ BadShape) × (values_of element ≡ None))
       ⊎ ((kind ≡ bad) × SpellsNone element)
-      ⊎ ((kind ≡ twice) × SpellsTwice earlier element)
+      ⊎ SpellsFaulty kind_of earlier element kind
 
+-- For lists of one kind: when tables spell a list, and why a table after a list is refused.
+module _ {L : Type 0} (AreSpelled : List Data → L → Type 0)
+    (Refuses : L → Data → ConfigKind → Type 0) where
   -- the error tells the first table of the array that is refused
-  pub record FirstRefused (place : ConfigTable) (bad twice : ConfigKind) (tables : List Data)
-      (error : ConfigError) : Type 0 where
-    pub in_table : error.table ≡ place
-    pub earlier : List X
-    pub before : AreEntries (take error.index tables) earlier
+  pub record FirstRefused (array : ConfigTable) (tables : List Data) (error : ConfigError)
+      : Type 0 where
+    pub in_table : error.table ≡ array
+    pub earlier : L
+    pub before : AreSpelled (take error.index tables) earlier
     pub here : Data
     pub at : slice_get tables error.index ≡ Some here
-    pub refused : IsRefused bad twice earlier here error.kind
+    pub refused : Refuses earlier here error.kind

@@ -1,22 +1,24 @@
 -- The tables of keys.
-use Rattle.std.specs.Prelude.{◌≡◌, ◌⊎◌, ℕ, Bool, true, ◌||◌, List, if◌then◌else◌, Option, None}
-use Rattle.std.specs.Prelude.{Some, option_map, bytes_eq, codes}
+use Rattle.std.specs.Prelude.{◌≡◌, ℕ, Bool, true, List, [], ◌∷◌, Option, None, Some}
+use Rattle.std.specs.Prelude.{option_map, option_and_then, codes}
 use Rattle.percent_encoding.specs.Percent.{percent_decode}
-use Rattle.toml.specs.Data.{Data, table, Members, get_member, as_str, as_bool}
+use Rattle.toml.specs.Data.{Data, Members, get_member, as_str, as_bool}
 use Rattle.acct_model.specs.Vouchers.{is_voucher_account}
 use Rattle.acct_desk.specs.declared.keys.Role.{Role}
 use Rattle.acct_desk.specs.declared.keys.Role.TheVariants.{Account, Cashier}
 use Rattle.acct_desk.specs.declared.keys.DeskKey.{DeskKey}
-use Rattle.acct_desk.specs.Keys.{is_token_text}
+use Rattle.acct_desk.specs.declared.keys.KeysError.{KeysError}
+use Rattle.acct_desk.specs.declared.keys.KeysError.TheVariants.{BadToken}
+use Rattle.acct_desk.specs.declared.keys.KeysError.TheVariants as fault
 use Rattle.acct_desk.specs.KeyFaults.{key_fault}
 use Rattle.acct_files.specs.declared.key_tables.Bearer as code
 use Rattle.acct_files.specs.declared.key_tables.Bearer.TheVariants as codes_of
 use Rattle.acct_files.specs.declared.config_error.ConfigKind.{ConfigKind}
-use Rattle.acct_files.specs.declared.config_error.ConfigKind.TheVariants.{BadShape, BadKey}
+use Rattle.acct_files.specs.declared.config_error.ConfigKind.TheVariants.{BadKey}
 use Rattle.acct_files.specs.declared.config_error.ConfigKind.TheVariants.{TwiceKeyed, Memory}
 use Rattle.acct_files.specs.declared.config_error.ConfigTable.TheVariants as place
 use Rattle.acct_files.specs.declared.config_error.ConfigError.{ConfigError}
-use Rattle.acct_files.specs.Tables.{has_only, text_at, two}
+use Rattle.acct_files.specs.Tables.{table_of, text_at, two}
 use Rattle.acct_files.specs.Entries as entries
 
 -- whom a key's table names: an account, as shown, or whether it is the cashier
@@ -47,23 +49,18 @@ bearer_in members =
     bearer_of (get_member (codes "account") members) (get_member (codes "cashier") members)
 
 -- the names of a key's table
-abbrev pub is_key_name : List ℕ → Bool
-is_key_name name = bytes_eq name (codes "token") || bytes_eq name (codes "account")
-    || bytes_eq name (codes "cashier")
+abbrev pub key_names : List (List ℕ)
+key_names = codes "token" ∷ codes "account" ∷ codes "cashier" ∷ []
 
 -- the token and the bearer of a key's table
 abbrev pub KeyValues : Type 0
 KeyValues = List ℕ × Bearer
 
 abbrev pub values_in : Members → Option KeyValues
-values_in members =
-    if has_only is_key_name members
-    then two (text_at (codes "token") members) (bearer_in members)
-    else None
+values_in members = two (text_at (codes "token") members) (bearer_in members)
 
 abbrev pub key_values : Data → Option KeyValues
-key_values (table members) = values_in members
-key_values _ = None
+key_values value = option_and_then values_in (table_of key_names value)
 
 -- the bearer's role: a percent-decoded account of 1 to 253 octets, or the cashier
 abbrev pub SaysRole : Bearer → Role → Type 0
@@ -73,29 +70,32 @@ SaysRole (account text) Cashier = ⊥
 SaysRole (cashier is) Cashier = is ≡ true
 SaysRole (cashier is) (Account octets) = ⊥
 
--- the values are those of this key, each within its rule
+-- the values are those of this key
 pub record SaysKey (values : KeyValues) (key : DeskKey) : Type 0 where
   pub token_is : values.0 ≡ key.token
-  pub token_fits : is_token_text key.token ≡ true
   pub role_is : SaysRole values.1 key.role
 
 abbrev pub SpellsKey : Data → DeskKey → Type 0
 SpellsKey = entries.Spells key_values SaysKey key_fault
 
--- the tables spell these keys, of which no two share a token
+-- the tables spell these keys, each with a token within its rule, of which no two share one
 abbrev pub AreKeyTables : List Data → List DeskKey → Type 0
 AreKeyTables = entries.AreEntries key_values SaysKey key_fault
 
 -- why a table is no key, or memory was refused
 abbrev pub IsNoKey : Data → ConfigKind → Type 0
-IsNoKey value kind = (kind ≡ Memory)
-    ⊎ ((kind ≡ BadShape) × (key_values value ≡ None))
-    ⊎ ((kind ≡ BadKey) × entries.SpellsNone key_values SaysKey key_fault value)
+IsNoKey = entries.IsUnspelled key_values SaysKey key_fault BadKey
+
+-- how a key's fault is told
+abbrev pub key_kind : KeysError → ConfigKind
+key_kind BadToken = BadKey
+key_kind fault.TwiceKeyed = TwiceKeyed
+key_kind fault.Memory = Memory
 
 -- why a table after these keys is refused
 abbrev pub IsKeyRefused : List DeskKey → Data → ConfigKind → Type 0
-IsKeyRefused = entries.IsRefused key_values SaysKey key_fault BadKey TwiceKeyed
+IsKeyRefused = entries.IsRefused key_values SaysKey key_fault BadKey key_kind
 
 -- the error tells the first key's table that is refused
 abbrev pub FirstKeyRefused : List Data → ConfigError → Type 0
-FirstKeyRefused = entries.FirstRefused key_values SaysKey key_fault place.Key BadKey TwiceKeyed
+FirstKeyRefused = entries.FirstRefused AreKeyTables IsKeyRefused place.Key

@@ -1,24 +1,26 @@
 -- The tables of plans.
-use Rattle.std.specs.Prelude.{◌≡◌, ◌⊎◌, ℕ, ℤ, pos, Bool, true, false, ◌&&◌, ◌||◌, nat_le, List}
-use Rattle.std.specs.Prelude.{length, if◌then◌else◌, Option, None, bytes_eq, codes}
+use Rattle.std.specs.Prelude.{◌≡◌, ℕ, ℤ, pos, Bool, true, false, ◌&&◌, nat_le, List, [], ◌∷◌}
+use Rattle.std.specs.Prelude.{length, Option, option_and_then, codes}
 use Rattle.std.specs.List.{list_any}
-use Rattle.toml.specs.Data.{Data, table, Members}
+use Rattle.toml.specs.Data.{Data, Members}
 use Rattle.acct_model.specs.declared.plan.Plan.{Plan}
+use Rattle.acct_model.specs.declared.plans.PlanError.{PlanError}
+use Rattle.acct_model.specs.declared.plans.PlanError.TheVariants.{BadBlock, BadUnit}
+use Rattle.acct_model.specs.declared.plans.PlanError.TheVariants as fault
 use Rattle.acct_model.specs.Plans.{has_class, default_class}
-use Rattle.acct_model.specs.PlanFaults.{is_block, is_unit, plan_fault}
+use Rattle.acct_model.specs.PlanFaults.{plan_fault}
 use Rattle.acct_files.specs.declared.config_error.ConfigKind.{ConfigKind}
-use Rattle.acct_files.specs.declared.config_error.ConfigKind.TheVariants.{BadShape, BadPlan}
+use Rattle.acct_files.specs.declared.config_error.ConfigKind.TheVariants.{BadPlan}
 use Rattle.acct_files.specs.declared.config_error.ConfigKind.TheVariants.{TwicePlanned, NoDefault}
 use Rattle.acct_files.specs.declared.config_error.ConfigKind.TheVariants.{Memory}
 use Rattle.acct_files.specs.declared.config_error.ConfigTable.TheVariants as place
 use Rattle.acct_files.specs.declared.config_error.ConfigError.{ConfigError}
-use Rattle.acct_files.specs.Tables.{has_only, text_at, integer_at, three, top_error}
+use Rattle.acct_files.specs.Tables.{table_of, text_at, integer_at, three, top_error}
 use Rattle.acct_files.specs.Entries as entries
 
 -- the names of a plan's table
-abbrev pub is_plan_name : List ℕ → Bool
-is_plan_name name = bytes_eq name (codes "class") || bytes_eq name (codes "block")
-    || bytes_eq name (codes "unit")
+abbrev pub plan_names : List (List ℕ)
+plan_names = codes "class" ∷ codes "block" ∷ codes "unit" ∷ []
 
 -- the class, the block and the unit of a plan's table
 abbrev pub PlanValues : Type 0
@@ -26,32 +28,27 @@ PlanValues = List ℕ × ℤ × ℤ
 
 abbrev pub values_in : Members → Option PlanValues
 values_in members =
-    if has_only is_plan_name members
-    then three (text_at (codes "class") members) (integer_at (codes "block") members)
+    three (text_at (codes "class") members) (integer_at (codes "block") members)
     (integer_at (codes "unit") members)
-    else None
 
 abbrev pub plan_values : Data → Option PlanValues
-plan_values (table members) = values_in members
-plan_values _ = None
+plan_values value = option_and_then values_in (table_of plan_names value)
 
 -- 1 to 253 octets
 abbrev pub is_class : List ℕ → Bool
 is_class class = nat_le 1 (length class) && nat_le (length class) 253
 
--- the values are those of this plan, each within its rule
+-- the values are those of this plan, with a class within its rule
 pub record SaysPlan (values : PlanValues) (plan : Plan) : Type 0 where
   pub class_is : values.0 ≡ plan.class
   pub block_is : values.1 ≡ pos plan.block
   pub unit_is : values.2 ≡ pos plan.unit
   pub class_fits : is_class plan.class ≡ true
-  pub block_fits : is_block plan.block ≡ true
-  pub unit_fits : is_unit plan.unit ≡ true
 
 abbrev pub SpellsPlan : Data → Plan → Type 0
 SpellsPlan = entries.Spells plan_values SaysPlan plan_fault
 
--- the tables spell these plans, of which no two share a class
+-- the tables spell these plans, each within its bounds, of which no two share a class
 abbrev pub ArePlanTables : List Data → List Plan → Type 0
 ArePlanTables = entries.AreEntries plan_values SaysPlan plan_fault
 
@@ -61,18 +58,23 @@ has_default plans = list_any (has_class default_class) plans
 
 -- why a table is no plan, or memory was refused
 abbrev pub IsNoPlan : Data → ConfigKind → Type 0
-IsNoPlan value kind = (kind ≡ Memory)
-    ⊎ ((kind ≡ BadShape) × (plan_values value ≡ None))
-    ⊎ ((kind ≡ BadPlan) × entries.SpellsNone plan_values SaysPlan plan_fault value)
+IsNoPlan = entries.IsUnspelled plan_values SaysPlan plan_fault BadPlan
+
+-- how a plan's fault is told
+abbrev pub plan_kind : PlanError → ConfigKind
+plan_kind BadBlock = BadPlan
+plan_kind BadUnit = BadPlan
+plan_kind fault.TwicePlanned = TwicePlanned
+plan_kind fault.NoDefault = NoDefault
+plan_kind fault.Memory = Memory
 
 -- why a table after these plans is refused
 abbrev pub IsPlanRefused : List Plan → Data → ConfigKind → Type 0
-IsPlanRefused = entries.IsRefused plan_values SaysPlan plan_fault BadPlan TwicePlanned
+IsPlanRefused = entries.IsRefused plan_values SaysPlan plan_fault BadPlan plan_kind
 
 -- the error tells the first plan's table that is refused
 abbrev pub FirstPlanRefused : List Data → ConfigError → Type 0
-FirstPlanRefused =
-    entries.FirstRefused plan_values SaysPlan plan_fault place.Plan BadPlan TwicePlanned
+FirstPlanRefused = entries.FirstRefused ArePlanTables IsPlanRefused place.Plan
 
 -- the error tells that no plan is `default`
 pub record LacksDefault (tables : List Data) (error : ConfigError) : Type 0 where

@@ -1,9 +1,9 @@
 -- What stands at the names of a document's tables.
 use Rattle.std.specs.Prelude.{ℕ, ℤ, Bool, List, [], ◌∷◌, length, nat_le, if◌then◌else◌}
-use Rattle.std.specs.Prelude.{Option, Some, None, option_and_then}
-use Rattle.std.specs.List.{list_all}
+use Rattle.std.specs.Prelude.{Option, Some, None, option_and_then, bytes_eq}
+use Rattle.std.specs.List.{list_all, list_any}
 use Rattle.toml.specs.Data.{Data, array, Items, no_items, item, Members, no_members, member}
-use Rattle.toml.specs.Data.{get_member, as_str, as_integer}
+use Rattle.toml.specs.Data.{get_member, as_str, as_integer, as_table}
 use Rattle.acct_files.specs.declared.config_error.ConfigKind.{ConfigKind}
 use Rattle.acct_files.specs.declared.config_error.ConfigTable.TheVariants.{Top}
 use Rattle.acct_files.specs.declared.config_error.ConfigError.{ConfigError}
@@ -17,9 +17,21 @@ abbrev pub names_of : Members → List (List ℕ)
 names_of no_members = []
 names_of (member name value rest) = name ∷ names_of rest
 
--- each name of the table is a known one
-abbrev pub has_only : (List ℕ → Bool) → Members → Bool
-has_only is_known table = list_all is_known (names_of table)
+-- the name is one of these
+abbrev pub is_one_of : List (List ℕ) → List ℕ → Bool
+is_one_of known name = list_any (bytes_eq name) known
+
+-- each name of the table is one of these
+abbrev pub has_only : List (List ℕ) → Members → Bool
+has_only known table = list_all (is_one_of known) (names_of table)
+
+-- what stands in a table that has no names but these
+abbrev pub only : List (List ℕ) → Members → Option Members
+only known table = if has_only known table then Some table else None
+
+-- the same of an element that is such a table
+abbrev pub table_of : List (List ℕ) → Data → Option Members
+table_of known element = option_and_then (only known) (as_table element)
 
 -- the text that stands at a name
 abbrev pub text_at : List ℕ → Members → Option (List ℕ)

@@ -1,19 +1,17 @@
 //! The tables of clients.
-ghost use Rattle.std.specs.Prelude.{◌≡◌, ◌⊎◌, IfOk, IfErr, is_some, map, option_map, string_bytes};
-ghost use Rattle.std.specs.BTreeMap.{keys};
-ghost use Rattle.std.specs.List.{list_all, list_any};
-ghost use Rattle.toml.specs.View.{view, table_view};
-ghost use Rattle.acct_wire.specs.Clients.{has_name, has_address};
-ghost use Rattle.acct_wire.specs.ClientFaults.{client_fault};
+ghost use Rattle.std.specs.Prelude.{◌≡◌, ◌⊎◌, IfOk, IfErr, map, option_map};
+ghost use Rattle.std.specs.List.{list_all};
+ghost use Rattle.toml.specs.View.{view};
 ghost use Rattle.acct_files.specs.ClientTables as spec;
 ghost use Rattle.acct_files.specs.declared.config_error.ConfigKind.TheVariants as kind;
 
 use crate::config_error::{ConfigError, ConfigKind, ConfigTable};
-use crate::tables::text_at;
+use crate::entries::{Entries, entries_of};
+use crate::tables::{table_of, text_at};
 use acct_model::{Octets, Text, address_of};
-use acct_wire::{Client, Clients};
+use acct_wire::{Client, ClientError, Clients};
 use std::alloc::Global;
-use toml::{Table, Value};
+use toml::Value;
 
 /// The most octets of a client's name.
 const LONGEST_NAME: usize = 32;
@@ -26,52 +24,29 @@ pub(crate) fn clients_of(alloc: Global, tables: &[Value]) -> Result<Clients, Con
     ensures refused { IfErr result (λ error. (error.kind ≡ kind.Memory)
         ⊎ spec.FirstClientRefused (map view tables.now) error) }
 {
-    let mut clients = Vec::new(alloc);
-    for (index, value) in tables.iter().enumerate() {
-        let pushed = match client_after(alloc, &clients, value) {
-            Ok(client) => clients.push(client),
-            Err(kind) => {
-                return Err(ConfigError {
-                    kind,
-                    table: ConfigTable::Client,
-                    index,
-                });
-            }
-        };
-        if pushed.is_err() {
-            return Err(ConfigError::top(ConfigKind::Memory));
+    entries_of(alloc, ConfigTable::Client, tables, Clients::none(alloc))
+}
+
+impl Entries for Clients {
+    ghost are_spelled = { spec.AreClientTables };
+
+    ghost refuses = { spec.IsClientRefused };
+
+    fn push_table(&mut self, alloc: Global, table: &Value) -> Result<(), ConfigKind> {
+        let client = client_of(alloc, table)?;
+        Ok(self.push(client)?)
+    }
+}
+
+impl From<ClientError> for ConfigKind {
+    ghost from_gives = { λ error kind. kind ≡ spec.client_kind error };
+
+    fn from(error: ClientError) -> ConfigKind {
+        match error {
+            ClientError::TwiceNamed | ClientError::TwiceAddressed => ConfigKind::TwiceClient,
+            ClientError::Memory => ConfigKind::Memory,
         }
     }
-    match Clients::new(clients) {
-        Ok(clients) => Ok(clients),
-        Err(_) => unreachable!(),
-    }
-}
-
-// The client that a table spells, if no earlier one has its name or address.
-fn client_after(alloc: Global, earlier: &[Client], table: &Value) -> Result<Client, ConfigKind>
-    ensures spelled { IfOk result (spec.SpellsClient (view table.now)) }
-    ensures alone { IfOk result (λ client. client_fault earlier.now client ≡ None) }
-    ensures refused { IfErr result (λ why. (why ≡ kind.Memory)
-        ⊎ spec.IsClientRefused earlier.now (view table.now) why) }
-{
-    let client = client_of(alloc, table)?;
-    if is_named(earlier, &client) || is_addressed(earlier, &client) {
-        return Err(ConfigKind::TwiceClient);
-    }
-    Ok(client)
-}
-
-fn is_named(earlier: &[Client], client: &Client) -> bool
-    ensures { result ≡ list_any (has_name client.now.name) earlier.now }
-{
-    earlier.iter().any(|other| other.name == client.name)
-}
-
-fn is_addressed(earlier: &[Client], client: &Client) -> bool
-    ensures { result ≡ list_any (has_address client.now.address) earlier.now }
-{
-    earlier.iter().any(|other| other.address == client.address)
 }
 
 // The client that a table spells.
@@ -100,39 +75,11 @@ fn texts_of(value: &Value) -> Option<(&str, &str, &str)>
     ensures { option_map (λ t. (t.0.now, t.1.now, t.2.now)) result
         ≡ spec.client_texts (view value.now) }
 {
-    match value.as_table() {
-        Some(table) => texts_in(table),
-        None => None,
-    }
-}
-
-fn texts_in(table: &Table) -> Option<(&str, &str, &str)>
-    ensures { option_map (λ t. (t.0.now, t.1.now, t.2.now)) result
-        ≡ spec.texts_in (table_view table.now) }
-{
-    if !has_known_names(table) {
-        return None;
-    }
-    let name = text_at(table, "name");
-    let address = text_at(table, "address");
-    let secret = text_at(table, "secret");
-    match (name, address, secret) {
-        (Some(name), Some(address), Some(secret)) => Some((name, address, secret)),
-        _ => None,
-    }
-}
-
-fn has_known_names(table: &Table) -> bool
-    ensures { result ≡ list_all (λ name. spec.is_client_name (string_bytes name))
-        (keys table.now) }
-{
-    table.keys().all(|name| is_client_name(name.as_str()))
-}
-
-fn is_client_name(name: &str) -> bool
-    ensures { result ≡ spec.is_client_name name.now }
-{
-    name == "name" || name == "address" || name == "secret"
+    let table = table_of(value, &["name", "address", "secret"])?;
+    let name = text_at(table, "name")?;
+    let address = text_at(table, "address")?;
+    let secret = text_at(table, "secret")?;
+    Some((name, address, secret))
 }
 
 fn is_name(text: &str) -> bool

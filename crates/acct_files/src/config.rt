@@ -1,8 +1,5 @@
 //! The configuration of a site.
 ghost use Rattle.std.specs.Prelude.{◌≡◌, ◌⊎◌, None, Some, IfOk, IfErr, map, option_map};
-ghost use Rattle.std.specs.Prelude.{string_bytes};
-ghost use Rattle.std.specs.BTreeMap.{keys};
-ghost use Rattle.std.specs.List.{list_all};
 ghost use Rattle.toml.specs.Parse.{parse_document};
 ghost use Rattle.toml.specs.View.{view, table_view};
 ghost use Rattle.acct_files.specs.Config.{IsConfig, IsConfigError};
@@ -14,7 +11,7 @@ use crate::client_tables::clients_of;
 use crate::config_error::{ConfigError, ConfigKind};
 use crate::key_tables::keys_of;
 use crate::plan_tables::plans_of;
-use crate::tables::array_at;
+use crate::tables::{array_at, only};
 use acct_site::Config;
 use std::alloc::Global;
 use toml::{Table, Value};
@@ -30,8 +27,7 @@ const MOST_KEYS: usize = 4_096;
 ///
 /// The text is gone through once. Each key is looked up among the earlier ones by its token, so
 /// the cost of the keys grows as their number times its logarithm. Each client is compared with
-/// all earlier ones, at most 1,023, and each plan with at most 255, here and once more by
-/// `Clients::new` and `Plans::new`.
+/// all earlier ones, at most 1,023, and each plan with at most 255.
 ///
 /// # Errors
 ///
@@ -76,26 +72,9 @@ fn arrays_in(document: &Table) -> Option<(&[Value], &[Value], &[Value])>
     ensures { option_map (λ a. (map view a.0.now, map view a.1.now, map view a.2.now)) result
         ≡ spec.arrays_in (table_view document.now) }
 {
-    if !has_known_names(document) {
-        return None;
-    }
-    let clients = array_at(document, "client", MOST_CLIENTS);
-    let plans = array_at(document, "plan", MOST_PLANS);
-    let keys = array_at(document, "key", MOST_KEYS);
-    match (clients, plans, keys) {
-        (Some(clients), Some(plans), Some(keys)) => Some((clients, plans, keys)),
-        _ => None,
-    }
-}
-
-fn has_known_names(document: &Table) -> bool
-    ensures { result ≡ list_all (λ name. spec.is_top_name (string_bytes name)) (keys document.now) }
-{
-    document.keys().all(|name| is_top_name(name.as_str()))
-}
-
-fn is_top_name(name: &str) -> bool
-    ensures { result ≡ spec.is_top_name name.now }
-{
-    name == "client" || name == "plan" || name == "key"
+    let document = only(document, &["client", "plan", "key"])?;
+    let clients = array_at(document, "client", MOST_CLIENTS)?;
+    let plans = array_at(document, "plan", MOST_PLANS)?;
+    let keys = array_at(document, "key", MOST_KEYS)?;
+    Some((clients, plans, keys))
 }

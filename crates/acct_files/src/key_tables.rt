@@ -1,30 +1,17 @@
 //! The tables of keys.
-ghost use Rattle.std.specs.Prelude.{◌≡◌, ◌⊎◌, ◌++◌, [], ◌∷◌, None, true, false, IfOk, IfErr};
-ghost use Rattle.std.specs.Prelude.{OnOk, List, length, map, option_map, string_bytes};
-ghost use Rattle.std.specs.BTreeMap.{keys};
-ghost use Rattle.std.specs.List.{list_all, list_any};
+ghost use Rattle.std.specs.Prelude.{◌≡◌, ◌⊎◌, IfOk, IfErr, map, option_map};
 ghost use Rattle.toml.specs.View.{view, table_view};
-ghost use Rattle.acct_desk.specs.declared.keys.DeskKey.{DeskKey};
 ghost use Rattle.acct_desk.specs.declared.keys.Role.{Role};
-ghost use Rattle.acct_desk.specs.Keys.{has_token, is_token_octet, is_token_text};
-ghost use Rattle.acct_desk.specs.KeyFaults.{ArePlaces};
 ghost use Rattle.acct_files.specs.KeyTables as spec;
 ghost use Rattle.acct_files.specs.declared.config_error.ConfigKind.TheVariants as kind;
 
 use crate::config_error::{ConfigError, ConfigKind, ConfigTable};
-use crate::tables::text_at;
-use acct_desk::{DeskKey, Keys, Role};
-use acct_model::{Octets, Text, unshow};
-use std::alloc::{AllocError, Global};
-use std::collections::BTreeMap;
+use crate::entries::{Entries, entries_of};
+use crate::tables::{table_of, text_at};
+use acct_desk::{DeskKey, Keys, KeysError, Role};
+use acct_model::{Octets, Text, is_account, unshow};
+use std::alloc::Global;
 use toml::{Table, Value};
-
-/// The fewest characters of a token.
-const SHORTEST_TOKEN: usize = 16;
-/// The most characters of a token.
-const LONGEST_TOKEN: usize = 64;
-/// The most octets of an account.
-const LONGEST_ACCOUNT: usize = 253;
 
 // Whom a key's table names.
 #[derive(Clone, Copy)]
@@ -35,68 +22,39 @@ pub(crate) enum Bearer<'t> {
     Cashier(bool),
 }
 
-// The keys that tables spell, each after the earlier ones. Each token is looked up once, in a map.
+// The keys that tables spell, each after the earlier ones.
 pub(crate) fn keys_of(alloc: Global, tables: &[Value]) -> Result<Keys, ConfigError>
     ensures spelled { IfOk result (spec.AreKeyTables (map view tables.now)) }
     ensures refused { IfErr result (λ error. (error.kind ≡ kind.Memory)
         ⊎ spec.FirstKeyRefused (map view tables.now) error) }
 {
-    let mut keys = Vec::new(alloc);
-    let mut places = BTreeMap::new(alloc);
-    for (index, value) in tables.iter().enumerate() {
-        let pushed = match key_after(alloc, &mut places, index, value) {
-            Ok(key) => keys.push(key),
-            Err(kind) => {
-                return Err(ConfigError {
-                    kind,
-                    table: ConfigTable::Key,
-                    index,
-                });
-            }
-        };
-        if pushed.is_err() {
-            return Err(ConfigError::top(ConfigKind::Memory));
+    match Keys::none(alloc) {
+        Ok(none) => entries_of(alloc, ConfigTable::Key, tables, none),
+        Err(fault) => Err(ConfigError::top(ConfigKind::from(fault))),
+    }
+}
+
+impl Entries for Keys {
+    ghost are_spelled = { spec.AreKeyTables };
+
+    ghost refuses = { spec.IsKeyRefused };
+
+    fn push_table(&mut self, alloc: Global, table: &Value) -> Result<(), ConfigKind> {
+        let key = key_of(alloc, table)?;
+        Ok(self.push(alloc, key)?)
+    }
+}
+
+impl From<KeysError> for ConfigKind {
+    ghost from_gives = { λ error kind. kind ≡ spec.key_kind error };
+
+    fn from(error: KeysError) -> ConfigKind {
+        match error {
+            KeysError::BadToken => ConfigKind::BadKey,
+            KeysError::TwiceKeyed => ConfigKind::TwiceKeyed,
+            KeysError::Memory => ConfigKind::Memory,
         }
     }
-    // Nothing is wrong with any of the keys, so a fault is that of memory.
-    match Keys::new(alloc, keys) {
-        Ok(keys) => Ok(keys),
-        Err(_) => Err(ConfigError::top(ConfigKind::Memory)),
-    }
-}
-
-// The key that a table spells, if no earlier one has its token, whose place is kept.
-fn key_after(
-    alloc: Global,
-    places: &mut BTreeMap<Vec<u8>, usize>,
-    place: usize,
-    table: &Value,
-) -> Result<DeskKey, ConfigKind>
-    ensures spelled { IfOk result (spec.SpellsKey (view table.now)) }
-    ensures alone { IfOk result (λ key. (earlier : List DeskKey) → ArePlaces places.old earlier
-        → list_any (has_token key.token) earlier ≡ false) }
-    ensures placed { IfOk result (λ key. (earlier : List DeskKey) → ArePlaces places.old earlier
-        → length earlier ≡ place → ArePlaces places.new (earlier ++ key ∷ [])) }
-    ensures refused { IfErr result (λ why. (earlier : List DeskKey) → ArePlaces places.old earlier
-        → (why ≡ kind.Memory) ⊎ spec.IsKeyRefused earlier (view table.now) why) }
-{
-    let key = key_of(alloc, table)?;
-    let token = key.token.as_str().as_bytes();
-    if places.contains_key(token) {
-        return Err(ConfigKind::TwiceKeyed);
-    }
-    let token = owned(alloc, token)?;
-    if places.insert(token, place).is_err() {
-        return Err(ConfigKind::Memory);
-    }
-    Ok(key)
-}
-
-// A copy of octets.
-fn owned(alloc: Global, octets: &[u8]) -> Result<Vec<u8>, AllocError>
-    ensures { IfOk result (λ copy. copy.items ≡ octets.now) }
-{
-    octets.to_vec(alloc)
 }
 
 // The key that a table spells.
@@ -107,9 +65,6 @@ fn key_of(alloc: Global, table: &Value) -> Result<DeskKey, ConfigKind>
     let Some((token, bearer)) = values_of(table) else {
         return Err(ConfigKind::BadShape);
     };
-    if !is_token(token) {
-        return Err(ConfigKind::BadKey);
-    }
     let role = role_of(alloc, bearer)?;
     let token = Text::from_str(alloc, token)?;
     Ok(DeskKey { token, role })
@@ -124,7 +79,7 @@ fn role_of(alloc: Global, bearer: Bearer<'_>) -> Result<Role, ConfigKind>
     match bearer {
         Bearer::Account(text) => {
             let octets = unshow(alloc, text)?;
-            if octets.is_empty() || octets.len() > LONGEST_ACCOUNT {
+            if !is_account(&octets) {
                 return Err(ConfigKind::BadKey);
             }
             Ok(Role::Account(Octets { octets }))
@@ -139,35 +94,10 @@ fn values_of(value: &Value) -> Option<(&str, Bearer<'_>)>
     ensures { option_map (λ t. (t.0.now, spec.bearer_view t.1)) result
         ≡ spec.key_values (view value.now) }
 {
-    match value.as_table() {
-        Some(table) => values_in(table),
-        None => None,
-    }
-}
-
-fn values_in(table: &Table) -> Option<(&str, Bearer<'_>)>
-    ensures { option_map (λ t. (t.0.now, spec.bearer_view t.1)) result
-        ≡ spec.values_in (table_view table.now) }
-{
-    if !has_known_names(table) {
-        return None;
-    }
-    match (text_at(table, "token"), bearer_in(table)) {
-        (Some(token), Some(bearer)) => Some((token, bearer)),
-        _ => None,
-    }
-}
-
-fn has_known_names(table: &Table) -> bool
-    ensures { result ≡ list_all (λ name. spec.is_key_name (string_bytes name)) (keys table.now) }
-{
-    table.keys().all(|name| is_key_name(name.as_str()))
-}
-
-fn is_key_name(name: &str) -> bool
-    ensures { result ≡ spec.is_key_name name.now }
-{
-    name == "token" || name == "account" || name == "cashier"
+    let table = table_of(value, &["token", "account", "cashier"])?;
+    let token = text_at(table, "token")?;
+    let bearer = bearer_in(table)?;
+    Some((token, bearer))
 }
 
 // The bearer that a key's table names by one of two names.
@@ -198,25 +128,4 @@ fn cashier_bearer(value: &Value) -> Option<Bearer<'_>>
         Some(is) => Some(Bearer::Cashier(is)),
         None => None,
     }
-}
-
-// Whether a text may be a token.
-fn is_token(token: &str) -> bool
-    ensures { result ≡ is_token_text token.now }
-{
-    token.len() >= SHORTEST_TOKEN
-        && token.len() <= LONGEST_TOKEN
-        && are_characters(token.as_bytes())
-}
-
-fn are_characters(octets: &[u8]) -> bool
-    ensures { result ≡ list_all is_token_octet octets.now }
-{
-    octets.iter().all(|octet| is_character(*octet))
-}
-
-fn is_character(octet: u8) -> bool
-    ensures { result ≡ is_token_octet octet }
-{
-    matches!(octet, b'A'..=b'Z' | b'a'..=b'z' | b'0'..=b'9' | b'-')
 }

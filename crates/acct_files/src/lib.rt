@@ -17,6 +17,7 @@ mod client_tables;
 mod config;
 mod config_error;
 mod csv_lines;
+mod entries;
 mod import_report;
 mod importing;
 mod key_tables;

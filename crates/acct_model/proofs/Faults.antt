@@ -1,10 +1,10 @@
 -- The first fault of a list, from a place on and where there is none.
 use Rattle.std.proofs.Common.{◌≡◌, ℕ, ◌+◌, ◌<◌, ◌≤◌, inl, inr, Option, None, Some, List, [], ◌∷◌}
 use Rattle.std.proofs.Common.{◌++◌, length, take, drop, get_or, refl, sym, ◌∙◌, ap, subst}
-use Rattle.std.proofs.lemmas.List.{drop_more, take_more, drop_all}
+use Rattle.std.proofs.lemmas.List.{drop_more, take_more, drop_all, append-nil, append_assoc}
 use Rattle.std.specs.Prelude.{Contains}
 use Rattle.std.specs.Option.{option_or}
-use Rattle.acct_model.specs.Faults.{first_fault_after}
+use Rattle.acct_model.specs.Faults.{first_fault, first_fault_after}
 use Rattle.acct_model.proofs.Lists.{nowhere, front_or_behind}
 
 -- of two options that are none in turn, each is none
@@ -34,6 +34,22 @@ module _ {X E : Type 0} (fault : List X → X → Option E) where
 
   pub faults_from-all : (xs : List X) (i : ℕ) → length xs ≤ i → faults_from i xs ≡ None
   faults_from-all xs i all = ap (first_fault_after fault (take i xs)) (drop_all i xs all)
+
+  -- where there is no fault, nor in one more that comes after all, there is none
+  faultless_after : (earlier xs : List X) (x : X) → first_fault_after fault earlier xs ≡ None
+      → fault (earlier ++ xs) x ≡ None → first_fault_after fault earlier (xs ++ x ∷ []) ≡ None
+  faultless_after earlier [] x none alone =
+      ap (λ o. option_or o None) (ap (λ front. fault front x) (sym (append-nil earlier)) ∙ alone)
+  faultless_after earlier (y ∷ xs) x none alone =
+      ap (λ o. option_or o (first_fault_after fault (earlier ++ y ∷ []) (xs ++ x ∷ [])))
+      (first_none (fault earlier y) (first_fault_after fault (earlier ++ y ∷ []) xs) none)
+      ∙ faultless_after (earlier ++ y ∷ []) xs x
+      (second_none (fault earlier y) (first_fault_after fault (earlier ++ y ∷ []) xs) none)
+      (ap (λ front. fault front x) (append_assoc earlier (y ∷ []) xs) ∙ alone)
+
+  pub faultless_more : (xs : List X) (x : X) → first_fault fault xs ≡ None → fault xs x ≡ None
+      → first_fault fault (xs ++ x ∷ []) ≡ None
+  faultless_more xs x none alone = faultless_after [] xs x none alone
 
   -- where there is no fault, each element passes, judged by some that stand before it
   pub passed : (earlier xs : List X) → first_fault_after fault earlier xs ≡ None → (x : X)

@@ -1,11 +1,11 @@
 -- What the faults of a list of plans say.
-use Rattle.std.proofs.Common.{◌≡◌, ℕ, ◌<◌, ◌≤◌, ◌^◌, Bool, true, false, cond, not, ◌&&◌, ◌||◌}
-use Rattle.std.proofs.Common.{Option, None, Some, List, [], ◌∷◌, refl, sym, ◌∙◌, arith}
+use Rattle.std.proofs.Common.{◌≡◌, ℕ, ◌<◌, ◌≤◌, ◌^◌, Bool, true, false, cond, not, ◌&&◌}
+use Rattle.std.proofs.Common.{Option, None, Some, List, [], refl, sym, ◌∙◌, arith}
 use Rattle.std.proofs.lemmas.Bool.{true≢false}
 use Rattle.std.proofs.lemmas.Bool.Decides.{nat_tests}
 use Rattle.std.specs.List.{find, list_any}
 use Rattle.std.specs.Option.{option_or}
-use Rattle.std.specs.Prelude.{is_some, nat_le, Contains, IsSome}
+use Rattle.std.specs.Prelude.{nat_le, Contains, IsSome}
 use Rattle.acct_model.specs.declared.plan.Plan.{Plan}
 use Rattle.acct_model.specs.declared.plans.PlanError.TheVariants.{NoDefault, TwicePlanned, BadBlock}
 use Rattle.acct_model.specs.declared.plans.PlanError.TheVariants.{BadUnit}
@@ -14,14 +14,6 @@ use Rattle.acct_model.specs.Plans.{has_class, default_class, plan_for}
 use Rattle.acct_model.specs.PlanFaults.{is_block, is_unit, plan_fault, default_fault, fault_of}
 use Rattle.acct_model.proofs.Faults.{first_none, second_none, passed}
 use Rattle.acct_model.proofs.Lists.{find-none, find-some}
-
-pub is_some-find : {X : Type 0} (p : X → Bool) (xs : List X) → is_some (find p xs) ≡ list_any p xs
-is_some-find p [] = refl
-is_some-find p (x ∷ xs) =
-    elim (p x) as (λ b. is_some (cond b (Some x) (find p xs)) ≡ (b || list_any p xs)) [
-      | true ↦ refl
-      | false ↦ is_some-find p xs
-    ]
 
 pub default_there : (plans : List Plan) → default_fault plans ≡ None
     → list_any (has_class default_class) plans ≡ true

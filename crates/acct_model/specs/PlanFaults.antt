@@ -34,6 +34,10 @@ default_fault plans = if list_any (has_class default_class) plans then None else
 abbrev pub fault_of : List Plan → Option PlanError
 fault_of plans = option_or (first_fault plan_fault plans) (default_fault plans)
 
+-- what the plans of a list keep, of which none need be `default` yet
+pub record ArePlansSoFar (plans : List Plan) : Type 0 where
+  pub faultless : first_fault plan_fault plans ≡ None
+
 -- what the plans of a site keep
 pub record ArePlans (plans : List Plan) : Type 0 where
   pub faultless : fault_of plans ≡ None

@@ -1,20 +1,14 @@
 //! The plans of a site.
 ghost use Rattle.std.specs.Prelude.{◌≡◌, ◌^◌, ◌<◌, ◌≤◌, Some, None, IfOk, IfErr, OnOk};
-ghost use Rattle.std.specs.List.{find, list_any};
-ghost use Rattle.std.specs.Option.{option_copied};
-ghost use Rattle.acct_model.specs.Plans.{has_class, plan_for};
-ghost use Rattle.acct_model.specs.PlanFaults.{plan_fault};
+ghost use Rattle.acct_model.specs.Plans.{plan_for};
 
 use crate::plan::Plan;
+use crate::plan_list::{PlanList, find_plan, has_plan};
 use std::marker::Model;
 use thiserror::Error;
 
 /// The class of the plan that prices each class without a plan of its own.
 const DEFAULT: &[u8] = b"default";
-/// The greatest block, in octets.
-const GREATEST_BLOCK: u64 = 1 << 53;
-/// The greatest unit.
-const GREATEST_UNIT: u64 = 1_000_000_000;
 
 /// Plans of which each class has one at most and `default` has one. Each block is 1 to 2^53 and
 /// each unit 0 to 10^9.
@@ -57,10 +51,13 @@ pub enum PlanError {
     /// The unit is not 0 to 10^9.
     #[error("the unit is not 0 to 1000000000")]
     BadUnit = 4,
+    /// Memory was refused.
+    #[error("out of memory")]
+    Memory = 5,
 }
 
 impl Plans {
-    ghost use Rattle.acct_model.specs.PlanFaults.{fault_of};
+    ghost use Rattle.acct_model.specs.PlanFaults.{default_fault, fault_of};
 
     /// The plans as they are given, if they have no fault. It takes no memory.
     ///
@@ -73,11 +70,20 @@ impl Plans {
         ensures faultless { OnOk result (fault_of plans.items ≡ None) }
         ensures fault { IfErr result (λ fault. fault_of plans.items ≡ Some fault) }
     {
-        for i in 0..plans.len() {
-            if let Some(fault) = fault_after(&plans[..i], &plans[i]) {
-                return Err(fault);
-            }
-        }
+        Plans::from_list(PlanList::new(plans)?)
+    }
+
+    /// The plans of a list, if one of them is `default`. It takes no memory.
+    ///
+    /// # Errors
+    ///
+    /// `NoDefault`, where none is.
+    pub fn from_list(list: PlanList) -> Result<Plans, PlanError>
+        ensures kept { IfOk result (λ kept. kept ≡ list) }
+        ensures default { OnOk result (default_fault list ≡ None) }
+        ensures fault { IfErr result (λ fault. default_fault list ≡ Some fault) }
+    {
+        let plans = list.into_plans();
         if !has_plan(&plans, DEFAULT) {
             return Err(PlanError::NoDefault);
         }
@@ -105,38 +111,4 @@ impl Plans {
     {
         &self.plans
     }
-}
-
-// What is wrong with a plan that comes after earlier ones.
-fn fault_after(earlier: &[Plan], plan: &Plan) -> Option<PlanError>
-    ensures { result ≡ plan_fault earlier.now plan.now }
-{
-    if plan.block == 0 || plan.block > GREATEST_BLOCK {
-        return Some(PlanError::BadBlock);
-    }
-    if plan.unit > GREATEST_UNIT {
-        return Some(PlanError::BadUnit);
-    }
-    if has_plan(earlier, plan.class.as_slice()) {
-        return Some(PlanError::TwicePlanned);
-    }
-    None
-}
-
-// The first plan of a class.
-fn find_plan<'p>(plans: &'p [Plan], class: &[u8]) -> Option<&'p Plan>
-    ensures { option_copied result ≡ find (has_class class.now) plans.now }
-{
-    for plan in plans {
-        if class == plan.class.as_slice() {
-            return Some(plan);
-        }
-    }
-    None
-}
-
-fn has_plan(plans: &[Plan], class: &[u8]) -> bool
-    ensures { result ≡ list_any (has_class class.now) plans.now }
-{
-    find_plan(plans, class).is_some()
 }

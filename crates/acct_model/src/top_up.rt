@@ -2,6 +2,7 @@
 ghost use Rattle.std.specs.Prelude.{◌≡◌, ◌^◌, ◌<◌, None, IfOk, IfErr, OnOk};
 ghost use Rattle.std.specs.List.{list_all};
 ghost use Rattle.acct_model.specs.Vouchers.{is_voucher_octet, is_voucher_number};
+ghost use Rattle.acct_model.specs.Vouchers.{is_voucher_account};
 
 use crate::octets::Octets;
 use crate::text::Text;
@@ -114,7 +115,7 @@ impl TopUp {
         if !is_number(voucher) {
             return Err(TopUpError::BadVoucher);
         }
-        if account.is_empty() || account.len() > LONGEST_ACCOUNT {
+        if !is_account(account) {
             return Err(TopUpError::BadAccount);
         }
         if sum == 0 || sum > GREATEST_SUM {
@@ -140,6 +141,13 @@ impl TopUp {
         } = self;
         voucher
     }
+}
+
+/// Whether octets may name the account of a voucher or of a key: there are 1 to 253 of them.
+pub fn is_account(octets: &[u8]) -> bool
+    ensures { result ≡ is_voucher_account octets.now }
+{
+    !octets.is_empty() && octets.len() <= LONGEST_ACCOUNT
 }
 
 // Whether a text is a voucher's number.

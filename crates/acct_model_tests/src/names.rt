@@ -14,11 +14,12 @@ fn status_values_are_those_of_the_rfc(rt: HostRuntime) {
 }
 
 // The numbers of the errors of plans, entries and top-ups.
-const PLAN_NUMBERS: [u8; 4] = [
+const PLAN_NUMBERS: [u8; 5] = [
     PlanError::NoDefault as u8,
     PlanError::TwicePlanned as u8,
     PlanError::BadBlock as u8,
     PlanError::BadUnit as u8,
+    PlanError::Memory as u8,
 ];
 
 const ENTRY_NUMBERS: [u8; 6] = [
@@ -39,12 +40,12 @@ const TOPUP_NUMBERS: [u8; 4] = [
 
 #[test]
 fn errors_are_numbered(rt: HostRuntime) {
-    assert!(rt; PLAN_NUMBERS == [1, 2, 3, 4]);
+    assert!(rt; PLAN_NUMBERS == [1, 2, 3, 4, 5]);
     assert!(rt; ENTRY_NUMBERS == [1, 2, 3, 4, 5, 6]);
     assert!(rt; TOPUP_NUMBERS == [1, 2, 3, 4]);
 }
 
-const PLAN_TEXTS: [(PlanError, &str); 4] = [
+const PLAN_TEXTS: [(PlanError, &str); 5] = [
     (PlanError::NoDefault, "there is no plan default"),
     (
         PlanError::TwicePlanned,
@@ -55,6 +56,7 @@ const PLAN_TEXTS: [(PlanError, &str); 4] = [
         "the block is not 1 to 9007199254740992",
     ),
     (PlanError::BadUnit, "the unit is not 0 to 1000000000"),
+    (PlanError::Memory, "out of memory"),
 ];
 
 const ENTRY_TEXTS: [(EntryError, &str); 6] = [

@@ -1,5 +1,5 @@
 //! Plans, and what they charge.
-use acct_model::{PlanError, Plans, price};
+use acct_model::{Plan, PlanError, PlanList, Plans, price};
 use acct_samples::{plan, sample_plans};
 use std::alloc::Global;
 use std::test::Fail;
@@ -60,25 +60,49 @@ const FAULTS: [(&[u8], u64, u64, usize, PlanError); 5] = [
     ),
 ];
 
+// A list that is given whole, and one that is pushed plan by plan, have the same first fault.
 #[test]
 fn faults_of_plans_are_found_in_order(rt: HostRuntime) -> Result<(), Fail> {
     for (class, block, unit, copies, wanted) in FAULTS {
-        assert!(rt; fault_of(rt.alloc(), class, block, unit, copies)? == Some(wanted));
+        let list = copies_of(rt.alloc(), class, block, unit, copies)?;
+        assert!(rt; Plans::new(list).err() == Some(wanted));
+        let list = copies_of(rt.alloc(), class, block, unit, copies)?;
+        assert!(rt; pushed(rt.alloc(), list).err() == Some(wanted));
     }
     Ok(())
 }
 
-// What is wrong with a list of copies of a plan.
-fn fault_of(
+// A list of copies of a plan.
+fn copies_of(
     alloc: Global,
     class: &[u8],
     block: u64,
     unit: u64,
     copies: usize,
-) -> Result<Option<PlanError>, Fail> {
+) -> Result<Vec<Plan>, Fail> {
     let mut list = Vec::new(alloc);
     for _ in 0..copies {
         list.push(plan(alloc, class, block, unit)?)?;
     }
-    Ok(Plans::new(list).err())
+    Ok(list)
+}
+
+// The plans that become those of a site one after another.
+fn pushed(alloc: Global, plans: Vec<Plan>) -> Result<Plans, PlanError> {
+    let mut list = PlanList::none(alloc);
+    for plan in plans {
+        list.push(plan)?;
+    }
+    Plans::from_list(list)
+}
+
+// A plan that was refused leaves the list as it was, and `default` may come last.
+#[test]
+fn plans_are_pushed_one_by_one(rt: HostRuntime) -> Result<(), Fail> {
+    let mut list = PlanList::none(rt.alloc());
+    list.push(plan(rt.alloc(), b"gold", 1_048_576, 10)?)?;
+    assert!(rt; list.push(plan(rt.alloc(), b"gold", 1, 1)?) == Err(PlanError::TwicePlanned));
+    list.push(plan(rt.alloc(), b"default", 1_000_000, 5)?)?;
+    assert!(rt; has_units(&Plans::from_list(list)?));
+    Ok(())
 }

@@ -1,11 +1,13 @@
 //! The clients of a site: the access servers and proxies that may send reports.
-ghost use Rattle.std.specs.Prelude.{◌≡◌, Some, None, IfOk, IfErr, OnOk};
+ghost use Rattle.std.specs.Prelude.{◌≡◌, ◌++◌, [], ◌∷◌, Some, None, IfOk, IfErr, OnOk, OnErr};
 ghost use Rattle.std.specs.List.{list_any};
 ghost use Rattle.std.specs.Option.{option_copied};
+ghost use Rattle.acct_model.specs.Faults.{fault_or};
 ghost use Rattle.acct_wire.specs.Clients.{has_name, has_address, client_at, client_named};
 ghost use Rattle.acct_wire.specs.ClientFaults.{client_fault};
 
 use acct_model::{Octets, Text};
+use std::alloc::Global;
 use std::marker::Model;
 use thiserror::Error;
 
@@ -64,10 +66,22 @@ pub enum ClientError {
     /// An earlier client has the same address.
     #[error("an earlier client has the same address")]
     TwiceAddressed = 2,
+    /// Memory was refused.
+    #[error("out of memory")]
+    Memory = 3,
 }
 
 impl Clients {
     ghost use Rattle.acct_wire.specs.ClientFaults.{fault_of};
+
+    /// No clients. It takes no memory.
+    pub fn none(alloc: Global) -> Clients
+        ensures { result ≡ [] }
+    {
+        Clients {
+            clients: Vec::new(alloc),
+        }
+    }
 
     /// The clients as they are given, if they have no fault. It takes no memory.
     ///
@@ -85,6 +99,29 @@ impl Clients {
             }
         }
         Ok(Clients { clients: list })
+    }
+
+    /// Puts a client at the end, if it has no fault among those before it. It is compared with each
+    /// of them.
+    ///
+    /// # Errors
+    ///
+    /// The first of `TwiceNamed` and `TwiceAddressed` that holds, and `Memory` only where neither
+    /// does. The clients are then as before.
+    pub fn push(&mut self, client: Client) -> Result<(), ClientError>
+        ensures pushed { OnOk result (self.new ≡ self.old ++ client ∷ []) }
+        ensures faultless { OnOk result (client_fault self.old client ≡ None) }
+        ensures refused { IfErr result (λ error.
+            error ≡ fault_or ClientError.Memory (client_fault self.old client)) }
+        ensures unchanged { OnErr result (self.new ≡ self.old) }
+    {
+        if let Some(fault) = fault_behind(&self.clients, &client) {
+            return Err(fault);
+        }
+        if self.clients.push(client).is_err() {
+            return Err(ClientError::Memory);
+        }
+        Ok(())
     }
 
     /// The clients in the order in which they were given.
@@ -135,21 +172,11 @@ fn fault_behind(earlier: &[Client], client: &Client) -> Option<ClientError>
 fn is_named(earlier: &[Client], client: &Client) -> bool
     ensures { result ≡ list_any (has_name client.now.name) earlier.now }
 {
-    for other in earlier {
-        if other.name == client.name {
-            return true;
-        }
-    }
-    false
+    earlier.iter().any(|other| other.name == client.name)
 }
 
 fn is_addressed(earlier: &[Client], client: &Client) -> bool
     ensures { result ≡ list_any (has_address client.now.address) earlier.now }
 {
-    for other in earlier {
-        if other.address == client.address {
-            return true;
-        }
-    }
-    false
+    earlier.iter().any(|other| other.address == client.address)
 }

@@ -37,21 +37,45 @@ fn clients_have_names_and_addresses_of_their_own(rt: HostRuntime) -> Result<(), 
     Ok(())
 }
 
-// Whether three clients have this fault. Where there is none, they are listed as they were given.
+// Whether three clients have this fault, as one list and one by one. Where there is none, they are
+// listed as they were given.
 fn has_fault(
     alloc: Global,
     names: [&str; 3],
     addresses: [u8; 3],
     fault: Option<ClientError>,
 ) -> Result<bool, Fail> {
+    let given = Clients::new(three(alloc, names, addresses)?);
+    let pushed = pushed(alloc, three(alloc, names, addresses)?);
+    Ok(are_or_have(&given, names, fault) && are_or_have(&pushed, names, fault))
+}
+
+fn three(alloc: Global, names: [&str; 3], addresses: [u8; 3]) -> Result<Vec<Client>, Fail> {
     let mut list = Vec::new(alloc);
     for i in 0..3 {
         list.push(client(alloc, names[i], [10, 0, 0, addresses[i]])?)?;
     }
-    Ok(match &Clients::new(list) {
+    Ok(list)
+}
+
+// The clients that are pushed one after another.
+fn pushed(alloc: Global, list: Vec<Client>) -> Result<Clients, ClientError> {
+    let mut clients = Clients::none(alloc);
+    for client in list {
+        clients.push(client)?;
+    }
+    Ok(clients)
+}
+
+fn are_or_have(
+    found: &Result<Clients, ClientError>,
+    names: [&str; 3],
+    fault: Option<ClientError>,
+) -> bool {
+    match found {
         Ok(clients) => fault.is_none() && are_listed(clients, names),
         Err(found) => fault == Some(*found),
-    })
+    }
 }
 
 fn client(alloc: Global, name: &str, address: [u8; 4]) -> Result<Client, Fail> {

@@ -21,15 +21,16 @@ const REASONS: [u8; 13] = [
     Reason::Unavailable as u8,
 ];
 
-const CLIENT_ERRORS: [u8; 2] = [
+const CLIENT_ERRORS: [u8; 3] = [
     ClientError::TwiceNamed as u8,
     ClientError::TwiceAddressed as u8,
+    ClientError::Memory as u8,
 ];
 
 #[test]
 fn reasons_and_client_errors_are_numbered(rt: HostRuntime) {
     assert!(rt; REASONS == [1, 2, 3, 4, 5, 6, 7, 8, 9, 10, 11, 12, 13]);
-    assert!(rt; CLIENT_ERRORS == [1, 2]);
+    assert!(rt; CLIENT_ERRORS == [1, 2, 3]);
 }
 
 const TOTAL_TOO_LARGE: &str = "the total is above 9223372036854775807 octets";

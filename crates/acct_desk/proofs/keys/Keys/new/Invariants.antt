@@ -1,0 +1,13 @@
+use Rattle.std.proofs.Common.{◌≡◌, ◌++◌}
+use Rattle.std.specs.Vec.Iter.{into_iter_items}
+use Rattle.acct_model.specs.Faults.{first_fault_after}
+use Rattle.acct_desk.specs.KeyFaults.{key_fault, fault_of}
+use Rattle.acct_desk.proofs.keys.Keys.new.Given as goal
+
+abbrev pub invariant-loop-key : goal.invariant-loop-key
+invariant-loop-key l =
+    record {
+      rest : l.keys ++ into_iter_items l.key-iterator ≡ l.fn.list.items;
+      faults : first_fault_after key_fault l.keys (into_iter_items l.key-iterator)
+          ≡ fault_of l.fn.list.items;
+    }
