@@ -3,10 +3,9 @@ use Rattle.std.proofs.Common.{◌≡◌, ◌≢◌, ◌⊎◌, inl, inr, Bool, t
 use Rattle.std.proofs.Common.{List, [], ◌∷◌, ◌++◌, refl, sym, ap, ◌∙◌, subst, true≢false}
 use Rattle.std.specs.Prelude.{Option, Some, None, Contains, bytes_eq, is_some, option_map}
 use Rattle.std.specs.Bool.{Decides}
-use Rattle.std.specs.List.{All, filter}
+use Rattle.std.specs.List.{filter}
 use Rattle.std.specs.Option.{option_or, option_and_then, option_map_or}
 use Rattle.std.proofs.lemmas.List.Elements.{Contains-append_right}
-use Rattle.acct_model.specs.declared.plan.Plan.{Plan}
 use Rattle.acct_model.specs.declared.report.ReportKind.{ReportKind}
 use Rattle.acct_model.specs.declared.report.ReportKind.TheVariants.{Start, Stop, Interim}
 use Rattle.acct_model.specs.declared.entry.Restart.{Restart}
@@ -26,8 +25,8 @@ use Rattle.acct_book.specs.Row.{RowFacts}
 use Rattle.acct_book.specs.Content.{same_key, key_of, closed_row, closed_by}
 use Rattle.acct_book.specs.Rows.{name_of, is_stop, has_octets, first_stop, is_restarted, state_of}
 use Rattle.acct_book.specs.Rows.{cause_of, calling_of, framed_of, row_from, row_of}
-use Rattle.acct_book.specs.Next.{report_key, state_after, cause_after, raised_row}
-use Rattle.acct_book.specs.Next.{next_row, charge_before}
+use Rattle.acct_book.specs.inner.Next.{report_key, state_after, cause_after, raised_row}
+use Rattle.acct_book.specs.inner.Next.{next_row, charge_before}
 use Rattle.acct_book.specs.Laws.{RowsHaveTheirKeys, RowsAreOfSessions, IsFirstWith, IsFirstSaid}
 use Rattle.acct_book.specs.Laws.{RowsAreCharged, IsStopped, IsRestarted, IsStateOf, IsCauseOf}
 use Rattle.acct_book.specs.Laws.{RowsSayTheirEnds, StaysEnded, EndedStaysEnded}

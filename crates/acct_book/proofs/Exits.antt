@@ -13,10 +13,11 @@ use Rattle.acct_book.specs.declared.recording.RecordError.TheVariants.{VoucherDi
 use Rattle.acct_book.specs.declared.recording.RecordError.TheVariants.{Unavailable}
 use Rattle.acct_book.specs.Content.{Content}
 use Rattle.acct_book.specs.Stands.{Stands}
-use Rattle.acct_book.specs.Calls.{Adds, Refuses}
+use Rattle.acct_book.specs.inner.Calls.{AddsEntry, RefusesToAdd}
 use Rattle.acct_book.specs.Effect.{after_effect, Holds, IsTold, IsOwn, IsUnasked, effect_of, added}
 use Rattle.acct_book.specs.Effect.{failed}
-use Rattle.acct_book.specs.Step.{Looks, Puts, MayAdd, StoodFor, Does}
+use Rattle.acct_book.specs.Step.{Looks, MayAdd, StoodFor, Does}
+use Rattle.acct_book.specs.inner.Step.{Puts}
 use Rattle.acct_book.proofs.StepLemmas.{Settles, looked_by}
 
 -- an error that can be this one alone
@@ -45,7 +46,7 @@ stays history next (BalanceLimit balance) = refl
 stays history next Unavailable = refl
 
 told_refusal : (plans : List Plan) (next : Entry) (c : Content) (e : RecordError) (now : Type 0)
-    → (e ≢ Unavailable → now) → (now → Refuses plans next c e) → (history : List Entry)
+    → (e ≢ Unavailable → now) → (now → RefusesToAdd plans next c e) → (history : List Entry)
     → (now → Stands plans c history) → Holds plans history (effect_of next (Err e))
 told_refusal plans next c Unavailable now answers refuses history stood = tt
 told_refusal plans next c (VoucherDiffers kept) now answers refuses history stood = let still
@@ -87,7 +88,7 @@ pub passed_on : {B T : Type 0} (b : Ghosts B) (plans : List Plan) (next : Entry)
     → r ≡ Err e → IsErrAnd result (λ x. x ≡ e) → IsOwn (effect_of next (Err e))
     → Looks b old new r
     → (b.is_sound new → r ≢ Err Unavailable → b.is_open new)
-    → (b.is_open new → Refuses plans next (b.content old) e)
+    → (b.is_open new → RefusesToAdd plans next (b.content old) e)
     → Settles b
     → Does b plans old new (effect_of next result)
 passed_on b plans next old new r e result is passes own reads answers refuses settled =
@@ -106,7 +107,7 @@ passed_on b plans next old new r e result is passes own reads answers refuses se
 -- The whole effect was written, or nothing where the write failed: a crash may leave either.
 module _ {B T E F G : Type 0} (b : Ghosts B) (plans : List Plan) (next : Entry) (old mid new : B)
     (r : Result T E) (w : Result F G) (done : Content) (reads : Looks b old mid r)
-    (writes : Puts b mid new done w) (adds : b.is_open mid → Adds plans next (b.content old) done)
+    (writes : Puts b mid new done w) (adds : b.is_open mid → AddsEntry plans next (b.content old) done)
     (settled : Settles b) where
   leaves : b.is_sound new → (history : List Entry) → StoodFor b plans old history
       → (c : Content) → b.left new c

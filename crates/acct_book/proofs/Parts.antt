@@ -1,5 +1,5 @@
 -- The part of an account, after an entry of another, and its members in order.
-use Rattle.std.proofs.Common.{◌≡◌, ◌≢◌, ℕ, Bool, true, false, cond, List, [], ◌∷◌, refl, sym, ap}
+use Rattle.std.proofs.Common.{◌≡◌, ℕ, Bool, true, false, cond, List, ◌∷◌, refl, sym, ap}
 use Rattle.std.proofs.Common.{◌∙◌}
 use Rattle.std.specs.Prelude.{Option, Some, None, bytes_eq, option_map}
 use Rattle.std.specs.List.{filter}
@@ -9,16 +9,16 @@ use Rattle.acct_model.specs.declared.entry.Entry.{Entry}
 use Rattle.acct_model.specs.declared.entry.Entry.TheVariants as entry
 use Rattle.acct_model.specs.Report.{ReportFacts}
 use Rattle.acct_model.specs.Vouchers.{TopUpFacts}
-use Rattle.acct_model.specs.History.{session_of, first_of, all_topups, topup_of}
+use Rattle.acct_model.specs.History.{first_of, all_topups, topup_of}
 use Rattle.acct_model.proofs.Same.{Decides-bytes_eq, Decides-false}
 use Rattle.acct_model.proofs.Balances.{reports-own, balance-topup-other}
 use Rattle.acct_book.specs.declared.key.Key.{Key}
 use Rattle.acct_book.specs.Row.{RowFacts}
 use Rattle.acct_book.specs.Content.{same_key}
 use Rattle.acct_book.specs.Rows.{row_of}
-use Rattle.acct_book.specs.Next.{report_key, next_row}
+use Rattle.acct_book.specs.inner.Next.{report_key, next_row}
 use Rattle.acct_book.specs.Outcome.{account_of}
-use Rattle.acct_book.specs.Part.{own_row, own_topup, part_of, OtherPartsStay}
+use Rattle.acct_book.specs.Part.{own_row, own_topup, OtherPartsStay}
 use Rattle.acct_book.proofs.Keys.{key_is, octets_sym}
 use Rattle.acct_book.proofs.Rows.{row_of-report, row_of-other}
 use Rattle.acct_book.proofs.Steps.{row_after, after-account, balance-other}

@@ -1,5 +1,5 @@
 -- What one accepted entry does to a content that stands for a history.
-use Rattle.std.proofs.Common.{◌≡◌, ℕ, Bool, true, false, ◌||◌, cond, List, [], ◌∷◌, refl, sym, ap}
+use Rattle.std.proofs.Common.{◌≡◌, ℕ, Bool, true, false, ◌||◌, cond, List, ◌∷◌, refl, sym, ap}
 use Rattle.std.proofs.Common.{◌∙◌, subst, true≢false}
 use Rattle.std.specs.Prelude.{ℤ, pos, ◌+ℤ◌, ◌-ℤ◌, Option, Some, None, unwrap_or, bytes_eq}
 use Rattle.std.specs.Prelude.{option_map}
@@ -14,7 +14,7 @@ use Rattle.acct_model.specs.Vouchers.{TopUpFacts}
 use Rattle.acct_model.specs.Plans.{plan_for, price_under}
 use Rattle.acct_model.specs.History.{session_of, reports, first_of, greatest_total, is_owner}
 use Rattle.acct_model.specs.History.{plan_of, charge_of, share, all_topups, topup_of, balance_of}
-use Rattle.acct_model.specs.History.{is_known, InRange, Agrees, Admissible}
+use Rattle.acct_model.specs.History.{is_known, InRange, Admissible}
 use Rattle.acct_model.proofs.Same.{Decides-bytes_eq}
 use Rattle.acct_model.proofs.TopUps.{Agrees-fresh}
 use Rattle.acct_model.proofs.Balances.{reports-own, first_of-none, balance-report}
@@ -26,9 +26,9 @@ use Rattle.acct_book.specs.Content.{Content, same_key, key_of, kept_balance, wit
 use Rattle.acct_book.specs.Content.{with_topup, with_closed}
 use Rattle.acct_book.specs.Rows.{row_from, row_of_reports, is_restarted, row_of}
 use Rattle.acct_book.specs.Charge.{charge_of_row}
-use Rattle.acct_book.specs.Next.{report_key, next_row, charge_before}
+use Rattle.acct_book.specs.inner.Next.{report_key, next_row, charge_before}
 use Rattle.acct_book.specs.Stands.{Stands}
-use Rattle.acct_book.specs.Calls.{Adds}
+use Rattle.acct_book.specs.inner.Calls.{AddsEntry}
 use Rattle.acct_book.specs.Outcome.{IsFresh, IsOverLimit}
 use Rattle.acct_book.proofs.Keys.{octets_refl, octets_are, octets_sym, key_is}
 use Rattle.acct_book.proofs.Rows.{greatest-total, row_of-report, row_of-other, row_of-restart}
@@ -387,7 +387,7 @@ restart_new plans c history x st =
     }
 
 pub restart_adds : (plans : List Plan) (c : Content) (x : Restart) (client : List ℕ)
-    → client ≡ x.client → Adds plans (entry.Restart x) c (with_closed c client)
+    → client ≡ x.client → AddsEntry plans (entry.Restart x) c (with_closed c client)
 restart_adds plans c x client is history st =
     let new = restart_new plans c history x st in (
       new.admissible,

@@ -1,5 +1,5 @@
 -- What the session of a row costs.
-use Rattle.std.specs.Prelude.{ℕ, ◌+◌, List, Option, Some, None}
+use Rattle.std.specs.Prelude.{ℕ, ◌+◌, List}
 use Rattle.acct_model.specs.declared.plan.Plan.{Plan}
 use Rattle.acct_model.specs.Plans.{plan_for, price_under}
 use Rattle.acct_book.specs.Row.{RowFacts}

@@ -65,14 +65,14 @@ Tries (added next) asked = asked ≡ next
 Tries (failed next) asked = asked ≡ next
 Tries effect asked = ⊥
 
-abbrev pub IsTopUp : Entry → Type 0
-IsTopUp (entry.TopUp topup) = Unit {0}
-IsTopUp other = ⊥
+abbrev pub IsOfTopUp : Entry → Type 0
+IsOfTopUp (entry.TopUp topup) = Unit {0}
+IsOfTopUp other = ⊥
 
 -- only a top-up is kept already, or differs
 abbrev pub IsOwn : Effect → Type 0
-IsOwn (repeated asked) = IsTopUp asked
-IsOwn (differs asked kept) = IsTopUp asked
+IsOwn (repeated asked) = IsOfTopUp asked
+IsOwn (differs asked kept) = IsOfTopUp asked
 IsOwn effect = Unit {0}
 
 -- what recording an entry did, by the answer

@@ -1,5 +1,5 @@
 -- Laws of rows, in plain words. Functions of the module `laws` have them as their contracts.
-use Rattle.std.specs.Prelude.{◌≡◌, ◌≢◌, ◌↔◌, ◌⊎◌, ℕ, ◌+◌, ◌≤◌, List, [], ◌∷◌, ◌++◌, Option, None}
+use Rattle.std.specs.Prelude.{◌≡◌, ◌≢◌, ◌↔◌, ◌⊎◌, ℕ, ◌+◌, ◌≤◌, List, [], ◌∷◌, ◌++◌, None}
 use Rattle.std.specs.Prelude.{Some, Contains}
 use Rattle.std.specs.List.{All}
 use Rattle.acct_model.specs.declared.plan.Plan.{Plan}

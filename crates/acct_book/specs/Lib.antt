@@ -10,7 +10,6 @@ pub mod Effect
 pub mod Step
 pub mod Charge
 pub mod Outcome
-pub mod Calls
-pub mod Next
 pub mod Laws
 pub mod Part
+pub mod inner

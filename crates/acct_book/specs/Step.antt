@@ -4,7 +4,7 @@ use Rattle.acct_model.specs.declared.plan.Plan.{Plan}
 use Rattle.acct_model.specs.declared.entry.Entry.{Entry}
 use Rattle.acct_model.specs.History.{Admissible}
 use Rattle.acct_book.specs.declared.book.Book.{Ghosts}
-use Rattle.acct_book.specs.Book.{Only, Reads, Writes}
+use Rattle.acct_book.specs.Book.{Only, Reads}
 use Rattle.acct_book.specs.Content.{Content}
 use Rattle.acct_book.specs.Stands.{Stands}
 use Rattle.acct_book.specs.Effect.{Effect, after_effect, Holds, IsTold, IsNotAdded, Tries}
@@ -14,18 +14,6 @@ use Rattle.acct_book.specs.Effect.{IsOwn, IsUnasked}
 abbrev pub Looks : {B T E : Type 0} → Ghosts B → B → B → Result T E → Type 0
 Looks b old new result =
     Reads b.content b.is_sound b.is_open b.is_steady b.left old new result
-
-abbrev pub Puts : {B T E : Type 0} → Ghosts B → B → B → Content → Result T E → Type 0
-Puts b old new written result =
-    Writes b.content b.is_sound b.is_open b.is_steady b.left old new written result
-
--- Calls that only read, whatever they answered: what holds of a book before and after them.
-pub record OnlyLooks {B : Type 0} (b : Ghosts B) (old new : B) : Type 0 where
-  pub was_sound : b.is_sound new → b.is_sound old
-  pub was_open : b.is_open new → b.is_open old
-  pub keeps_steady : b.is_steady old → b.is_steady new
-  pub same : b.is_open new → b.content new ≡ b.content old
-  pub adds_none : b.is_sound new → (c : Content) → b.left new c → b.left old c
 
 -- the entry may be accepted, and the content stands for the history with it
 abbrev pub MayAdd : List Plan → List Entry → Entry → Content → Type 0

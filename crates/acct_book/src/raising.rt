@@ -1,7 +1,7 @@
 //! The row of a session after one more report.
 ghost use Rattle.std.specs.Prelude.{◌≡◌, IfOk};
-ghost use Rattle.acct_book.specs.Next.{first_row, raised_row, raised_counters, state_after};
-ghost use Rattle.acct_book.specs.Next.{cause_after, or_octets};
+ghost use Rattle.acct_book.specs.inner.Next.{first_row, raised_row, raised_counters, state_after};
+ghost use Rattle.acct_book.specs.inner.Next.{cause_after, or_octets};
 
 use crate::row::{Row, SessionState};
 use acct_model::{Octets, Report, ReportKind};

@@ -20,8 +20,8 @@ ghost use Rattle.acct_model.specs.History.{InRange};
 ghost use Rattle.acct_book.specs.Content.{with_session, with_topup};
 ghost use Rattle.acct_book.specs.Effect.{IsOwn, effect_of};
 ghost use Rattle.acct_book.specs.Step.{Looks, Does};
-ghost use Rattle.acct_book.specs.Next.{report_key, next_row, charge_before};
-ghost use Rattle.acct_book.specs.Calls.{Adds, Repeats, Refuses};
+ghost use Rattle.acct_book.specs.inner.Next.{report_key, next_row, charge_before};
+ghost use Rattle.acct_book.specs.inner.Calls.{AddsEntry, Repeats, RefusesToAdd};
 
 use crate::book::{Book, Unavailable};
 use crate::charging::charge;
@@ -155,10 +155,10 @@ fn debited<B: Book>(
         → B.is_open book.new }
     ensures own { IfErr result (λ error. IsOwn (effect_of (Entry.Report report.now) (Err error))) }
     ensures added { B.is_open book.new → IfOk result (λ next.
-        Adds plans.now (Entry.Report report.now) (B.content book.old)
+        AddsEntry plans.now (Entry.Report report.now) (B.content book.old)
         (with_session (B.content book.old) next.0 next.1)) }
     ensures refused { B.is_open book.new → IfErr result (
-        Refuses plans.now (Entry.Report report.now) (B.content book.old)) }
+        RefusesToAdd plans.now (Entry.Report report.now) (B.content book.old)) }
 {
     let key = key_for(alloc, report)?;
     let found = book.session(&key)?;
@@ -178,10 +178,10 @@ fn credited<B: Book>(book: &mut B, plans: &Plans, topup: &TopUp) -> Result<Optio
         → B.is_open book.new }
     ensures added { B.is_open book.new → IfOk result (λ balance. MatchOption balance
         (Repeats plans.now (Entry.TopUp topup.now) (B.content book.old))
-        (λ next. Adds plans.now (Entry.TopUp topup.now) (B.content book.old)
+        (λ next. AddsEntry plans.now (Entry.TopUp topup.now) (B.content book.old)
         (with_topup (B.content book.old) topup.now next))) }
     ensures refused { B.is_open book.new → IfErr result (
-        Refuses plans.now (Entry.TopUp topup.now) (B.content book.old)) }
+        RefusesToAdd plans.now (Entry.TopUp topup.now) (B.content book.old)) }
 {
     if let Some(kept) = book.voucher(topup.voucher.as_str())? {
         if kept.account == topup.account && kept.sum == topup.sum {

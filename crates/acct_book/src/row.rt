@@ -122,7 +122,7 @@ impl Model for Row {
 
 impl Row {
     ghost use Rattle.acct_book.specs.Content.{key_of, closed_by};
-    ghost use Rattle.acct_book.specs.Next.{raised_row};
+    ghost use Rattle.acct_book.specs.inner.Next.{raised_row};
 
     /// The octets of the session, input and output together.
     pub fn total(&self) -> u64

@@ -7,7 +7,7 @@ use Rattle.clap.specs.declared.parser.matches.SubCommand.{SubCommand}
 use Rattle.std.specs.Prelude.{Box}
 use Rattle.std.specs.Box.{box_value}
 use Rattle.acct_command_line.specs.declared.job.Job.{Job}
-use Rattle.acct_command_line.specs.CommandLine.{AsksFor, NamesJob}
+use Rattle.acct_command_line.specs.CommandLine.{WordsAskFor, NamesJob}
 
 abbrev first : Text × List Row → Text
 first p = p.0
@@ -26,7 +26,7 @@ name_of_rows m = name_first (out-ArgMatches m).subcommand
 
 named : (o : Option (Text × List Row)) (name : Text) (rows : List Row) (job : Job)
     → Some name ≡ option_map first o → Some rows ≡ option_map second o
-    → AsksFor name rows job → NamesJob o job
+    → WordsAskFor name rows job → NamesJob o job
 named None name rows job a b h = absurd (cc (a, b))
 named (Some p) name rows job a b h =
     let one : name ≡ p.0 = cc a in
@@ -37,6 +37,6 @@ named (Some p) name rows job a b h =
 pub names_job : (m : ArgMatches) (o : Option (Text × List Row)) (name : Text) (rows : List Row)
     (job : Job) → subcommand_rows_of m ≡ o
     → Some name ≡ subcommand_name_of m → Some rows ≡ option_map second (subcommand_rows_of m)
-    → AsksFor name rows job → NamesJob o job
+    → WordsAskFor name rows job → NamesJob o job
 names_job m o name rows job e a b h =
     rw (← e) (named (subcommand_rows_of m) name rows job (a ∙ name_of_rows m) b h)

@@ -8,7 +8,8 @@ use Rattle.acct_feed.specs.Numbers.{number_up_to}
 use Rattle.acct_command_line.specs.declared.job.Job.{Job}
 use Rattle.acct_command_line.specs.declared.job.Job.TheVariants as job
 use Rattle.acct_command_line.specs.declared.job.Export.{Export}
-use Rattle.acct_command_line.specs.declared.job.Export.TheVariants.{Sessions, Balances, TopUps, Overruns}
+use Rattle.acct_command_line.specs.declared.job.Export.TheVariants.{Sessions, Balances, TopUps}
+use Rattle.acct_command_line.specs.declared.job.Export.TheVariants.{Overruns}
 use Rattle.acct_command_line.specs.declared.job.Listening.{Listening}
 use Rattle.acct_command_line.specs.declared.job.Paths.{Paths}
 
@@ -134,23 +135,23 @@ abbrev pub IsExport : List Row → Export → Type 0
 IsExport rows what = first_of (codes "what") rows ≡ Some (export_name what)
 
 -- what the rows of a subcommand's options ask for
-abbrev pub AsksFor : Text → List Row → Job → Type 0
-AsksFor name rows (job.Feed config) =
+abbrev pub WordsAskFor : Text → List Row → Job → Type 0
+WordsAskFor name rows (job.Feed config) =
     (name ≡ codes "feed") × (first_of (codes "config") rows ≡ config)
-AsksFor name rows (job.Check config) =
+WordsAskFor name rows (job.Check config) =
     (name ≡ codes "check") × (first_of (codes "config") rows ≡ Some config)
-AsksFor name rows (job.Init paths) = (name ≡ codes "init") × ArePaths rows paths
-AsksFor name rows (job.Serve paths listening turns) =
+WordsAskFor name rows (job.Init paths) = (name ≡ codes "init") × ArePaths rows paths
+WordsAskFor name rows (job.Serve paths listening turns) =
     (name ≡ codes "serve") × ArePaths rows paths
     × IsListening rows listening × IsNumber (codes "turns") rows 9223372036854775807 turns
-AsksFor name rows (job.Import paths) = (name ≡ codes "import") × ArePaths rows paths
-AsksFor name rows (job.Export paths what) =
+WordsAskFor name rows (job.Import paths) = (name ≡ codes "import") × ArePaths rows paths
+WordsAskFor name rows (job.Export paths what) =
     (name ≡ codes "export") × ArePaths rows paths × IsExport rows what
 
 -- the job is that of the subcommand that the words name
 abbrev pub NamesJob : Option (Text × List Row) → Job → Type 0
 NamesJob None job = ⊥
-NamesJob (Some p) job = AsksFor p.0 p.1 job
+NamesJob (Some p) job = WordsAskFor p.0 p.1 job
 
 -- a server makes fewer than 2^63 turns
 abbrev pub HasTurns : Job → Type 0

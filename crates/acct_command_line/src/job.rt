@@ -4,8 +4,10 @@ ghost use Rattle.clap.specs.Words.{app_of, first_of, rows_of, rule_of, found_of,
 ghost use Rattle.acct_command_line.specs.CommandLine.{app, config_rule, database_rule, what_rule};
 ghost use Rattle.acct_command_line.specs.CommandLine.{bind_rule, port_rule, turns_rule, required};
 ghost use Rattle.acct_command_line.specs.CommandLine.{feed_app, check_app, book_app, addressed_app};
-ghost use Rattle.acct_command_line.specs.CommandLine.{listening_app, serve_app, export_app, export_name};
-ghost use Rattle.acct_command_line.specs.CommandLine.{AsksFor, ArePaths, IsExport, IsListening, IsNumber};
+ghost use Rattle.acct_command_line.specs.CommandLine.{listening_app, serve_app, export_app};
+ghost use Rattle.acct_command_line.specs.CommandLine.{export_name};
+ghost use Rattle.acct_command_line.specs.CommandLine.{WordsAskFor, ArePaths, IsExport, IsListening};
+ghost use Rattle.acct_command_line.specs.CommandLine.{IsNumber};
 ghost use Rattle.acct_command_line.specs.CommandLine.{HasTurns, NamesJob};
 
 use acct_feed::number_up_to;
@@ -146,7 +148,7 @@ pub fn job_of(alloc: Global, words: Vec<String>) -> Result<Job, Error>
 // What the options of a command ask for, if it is one of ours and they fit.
 fn asked(alloc: Global, name: &str, options: &ArgMatches<'_>) -> Result<Option<Job>, AllocError>
     ensures asked { IfOk result (λ job. IfSome job
-        (AsksFor name.now (rows_of (found_of options.now)))) }
+        (WordsAskFor name.now (rows_of (found_of options.now)))) }
     ensures turns { IfOk result (λ job. IfSome job HasTurns) }
 {
     let config = text_option(alloc, options, "config")?;
@@ -174,7 +176,7 @@ fn asked_of_book(
 ) -> Result<Option<Job>, AllocError>
     requires { ArePaths (rows_of (found_of options.now)) paths }
     ensures asked { IfOk result (λ job. IfSome job
-        (AsksFor name.now (rows_of (found_of options.now)))) }
+        (WordsAskFor name.now (rows_of (found_of options.now)))) }
     ensures turns { IfOk result (λ job. IfSome job HasTurns) }
 {
     match name {
@@ -194,7 +196,7 @@ fn asked_to_serve(
 ) -> Result<Option<Job>, AllocError>
     requires { ArePaths (rows_of (found_of options.now)) paths }
     ensures asked { IfOk result (λ job. IfSome job
-        (AsksFor (codes "serve") (rows_of (found_of options.now)))) }
+        (WordsAskFor (codes "serve") (rows_of (found_of options.now)))) }
     ensures turns { IfOk result (λ job. IfSome job HasTurns) }
 {
     let Some(listening) = listening_option(alloc, options)? else {
@@ -213,7 +215,7 @@ fn asked_to_serve(
 // What the options of `export` ask for.
 fn asked_to_export(paths: Paths, options: &ArgMatches<'_>) -> Option<Job>
     requires { ArePaths (rows_of (found_of options.now)) paths }
-    ensures asked { IfSome result (AsksFor (codes "export") (rows_of (found_of options.now))) }
+    ensures asked { IfSome result (WordsAskFor (codes "export") (rows_of (found_of options.now))) }
     ensures turns { IfSome result HasTurns }
 {
     let what = export_option(options)?;

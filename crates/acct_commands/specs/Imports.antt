@@ -7,7 +7,7 @@ use Rattle.acct_model.specs.declared.plan.Plan.{Plan}
 use Rattle.acct_model.specs.declared.entry.Entry.{Entry}
 use Rattle.acct_book.specs.declared.book.Book.{Ghosts}
 use Rattle.acct_book.specs.Step.{StoodFor}
-use Rattle.acct_files.specs.Importing.{Imports, Keeps, unmarked}
+use Rattle.acct_files.specs.Importing.{Imports, KeepsOpen, unmarked}
 use Rattle.acct_files.specs.Reports.{cause_text, stop_text}
 use Rattle.acct_files.specs.declared.import_report.Refused.{Refused}
 use Rattle.acct_files.specs.declared.import_report.Stopped.{Stopped}
@@ -60,7 +60,7 @@ module _ {B : Type 0} (b : Ghosts B) where
   pub record Runs (plans : List Plan) (moment : ℕ) (text : Option (List ℕ)) (old new : B)
       (before after : Option (List ℕ)) (ended : Result Status Fault) : Type 0 where
     pub report : ImportReport
-    pub keeps : Keeps b report.stopped report.added old new
+    pub keeps : KeepsOpen b report.stopped report.added old new
     pub imports : b.is_sound new → (history : List Entry)
         → StoodFor b plans old history
         → Imports b plans moment (unmarked text) history

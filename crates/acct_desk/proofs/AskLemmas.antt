@@ -1,17 +1,15 @@
 -- What octets ask, by the front in which a head is looked for, and bodies as JSON.
 use Rattle.std.proofs.Common.{◌≡◌, ◌≤◌, ℕ, min, Bool, true, false, cond, Option, Some, None, map}
 use Rattle.std.proofs.Common.{List, length, take, refl, ap, sym, ◌∙◌}
-use Rattle.std.specs.Prelude.{IsUtf8}
 use Rattle.std.specs.Str.{is_utf8}
 use Rattle.std.proofs.lemmas.Str.{IsUtf8-from_is_utf8, is_utf8-from_IsUtf8}
-use Rattle.httparse.specs.Grammar.{RequestHead}
 use Rattle.httparse.specs.Spans.{header_bytes, span_bytes}
 use Rattle.httparse.specs.declared.spans.HeaderSpan.{HeaderSpan}
 use Rattle.httparse.specs.declared.spans.RequestSpans.{RequestSpans}
 use Rattle.serde_json.specs.Data.{Data}
 use Rattle.serde_json.specs.Read as json
 use Rattle.acct_desk.specs.declared.keys.DeskKey.{DeskKey}
-use Rattle.acct_desk.specs.Head.{IsHeadAt, HasNoHead}
+use Rattle.acct_desk.specs.inner.Head.{IsHeadAt, HasNoHead}
 use Rattle.acct_desk.specs.Asks.{Ask, Asks, ask_of, ask_of_fields, json_of}
 use Rattle.acct_desk.specs.TopUpBodies.{IsJson}
 use Rattle.acct_desk.proofs.FramingLemmas.{head_begins, no_head, IsHeadOf_unique}

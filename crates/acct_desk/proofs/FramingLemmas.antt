@@ -12,7 +12,7 @@ use Rattle.httparse.specs.declared.spans.RequestSpans.{RequestSpans}
 use Rattle.acct_desk.specs.declared.framing.Reach.{Reach}
 use Rattle.acct_desk.specs.Request.{Begins, IsHeadOf, IsExtent, reach_of, reach_of_fields}
 use Rattle.std.specs.Prelude.{IsUtf8}
-use Rattle.acct_desk.specs.Head.{IsHeadAt, HasNoHead}
+use Rattle.acct_desk.specs.inner.Head.{IsHeadAt, HasNoHead}
 
 -- ---- the front
 

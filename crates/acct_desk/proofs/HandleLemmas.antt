@@ -1,7 +1,7 @@
 -- What becomes of a request, by what its parts told.
-use Rattle.std.proofs.Common.{◌≡◌, ◌≢◌, ◌⊎◌, ℕ, List, [], ◌∷◌, ◌++◌, get_or, inl, inr, arith, refl}
+use Rattle.std.proofs.Common.{◌≡◌, ◌≢◌, ◌⊎◌, ℕ, List, [], get_or, inl, inr, arith, refl}
 use Rattle.std.proofs.Common.{ap, sym, ◌∙◌, subst}
-use Rattle.std.specs.Prelude.{Result, Ok, Err, IfOk, OnOk, Vec}
+use Rattle.std.specs.Prelude.{Result, Ok, Err, IfOk, Vec}
 use Rattle.std.specs.Fmt.{digits}
 use Rattle.std.specs.Result.{ForOk}
 use Rattle.std.specs.Global.{Global}
@@ -22,14 +22,12 @@ use Rattle.acct_book.specs.Effect.{IsUnasked, passed, unasked}
 use Rattle.acct_book.specs.Step.{StoodFor, Does}
 use Rattle.acct_book.proofs.StepLemmas.{Settles, unasked_by, only_looked_by}
 use Rattle.acct_desk.specs.declared.asking.Refusal.{Refusal}
-use Rattle.acct_desk.specs.declared.asking.Page.{Page}
-use Rattle.acct_desk.specs.declared.asking.Page.TheVariants.{Balance, Sessions, TopUps}
 use Rattle.acct_desk.specs.declared.bodies.PageError.{PageError}
 use Rattle.acct_desk.specs.declared.bodies.PageError.TheVariants.{Unavailable, Memory}
 use Rattle.acct_desk.specs.Asks.{Ask, refused, me, overruns, credit}
-use Rattle.acct_desk.specs.Handling.{AnswersAsk, Answers, TellsAsk, Mutes, IsOfBalance}
+use Rattle.acct_desk.specs.Handling.{AnswersAsk, AnswersOrMutes, TellsAsk, Mutes, IsOfBalance}
 use Rattle.acct_desk.specs.Handling.{Handles}
-use Rattle.acct_desk.specs.Pages.{Shows, IsPageResponse}
+use Rattle.acct_desk.specs.inner.Pages.{Shows, IsPageResponse}
 use Rattle.acct_desk.specs.Responses.{response_of, refusal_response, unavailable_response}
 use Rattle.acct_desk.specs.Responses.{recorded_response}
 
@@ -56,7 +54,7 @@ mute_mutes (credit topup) = refl
 
 refused_alone : {E : Type 0} (refusal : Refusal) (result : Result (Vec ℕ Global) E)
     → IfOk result (λ octets. octets.items ≡ refusal_response refusal)
-    → Answers (refused refusal) result unasked
+    → AnswersOrMutes (refused refusal) result unasked
 refused_alone refusal (Ok octets) is = (is, refl)
 refused_alone refusal (Err e) is = refl
 
@@ -154,7 +152,7 @@ module _ {B E : Type 0} (b : Ghosts B) (plans : List Plan) (ask : Ask) (old new 
 
   page_says : (page : Result Value PageError) (result : Result (Vec ℕ Global) E) → IsOfPage ask
       → IfOk result (λ octets. IsPageResponse page octets.items)
-      → Answers ask result (page_effect page result)
+      → AnswersOrMutes ask result (page_effect page result)
   page_says (Ok body) (Ok octets) of is = page_answers ask octets.items looked of (inl refl)
   page_says (Err Unavailable) (Ok octets) of is =
       page_answers ask octets.items passed of (inr (is, refl))

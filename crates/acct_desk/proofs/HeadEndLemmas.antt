@@ -9,7 +9,7 @@ use Rattle.httparse.specs.Grammar.{is_value_byte, AllPass, LineEnd, crlf, lf, pr
 use Rattle.httparse.specs.Grammar.{print_version, Field, print_field, IsField, print_section}
 use Rattle.httparse.specs.Grammar.{RequestHead, print_request, IsRequestHead}
 use Rattle.httparse.specs.Pieces.{is_newline}
-use Rattle.acct_desk.specs.Reading.{EndsInEmptyLine}
+use Rattle.acct_desk.specs.inner.Reading.{EndsInEmptyLine}
 
 -- the octets end with the end of a line that isn't empty
 record EndsInLine (bytes : List ℕ) : Type 0 where

@@ -22,7 +22,7 @@ use Rattle.acct_model.proofs.Faults.{faultless_more}
 use Rattle.acct_desk.specs.declared.keys.DeskKey.{DeskKey}
 use Rattle.acct_desk.specs.declared.keys.KeysError.TheVariants.{TwiceKeyed}
 use Rattle.acct_desk.specs.Keys.{has_token, is_token_text}
-use Rattle.acct_desk.specs.KeyFaults.{key_fault, fault_of, place_at, ArePlaces}
+use Rattle.acct_desk.specs.KeyFaults.{key_fault, keys_fault, place_at, ArePlaces}
 
 -- ---- faults
 
@@ -199,13 +199,13 @@ places-more m n keys key bs place token behind placed new updates cs =
 
 -- where one more key was pushed, or none, there is still no fault
 pub faultless_still : {T E : Type 0} (r : Result T E) (old new : List DeskKey) (key : DeskKey)
-    → OnOk r (new ≡ old ++ key ∷ []) → OnErr r (new ≡ old) → fault_of old ≡ None
-    → key_fault old key ≡ None → fault_of new ≡ None
+    → OnOk r (new ≡ old ++ key ∷ []) → OnErr r (new ≡ old) → keys_fault old ≡ None
+    → key_fault old key ≡ None → keys_fault new ≡ None
 faultless_still (Ok x) old new key pushed same none alone =
-    subst (λ keys. fault_of keys ≡ None) (sym pushed)
+    subst (λ keys. keys_fault keys ≡ None) (sym pushed)
     (faultless_more key_fault old key none alone)
 faultless_still (Err e) old new key pushed same none alone =
-    subst (λ keys. fault_of keys ≡ None) (sym same) none
+    subst (λ keys. keys_fault keys ≡ None) (sym same) none
 
 -- where nothing of a map has changed, the places are the same
 pub places-kept : (m n : BTreeMap (Vec ℕ Global) ℕ) (keys : List DeskKey)

@@ -4,7 +4,6 @@ use Rattle.std.proofs.Common.{ap, sym, ◌∙◌, subst}
 use Rattle.std.specs.Prelude.{Option, Some, None, Result, Ok, Err, IfOk, OnOk, IsOk, IsErr, pos}
 use Rattle.std.specs.Prelude.{negsuc, bytes_eq, nat_lt}
 use Rattle.std.specs.List.{filter_map, cons_option}
-use Rattle.std.specs.declared.cmp.Ordering.{Ordering}
 use Rattle.serde_json.specs.Data.{Data, number}
 use Rattle.serde_json.specs.Find.{of_integer}
 use Rattle.serde_json.specs.View.{view, items_of}
@@ -15,15 +14,15 @@ use Rattle.acct_model.specs.declared.entry.Entry.{Entry}
 use Rattle.acct_model.specs.Vouchers.{TopUpFacts}
 use Rattle.acct_model.specs.History.{topup_of}
 use Rattle.acct_book.specs.declared.book.Book.{Ghosts}
-use Rattle.acct_book.specs.declared.key.Key.{Key}
-use Rattle.acct_book.specs.Step.{Looks, OnlyLooks}
+use Rattle.acct_book.specs.Step.{Looks}
+use Rattle.acct_book.specs.inner.Step.{OnlyLooks}
 use Rattle.acct_book.specs.Content.{Content, kept_balance, key_of}
 use Rattle.acct_book.specs.Maps.{octets_cmp}
 use Rattle.acct_book.specs.Part.{part_of, own_row, own_topup, AreRowsIn, AreTopUpsIn}
 use Rattle.acct_book.specs.Row.{RowFacts}
 use Rattle.acct_book.specs.Rows.{row_of}
 use Rattle.acct_book.specs.Stands.{Stands}
-use Rattle.acct_book.specs.Walk.{AreMembers, AreRowsOf, AreTopUpsOf, AreAllPast, IsWalk, IsNext}
+use Rattle.acct_book.specs.Walk.{AreRowsOf, AreTopUpsOf, IsWalk, IsNext}
 use Rattle.acct_book.specs.Walk.{IsNextBalance}
 use Rattle.acct_book.proofs.Looking.{looks_once}
 use Rattle.acct_book.proofs.Steps.{kept-balance}
@@ -34,8 +33,8 @@ use Rattle.acct_desk.specs.declared.asking.Page.TheVariants.{Balance}
 use Rattle.acct_desk.specs.Asks.{Ask, me}
 use Rattle.acct_desk.specs.Bodies.{balance_body, session_item, sessions_body, topup_item}
 use Rattle.acct_desk.specs.Bodies.{topups_body, overrun_of, overrun_item, overrun_in, overruns_body}
-use Rattle.acct_desk.specs.Handling.{IsBody, AreBalances, known_balance}
-use Rattle.acct_desk.specs.Pages.{Shows}
+use Rattle.acct_desk.specs.Handling.{IsBody, AreBalances}
+use Rattle.acct_desk.specs.inner.Pages.{Shows}
 
 -- ---- bodies have no floats
 

@@ -1,5 +1,5 @@
 -- What an account's page is made of.
-use Rattle.std.proofs.Common.{◌≡◌, ◌≢◌, ℕ, List, [], refl, sym, ap, ◌∙◌, subst, inl, inr, true}
+use Rattle.std.proofs.Common.{◌≡◌, ◌≢◌, ℕ, List, [], sym, ap, ◌∙◌, subst, inl, inr, true}
 use Rattle.serde_json.specs.Data.{Data}
 use Rattle.acct_model.specs.declared.plan.Plan.{Plan}
 use Rattle.acct_model.specs.declared.entry.Entry.{Entry}
@@ -11,7 +11,7 @@ use Rattle.acct_desk.specs.declared.asking.Page.{Page}
 use Rattle.acct_desk.specs.declared.asking.Page.TheVariants.{Balance, Sessions, TopUps}
 use Rattle.acct_desk.specs.Asks.{Ask, me}
 use Rattle.acct_desk.specs.Bodies.{sessions_body, topups_body}
-use Rattle.acct_desk.specs.Handling.{IsPageBody, IsTold, AnswersAsk, TellsAsk}
+use Rattle.acct_desk.specs.Handling.{IsPageBody, IsResponseOf, AnswersAsk, TellsAsk}
 use Rattle.acct_desk.specs.Laws.{MeFromPart}
 use Rattle.acct_desk.specs.Responses.{response_of, unavailable_response}
 use Rattle.acct_desk.proofs.AskLemmas.{one_ask}
@@ -33,7 +33,7 @@ told_page : (plans : List Plan) (history : List Entry) (ask : Ask) (page : Page)
     (account octets : List ℕ) (effect : Effect) → ask ≡ me page account
     → AnswersAsk ask octets effect × TellsAsk plans history ask octets effect
     → octets ≢ unavailable_response
-    → IsTold plans history (me page account) octets
+    → IsResponseOf plans history (me page account) octets
 told_page plans history ask page account octets effect is said answered =
     let of_page : AnswersAsk (me page account) octets effect
     × TellsAsk plans history (me page account) octets effect

@@ -1,9 +1,9 @@
 -- Requests that are open, and stay so as octets come.
-use Rattle.std.proofs.Common.{◌≡◌, ◌≤◌, ◌<◌, ◌+◌, ◌⊎◌, inl, inr, ℕ, zero, suc, min, Bool, true, false}
+use Rattle.std.proofs.Common.{◌≡◌, ◌≤◌, ◌<◌, ◌+◌, ◌⊎◌, inl, inr, ℕ, zero, suc, Bool, true, false}
 use Rattle.std.proofs.Common.{List, [], ◌∷◌, ◌++◌, length, take, drop, map, refl, ap, sym, subst, ◌∙◌}
 use Rattle.std.proofs.Common.{arith, append_assoc, length-append, length-take, Option, Some}
 use Rattle.std.proofs.Common.{None}
-use Rattle.std.specs.Prelude.{nat_lt, nat_le, if◌then◌else◌, codes, All, Result, Ok, Err}
+use Rattle.std.specs.Prelude.{nat_lt, nat_le, if◌then◌else◌, codes, Result, Ok, Err}
 use Rattle.std.proofs.lemmas.Bool.Decides.{nat_tests}
 use Rattle.std.proofs.lemmas.List.{take-append-le, take-append-drop, length-map}
 use Rattle.std.proofs.Math.Seq.{take-append_seam}
@@ -16,12 +16,11 @@ use Rattle.httparse.specs.declared.Status.{Status}
 use Rattle.httparse.specs.declared.Status.TheVariants.{Complete, Partial}
 use Rattle.httparse.specs.Outcome.{IfComplete, OnPartial}
 use Rattle.httparse.proofs.GrammarLemmas.{ReadsRequest-append, request_unique}
-use Rattle.acct_desk.specs.declared.framing.Reach.{Reach}
 use Rattle.acct_desk.specs.declared.framing.Reach.TheVariants.{More, Whole, Bad, TooLarge}
 use Rattle.acct_desk.specs.declared.reading.Watch.{Watch}
 use Rattle.acct_desk.specs.Request.{Begins, IsHeadOf, IsExtent, reach_of, reach_of_fields, fields_of}
 use Rattle.acct_desk.specs.Request.{body_length, values_of, is_empty, reach_of_length}
-use Rattle.acct_desk.specs.Reading.{EndsInEmptyLine, NoHeadEnds, StaysOpen}
+use Rattle.acct_desk.specs.inner.Reading.{EndsInEmptyLine, NoHeadEnds, StaysOpen}
 use Rattle.acct_desk.proofs.HeadEndLemmas.{head_ends, nothing_ends}
 
 within_or_past : (a b : ℕ) → (a ≤ b) ⊎ (b < a)

@@ -1,5 +1,5 @@
 -- What the desk tells of accounts, as JSON.
-use Rattle.std.specs.Prelude.{ℕ, ◌+◌, suc, nat_lt, List, [], ◌∷◌, map, codes, decimal, ℤ, pos}
+use Rattle.std.specs.Prelude.{ℕ, ◌+◌, suc, nat_lt, List, map, codes, decimal, ℤ, pos}
 use Rattle.std.specs.Prelude.{negsuc, Option, Some, None, if◌then◌else◌}
 use Rattle.std.specs.List.{filter_map}
 use Rattle.serde_json.specs.Data.{Data, string, number, unsigned, array, object, member, no_members}

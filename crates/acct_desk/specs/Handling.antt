@@ -1,6 +1,6 @@
 -- What the desk answers, and what that does.
-use Rattle.std.specs.Prelude.{◌≡◌, ◌≢◌, ◌⊎◌, ℕ, ℤ, List, [], ◌∷◌, Option, None, Some, Vec, Result}
-use Rattle.std.specs.Prelude.{Ok, Err, IfOk, OnOk, OnErr, if◌then◌else◌}
+use Rattle.std.specs.Prelude.{◌≡◌, ◌≢◌, ◌⊎◌, ℕ, ℤ, List, [], Option, None, Some, Vec, Result}
+use Rattle.std.specs.Prelude.{Ok, Err, IfOk, if◌then◌else◌}
 use Rattle.std.specs.Global.{Global}
 use Rattle.serde_json.specs.Data.{Data}
 use Rattle.acct_model.specs.declared.plan.Plan.{Plan}
@@ -11,7 +11,6 @@ use Rattle.acct_model.specs.History.{balance_of, is_known}
 use Rattle.acct_book.specs.declared.book.Book.{Ghosts}
 use Rattle.acct_book.specs.declared.recording.Recorded.{Recorded}
 use Rattle.acct_book.specs.declared.recording.RecordError.{RecordError}
-use Rattle.acct_book.specs.Content.{Content}
 use Rattle.acct_book.specs.Maps.{octets_cmp}
 use Rattle.acct_book.specs.Effect.{Effect, looked, passed, unasked, effect_of}
 use Rattle.acct_book.specs.Step.{StoodFor, Does}
@@ -20,7 +19,6 @@ use Rattle.acct_book.specs.Row.{RowFacts}
 use Rattle.acct_book.specs.Walk.{AreAllPast}
 use Rattle.acct_desk.specs.declared.asking.Page.{Page}
 use Rattle.acct_desk.specs.declared.asking.Page.TheVariants.{Balance, Sessions, TopUps}
-use Rattle.acct_desk.specs.declared.asking.Refusal.{Refusal}
 use Rattle.acct_desk.specs.Asks.{Ask, refused, me, overruns, credit}
 use Rattle.acct_desk.specs.Bodies.{balance_body, sessions_body, topups_body, overruns_body}
 use Rattle.acct_desk.specs.Responses.{response_of, refusal_response, unavailable_response}
@@ -56,8 +54,8 @@ IsBody plans history overruns body = (accounts : List (List ℕ × ℤ))
 IsBody plans history (credit topup) body = ⊥
 
 -- the response with that body
-abbrev pub IsTold : List Plan → List Entry → Ask → List ℕ → Type 0
-IsTold plans history ask octets = (body : Data) × IsBody plans history ask body
+abbrev pub IsResponseOf : List Plan → List Entry → Ask → List ℕ → Type 0
+IsResponseOf plans history ask octets = (body : Data) × IsBody plans history ask body
     × (octets ≡ response_of 200 [] body)
 
 -- ---- what is answered, and what that does
@@ -83,13 +81,13 @@ Mutes overruns effect = (effect ≡ unasked) ⊎ (effect ≡ passed)
 Mutes ask effect = effect ≡ unasked
 
 -- either of these
-abbrev pub Answers : {E : Type 0} → Ask → Result (Vec ℕ Global) E → Effect → Type 0
-Answers ask (Ok octets) effect = AnswersAsk ask octets.items effect
-Answers ask (Err error) effect = Mutes ask effect
+abbrev pub AnswersOrMutes : {E : Type 0} → Ask → Result (Vec ℕ Global) E → Effect → Type 0
+AnswersOrMutes ask (Ok octets) effect = AnswersAsk ask octets.items effect
+AnswersOrMutes ask (Err error) effect = Mutes ask effect
 
 -- what the book told is told: the definition's octets, over the history
 abbrev pub TellsAsk : List Plan → List Entry → Ask → List ℕ → Effect → Type 0
-TellsAsk plans history ask octets effect = effect ≡ looked → IsTold plans history ask octets
+TellsAsk plans history ask octets effect = effect ≡ looked → IsResponseOf plans history ask octets
 
 -- it asks for a balance
 abbrev pub IsOfBalance : Ask → Type 0
@@ -104,7 +102,7 @@ IsOfBalance (credit topup) = ⊥
 pub record Handles {B E : Type 0} (b : Ghosts B) (plans : List Plan) (ask : Ask) (old new : B)
     (result : Result (Vec ℕ Global) E) : Type 0 where
   pub effect : Effect
-  pub answers : Answers ask result effect
+  pub answers : AnswersOrMutes ask result effect
   pub does : Does b plans old new effect
   pub tells : b.is_sound new → (history : List Entry) → StoodFor b plans old history
       → IfOk result (λ octets. TellsAsk plans history ask octets.items effect)

@@ -1,5 +1,5 @@
 -- What is wrong with keys, and how keys are kept.
-use Rattle.std.specs.Prelude.{◌≡◌, ℕ, not, Option, None, Some, List, [], ◌∷◌, ◌++◌, Vec}
+use Rattle.std.specs.Prelude.{◌≡◌, ℕ, not, Option, None, Some, List, Vec}
 use Rattle.std.specs.Prelude.{if◌then◌else◌}
 use Rattle.std.specs.Global.{Global}
 use Rattle.std.specs.List.{list_any, position_from}
@@ -24,8 +24,8 @@ key_fault earlier key =
     else None
 
 -- the first fault of a list of keys
-abbrev pub fault_of : List DeskKey → Option KeysError
-fault_of keys = first_fault key_fault keys
+abbrev pub keys_fault : List DeskKey → Option KeysError
+keys_fault keys = first_fault key_fault keys
 
 -- an error is the first fault, or memory was refused, whatever the fault
 abbrev pub IsKeysError : Option KeysError → KeysError → Type 0
@@ -46,6 +46,6 @@ ArePlaces places keys = (token : List ℕ)
 -- paths
 pub record AreKeys (keys : List DeskKey) (places : BTreeMap (Vec ℕ Global) ℕ)
     (router : RowsOf (RouteOf Endpoint)) : Type 0 where
-  pub faultless : fault_of keys ≡ None
+  pub faultless : keys_fault keys ≡ None
   pub placed : ArePlaces places keys
   pub routed : router ≡ desk_rows

@@ -11,8 +11,8 @@ use Rattle.acct_desk.specs.Handling.{AnswersAsk, TellsAsk}
 use Rattle.acct_desk.specs.Responses.{unavailable_response}
 
 -- the octets answer the request after this history, with this effect
-abbrev pub Answers : List DeskKey → List Plan → List ℕ → ℕ → List Entry → List ℕ → Effect → Type 0
-Answers keys plans request moment history octets effect = (ask : Ask)
+abbrev pub MayAnswer : List DeskKey → List Plan → List ℕ → ℕ → List Entry → List ℕ → Effect → Type 0
+MayAnswer keys plans request moment history octets effect = (ask : Ask)
     × Asks keys request moment ask × AnswersAsk ask octets effect
     × TellsAsk plans history ask octets effect
 
@@ -29,6 +29,6 @@ MeFromPart = (keys : List DeskKey) (plans : List Plan) (request : List ℕ) (mom
     (account : List ℕ) (one other : List Entry) (first second : Effect) (octets others : List ℕ)
     → Asks keys request moment (me page account)
     → part_of plans one account ≡ part_of plans other account
-    → Answers keys plans request moment one octets first
-    → Answers keys plans request moment other others second
+    → MayAnswer keys plans request moment one octets first
+    → MayAnswer keys plans request moment other others second
     → octets ≢ unavailable_response → others ≢ unavailable_response → octets ≡ others

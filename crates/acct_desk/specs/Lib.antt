@@ -2,14 +2,11 @@ pub mod Routes
 pub mod Keys
 pub mod KeyFaults
 pub mod Request
-pub mod Head
 pub mod Reading
 pub mod TopUpBodies
 pub mod Asks
-pub mod AskView
 pub mod Responses
 pub mod Bodies
 pub mod Handling
-pub mod Pages
-pub mod TopUpAnswers
 pub mod Laws
+pub mod inner

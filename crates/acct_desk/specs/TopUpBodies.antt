@@ -16,8 +16,8 @@ topup_from voucher account amount moment =
     else None
 
 -- a member that is a text, and one that is a whole number without fraction or exponent
-abbrev pub text_at : List ℕ → Data → Option (List ℕ)
-text_at name value = option_and_then as_str (get name value)
+abbrev pub member_text : List ℕ → Data → Option (List ℕ)
+member_text name value = option_and_then as_str (get name value)
 
 abbrev pub whole_at : List ℕ → Data → Option ℕ
 whole_at name value = option_and_then as_u64 (option_and_then as_number (get name value))
@@ -33,8 +33,8 @@ topup_of_members (Some account) (Some amount) (Some voucher) moment =
 -- the top-up that a JSON value asks for at a moment
 abbrev pub topup_of_value : Data → ℕ → Option TopUpFacts
 topup_of_value value moment =
-    topup_of_members (text_at (codes "account") value) (whole_at (codes "sum") value)
-    (text_at (codes "voucher") value) moment
+    topup_of_members (member_text (codes "account") value) (whole_at (codes "sum") value)
+    (member_text (codes "voucher") value) moment
 
 -- the octets are JSON that stands for the value, or no JSON
 abbrev pub IsJson : List ℕ → Option Data → Type 0

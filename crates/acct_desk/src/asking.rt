@@ -7,7 +7,7 @@ ghost use Rattle.acct_desk.specs.Routes.{endpoint_of};
 ghost use Rattle.acct_desk.specs.Asks.{Ask as Asked, json_of, ask_of_json, ask_of_role};
 ghost use Rattle.acct_desk.specs.Asks.{ask_of_endpoint, path_of, role_of_fields, ask_of_fields};
 ghost use Rattle.acct_desk.specs.Asks.{ask_of_reach, refused, Asks};
-ghost use Rattle.acct_desk.specs.AskView.{ask_view};
+ghost use Rattle.acct_desk.specs.inner.AskView.{ask_view};
 
 use crate::framing::{HEAD_LIMIT, Reach, front_of, reach_by_fields};
 use crate::head::{FIELD_LIMIT, head_of, values_named};

@@ -2,7 +2,8 @@
 ghost use Rattle.std.specs.Prelude.{◌≡◌, ◌≤◌, ℕ, length, map, All, codes, not, take, min};
 ghost use Rattle.httparse.specs.Spans.{IsHeaderWithin, header_bytes};
 ghost use Rattle.acct_desk.specs.Request.{IsExtent, reach_of_fields, body_length, values_of};
-ghost use Rattle.acct_desk.specs.Request.{is_empty, IfWhole};
+ghost use Rattle.acct_desk.specs.Request.{is_empty};
+ghost use Rattle.acct_desk.specs.inner.Request.{IfWhole};
 
 use crate::head::{FIELD_LIMIT, head_of, length_value, values_named};
 use httparse::spans::{EMPTY_HEADER_SPAN, HeaderSpan};

@@ -4,7 +4,7 @@ ghost use Rattle.acct_model.specs.declared.plan.Plan.{Plan};
 ghost use Rattle.acct_desk.specs.Asks.{Ask as Asked, Asks, me, overruns, credit};
 ghost use Rattle.acct_desk.specs.Handling.{Handles};
 ghost use Rattle.acct_desk.specs.Responses.{refusal_response, recorded_response};
-ghost use Rattle.acct_desk.specs.TopUpAnswers.{AreAnswers};
+ghost use Rattle.acct_desk.specs.inner.TopUpAnswers.{AreAnswers};
 
 use crate::asking::{Ask, Page, Refusal, ask_of_octets};
 use crate::keys::Keys;

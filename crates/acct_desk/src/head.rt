@@ -2,7 +2,7 @@
 ghost use Rattle.std.specs.Prelude.{◌≡◌, ◌≤◌, ℕ, length, map, All, IfSome, IfNone, option_map};
 ghost use Rattle.std.specs.Prelude.{slice_get};
 ghost use Rattle.httparse.specs.Spans.{IsHeaderWithin, header_bytes};
-ghost use Rattle.acct_desk.specs.Head.{IsHeadAt, HasNoHead};
+ghost use Rattle.acct_desk.specs.inner.Head.{IsHeadAt, HasNoHead};
 ghost use Rattle.acct_desk.specs.Request.{is_named, values_of, length_of};
 
 use httparse::Status;

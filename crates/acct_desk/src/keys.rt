@@ -4,7 +4,7 @@ ghost use Rattle.std.specs.List.{list_all, list_any};
 ghost use Rattle.std.specs.Option.{option_copied};
 ghost use Rattle.acct_model.specs.Faults.{fault_or};
 ghost use Rattle.acct_desk.specs.Keys.{is_token_octet, is_token_text, has_token, role_at};
-ghost use Rattle.acct_desk.specs.KeyFaults.{key_fault, fault_of, IsKeysError, ArePlaces};
+ghost use Rattle.acct_desk.specs.KeyFaults.{key_fault, keys_fault, IsKeysError, ArePlaces};
 ghost use Rattle.acct_desk.specs.Routes.{endpoint_of};
 
 use crate::routes::{Endpoint, endpoint_at, router};
@@ -138,8 +138,8 @@ impl Keys {
     /// stand in place of either.
     pub fn new(alloc: Global, list: Vec<DeskKey>) -> Result<Keys, KeysError>
         ensures kept { IfOk result (λ keys. keys ≡ list.items) }
-        ensures faultless { OnOk result (fault_of list.items ≡ None) }
-        ensures refused { IfErr result (IsKeysError (fault_of list.items)) }
+        ensures faultless { OnOk result (keys_fault list.items ≡ None) }
+        ensures refused { IfErr result (IsKeysError (keys_fault list.items)) }
     {
         let mut keys = Keys::none(alloc)?;
         for key in list {

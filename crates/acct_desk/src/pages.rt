@@ -11,7 +11,7 @@ ghost use Rattle.acct_model.specs.declared.plan.Plan.{Plan};
 ghost use Rattle.acct_desk.specs.Asks.{me, overruns};
 ghost use Rattle.acct_desk.specs.Bodies.{balance_body, overrun_in};
 ghost use Rattle.acct_desk.specs.declared.asking.Page.TheVariants as page;
-ghost use Rattle.acct_desk.specs.Pages.{Shows, IsPageResponse};
+ghost use Rattle.acct_desk.specs.inner.Pages.{Shows, IsPageResponse};
 
 use crate::bodies::{
     PageError, balance_value, overrun, overrun_value, sessions_value, topups_value,

@@ -9,8 +9,10 @@ ghost use Rattle.std.specs.Io.KnownBytes.{Consumes, IsAtEnd};
 ghost use Rattle.httparse.specs.Grammar.{LineEnd, print_end};
 ghost use Rattle.httparse.specs.Spans.{IsHeaderWithin, header_bytes};
 ghost use Rattle.acct_desk.specs.Request.{body_length, values_of};
-ghost use Rattle.acct_desk.specs.Reading.{IsSettled, Ends, GoesNoFurther, Adds, EndsInEmptyLine};
-ghost use Rattle.acct_desk.specs.Reading.{NoHeadEnds, StaysOpen};
+ghost use Rattle.acct_desk.specs.Reading.{IsSettled, EndsReading, GoesNoFurther};
+ghost use Rattle.acct_desk.specs.inner.Reading.{ReadsOn};
+ghost use Rattle.acct_desk.specs.inner.Reading.{EndsInEmptyLine};
+ghost use Rattle.acct_desk.specs.inner.Reading.{NoHeadEnds, StaysOpen};
 
 use crate::framing::{HEAD_LIMIT, Reach, declared_length, extent};
 use crate::head::FIELD_LIMIT;
@@ -60,7 +62,7 @@ pub fn read_request<R: Read>(alloc: Global, reader: &mut R) -> Result<Vec<u8>, R
     ensures prefix { IfOk result (λ bytes.
         Consumes (R.remaining reader.old) (R.remaining reader.new) bytes.items) }
     ensures limit { IfOk result (λ bytes. vec_len bytes ≤ 12288) }
-    ensures ends { IfOk result (λ bytes. Ends bytes.items (R.remaining reader.new)) }
+    ensures ends { IfOk result (λ bytes. EndsReading bytes.items (R.remaining reader.new)) }
     ensures stops { IfOk result (λ bytes. GoesNoFurther bytes.items) }
 {
     let mut bytes = Vec::new(alloc);
@@ -86,7 +88,7 @@ pub fn read_request<R: Read>(alloc: Global, reader: &mut R) -> Result<Vec<u8>, R
 // One read: adds octets, and says whether there may be more.
 fn read_some<R: Read>(reader: &mut R, bytes: &mut Vec<u8>) -> Result<bool, ReadFault>
     requires { vec_len bytes.old < 12288 }
-    ensures adds { OnOk result (Adds (R.remaining reader.old) (R.remaining reader.new)
+    ensures adds { OnOk result (ReadsOn (R.remaining reader.old) (R.remaining reader.new)
         bytes.old.items bytes.new.items) }
     ensures limit { OnOk result (vec_len bytes.new ≤ 12288) }
     ensures end { IfOk result (λ more. more ≡ false → IsAtEnd (R.remaining reader.new)) }

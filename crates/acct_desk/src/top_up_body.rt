@@ -3,7 +3,7 @@ ghost use Rattle.std.specs.Prelude.{◌≡◌, ◌≢◌, ◌<◌, ◌^◌, Some
 ghost use Rattle.percent_encoding.specs.Percent as percent;
 ghost use Rattle.serde_json.specs.Data.{Data};
 ghost use Rattle.serde_json.specs.View.{view};
-ghost use Rattle.acct_desk.specs.TopUpBodies.{topup_from, text_at, whole_at, topup_of_value};
+ghost use Rattle.acct_desk.specs.TopUpBodies.{topup_from, member_text, whole_at, topup_of_value};
 ghost use Rattle.acct_desk.specs.TopUpBodies.{IsJson};
 
 use acct_model::{NoMemory, TopUp, TopUpError, unshow};
@@ -101,7 +101,7 @@ fn topup_from(
 
 // A member that is a text.
 fn text_member<'v>(value: &'v Value, name: &str) -> Option<&'v str>
-    ensures { option_map (λ s. s.now) result ≡ text_at name.now (view value.now) }
+    ensures { option_map (λ s. s.now) result ≡ member_text name.now (view value.now) }
 {
     value.get(name).and_then(Value::as_str)
 }

@@ -14,7 +14,8 @@ use Rattle.acct_book.specs.declared.book.Book.{Ghosts}
 use Rattle.acct_book.specs.Content.{empty_content}
 use Rattle.acct_wire.specs.declared.client.Client.{Client}
 use Rattle.acct_feed.specs.Lines.{IsCut, AreCut}
-use Rattle.acct_feed.specs.Feed.{AnswersLine, AnswersAll, Prints, Ran, RanAfresh}
+use Rattle.acct_feed.specs.Feed.{AnswersLine, AnswersAll, Ran, RanAfresh}
+use Rattle.acct_feed.specs.inner.Feed.{Prints}
 use Rattle.acct_feed.specs.Feed.{printed_text, is_good}
 use Rattle.acct_feed.specs.declared.answer.Answer.{Answer}
 

@@ -25,7 +25,7 @@ use Rattle.acct_wire.specs.Outcomes.{Written}
 use Rattle.acct_feed.specs.Answers.{answer_text, packet_answer, signed_answer, balance_answer}
 use Rattle.acct_feed.specs.Answers.{credit_of}
 use Rattle.acct_feed.specs.Answers.{session_answer}
-use Rattle.acct_feed.specs.Line.{IsBad, Spells}
+use Rattle.acct_feed.specs.Line.{IsBad, SpellsLine}
 use Rattle.acct_feed.specs.Lines.{AreCut}
 use Rattle.acct_feed.specs.declared.answer.Answer.{Answer}
 use Rattle.acct_feed.specs.declared.answer.Answer.TheVariants as form
@@ -34,7 +34,7 @@ use Rattle.acct_feed.specs.declared.line.Line.TheVariants as line
 
 module _ {B : Type 0} (b : Ghosts B) (clients : List Client) (plans : List Plan) (old new : B) where
   -- A datagram was judged by the clients and told to the book once; its outcome is shown so.
-  pub record AnswersDatagram (source bytes : List ℕ) (moment : ℕ) (show : List ℕ → Outcome → Answer)
+  pub record FeedsDatagram (source bytes : List ℕ) (moment : ℕ) (show : List ℕ → Outcome → Answer)
       (answer : Answer) : Type 0 where
     pub outcome : Outcome
     pub before : List ℕ
@@ -78,34 +78,34 @@ module _ {B : Type 0} (b : Ghosts B) (clients : List Client) (plans : List Plan)
 
   -- Attributes are sent from a client's address, signed by its secret: a bad line where they do not
   -- fit a request.
-  abbrev pub AnswersRequest : ℕ → Client → ℕ → List ℕ → Answer → Type 0
-  AnswersRequest moment client identifier octets answer =
+  abbrev pub FeedsRequest : ℕ → Client → ℕ → List ℕ → Answer → Type 0
+  FeedsRequest moment client identifier octets answer =
       ((4076 < length octets) × IsBadLine answer)
-      ⊎ ((length octets ≤ 4076) × AnswersDatagram client.address
+      ⊎ ((length octets ≤ 4076) × FeedsDatagram client.address
       (request_octets identifier octets client.secret) moment signed_answer answer)
 
   -- the same, a bad line where no client has the name
   abbrev pub AnswersSigned : ℕ → List ℕ → ℕ → List ℕ → Answer → Type 0
   AnswersSigned moment name identifier octets answer =
       MatchOption (client_named name clients) (IsBadLine answer)
-      (λ client. AnswersRequest moment client identifier octets answer)
+      (λ client. FeedsRequest moment client identifier octets answer)
 
   -- what a line is answered by
-  abbrev pub Answers : Line → Answer → Type 0
-  Answers (line.Signed moment client identifier octets) answer =
+  abbrev pub AnswersParsed : Line → Answer → Type 0
+  AnswersParsed (line.Signed moment client identifier octets) answer =
       AnswersSigned moment client identifier octets answer
-  Answers (line.Packet moment source octets) answer =
-      AnswersDatagram source octets moment packet_answer answer
-  Answers (line.Balance account) answer = AnswersBalance account answer
-  Answers (line.TopUp topup) answer = AnswersTopUp topup answer
-  Answers (line.Session key) answer = AnswersSession key answer
+  AnswersParsed (line.Packet moment source octets) answer =
+      FeedsDatagram source octets moment packet_answer answer
+  AnswersParsed (line.Balance account) answer = AnswersBalance account answer
+  AnswersParsed (line.TopUp topup) answer = AnswersTopUp topup answer
+  AnswersParsed (line.Session key) answer = AnswersSession key answer
 
   -- What the octets of a line are answered by: a bad line where they are no text that a line has,
   -- else as their line is.
   abbrev pub AnswersOctets : List ℕ → Answer → Type 0
   AnswersOctets octets answer =
       (IsBadLine answer × (IsUtf8 octets → IsBad octets))
-      ⊎ (IsUtf8 octets × (line : Line) × Spells octets line × Answers line answer)
+      ⊎ (IsUtf8 octets × (line : Line) × SpellsLine octets line × AnswersParsed line answer)
 
   -- What a line is answered by: nothing where it is empty.
   abbrev pub AnswersLine : List ℕ → Option Answer → Type 0
@@ -123,15 +123,6 @@ is_good (Some form.BadLine) = false
 is_good _ = true
 
 module _ {B : Type 0} (b : Ghosts B) (clients : List Client) (plans : List Plan) where
-  -- A line was answered, its answer was printed, and it is told whether it was good.
-  pub record Prints (old new : B) (octets : List ℕ) (good : Bool) (before after : Option (List ℕ))
-      : Type 0 where
-    pub answer : Option Answer
-    pub answered : AnswersLine b clients plans old new octets
-        answer
-    pub printed : Appends before after (printed_text answer)
-    pub good_is : good ≡ is_good answer
-
   -- Each line was answered over the book as the line before it left it.
   abbrev pub AnswersAll : List (List ℕ) → List (Option Answer) → B → B → Type 0
   AnswersAll [] [] old new = new ≡ old

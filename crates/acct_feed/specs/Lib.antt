@@ -6,3 +6,4 @@ pub mod Lines
 pub mod Numbers
 pub mod Octets
 pub mod Words
+pub mod inner

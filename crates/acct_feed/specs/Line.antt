@@ -64,12 +64,12 @@ AreWordsOf all (line.TopUp topup) = AreTopUp all topup
 AreWordsOf all (line.Session key) = AreSession all key
 
 -- the text of a line
-abbrev pub Spells : List ℕ → Line → Type 0
-Spells text line = AreWordsOf (words text) line
+abbrev pub SpellsLine : List ℕ → Line → Type 0
+SpellsLine text line = AreWordsOf (words text) line
 
 -- the text isn't empty, and no line has it
 abbrev pub IsBad : List ℕ → Type 0
-IsBad text = (text ≢ []) × ((line : Line) → Spells text line → ⊥)
+IsBad text = (text ≢ []) × ((line : Line) → SpellsLine text line → ⊥)
 
 -- its moment, if it has one, is below 2^53
 abbrev pub HasMoment : Line → Type 0

@@ -16,10 +16,10 @@ number_of word =
     else None
 
 -- the number, if there is one and it isn't above the given one
-abbrev pub at_most : ℕ → Option ℕ → Option ℕ
-at_most most None = None
-at_most most (Some number) = if nat_le number most then Some number else None
+abbrev pub number_at_most : ℕ → Option ℕ → Option ℕ
+number_at_most most None = None
+number_at_most most (Some number) = if nat_le number most then Some number else None
 
 -- the number that a word spells, if it isn't above the given one
 abbrev pub number_up_to : ℕ → List ℕ → Option ℕ
-number_up_to most word = at_most most (number_of word)
+number_up_to most word = number_at_most most (number_of word)

@@ -8,8 +8,9 @@
 ghost use Rattle.std.specs.Prelude.{◌≡◌, ◌≢◌, ◌^◌, ◌<◌, ◌≤◌, [], true, IfOk, IfSome};
 ghost use Rattle.std.specs.Prelude.{List, ℕ, MatchOption, length};
 ghost use Rattle.radius_codec.specs.Packet.{request_octets};
-ghost use Rattle.acct_feed.specs.Feed.{Prints, Ran, Answers, AnswersLine};
-ghost use Rattle.acct_feed.specs.Feed.{AnswersDatagram, AnswersSigned};
+ghost use Rattle.acct_feed.specs.Feed.{Ran, AnswersParsed, AnswersLine};
+ghost use Rattle.acct_feed.specs.inner.Feed.{Prints};
+ghost use Rattle.acct_feed.specs.Feed.{FeedsDatagram, AnswersSigned};
 ghost use Rattle.acct_feed.specs.Feed.{AnswersBalance, AnswersTopUp, AnswersSession};
 ghost use Rattle.acct_feed.specs.Answers.{packet_answer};
 ghost use Rattle.acct_feed.specs.Line.{HasMoment};
@@ -177,7 +178,7 @@ impl<B: Book> Feed<B> {
     /// `NoMemory` alone. The line may have changed the book then.
     pub fn answer(&mut self, line: Line) -> Result<Answer, Stop>
         requires { HasMoment line }
-        ensures answers { IfOk result (Answers B.Book
+        ensures answers { IfOk result (AnswersParsed B.Book
             self.old.server.config.clients self.old.server.config.plans
             self.old.server.book self.new.server.book line) }
         ensures same_config { self.new.server.config ≡ self.old.server.config }
@@ -239,7 +240,7 @@ impl<B: Book> Feed<B> {
 
     // Answers a datagram as it came.
     fn answer_packet(&mut self, datagram: &Datagram<'_>) -> Result<Answer, Stop>
-        ensures answers { IfOk result (AnswersDatagram B.Book
+        ensures answers { IfOk result (FeedsDatagram B.Book
             self.old.server.config.clients self.old.server.config.plans
             self.old.server.book self.new.server.book datagram.now.source datagram.now.bytes.now
             datagram.now.moment packet_answer) }

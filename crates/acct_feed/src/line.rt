@@ -8,7 +8,8 @@ ghost use Rattle.std.specs.Prelude.{MatchOption};
 ghost use Rattle.acct_model.specs.Vouchers.{TopUpFacts};
 ghost use Rattle.acct_book.specs.declared.key.Key.{Key};
 ghost use Rattle.acct_feed.specs.Words.{words as words_in};
-ghost use Rattle.acct_feed.specs.Line.{HasMoment, Spells, IsBad, AreWordsOf, AreSigned, ArePacket};
+ghost use Rattle.acct_feed.specs.Line.{HasMoment, SpellsLine, IsBad, AreWordsOf, AreSigned};
+ghost use Rattle.acct_feed.specs.Line.{ArePacket};
 ghost use Rattle.acct_feed.specs.Line.{AreBalance, AreTopUp, AreSession};
 ghost use Rattle.acct_feed.specs.declared.line_fault.LineFault.TheVariants.{Bad as bad};
 
@@ -70,7 +71,7 @@ pub enum Line {
 /// `Bad` exactly where no line has this text, unless memory is refused before that is known;
 /// `NoMemory` where its octets cannot be kept.
 pub fn read_line(alloc: Global, text: &str) -> Result<Option<Line>, LineFault>
-    ensures spelled { IfOk result (λ line. MatchOption line (text.now ≡ []) (Spells text.now)) }
+    ensures spelled { IfOk result (λ line. MatchOption line (text.now ≡ []) (SpellsLine text.now)) }
     ensures refused { IfErr result (λ fault. fault ≡ bad → IsBad text.now) }
     ensures moment { IfOk result (λ line. IfSome line HasMoment) }
 {

@@ -11,7 +11,7 @@ use Rattle.acct_files.specs.declared.import_report.Outcome.{Outcome}
 use Rattle.acct_files.specs.declared.import_report.Outcome.TheVariants.{Added, Repeated}
 use Rattle.acct_files.specs.declared.import_report.Outcome.TheVariants.{Refused as outcome_refused}
 use Rattle.acct_files.specs.Vouchers.{Fields, asked_by}
-use Rattle.acct_files.specs.Importing.{Becomes, Imported, Counts, is_added, is_repeated}
+use Rattle.acct_files.specs.Importing.{Becomes, Imported, CountsLines, is_added, is_repeated}
 use Rattle.acct_files.specs.Importing.{refused_from}
 
 refused_more : (n : ℕ) (outcomes : List Outcome) (m : ℕ) (last : List Outcome)
@@ -26,11 +26,11 @@ refused_more n (outcome_refused c ∷ outcomes) m last e =
 
 -- the report counts one outcome more
 pub counts_more : (outcomes : List Outcome) (outcome : Outcome) (n : ℕ) (old new : ImportReport)
-    → Counts outcomes old → n ≡ length outcomes + 2
+    → CountsLines outcomes old → n ≡ length outcomes + 2
     → new.added ≡ old.added + count_by is_added (outcome ∷ [])
     → new.repeated ≡ old.repeated + count_by is_repeated (outcome ∷ [])
     → new.refused ≡ old.refused ++ refused_from n (outcome ∷ [])
-    → Counts (outcomes ++ outcome ∷ []) new
+    → CountsLines (outcomes ++ outcome ∷ []) new
 counts_more outcomes outcome n old new counts number added repeated refused = record {
   added =
       omega (

@@ -12,7 +12,8 @@ use Rattle.acct_model.specs.Faults.{fault_or}
 use Rattle.acct_model.proofs.Faults.{faultless_more}
 use Rattle.acct_files.specs.declared.config_error.ConfigKind.{ConfigKind}
 use Rattle.acct_files.specs.declared.config_error.ConfigKind.TheVariants.{Memory}
-use Rattle.acct_files.specs.Entries.{Spells, EachSpells, AreEntries, IsUnspelled, IsRefused}
+use Rattle.acct_files.specs.Entries.{SpellsTable, EachSpells, AreEntries, IsUnspelled}
+use Rattle.acct_files.specs.Entries.{IsFirstRefused}
 
 -- ---- the data of values
 
@@ -45,7 +46,7 @@ module _ {V X E : Type 0} (values_of : Data → Option V) (Says : V → X → Ty
     (fault : List X → X → Option E) where
   each_more : (tables : List Data) (entries : List X) (element : Data) (entry : X)
       → EachSpells values_of Says fault tables entries
-      → Spells values_of Says fault element entry
+      → SpellsTable values_of Says fault element entry
       → EachSpells values_of Says fault (tables ++ element ∷ []) (entries ++ entry ∷ [])
   each_more [] [] element entry each spells = (spells, tt)
   each_more (t ∷ tables) (e ∷ entries) element entry each spells =
@@ -55,7 +56,7 @@ module _ {V X E : Type 0} (values_of : Data → Option V) (Says : V → X → Ty
 
   -- one more
   pub more_entries : (tables : List Data) (entries : List X) (element : Data) (entry : X)
-      → AreEntries values_of Says fault tables entries → Spells values_of Says fault element entry
+      → AreEntries values_of Says fault tables entries → SpellsTable values_of Says fault element entry
       → fault entries entry ≡ None
       → AreEntries values_of Says fault (tables ++ element ∷ []) (entries ++ entry ∷ [])
   more_entries tables entries element entry are spells alone =
@@ -69,7 +70,7 @@ module _ {V X E : Type 0} (values_of : Data → Option V) (Says : V → X → Ty
       (element : Data) (kind : ConfigKind) (result : Result T ConfigKind)
       → IsErrAnd result (λ why. why ≡ kind) → IsUnspelled values_of Says fault bad element kind
       → IfErr result (λ why. (why ≡ Memory)
-      ⊎ IsRefused values_of Says fault bad kind_of earlier element why)
+      ⊎ IsFirstRefused values_of Says fault bad kind_of earlier element why)
   unspelled bad kind_of earlier element kind (Ok x) told why = tt
   unspelled bad kind_of earlier element kind (Err e) told (inl memory) = inl (told ∙ memory)
   unspelled bad kind_of earlier element kind (Err e) told (inr (inl shape)) =
@@ -79,9 +80,9 @@ module _ {V X E : Type 0} (values_of : Data → Option V) (Says : V → X → Ty
 
   told_by : (bad : ConfigKind) (kind_of : E → ConfigKind) (memory error : E) (earlier : List X)
       (element : Data) (entry : X) (kind : ConfigKind) (found : Option E)
-      → fault earlier entry ≡ found → Spells values_of Says fault element entry
+      → fault earlier entry ≡ found → SpellsTable values_of Says fault element entry
       → error ≡ fault_or memory found → kind_of memory ≡ Memory → kind ≡ kind_of error
-      → (kind ≡ Memory) ⊎ IsRefused values_of Says fault bad kind_of earlier element kind
+      → (kind ≡ Memory) ⊎ IsFirstRefused values_of Says fault bad kind_of earlier element kind
   told_by bad kind_of memory error earlier element entry kind None is spells what none told =
       inl (told ∙ ap kind_of what ∙ none)
   told_by bad kind_of memory error earlier element entry kind (Some why) is spells what none told =
@@ -96,10 +97,10 @@ module _ {V X E : Type 0} (values_of : Data → Option V) (Says : V → X → Ty
   -- so is what spells an entry that has a fault
   pub faulty : {T : Type 0} (bad : ConfigKind) (kind_of : E → ConfigKind) (memory error : E)
       (earlier : List X) (element : Data) (entry : X) (result : Result T ConfigKind)
-      → IsErrAnd result (λ why. why ≡ kind_of error) → Spells values_of Says fault element entry
+      → IsErrAnd result (λ why. why ≡ kind_of error) → SpellsTable values_of Says fault element entry
       → error ≡ fault_or memory (fault earlier entry) → kind_of memory ≡ Memory
       → IfErr result (λ why. (why ≡ Memory)
-      ⊎ IsRefused values_of Says fault bad kind_of earlier element why)
+      ⊎ IsFirstRefused values_of Says fault bad kind_of earlier element why)
   faulty bad kind_of memory error earlier element entry (Ok x) told spells what none = tt
   faulty bad kind_of memory error earlier element entry (Err e) told spells what none =
       told_by bad kind_of memory error earlier element entry e (fault earlier entry) refl spells

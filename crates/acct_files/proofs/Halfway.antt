@@ -1,6 +1,6 @@
 -- An import on its way through a text.
 use Rattle.std.proofs.Common.{◌≡◌, ◌≤◌, ◌+◌, ℕ, inl, inr, true, false, List, [], ◌∷◌, ◌++◌, length}
-use Rattle.std.proofs.Common.{Option, Some, None, Result, Ok, Err, refl, sym, ◌∙◌, subst, arith}
+use Rattle.std.proofs.Common.{Option, Some, None, Ok, Err, refl, sym, ◌∙◌, subst, arith}
 use Rattle.std.specs.Prelude.{IfSome, IsTrue}
 use Rattle.std.proofs.lemmas.List.{length-append}
 use Rattle.csv.specs.Reading.{ReadRecord, default_config, reader_config, reader_state}
@@ -20,9 +20,10 @@ use Rattle.acct_files.specs.declared.import_report.Stopped.TheVariants.{TooMany}
 use Rattle.acct_files.specs.declared.import_report.ImportReport.{ImportReport}
 use Rattle.acct_files.specs.declared.import_report.Outcome.{Outcome}
 use Rattle.acct_files.specs.Vouchers.{Fields, asked_by, is_header}
-use Rattle.acct_files.specs.Importing.{Imported, Imports, Counts, Begin}
-use Rattle.acct_files.specs.Importing.{AreTaken, Did, Moves, MayHaveTried, is_refused}
-use Rattle.acct_files.specs.Reading.{HasRead, HasReadHeader, IsHeaderStop, IsReadStop}
+use Rattle.acct_files.specs.Importing.{Imported, Imports, CountsLines, Begin}
+use Rattle.acct_files.specs.Importing.{AreTaken, Moves, is_refused}
+use Rattle.acct_files.specs.inner.Importing.{Did}
+use Rattle.acct_files.specs.inner.Reading.{HasRead, HasReadHeader, IsHeaderStop, IsReadStop}
 use Rattle.acct_files.proofs.Counting.{run_more, run_length}
 use Rattle.acct_files.proofs.Offers.{stayed, moved_on, moved_muted, moved_failed, refused_stays}
 
@@ -44,7 +45,7 @@ module _ {B R : Type 0} (b : Ghosts B) (remaining : R → Option (List ℕ))
       pub rows : List Fields
       pub outcomes : List Outcome
       pub run : Imported plans moment history rows outcomes after
-      pub counts : Counts outcomes report
+      pub counts : CountsLines outcomes report
       pub counted : number ≡ length rows + 2
       pub header : Fields
       pub is_head : is_header header ≡ true
@@ -63,7 +64,7 @@ module _ {B R : Type 0} (b : Ghosts B) (remaining : R → Option (List ℕ))
       }
 
   pub at_start : (reader : Reader R) (report : ImportReport) (book : B)
-      → HasReadHeader remaining text reader → Counts [] report
+      → HasReadHeader remaining text reader → CountsLines [] report
       → StoodFor b plans book history
       → Halfway reader 2 report book book
   at_start reader report book (header, is_head, read) counts stands = record {
@@ -91,8 +92,8 @@ module _ {B R : Type 0} (b : Ghosts B) (remaining : R → Option (List ℕ))
       → (half : Halfway x number report old mid) → next ≡ number + 1
       → reader_config x ≡ default_config → ReadRecord remaining x y true fields
       → Did moment fields (Ok outcome) effect → Does b plans mid new effect → b.is_sound new
-      → ((outcomes : List Outcome) → Counts outcomes report → number ≡ length outcomes + 2
-      → Counts (outcomes ++ outcome ∷ []) later)
+      → ((outcomes : List Outcome) → CountsLines outcomes report → number ≡ length outcomes + 2
+      → CountsLines (outcomes ++ outcome ∷ []) later)
       → Halfway y next later old new
   more x y number next report later old mid new fields outcome effect half same config took did
       does sound counts =
@@ -259,7 +260,7 @@ module _ {B R : Type 0} (b : Ghosts B) (remaining : R → Option (List ℕ))
   }
 
   -- the text was given up at its header
-  pub beheaded : (report : ImportReport) (book : B) (stopped : Stopped) → Counts [] report
+  pub beheaded : (report : ImportReport) (book : B) (stopped : Stopped) → CountsLines [] report
       → StoodFor b plans book history → IsHeaderStop text stopped
       → Import (Some stopped) report book book
   beheaded report book stopped counts stands why = record {

@@ -10,7 +10,7 @@ use Rattle.csv.specs.declared.reader.Reader.{Reader}
 use Rattle.csv.proofs.ReadFacts.{rows-end, rows-more}
 use Rattle.acct_files.specs.Vouchers.{Fields, is_header}
 use Rattle.acct_files.specs.Importing.{has_header}
-use Rattle.acct_files.specs.Reading.{HasRead}
+use Rattle.acct_files.specs.inner.Reading.{HasRead}
 
 known : {X : Type 0} (o : Option X) (P : X → Type 0) → ((x : X) → o ≡ Some x → P x) → IfSome o P
 known None P h = tt

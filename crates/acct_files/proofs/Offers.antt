@@ -1,7 +1,7 @@
 -- What `record` says of a voucher, as what a record of an import did.
 use Rattle.std.proofs.Common.{◌≡◌, ◌+◌, ℕ, inl, inr, List, Option, Some, None, Result, Ok, Err}
 use Rattle.std.proofs.Common.{refl, sym, ◌∙◌, subst, arith}
-use Rattle.std.specs.Prelude.{◌≢◌, ◌⊎◌, IsTrue}
+use Rattle.std.specs.Prelude.{◌≢◌, IsTrue}
 use Rattle.acct_model.specs.declared.plan.Plan.{Plan}
 use Rattle.acct_model.specs.declared.entry.Entry.{Entry}
 use Rattle.acct_model.specs.declared.entry.Entry.TheVariants.{TopUp}
@@ -12,10 +12,9 @@ use Rattle.acct_book.specs.declared.recording.Recorded.TheVariants.{New, Repeat}
 use Rattle.acct_book.specs.declared.recording.RecordError.{RecordError}
 use Rattle.acct_book.specs.declared.recording.RecordError.TheVariants.{VoucherDiffers, BalanceLimit}
 use Rattle.acct_book.specs.declared.recording.RecordError.TheVariants.{Unavailable}
-use Rattle.acct_book.specs.Content.{Content}
 use Rattle.acct_book.specs.Effect.{Effect, added, repeated, differs, limited, failed}
 use Rattle.acct_book.specs.Effect.{unasked}
-use Rattle.acct_book.specs.Effect.{after_effect, Holds, effect_of}
+use Rattle.acct_book.specs.Effect.{after_effect, effect_of}
 use Rattle.acct_book.specs.Stands.{Stands}
 use Rattle.acct_book.specs.Step.{MayAdd, StoodFor, Does}
 use Rattle.acct_book.proofs.Crashes.{left_by}
@@ -28,9 +27,12 @@ use Rattle.acct_files.specs.declared.import_report.Outcome.{Outcome}
 use Rattle.acct_files.specs.declared.import_report.Outcome.TheVariants.{Added, Repeated, Refused}
 use Rattle.acct_files.specs.declared.voucher_record.Fault.{Fault}
 use Rattle.acct_files.specs.declared.voucher_record.Fault.TheVariants as fault
-use Rattle.acct_files.specs.Vouchers.{Fields, IsFault, asked_by}
-use Rattle.acct_files.specs.Importing.{Becomes, Did, Keeps, Moves, added_by, refused_by, stop_of}
-use Rattle.acct_files.specs.Importing.{told_by, is_refused}
+use Rattle.acct_files.specs.Vouchers.{Fields, IsLineFault, asked_by}
+use Rattle.acct_files.specs.Importing.{Becomes, KeepsOpen, Moves}
+use Rattle.acct_files.specs.inner.Importing.{Did, added_by, refused_by}
+use Rattle.acct_files.specs.inner.Importing.{stop_of}
+use Rattle.acct_files.specs.Importing.{is_refused}
+use Rattle.acct_files.specs.inner.Importing.{told_by}
 
 -- ---- which effect a record has
 
@@ -91,7 +93,7 @@ module _ {B : Type 0} (b : Ghosts B) (plans : List Plan) where
       (effect_of (TopUp topup) result, recorded_becomes moment fields topup result asked, does)
 
   pub faulted : (moment : ℕ) (fields : Fields) (f : Fault) (book : B)
-      → IsFault f (asked_by moment fields)
+      → IsLineFault f (asked_by moment fields)
       → (effect : Effect) × Did moment fields (refused_by f) effect × Does b plans book book effect
   faulted moment fields (fault.Refused c) book is = (
     unasked,
@@ -157,7 +159,7 @@ module _ {B : Type 0} (b : Ghosts B) where
       → (b.is_open new → b.is_open old) → (b.is_steady old → b.is_steady new)
       → (b.is_sound new → stopped ≢ Some stop.Unavailable → b.is_open new)
       → (b.is_open new → n ≡ 0 → b.content new ≡ b.content old)
-      → Keeps b stopped n old new
+      → KeepsOpen b stopped n old new
   kept_as stopped n old new sound opens steady answers unchanged =
       record {
         was_sound = sound;
@@ -169,7 +171,7 @@ module _ {B : Type 0} (b : Ghosts B) where
 
   pub offer_keeps : (plans : List Plan) (topup : TopUpFacts) (result : Result Recorded RecordError)
       (old new : B) → Does b plans old new (effect_of (TopUp topup) result)
-      → Keeps b (stop_of (told_by result)) (added_by (told_by result)) old new
+      → KeepsOpen b (stop_of (told_by result)) (added_by (told_by result)) old new
   offer_keeps plans topup (Ok New) old new d =
       kept_as _ _ old new d.was_sound d.was_open d.keeps_steady (λ s other. d.answers s tt)
       (λ o none. absurd (cc none))
@@ -188,8 +190,8 @@ module _ {B : Type 0} (b : Ghosts B) where
 
   -- calls after calls
   pub keeps_then : (stopped : Option Stopped) (first second total : ℕ) (old mid new : B)
-      → Keeps b None first old mid → Keeps b stopped second mid new → total ≡ first + second
-      → Keeps b stopped total old new
+      → KeepsOpen b None first old mid → KeepsOpen b stopped second mid new → total ≡ first + second
+      → KeepsOpen b stopped total old new
   keeps_then stopped first second total old mid new one two sums = record {
     was_sound = λ s. one.was_sound (two.was_sound s);
     was_open = λ o. one.was_open (two.was_open o);

@@ -10,7 +10,7 @@ use Rattle.toml.specs.Data.{Data, table, string, integer, float, boolean, dateti
 use Rattle.toml.specs.Data.{as_array, Items}
 use Rattle.toml.specs.View.{view, members_view, items_view}
 use Rattle.toml.specs.declared.value.Value.{Value}
-use Rattle.acct_files.specs.Tables.{is_one_of, has_only, elements, elements_at, at_most}
+use Rattle.acct_files.specs.Tables.{is_one_of, has_only, elements, elements_at, list_at_most}
 
 -- whether a name is one of some words
 any_now : (name : List ℕ) (words : List (Bor (List ℕ)))
@@ -57,11 +57,11 @@ elements_of_other (table ns) e = refl
 -- ---- limits
 
 pub at_most_within : (limit : ℕ) (list : List Data) → length list ≤ limit
-    → at_most limit (Some list) ≡ Some list
+    → list_at_most limit (Some list) ≡ Some list
 at_most_within limit list within = rw (le-leb (length list) limit within)
 
 pub at_most_past : (limit : ℕ) (list : List Data) → limit < length list
-    → at_most limit (Some list) ≡ None
+    → list_at_most limit (Some list) ≡ None
 at_most_past limit list past =
     let more : nat_le (length list) limit ≡ false = grind (arith, nat_tests) in
     rw more

@@ -7,7 +7,8 @@ use Rattle.std.specs.declared.cmp.Ordering.{Ordering}
 use Rattle.std.proofs.lemmas.Grind.{flat_map-append}
 use Rattle.std.proofs.lemmas.List.{append-nil}
 use Rattle.acct_book.specs.declared.book.Book.{Ghosts}
-use Rattle.acct_book.specs.Step.{Looks, OnlyLooks}
+use Rattle.acct_book.specs.Step.{Looks}
+use Rattle.acct_book.specs.inner.Step.{OnlyLooks}
 use Rattle.acct_book.specs.Content.{Content}
 use Rattle.acct_book.specs.Walk.{IsNext, IsWalk}
 use Rattle.acct_files.specs.Exporting.{export_text, line}

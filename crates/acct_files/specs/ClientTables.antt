@@ -14,7 +14,7 @@ use Rattle.acct_files.specs.declared.config_error.ConfigKind.TheVariants.{BadCli
 use Rattle.acct_files.specs.declared.config_error.ConfigKind.TheVariants.{TwiceClient, Memory}
 use Rattle.acct_files.specs.declared.config_error.ConfigTable.TheVariants as place
 use Rattle.acct_files.specs.declared.config_error.ConfigError.{ConfigError}
-use Rattle.acct_files.specs.Tables.{table_of, text_at, three}
+use Rattle.acct_files.specs.Tables.{table_shown, text_at, three}
 use Rattle.acct_files.specs.Entries as entries
 
 -- the names of a client's table
@@ -31,7 +31,7 @@ texts_in members =
     (text_at (codes "secret") members)
 
 abbrev pub client_texts : Data → Option ClientTexts
-client_texts value = option_and_then texts_in (table_of client_names value)
+client_texts value = option_and_then texts_in (table_shown client_names value)
 
 -- A to Z, a to z, 0 to 9, `.`, `-` or `_`
 abbrev pub is_name_octet : ℕ → Bool
@@ -55,16 +55,9 @@ pub record SaysClient (texts : ClientTexts) (client : Client) : Type 0 where
   pub name_fits : is_name_text client.name ≡ true
   pub secret_fits : is_secret client.secret ≡ true
 
-abbrev pub SpellsClient : Data → Client → Type 0
-SpellsClient = entries.Spells client_texts SaysClient client_fault
-
 -- the tables spell these clients, of which no two share a name or an address
 abbrev pub AreClientTables : List Data → List Client → Type 0
 AreClientTables = entries.AreEntries client_texts SaysClient client_fault
-
--- why a table is no client, or memory was refused
-abbrev pub IsNoClient : Data → ConfigKind → Type 0
-IsNoClient = entries.IsUnspelled client_texts SaysClient client_fault BadClient
 
 -- how a client's fault is told
 abbrev pub client_kind : ClientError → ConfigKind
@@ -74,7 +67,7 @@ client_kind fault.Memory = Memory
 
 -- why a table after these clients is refused
 abbrev pub IsClientRefused : List Client → Data → ConfigKind → Type 0
-IsClientRefused = entries.IsRefused client_texts SaysClient client_fault BadClient client_kind
+IsClientRefused = entries.IsFirstRefused client_texts SaysClient client_fault BadClient client_kind
 
 -- the error tells the first client's table that is refused
 abbrev pub FirstClientRefused : List Data → ConfigError → Type 0

@@ -12,7 +12,7 @@ use Rattle.acct_files.specs.declared.config_error.ConfigError.{ConfigError}
 module _ {V X E : Type 0} (values_of : Data → Option V) (Says : V → X → Type 0)
     (fault : List X → X → Option E) where
   -- the element has the shape, and its values are those of the entry
-  pub record Spells (element : Data) (entry : X) : Type 0 where
+  pub record SpellsTable (element : Data) (entry : X) : Type 0 where
     pub values : V
     pub shape : values_of element ≡ Some values
     pub says : Says values entry
@@ -20,7 +20,8 @@ module _ {V X E : Type 0} (values_of : Data → Option V) (Says : V → X → Ty
   -- each table spells the entry at its place
   abbrev pub EachSpells : List Data → List X → Type 0
   EachSpells [] [] = ⊤
-  EachSpells (element ∷ tables) (entry ∷ entries) = Spells element entry × EachSpells tables entries
+  EachSpells (element ∷ tables) (entry ∷ entries) =
+      SpellsTable element entry × EachSpells tables entries
   EachSpells [] (entry ∷ entries) = ⊥
   EachSpells (element ∷ tables) [] = ⊥
 
@@ -46,14 +47,14 @@ module _ {V X E : Type 0} (values_of : Data → Option V) (Says : V → X → Ty
   pub record SpellsFaulty (kind_of : E → ConfigKind) (earlier : List X) (element : Data)
       (kind : ConfigKind) : Type 0 where
     pub entry : X
-    pub spelled : Spells element entry
+    pub spelled : SpellsTable element entry
     pub why : E
     pub found : fault earlier entry ≡ Some why
     pub told : kind ≡ kind_of why
 
   -- why an element after these entries is refused: its shape, its values, or a fault of its entry
-  abbrev pub IsRefused : ConfigKind → (E → ConfigKind) → List X → Data → ConfigKind → Type 0
-  IsRefused bad kind_of earlier element kind =
+  abbrev pub IsFirstRefused : ConfigKind → (E → ConfigKind) → List X → Data → ConfigKind → Type 0
+  IsFirstRefused bad kind_of earlier element kind =
       ((kind ≡ BadShape) × (values_of element ≡ None))
       ⊎ ((kind ≡ bad) × SpellsNone element)
       ⊎ SpellsFaulty kind_of earlier element kind

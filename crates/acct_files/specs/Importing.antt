@@ -12,20 +12,14 @@ use Rattle.acct_model.specs.declared.plan.Plan.{Plan}
 use Rattle.acct_model.specs.declared.entry.Entry.{Entry}
 use Rattle.acct_model.specs.declared.entry.Entry.TheVariants.{TopUp}
 use Rattle.acct_model.specs.Vouchers.{TopUpFacts}
-use Rattle.acct_book.specs.declared.recording.Recorded.{Recorded}
-use Rattle.acct_book.specs.declared.recording.RecordError.{RecordError}
-use Rattle.acct_book.specs.declared.recording.Recorded.TheVariants.{New, Repeat}
-use Rattle.acct_book.specs.declared.recording.RecordError.TheVariants as error
 use Rattle.acct_book.specs.Content.{Content}
 use Rattle.acct_book.specs.declared.book.Book.{Ghosts}
-use Rattle.acct_book.specs.Effect.{Effect, added, repeated, differs, limited, failed}
+use Rattle.acct_book.specs.Effect.{Effect, added, repeated, differs, limited}
 use Rattle.acct_book.specs.Effect.{unasked}
 use Rattle.acct_book.specs.Effect.{after_effect, Holds}
 use Rattle.acct_book.specs.Step.{MayAdd, StoodFor}
 use Rattle.acct_book.specs.Stands.{Stands}
 use Rattle.acct_files.specs.declared.import_report.Cause.{Cause}
-use Rattle.acct_files.specs.declared.import_report.Cause.TheVariants.{FieldCount, BadVoucher}
-use Rattle.acct_files.specs.declared.import_report.Cause.TheVariants.{BadAccount, BadSum}
 use Rattle.acct_files.specs.declared.import_report.Cause.TheVariants.{VoucherDiffers, BalanceLimit}
 use Rattle.acct_files.specs.declared.import_report.Stopped.{Stopped}
 use Rattle.acct_files.specs.declared.import_report.Stopped.TheVariants as stop
@@ -33,8 +27,6 @@ use Rattle.acct_files.specs.declared.import_report.Refused.{Refused}
 use Rattle.acct_files.specs.declared.import_report.ImportReport.{ImportReport}
 use Rattle.acct_files.specs.declared.import_report.Outcome.{Outcome}
 use Rattle.acct_files.specs.declared.import_report.Outcome.TheVariants as outcome
-use Rattle.acct_files.specs.declared.voucher_record.Fault.{Fault}
-use Rattle.acct_files.specs.declared.voucher_record.Fault.TheVariants as fault
 use Rattle.acct_files.specs.Vouchers.{Fields, is_header, asked_by}
 
 -- ---- one record
@@ -87,7 +79,7 @@ refused_from n (outcome.Refused cause ∷ outcomes) =
     record { number = n; cause = cause } ∷ refused_from (n + 1) outcomes
 
 -- the report says what became of the records, the first of which is record 2
-pub record Counts (outcomes : List Outcome) (report : ImportReport) : Type 0 where
+pub record CountsLines (outcomes : List Outcome) (report : ImportReport) : Type 0 where
   pub added : report.added ≡ count_by is_added outcomes
   pub repeated : report.repeated ≡ count_by is_repeated outcomes
   pub refused : report.refused ≡ refused_from 2 outcomes
@@ -132,35 +124,12 @@ MayHaveTried stopped (Some topup) = stopped ≡ Some stop.Unavailable
 
 -- ---- one record, or a stop at it
 
--- what a record did, by its outcome or by why the import stopped at it
-abbrev pub Did : ℕ → Fields → Result Outcome Stopped → Effect → Type 0
-Did moment fields (Ok told) effect = Becomes (asked_by moment fields) told effect
-Did moment fields (Err stop.Unavailable) effect =
-    (topup : TopUpFacts) × (asked_by moment fields ≡ Ok topup) × (effect ≡ failed (TopUp topup))
-Did moment fields (Err stop.Memory) effect = effect ≡ unasked
-Did moment fields (Err stop.BadHeader) effect = ⊥
-Did moment fields (Err stop.Unreadable) effect = ⊥
-Did moment fields (Err stop.TooMany) effect = ⊥
-
--- what a fault says, as the outcome of a record or as a stop at it
-abbrev pub refused_by : Fault → Result Outcome Stopped
-refused_by (fault.Refused cause) = Ok (outcome.Refused cause)
-refused_by fault.Memory = Err stop.Memory
-
--- what `record` answers, as the outcome of a record or as a stop at it
-abbrev pub told_by : Result Recorded RecordError → Result Outcome Stopped
-told_by (Ok New) = Ok outcome.Added
-told_by (Ok Repeat) = Ok outcome.Repeated
-told_by (Err (error.VoucherDiffers kept)) = Ok (outcome.Refused VoucherDiffers)
-told_by (Err (error.BalanceLimit balance)) = Ok (outcome.Refused BalanceLimit)
-told_by (Err error.Unavailable) = Err stop.Unavailable
-
 -- ---- the book
 
 -- the content stands for the history, or for it with the top-up whose call failed
-abbrev pub MayLeave : List Plan → List Entry → Option TopUpFacts → Content → Type 0
-MayLeave plans history None content = Stands plans content history
-MayLeave plans history (Some topup) content =
+abbrev pub ImportLeaves : List Plan → List Entry → Option TopUpFacts → Content → Type 0
+ImportLeaves plans history None content = Stands plans content history
+ImportLeaves plans history (Some topup) content =
     Stands plans content history ⊎ MayAdd plans history (TopUp topup) content
 
 module _ {B : Type 0} (b : Ghosts B) where
@@ -172,7 +141,7 @@ module _ {B : Type 0} (b : Ghosts B) where
     pub stands : StoodFor b plans new after
     pub leaves : ((c : Content) → b.left old c → Stands plans c history) → (c : Content)
         → b.left new c
-        → MayLeave plans after tried c
+        → ImportLeaves plans after tried c
 
   -- a run over a text, from a history to the one after it
   pub record Imports (plans : List Plan) (moment : ℕ) (text : Option (List ℕ))
@@ -183,29 +152,17 @@ module _ {B : Type 0} (b : Ghosts B) where
     pub rows : List Fields
     pub outcomes : List Outcome
     pub run : Imported plans moment history rows outcomes after
-    pub counts : Counts outcomes report
+    pub counts : CountsLines outcomes report
     pub taken : IfSome text (λ t. AreTaken moment t stopped tried rows)
     pub only : MayHaveTried stopped tried
     pub moves : Moves plans history after tried old new
 
 module _ {B : Type 0} (b : Ghosts B) where
   -- what calls keep of a book, whatever it stands for
-  pub record Keeps (stopped : Option Stopped) (added : ℕ) (old new : B) : Type 0 where
+  pub record KeepsOpen (stopped : Option Stopped) (added : ℕ) (old new : B) : Type 0 where
     pub was_sound : b.is_sound new → b.is_sound old
     pub was_open : b.is_open new → b.is_open old
     pub keeps_steady : b.is_steady old → b.is_steady new
     pub stays_open : b.is_sound new → stopped ≢ Some stop.Unavailable → b.is_open old
         → b.is_open new
     pub unchanged : b.is_open new → added ≡ 0 → b.content new ≡ b.content old
-
--- why a run stopped, if it did
-abbrev pub stop_of : {X : Type 0} → Result X Stopped → Option Stopped
-stop_of (Ok done) = None
-stop_of (Err stopped) = Some stopped
-
--- how many vouchers one record added
-abbrev pub added_by : Result Outcome Stopped → ℕ
-added_by (Ok outcome.Added) = 1
-added_by (Ok outcome.Repeated) = 0
-added_by (Ok (outcome.Refused cause)) = 0
-added_by (Err stopped) = 0

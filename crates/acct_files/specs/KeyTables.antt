@@ -11,24 +11,18 @@ use Rattle.acct_desk.specs.declared.keys.KeysError.{KeysError}
 use Rattle.acct_desk.specs.declared.keys.KeysError.TheVariants.{BadToken}
 use Rattle.acct_desk.specs.declared.keys.KeysError.TheVariants as fault
 use Rattle.acct_desk.specs.KeyFaults.{key_fault}
-use Rattle.acct_files.specs.declared.key_tables.Bearer as code
-use Rattle.acct_files.specs.declared.key_tables.Bearer.TheVariants as codes_of
 use Rattle.acct_files.specs.declared.config_error.ConfigKind.{ConfigKind}
 use Rattle.acct_files.specs.declared.config_error.ConfigKind.TheVariants.{BadKey}
 use Rattle.acct_files.specs.declared.config_error.ConfigKind.TheVariants.{TwiceKeyed, Memory}
 use Rattle.acct_files.specs.declared.config_error.ConfigTable.TheVariants as place
 use Rattle.acct_files.specs.declared.config_error.ConfigError.{ConfigError}
-use Rattle.acct_files.specs.Tables.{table_of, text_at, two}
+use Rattle.acct_files.specs.Tables.{table_shown, text_at, two}
 use Rattle.acct_files.specs.Entries as entries
 
 -- whom a key's table names: an account, as shown, or whether it is the cashier
 pub data Bearer : Type 0 where
   account : List ℕ → Bearer
   cashier : Bool → Bearer
-
-abbrev pub bearer_view : code.Bearer → Bearer
-bearer_view (codes_of.Account text) = account text.now
-bearer_view (codes_of.Cashier is) = cashier is
 
 -- the bearer that a value names, at `account` and at `cashier`
 abbrev pub account_bearer : Data → Option Bearer
@@ -56,11 +50,11 @@ key_names = codes "token" ∷ codes "account" ∷ codes "cashier" ∷ []
 abbrev pub KeyValues : Type 0
 KeyValues = List ℕ × Bearer
 
-abbrev pub values_in : Members → Option KeyValues
-values_in members = two (text_at (codes "token") members) (bearer_in members)
+abbrev pub key_values_in : Members → Option KeyValues
+key_values_in members = two (text_at (codes "token") members) (bearer_in members)
 
 abbrev pub key_values : Data → Option KeyValues
-key_values value = option_and_then values_in (table_of key_names value)
+key_values value = option_and_then key_values_in (table_shown key_names value)
 
 -- the bearer's role: a percent-decoded account of 1 to 253 octets, or the cashier
 abbrev pub SaysRole : Bearer → Role → Type 0
@@ -75,16 +69,9 @@ pub record SaysKey (values : KeyValues) (key : DeskKey) : Type 0 where
   pub token_is : values.0 ≡ key.token
   pub role_is : SaysRole values.1 key.role
 
-abbrev pub SpellsKey : Data → DeskKey → Type 0
-SpellsKey = entries.Spells key_values SaysKey key_fault
-
 -- the tables spell these keys, each with a token within its rule, of which no two share one
 abbrev pub AreKeyTables : List Data → List DeskKey → Type 0
 AreKeyTables = entries.AreEntries key_values SaysKey key_fault
-
--- why a table is no key, or memory was refused
-abbrev pub IsNoKey : Data → ConfigKind → Type 0
-IsNoKey = entries.IsUnspelled key_values SaysKey key_fault BadKey
 
 -- how a key's fault is told
 abbrev pub key_kind : KeysError → ConfigKind
@@ -94,7 +81,7 @@ key_kind fault.Memory = Memory
 
 -- why a table after these keys is refused
 abbrev pub IsKeyRefused : List DeskKey → Data → ConfigKind → Type 0
-IsKeyRefused = entries.IsRefused key_values SaysKey key_fault BadKey key_kind
+IsKeyRefused = entries.IsFirstRefused key_values SaysKey key_fault BadKey key_kind
 
 -- the error tells the first key's table that is refused
 abbrev pub FirstKeyRefused : List Data → ConfigError → Type 0

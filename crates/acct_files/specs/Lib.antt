@@ -1,7 +1,6 @@
 pub mod Vouchers
 pub mod Importing
 pub mod Reports
-pub mod Reading
 pub mod Exporting
 pub mod Laws
 pub mod Tables
@@ -11,3 +10,4 @@ pub mod PlanTables
 pub mod KeyTables
 pub mod Config
 pub mod ErrorText
+pub mod inner

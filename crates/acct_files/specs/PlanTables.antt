@@ -15,7 +15,7 @@ use Rattle.acct_files.specs.declared.config_error.ConfigKind.TheVariants.{TwiceP
 use Rattle.acct_files.specs.declared.config_error.ConfigKind.TheVariants.{Memory}
 use Rattle.acct_files.specs.declared.config_error.ConfigTable.TheVariants as place
 use Rattle.acct_files.specs.declared.config_error.ConfigError.{ConfigError}
-use Rattle.acct_files.specs.Tables.{table_of, text_at, integer_at, three, top_error}
+use Rattle.acct_files.specs.Tables.{table_shown, text_at, integer_at, three, top_error}
 use Rattle.acct_files.specs.Entries as entries
 
 -- the names of a plan's table
@@ -26,13 +26,13 @@ plan_names = codes "class" ∷ codes "block" ∷ codes "unit" ∷ []
 abbrev pub PlanValues : Type 0
 PlanValues = List ℕ × ℤ × ℤ
 
-abbrev pub values_in : Members → Option PlanValues
-values_in members =
+abbrev pub plan_values_in : Members → Option PlanValues
+plan_values_in members =
     three (text_at (codes "class") members) (integer_at (codes "block") members)
     (integer_at (codes "unit") members)
 
 abbrev pub plan_values : Data → Option PlanValues
-plan_values value = option_and_then values_in (table_of plan_names value)
+plan_values value = option_and_then plan_values_in (table_shown plan_names value)
 
 -- 1 to 253 octets
 abbrev pub is_class : List ℕ → Bool
@@ -45,9 +45,6 @@ pub record SaysPlan (values : PlanValues) (plan : Plan) : Type 0 where
   pub unit_is : values.2 ≡ pos plan.unit
   pub class_fits : is_class plan.class ≡ true
 
-abbrev pub SpellsPlan : Data → Plan → Type 0
-SpellsPlan = entries.Spells plan_values SaysPlan plan_fault
-
 -- the tables spell these plans, each within its bounds, of which no two share a class
 abbrev pub ArePlanTables : List Data → List Plan → Type 0
 ArePlanTables = entries.AreEntries plan_values SaysPlan plan_fault
@@ -55,10 +52,6 @@ ArePlanTables = entries.AreEntries plan_values SaysPlan plan_fault
 -- a plan prices the classes without a plan of their own
 abbrev pub has_default : List Plan → Bool
 has_default plans = list_any (has_class default_class) plans
-
--- why a table is no plan, or memory was refused
-abbrev pub IsNoPlan : Data → ConfigKind → Type 0
-IsNoPlan = entries.IsUnspelled plan_values SaysPlan plan_fault BadPlan
 
 -- how a plan's fault is told
 abbrev pub plan_kind : PlanError → ConfigKind
@@ -70,7 +63,7 @@ plan_kind fault.Memory = Memory
 
 -- why a table after these plans is refused
 abbrev pub IsPlanRefused : List Plan → Data → ConfigKind → Type 0
-IsPlanRefused = entries.IsRefused plan_values SaysPlan plan_fault BadPlan plan_kind
+IsPlanRefused = entries.IsFirstRefused plan_values SaysPlan plan_fault BadPlan plan_kind
 
 -- the error tells the first plan's table that is refused
 abbrev pub FirstPlanRefused : List Data → ConfigError → Type 0

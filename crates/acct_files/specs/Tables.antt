@@ -30,8 +30,8 @@ abbrev pub only : List (List ℕ) → Members → Option Members
 only known table = if has_only known table then Some table else None
 
 -- the same of an element that is such a table
-abbrev pub table_of : List (List ℕ) → Data → Option Members
-table_of known element = option_and_then (only known) (as_table element)
+abbrev pub table_shown : List (List ℕ) → Data → Option Members
+table_shown known element = option_and_then (only known) (as_table element)
 
 -- the text that stands at a name
 abbrev pub text_at : List ℕ → Members → Option (List ℕ)
@@ -53,13 +53,13 @@ elements_at (Some (array items)) = Some (elements items)
 elements_at (Some _) = None
 
 -- a list that is no longer than this
-abbrev pub at_most : ℕ → Option (List Data) → Option (List Data)
-at_most limit None = None
-at_most limit (Some list) = if nat_le (length list) limit then Some list else None
+abbrev pub list_at_most : ℕ → Option (List Data) → Option (List Data)
+list_at_most limit None = None
+list_at_most limit (Some list) = if nat_le (length list) limit then Some list else None
 
 -- the elements of the array at a name, of which there are no more than this
 abbrev pub array_at : List ℕ → ℕ → Members → Option (List Data)
-array_at name limit top = at_most limit (elements_at (get_member name top))
+array_at name limit top = list_at_most limit (elements_at (get_member name top))
 
 module _ {A B C : Type 0} where
   -- three values, if each is there

@@ -41,8 +41,8 @@ abbrev pub sum_of : List ℕ → ℕ
 sum_of text = if is_sum_text text then digits_value 10 text else 0
 
 -- the top-up of a number, an account and a sum at a moment, or the first rule that they break
-abbrev pub asked : ℕ → List ℕ → List ℕ → ℕ → Result TopUpFacts Cause
-asked moment number account amount =
+abbrev pub topup_asked : ℕ → List ℕ → List ℕ → ℕ → Result TopUpFacts Cause
+topup_asked moment number account amount =
     if not (is_voucher_number number) then Err BadVoucher
     else if not (is_voucher_account account) then Err BadAccount
     else if not (is_voucher_sum amount) then Err BadSum
@@ -50,10 +50,11 @@ asked moment number account amount =
 
 -- the top-up that a record asks for at a moment, or the first rule that it breaks
 abbrev pub asked_by : ℕ → Fields → Result TopUpFacts Cause
-asked_by moment fields = option_map_or (λ f. asked moment f.0 (percent_decode f.1) (sum_of f.2))
+asked_by moment fields = option_map_or
+    (λ f. topup_asked moment f.0 (percent_decode f.1) (sum_of f.2))
     (three_of fields) (Err FieldCount)
 
 -- the fault is the rule that the record breaks, or memory was refused
-abbrev pub IsFault : Fault → Result TopUpFacts Cause → Type 0
-IsFault (fault.Refused cause) wanted = wanted ≡ Err cause
-IsFault fault.Memory wanted = ⊤
+abbrev pub IsLineFault : Fault → Result TopUpFacts Cause → Type 0
+IsLineFault (fault.Refused cause) wanted = wanted ≡ Err cause
+IsLineFault fault.Memory wanted = ⊤

@@ -2,7 +2,7 @@
 ghost use Rattle.std.specs.Prelude.{◌≡◌, ◌+◌, ◌-◌, ◌^◌, min, IfOk};
 ghost use Rattle.std.specs.Io.{ReadsAtMost};
 ghost use Rattle.std.specs.Io.KnownBytes.{ReadConsumes};
-ghost use Rattle.acct_files.specs.Reading.{IsWithinLimits};
+ghost use Rattle.acct_files.specs.inner.Reading.{IsWithinLimits};
 
 use std::io;
 use std::io::{ErrorKind, Read};

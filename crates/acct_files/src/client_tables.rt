@@ -3,6 +3,7 @@ ghost use Rattle.std.specs.Prelude.{◌≡◌, ◌⊎◌, IfOk, IfErr, map, opti
 ghost use Rattle.std.specs.List.{list_all};
 ghost use Rattle.toml.specs.View.{view};
 ghost use Rattle.acct_files.specs.ClientTables as spec;
+ghost use Rattle.acct_files.specs.inner.ClientTables as inner;
 ghost use Rattle.acct_files.specs.declared.config_error.ConfigKind.TheVariants as kind;
 
 use crate::config_error::{ConfigError, ConfigKind, ConfigTable};
@@ -51,8 +52,8 @@ impl From<ClientError> for ConfigKind {
 
 // The client that a table spells.
 fn client_of(alloc: Global, table: &Value) -> Result<Client, ConfigKind>
-    ensures spelled { IfOk result (spec.SpellsClient (view table.now)) }
-    ensures refused { IfErr result (spec.IsNoClient (view table.now)) }
+    ensures spelled { IfOk result (inner.SpellsClient (view table.now)) }
+    ensures refused { IfErr result (inner.IsNoClient (view table.now)) }
 {
     let Some((name, address, secret)) = texts_of(table) else {
         return Err(ConfigKind::BadShape);

@@ -1,7 +1,8 @@
 //! What an import reports.
 ghost use Rattle.std.specs.Prelude.{◌≡◌, ◌+◌, ◌≤◌, ◌<◌, ◌-◌, ◌^◌, ℕ, [], ◌∷◌, ◌++◌, length, List};
 ghost use Rattle.std.specs.Prelude.{OnOk, OnErr, IfErr, IsTrue, None, Ok, Some};
-ghost use Rattle.acct_files.specs.Importing.{Counts, added_by};
+ghost use Rattle.acct_files.specs.Importing.{CountsLines};
+ghost use Rattle.acct_files.specs.inner.Importing.{added_by};
 ghost use Rattle.acct_files.specs.Importing as spec;
 ghost use Rattle.acct_files.specs.Reports.{cause_text, stop_text};
 ghost use Rattle.acct_files.specs.declared.import_report.Outcome.{Outcome};
@@ -118,7 +119,7 @@ impl Drop for ImportReport {
 impl ImportReport {
     /// The report before the first record.
     pub fn new(alloc: Global) -> ImportReport
-        ensures counts { Counts [] result }
+        ensures counts { CountsLines [] result }
         ensures stopped { result.stopped ≡ None }
     {
         ImportReport {
@@ -137,8 +138,8 @@ impl ImportReport {
     pub(crate) fn count(&mut self, number: u64, outcome: Outcome) -> Result<(), Stopped>
         requires added { self.old.added < 2 ^ 64 - 1 }
         requires repeated { self.old.repeated < 2 ^ 64 - 1 }
-        ensures ok { OnOk result ((outcomes : List Outcome) → Counts outcomes self.old
-            → number ≡ length outcomes + 2 → Counts (outcomes ++ outcome ∷ []) self.new) }
+        ensures ok { OnOk result ((outcomes : List Outcome) → CountsLines outcomes self.old
+            → number ≡ length outcomes + 2 → CountsLines (outcomes ++ outcome ∷ []) self.new) }
         ensures err { OnErr result (self.new ≡ self.old) }
         ensures full { IfErr result (λ stop. (stop ≡ Stopped.Memory)
             × IsTrue (spec.is_refused outcome)) }

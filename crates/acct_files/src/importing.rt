@@ -7,10 +7,11 @@ ghost use Rattle.csv.specs.declared.parser.State.TheVariants as st;
 ghost use Rattle.acct_model.specs.declared.entry.Entry.{Entry};
 ghost use Rattle.acct_book.specs.Effect.{Effect};
 ghost use Rattle.acct_book.specs.Step.{StoodFor, Does};
-ghost use Rattle.acct_files.specs.Importing.{Keeps, Imports, Did, Counts, added_by};
-ghost use Rattle.acct_files.specs.Importing.{refused_by, stop_of, told_by};
-ghost use Rattle.acct_files.specs.Reading.{IsAtRecord, HasReadHeader, IsReadStop, IsHeaderStop};
-ghost use Rattle.acct_files.specs.Reading.{HasLimits};
+ghost use Rattle.acct_files.specs.Importing.{KeepsOpen, Imports, CountsLines};
+ghost use Rattle.acct_files.specs.inner.Importing.{Did, added_by};
+ghost use Rattle.acct_files.specs.inner.Importing.{refused_by, stop_of, told_by};
+ghost use Rattle.acct_files.specs.inner.Reading.{IsAtRecord, HasReadHeader, IsReadStop};
+ghost use Rattle.acct_files.specs.inner.Reading.{IsHeaderStop, HasLimits};
 
 use crate::capped::Capped;
 use crate::import_report::{Cause, ImportReport, Outcome, Stopped};
@@ -39,7 +40,7 @@ pub fn import<R: Read + Drop, B: Book>(
     moment: u64,
 ) -> ImportReport
     requires { moment < 2 ^ 53 }
-    ensures keeps { Keeps B.Book result.stopped result.added
+    ensures keeps { KeepsOpen B.Book result.stopped result.added
         book.old book.new }
     ensures imports { B.is_sound book.new → (history : List Entry)
         → StoodFor B.Book plans.now book.old history
@@ -83,8 +84,8 @@ fn import_rows<R: Read, B: Book>(
     requires moment { moment < 2 ^ 53 }
     requires rows { IsAtRecord rows.old }
     requires start { reader_state rows.old ≡ st.StartRecord }
-    requires report { Counts [] report.old }
-    ensures keeps { Keeps B.Book (stop_of result)
+    requires report { CountsLines [] report.old }
+    ensures keeps { KeepsOpen B.Book (stop_of result)
         report.new.added book.old book.new }
     ensures imports { B.is_sound book.new → (history : List Entry)
         → StoodFor B.Book plans.now book.old history
@@ -149,7 +150,7 @@ fn outcome_of<B: Book>(
     moment: u64,
 ) -> Result<Outcome, Stopped>
     requires { moment < 2 ^ 53 }
-    ensures keeps { Keeps B.Book (stop_of result)
+    ensures keeps { KeepsOpen B.Book (stop_of result)
         (added_by result) book.old book.new }
     ensures did { (effect : Effect) × Did moment (fields_of row.now) result effect
         × Does B.Book plans.now book.old book.new effect }

@@ -3,6 +3,7 @@ ghost use Rattle.std.specs.Prelude.{◌≡◌, ◌⊎◌, IfOk, IfErr, map, opti
 ghost use Rattle.toml.specs.View.{view, table_view};
 ghost use Rattle.acct_desk.specs.declared.keys.Role.{Role};
 ghost use Rattle.acct_files.specs.KeyTables as spec;
+ghost use Rattle.acct_files.specs.inner.KeyTables as inner;
 ghost use Rattle.acct_files.specs.declared.config_error.ConfigKind.TheVariants as kind;
 
 use crate::config_error::{ConfigError, ConfigKind, ConfigTable};
@@ -59,8 +60,8 @@ impl From<KeysError> for ConfigKind {
 
 // The key that a table spells.
 fn key_of(alloc: Global, table: &Value) -> Result<DeskKey, ConfigKind>
-    ensures spelled { IfOk result (spec.SpellsKey (view table.now)) }
-    ensures refused { IfErr result (spec.IsNoKey (view table.now)) }
+    ensures spelled { IfOk result (inner.SpellsKey (view table.now)) }
+    ensures refused { IfErr result (inner.IsNoKey (view table.now)) }
 {
     let Some((token, bearer)) = values_of(table) else {
         return Err(ConfigKind::BadShape);
@@ -72,9 +73,9 @@ fn key_of(alloc: Global, table: &Value) -> Result<DeskKey, ConfigKind>
 
 // The role of a bearer.
 fn role_of(alloc: Global, bearer: Bearer<'_>) -> Result<Role, ConfigKind>
-    ensures says { IfOk result (spec.SaysRole (spec.bearer_view bearer.entry)) }
+    ensures says { IfOk result (spec.SaysRole (inner.bearer_view bearer.entry)) }
     ensures refused { IfErr result (λ why. (why ≡ kind.Memory) ⊎ ((why ≡ kind.BadKey)
-        × ((role : Role) → spec.SaysRole (spec.bearer_view bearer.entry) role → ⊥))) }
+        × ((role : Role) → spec.SaysRole (inner.bearer_view bearer.entry) role → ⊥))) }
 {
     match bearer {
         Bearer::Account(text) => {
@@ -91,7 +92,7 @@ fn role_of(alloc: Global, bearer: Bearer<'_>) -> Result<Role, ConfigKind>
 
 // The token and the bearer of a key's table.
 fn values_of(value: &Value) -> Option<(&str, Bearer<'_>)>
-    ensures { option_map (λ t. (t.0.now, spec.bearer_view t.1)) result
+    ensures { option_map (λ t. (t.0.now, inner.bearer_view t.1)) result
         ≡ spec.key_values (view value.now) }
 {
     let table = table_of(value, &["token", "account", "cashier"])?;
@@ -102,7 +103,7 @@ fn values_of(value: &Value) -> Option<(&str, Bearer<'_>)>
 
 // The bearer that a key's table names by one of two names.
 fn bearer_in(table: &Table) -> Option<Bearer<'_>>
-    ensures { option_map spec.bearer_view result ≡ spec.bearer_in (table_view table.now) }
+    ensures { option_map inner.bearer_view result ≡ spec.bearer_in (table_view table.now) }
 {
     match (table.get("account"), table.get("cashier")) {
         (Some(account), None) => account_bearer(account),
@@ -113,7 +114,7 @@ fn bearer_in(table: &Table) -> Option<Bearer<'_>>
 }
 
 fn account_bearer(value: &Value) -> Option<Bearer<'_>>
-    ensures { option_map spec.bearer_view result ≡ spec.account_bearer (view value.now) }
+    ensures { option_map inner.bearer_view result ≡ spec.account_bearer (view value.now) }
 {
     match value.as_str() {
         Some(text) => Some(Bearer::Account(text)),
@@ -122,7 +123,7 @@ fn account_bearer(value: &Value) -> Option<Bearer<'_>>
 }
 
 fn cashier_bearer(value: &Value) -> Option<Bearer<'_>>
-    ensures { option_map spec.bearer_view result ≡ spec.cashier_bearer (view value.now) }
+    ensures { option_map inner.bearer_view result ≡ spec.cashier_bearer (view value.now) }
 {
     match value.as_bool() {
         Some(is) => Some(Bearer::Cashier(is)),

@@ -3,6 +3,7 @@ ghost use Rattle.std.specs.Prelude.{◌≡◌, ◌≢◌, ◌⊎◌, ℕ, pos, t
 ghost use Rattle.std.specs.Prelude.{option_map};
 ghost use Rattle.toml.specs.View.{view};
 ghost use Rattle.acct_files.specs.PlanTables as spec;
+ghost use Rattle.acct_files.specs.inner.PlanTables as inner;
 ghost use Rattle.acct_files.specs.declared.config_error.ConfigKind.TheVariants as kind;
 
 use crate::config_error::{ConfigError, ConfigKind, ConfigTable};
@@ -56,8 +57,8 @@ impl From<PlanError> for ConfigKind {
 
 // The plan that a table spells.
 fn plan_of(alloc: Global, table: &Value) -> Result<Plan, ConfigKind>
-    ensures spelled { IfOk result (spec.SpellsPlan (view table.now)) }
-    ensures refused { IfErr result (spec.IsNoPlan (view table.now)) }
+    ensures spelled { IfOk result (inner.SpellsPlan (view table.now)) }
+    ensures refused { IfErr result (inner.IsNoPlan (view table.now)) }
 {
     let Some((class, block, unit)) = values_of(table) else {
         return Err(ConfigKind::BadShape);

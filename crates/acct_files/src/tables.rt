@@ -11,7 +11,7 @@ use toml::{Table, Value};
 // The table that a value is, if it has no names but these.
 pub(crate) fn table_of<'t>(value: &'t Value, known: &[&str]) -> Option<&'t Table>
     ensures { option_map (λ table. table_view table.now) result
-        ≡ spec.table_of (map (λ word. word.now) known.now) (view value.now) }
+        ≡ spec.table_shown (map (λ word. word.now) known.now) (view value.now) }
 {
     only(value.as_table()?, known)
 }

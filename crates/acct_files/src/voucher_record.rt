@@ -4,7 +4,7 @@ ghost use Rattle.std.specs.Char.{is_ascii_digit};
 ghost use Rattle.std.specs.List.{list_all};
 ghost use Rattle.csv.specs.Records.{fields_of};
 ghost use Rattle.acct_files.specs.Vouchers.{three_of, is_header as is_header_record, is_sum_text};
-ghost use Rattle.acct_files.specs.Vouchers.{sum_of, asked_by, asked, IsFault};
+ghost use Rattle.acct_files.specs.Vouchers.{sum_of, asked_by, topup_asked, IsLineFault};
 
 use crate::import_report::Cause;
 use acct_model::{TopUp, TopUpError};
@@ -47,7 +47,8 @@ pub fn is_header(row: &ByteRecord) -> bool
 pub fn topup_in(alloc: Global, row: &ByteRecord, moment: u64) -> Result<TopUp, Fault>
     requires { moment < 2 ^ 53 }
     ensures asked { IfOk result (λ topup. asked_by moment (fields_of row.now) ≡ Ok topup) }
-    ensures refused { IfErr result (λ fault. IsFault fault (asked_by moment (fields_of row.now))) }
+    ensures refused { IfErr result (λ fault.
+        IsLineFault fault (asked_by moment (fields_of row.now))) }
 {
     let Some((voucher, account, sum)) = three_fields(row) else {
         return Err(Fault::Refused(Cause::FieldCount));
@@ -69,9 +70,10 @@ fn topup_of(
     moment: u64,
 ) -> Result<TopUp, Fault>
     requires { moment < 2 ^ 53 }
-    ensures asked { IfOk result (λ topup. asked moment voucher.now account.now sum ≡ Ok topup) }
+    ensures asked { IfOk result (λ topup.
+        topup_asked moment voucher.now account.now sum ≡ Ok topup) }
     ensures refused { IfErr result (λ fault.
-        IsFault fault (asked moment voucher.now account.now sum)) }
+        IsLineFault fault (topup_asked moment voucher.now account.now sum)) }
 {
     match TopUp::new(alloc, voucher, account, sum, moment) {
         Ok(topup) => Ok(topup),

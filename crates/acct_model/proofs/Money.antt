@@ -11,7 +11,7 @@ use Rattle.acct_model.specs.declared.entry.Entry.TheVariants as entry
 use Rattle.acct_model.specs.Report.{ReportFacts, total}
 use Rattle.acct_model.specs.Plans.{started_blocks, price_of, plan_for, price_under, has_class}
 use Rattle.acct_model.specs.Plans.{default_class}
-use Rattle.acct_model.specs.PlanFaults.{fault_of}
+use Rattle.acct_model.specs.PlanFaults.{plans_fault}
 use Rattle.acct_model.specs.History.{session_of, reports, first_of, is_owner, greatest_total}
 use Rattle.acct_model.specs.History.{plan_of, charge_of, voucher_of, share, charged, credited}
 use Rattle.acct_model.specs.MoneyLaws.{SessionIsCharged, ReportsAreChargedOnce}
@@ -35,7 +35,7 @@ price_of-more plan n m some more =
     (omega (arith, more, covers)) in
     mul-le-mul_left plan.unit blocks
 
-found_block : (plans : List Plan) (class : List ℕ) (plan : Plan) → fault_of plans ≡ None
+found_block : (plans : List Plan) (class : List ℕ) (plan : Plan) → plans_fault plans ≡ None
     → (o : Option Plan) → find (has_class class) plans ≡ o
     → option_or o (find (has_class default_class) plans) ≡ Some plan → 0 < plan.block
 found_block plans class plan good None is e =
@@ -43,7 +43,7 @@ found_block plans class plan good None is e =
 found_block plans class plan good (Some other) is e =
     (IsPlan-found (has_class class) plans plan good (is ∙ e)).block
 
-price_under-more : (plans : List Plan) (class : List ℕ) (n m : ℕ) → fault_of plans ≡ None → n ≤ m
+price_under-more : (plans : List Plan) (class : List ℕ) (n m : ℕ) → plans_fault plans ≡ None → n ≤ m
     → (o : Option Plan) → plan_for plans class ≡ o → price_under o n ≤ price_under o m
 price_under-more plans class n m good more None is = omega arith
 price_under-more plans class n m good more (Some plan) is =
@@ -56,7 +56,7 @@ cond-more false n m more = omega arith
 
 -- a session costs no less after one more report
 share-more : (plans : List Plan) (account : List ℕ) (report : ReportFacts) (rs : List ReportFacts)
-    → fault_of plans ≡ None → (o : Option ReportFacts) → first_of rs ≡ o
+    → plans_fault plans ≡ None → (o : Option ReportFacts) → first_of rs ≡ o
     → share (charge_of plans) account rs ≤ share (charge_of plans) account (report ∷ rs)
 share-more plans account report rs good None is =
     let none : share (charge_of plans) account rs ≡ 0 =

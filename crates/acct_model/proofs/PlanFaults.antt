@@ -11,7 +11,7 @@ use Rattle.acct_model.specs.declared.plans.PlanError.TheVariants.{NoDefault, Twi
 use Rattle.acct_model.specs.declared.plans.PlanError.TheVariants.{BadUnit}
 use Rattle.acct_model.specs.Faults.{first_fault}
 use Rattle.acct_model.specs.Plans.{has_class, default_class, plan_for}
-use Rattle.acct_model.specs.PlanFaults.{is_block, is_unit, plan_fault, default_fault, fault_of}
+use Rattle.acct_model.specs.PlanFaults.{is_block, is_unit, plan_fault, default_fault, plans_fault}
 use Rattle.acct_model.proofs.Faults.{first_none, second_none, passed}
 use Rattle.acct_model.proofs.Lists.{find-none, find-some}
 
@@ -25,7 +25,7 @@ default_there plans e =
     ] e
 
 -- plans without a fault have the plan `default`
-pub default_found : (plans : List Plan) → fault_of plans ≡ None
+pub default_found : (plans : List Plan) → plans_fault plans ≡ None
     → find (has_class default_class) plans ≡ None → ⊥
 default_found plans faultless none =
     let there = default_there plans
@@ -63,14 +63,14 @@ is_plan earlier plan e =
     }
 
 -- each plan of a site is one
-pub IsPlan-listed : (plans : List Plan) (plan : Plan) → fault_of plans ≡ None → Contains plans plan
+pub IsPlan-listed : (plans : List Plan) (plan : Plan) → plans_fault plans ≡ None → Contains plans plan
     → IsPlan plan
 IsPlan-listed plans plan faultless there =
     let pass = passed plan_fault [] plans
     (first_none (first_fault plan_fault plans) (default_fault plans) faultless) plan there in
     is_plan pass.0 plan pass.1
 
-pub IsPlan-found : (p : Plan → Bool) (plans : List Plan) (found : Plan) → fault_of plans ≡ None
+pub IsPlan-found : (p : Plan → Bool) (plans : List Plan) (found : Plan) → plans_fault plans ≡ None
     → find p plans ≡ Some found → IsPlan found
 IsPlan-found p plans found faultless e =
     IsPlan-listed plans found faultless (find-some p plans found e).0
@@ -81,7 +81,7 @@ second None (Some y) some = refl
 second None None some = absurd (some refl)
 
 -- plans without a fault have a plan for each class
-pub each_planned : (plans : List Plan) (class : List ℕ) → fault_of plans ≡ None
+pub each_planned : (plans : List Plan) (class : List ℕ) → plans_fault plans ≡ None
     → IsSome (plan_for plans class)
 each_planned plans class faultless =
     second (find (has_class class) plans) (find (has_class default_class) plans)

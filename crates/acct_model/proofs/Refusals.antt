@@ -14,7 +14,7 @@ use Rattle.acct_model.specs.declared.reading.EntryError.TheVariants.{NoSessionId
 use Rattle.acct_model.specs.declared.reading.EntryError.TheVariants.{TotalTooLarge, Memory}
 use Rattle.acct_model.specs.declared.report.ReportKind.{ReportKind}
 use Rattle.acct_model.specs.Entries.{Attributes, report_fault, refusal_of, status_fault, is_restart}
-use Rattle.acct_model.specs.Entries.{kind_of, has_bad_number, input_of, output_of, Refuses}
+use Rattle.acct_model.specs.Entries.{kind_of, has_bad_number, input_of, output_of, RefusesEntry}
 
 -- a test of what is left of a list, one place on
 pub list_any-drop_more : {X : Type 0} (p : X → Bool) (xs : List X) (i : ℕ) (d : X) (r : Bool)
@@ -36,7 +36,7 @@ chain-none false false true e = cc
 chain-none false false false e = refl
 
 chain-some : (a b c : Bool) (fault : EntryError) → chain a b c ≡ Some fault
-    → Refuses (Some fault) fault
+    → RefusesEntry (Some fault) fault
 unfolding chain
 chain-some true b c NoSessionId e = refl
 chain-some false true c BadField e = refl
@@ -60,10 +60,10 @@ total_fits attributes faultless =
     (nat_le (2 ^ 63) (input_of attributes + output_of attributes)) faultless)
 
 pub Refuses-report : (attributes : Attributes) (fault : EntryError)
-    → report_fault attributes ≡ Some fault → Refuses (report_fault attributes) fault
+    → report_fault attributes ≡ Some fault → RefusesEntry (report_fault attributes) fault
 unfolding chain
 Refuses-report attributes fault is =
-    subst (λ r. Refuses r fault) (sym is)
+    subst (λ r. RefusesEntry r fault) (sym is)
     (chain-some (is_none (value_of 44 attributes)) (has_bad_number attributes)
     (nat_le (2 ^ 63) (input_of attributes + output_of attributes)) fault is)
 

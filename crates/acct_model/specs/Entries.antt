@@ -129,10 +129,10 @@ IsEntryOf name attributes moment (entry.Restart restart) =
 IsEntryOf name attributes moment (entry.TopUp topup) = ⊥
 
 -- an error is the first refusal, or memory was refused where none holds
-abbrev pub Refuses : Option EntryError → EntryError → Type 0
-Refuses refusal NoStatus = refusal ≡ Some NoStatus
-Refuses refusal UnknownStatus = refusal ≡ Some UnknownStatus
-Refuses refusal NoSessionId = refusal ≡ Some NoSessionId
-Refuses refusal BadField = refusal ≡ Some BadField
-Refuses refusal TotalTooLarge = refusal ≡ Some TotalTooLarge
-Refuses refusal Memory = refusal ≡ None
+abbrev pub RefusesEntry : Option EntryError → EntryError → Type 0
+RefusesEntry refusal NoStatus = refusal ≡ Some NoStatus
+RefusesEntry refusal UnknownStatus = refusal ≡ Some UnknownStatus
+RefusesEntry refusal NoSessionId = refusal ≡ Some NoSessionId
+RefusesEntry refusal BadField = refusal ≡ Some BadField
+RefusesEntry refusal TotalTooLarge = refusal ≡ Some TotalTooLarge
+RefusesEntry refusal Memory = refusal ≡ None

@@ -9,7 +9,7 @@ use Rattle.acct_model.specs.declared.entry.Restart.{Restart}
 use Rattle.acct_model.specs.Report.{ReportFacts, total}
 use Rattle.acct_model.specs.Vouchers.{TopUpFacts}
 use Rattle.acct_model.specs.Plans.{IsLeastBlocks, plan_for}
-use Rattle.acct_model.specs.PlanFaults.{fault_of}
+use Rattle.acct_model.specs.PlanFaults.{plans_fault}
 use Rattle.acct_model.specs.History.{SessionName, session_of, reports, first_of, greatest_total}
 use Rattle.acct_model.specs.History.{charge_of, all_topups, topup_of, balance_of, AreInRange}
 use Rattle.acct_model.specs.History.{Admissible}
@@ -38,7 +38,7 @@ pub record ReportsAreChargedOnce : Type 0 where
       → account ≢ first.user
       → balance_of plans (entry.Report report ∷ history) account ≡ balance_of plans history account
   pub none_back : (plans : List Plan) (history : List Entry) (report : ReportFacts)
-      (account : List ℕ) → fault_of plans ≡ None
+      (account : List ℕ) → plans_fault plans ≡ None
       → balance_of plans (entry.Report report ∷ history) account
       ≤ℤ balance_of plans history account
 

@@ -31,8 +31,8 @@ abbrev pub default_fault : List Plan → Option PlanError
 default_fault plans = if list_any (has_class default_class) plans then None else Some NoDefault
 
 -- the first fault of a list of plans: each in its turn, and at last that `default` has none
-abbrev pub fault_of : List Plan → Option PlanError
-fault_of plans = option_or (first_fault plan_fault plans) (default_fault plans)
+abbrev pub plans_fault : List Plan → Option PlanError
+plans_fault plans = option_or (first_fault plan_fault plans) (default_fault plans)
 
 -- what the plans of a list keep, of which none need be `default` yet
 pub record ArePlansSoFar (plans : List Plan) : Type 0 where
@@ -40,4 +40,4 @@ pub record ArePlansSoFar (plans : List Plan) : Type 0 where
 
 -- what the plans of a site keep
 pub record ArePlans (plans : List Plan) : Type 0 where
-  pub faultless : fault_of plans ≡ None
+  pub faultless : plans_fault plans ≡ None

@@ -5,7 +5,7 @@ use Rattle.std.specs.Prelude.{Contains, All}
 use Rattle.std.specs.List.{AllPairs, Any}
 use Rattle.acct_model.specs.declared.plan.Plan.{Plan}
 use Rattle.acct_model.specs.Plans.{started_blocks, IsLeastBlocks, default_class, plan_for}
-use Rattle.acct_model.specs.PlanFaults.{fault_of}
+use Rattle.acct_model.specs.PlanFaults.{plans_fault}
 
 -- the blocks that n octets start cover them, and fewer do not
 abbrev pub StartedBlocksAreLeast : Type 0
@@ -22,12 +22,12 @@ pub record AreFaultless (plans : List Plan) : Type 0 where
 
 -- plans have no fault exactly if they keep these bounds
 abbrev pub FaultlessPlansKeepBounds : Type 0
-FaultlessPlansKeepBounds = (plans : List Plan) → (fault_of plans ≡ None) ↔ AreFaultless plans
+FaultlessPlansKeepBounds = (plans : List Plan) → (plans_fault plans ≡ None) ↔ AreFaultless plans
 
 -- among plans without a fault each class has one
 abbrev pub EachClassIsPlanned : Type 0
 EachClassIsPlanned =
-    (plans : List Plan) (class : List ℕ) → fault_of plans ≡ None → IsSome (plan_for plans class)
+    (plans : List Plan) (class : List ℕ) → plans_fault plans ≡ None → IsSome (plan_for plans class)
 
 -- the plan of a class is one of the plans and has the class, or none has it and it is `default`
 abbrev pub PlanIsOfItsClass : Type 0

@@ -57,7 +57,7 @@ pub enum PlanError {
 }
 
 impl Plans {
-    ghost use Rattle.acct_model.specs.PlanFaults.{default_fault, fault_of};
+    ghost use Rattle.acct_model.specs.PlanFaults.{default_fault, plans_fault};
 
     /// The plans as they are given, if they have no fault. It takes no memory.
     ///
@@ -67,8 +67,8 @@ impl Plans {
     /// last `NoDefault`.
     pub fn new(plans: Vec<Plan>) -> Result<Plans, PlanError>
         ensures kept { IfOk result (λ kept. kept ≡ plans.items) }
-        ensures faultless { OnOk result (fault_of plans.items ≡ None) }
-        ensures fault { IfErr result (λ fault. fault_of plans.items ≡ Some fault) }
+        ensures faultless { OnOk result (plans_fault plans.items ≡ None) }
+        ensures fault { IfErr result (λ fault. plans_fault plans.items ≡ Some fault) }
     {
         Plans::from_list(PlanList::new(plans)?)
     }

@@ -78,7 +78,7 @@ pub fn entry_of(
     requires { moment < 2 ^ 53 }
     ensures entry { IfOk result (spec.IsEntryOf client.now packet.now.attributes moment) }
     ensures accepted { OnOk result (spec.refusal_of packet.now.attributes ≡ None) }
-    ensures refused { IfErr result (spec.Refuses (spec.refusal_of packet.now.attributes)) }
+    ensures refused { IfErr result (spec.RefusesEntry (spec.refusal_of packet.now.attributes)) }
 {
     let mut values = [None; TYPES];
     let attributes = FirstValues::of(&packet.attributes, &mut values);

@@ -1,6 +1,6 @@
 -- A life keeps what was accepted and what was acknowledged, entry for entry.
 use Rattle.std.proofs.Common.{◌≡◌, inl, inr, true, false, ℕ, Bool, List, [], ◌∷◌, ◌++◌, refl, sym}
-use Rattle.std.proofs.Common.{◌∙◌, ap, subst, append_assoc, Some, None, Result, Ok, Err}
+use Rattle.std.proofs.Common.{◌∙◌, ap, subst, append_assoc, Result, Ok, Err}
 use Rattle.std.proofs.lemmas.List.Elements.{Contains-append_right, Contains-append_cases}
 use Rattle.std.proofs.lemmas.List.Elements.{filter_map-append}
 use Rattle.std.specs.Prelude.{Contains}

@@ -1,14 +1,11 @@
 -- A life in which all is acknowledged is possible; and the law.
-use Rattle.std.proofs.Common.{◌≡◌, ◌⊎◌, inl, inr, ℕ, true, List, [], ◌∷◌, ◌++◌, refl, sym, ap}
-use Rattle.std.proofs.Common.{subst, Some, None, Result, Ok}
+use Rattle.std.proofs.Common.{◌⊎◌, inl, inr, true, List, [], ◌∷◌, ◌++◌, refl, sym, ap}
+use Rattle.std.proofs.Common.{subst, None}
 use Rattle.std.proofs.lemmas.Grind.{flat_map-append}
-use Rattle.std.proofs.lemmas.List.{append-nil}
 use Rattle.std.proofs.lemmas.List.Elements.{Contains-append_left, Contains-append_right}
 use Rattle.std.specs.Prelude.{Contains}
-use Rattle.std.specs.List.{flat_map}
 use Rattle.acct_model.specs.declared.entry.Entry.{Entry}
 use Rattle.acct_model.specs.declared.entry.Entry.TheVariants as entry
-use Rattle.acct_model.specs.Vouchers.{TopUpFacts}
 use Rattle.acct_model.specs.Claims.{OfTopUp, topup_claim, IsConsistent, ClaimsNoMore}
 use Rattle.acct_model.proofs.Lists.{here, nowhere, front_or_behind}
 use Rattle.acct_model.proofs.Claimed.{claim_of_topup}
@@ -16,10 +13,9 @@ use Rattle.acct_model.proofs.Agree.{covers-claimed}
 use Rattle.acct_book.specs.Effect.{added, Holds}
 use Rattle.acct_site.specs.declared.config.Config.{Config}
 use Rattle.acct_files.specs.declared.import_report.Outcome.TheVariants as outcome
-use Rattle.acct_files.specs.Vouchers.{Fields, asked_by}
 use Rattle.acct_files.specs.Importing.{Becomes}
 use Rattle.acct_service.specs.Machine.{Visit, replied}
-use Rattle.acct_service.specs.Life.{Span, served, imported, Goes, LivesOn, Chain, Life, listed}
+use Rattle.acct_service.specs.Life.{Span, served, imported, LivesOn, Chain, Life, listed}
 use Rattle.acct_service.specs.Life.{acknowledged_line, acknowledged_in, acknowledged}
 use Rattle.acct_service.specs.Settling.{IsDelivered, CanBeServed, CanBeImported, CanBeSent}
 use Rattle.acct_service.specs.Settling.{LifeSettles}

@@ -1,5 +1,5 @@
 -- What `answer` and `handle` say is a step of the machine.
-use Rattle.std.proofs.Common.{◌≡◌, ℕ, List, take, subst, ap, inl, inr}
+use Rattle.std.proofs.Common.{◌≡◌, ℕ, List, take, subst, inl, inr}
 use Rattle.std.specs.Prelude.{Result, Ok, Err, Vec}
 use Rattle.std.specs.Global.{Global}
 use Rattle.acct_book.specs.declared.book.Book.{Ghosts}

@@ -1,5 +1,5 @@
 -- What a crash leaves of a run or of an import is what a stop leaves of a span.
-use Rattle.std.proofs.Common.{◌≡◌, inl, inr, ℕ, List, ◌∷◌, Option, Some, None, refl, sym, subst}
+use Rattle.std.proofs.Common.{inl, inr, ℕ, List, ◌∷◌, Option, Some, None, refl, sym, subst}
 use Rattle.acct_model.specs.declared.entry.Entry.{Entry}
 use Rattle.acct_model.specs.declared.entry.Entry.TheVariants as entry
 use Rattle.acct_model.specs.Vouchers.{TopUpFacts}
@@ -14,7 +14,7 @@ use Rattle.acct_files.specs.Vouchers.{Fields}
 use Rattle.acct_files.specs.Importing.{Imports}
 use Rattle.acct_files.specs.Importing as importing
 use Rattle.acct_service.specs.Machine.{Visit}
-use Rattle.acct_service.specs.Serving.{Leads, HasFailed, MayLeave}
+use Rattle.acct_service.specs.Serving.{Leads, MayLeave}
 use Rattle.acct_service.specs.Life.{Span, served, imported, LivesOn, Goes, HasTried}
 use Rattle.acct_service.specs.Stops.{LeavesOnly, LivesOnBy, StopsAreLived}
 
@@ -36,7 +36,7 @@ lived config history after span c goes may =
 -- what an import may leave, in the words of a span
 may_leave : (config : Config) (moment : ℕ) (rows : List Fields) (outcomes : List Outcome)
     (tried : Option TopUpFacts) (after : List Entry) (c : Content)
-    → importing.MayLeave config.plans after tried c
+    → importing.ImportLeaves config.plans after tried c
     → MayLeave config.plans after (HasTried (imported config moment rows outcomes tried)) c
 may_leave config moment rows outcomes None after c stands = inl stands
 may_leave config moment rows outcomes (Some topup) after c may =

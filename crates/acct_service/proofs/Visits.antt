@@ -1,6 +1,7 @@
 -- A server's turns, one after another.
-use Rattle.std.proofs.Common.{◌≡◌, ◌≢◌, ◌⊎◌, ◌+◌, ◌≤◌, ℕ, inl, inr, Bool, List, [], ◌∷◌, ◌++◌, refl, sym}
-use Rattle.std.proofs.Common.{◌∙◌, ap, subst, arith, map, length-append, append_assoc, slice_index}
+use Rattle.std.proofs.Common.{◌≡◌, ◌≢◌, ◌⊎◌, ◌+◌, ◌≤◌, ℕ, inl, inr, Bool, List, [], ◌∷◌, ◌++◌, refl}
+use Rattle.std.proofs.Common.{sym}
+use Rattle.std.proofs.Common.{◌∙◌, ap, subst, arith, map, length-append, append_assoc}
 use Rattle.std.specs.Prelude.{count_by, cond, Option, Some, None, Contains}
 use Rattle.std.specs.List.{flat_map}
 use Rattle.std.proofs.lemmas.List.{map-append, append-nil}
@@ -15,18 +16,17 @@ use Rattle.acct_book.specs.declared.book.Book.{Ghosts}
 use Rattle.acct_book.specs.Content.{Content}
 use Rattle.acct_book.specs.Effect.{after_effect, failed}
 use Rattle.acct_book.specs.Stands.{Stands}
-use Rattle.acct_book.specs.Step.{StoodFor, OnlyLooks}
+use Rattle.acct_book.specs.inner.Step.{OnlyLooks}
 use Rattle.acct_book.proofs.Crashes.{Leaves, left_by}
 use Rattle.acct_desk.specs.Responses.{unavailable_response}
-use Rattle.acct_wire.specs.declared.reason.Reason.{Reason}
 use Rattle.acct_site.specs.declared.config.Config.{Config}
 use Rattle.acct_service.specs.declared.event.Event.{Event}
 use Rattle.acct_service.specs.declared.exchange.Call.{Call}
 use Rattle.acct_service.specs.declared.server.Served.{Served}
-use Rattle.acct_service.specs.Machine.{Answer, replied, Visit, Run, TakesStep, Answers}
+use Rattle.acct_service.specs.Machine.{Answer, replied, Visit, Run, TakesStep, AnswersEvent}
 use Rattle.acct_service.specs.Machine.{AsksBalance}
 use Rattle.acct_service.specs.Told.{Grows}
-use Rattle.acct_service.specs.Serving.{calls_of, is_replied, place_of, is_dropped_for, is_mute}
+use Rattle.acct_service.specs.Serving.{calls_of, is_replied, is_dropped_for, is_mute}
 use Rattle.acct_service.specs.Serving.{Counts, CountsMore, HasFailed, MayLeave, Leads, Attends}
 use Rattle.acct_service.specs.Serving.{TakesTurn, TakesTurns, Serves, Keeps, AtMost}
 
@@ -219,7 +219,7 @@ module _ {B : Type 0} (b : Ghosts B) (config : Config) where
       record { event = event; answer = answer; effect = t.effect; is_taken = is_taken } in
       record {
         answered = λ v. of_one
-            (λ v. Answers config v.event.moment v.event.what v.answer v.effect) visit v t.answers;
+            (λ v. AnswersEvent config v.event.moment v.event.what v.answer v.effect) visit v t.answers;
         leads = λ sound history stood. record {
           after = after_effect history t.effect;
           run = (
@@ -274,7 +274,7 @@ module _ {B : Type 0} (b : Ghosts B) (config : Config) where
       → Attends b config more mid new later last
       → Attends b config (visits ++ more) old new told last
   attends_join visits more old mid new told later last first second = record {
-    answered = of_both (λ v. Answers config v.event.moment v.event.what v.answer v.effect) visits
+    answered = of_both (λ v. AnswersEvent config v.event.moment v.event.what v.answer v.effect) visits
         more first.answered second.answered;
     leads = λ sound history stood.
         let one = first.leads (second.keeps.was_sound sound) history stood in

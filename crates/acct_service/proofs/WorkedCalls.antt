@@ -6,7 +6,7 @@ use Rattle.acct_service.specs.declared.exchange.Asked.{Asked}
 use Rattle.acct_service.specs.declared.exchange.Call.{Call}
 use Rattle.acct_service.specs.declared.exchange.Call.TheVariants as call
 use Rattle.acct_service.specs.Machine.{Answer, replied, dropped, mute, Visit}
-use Rattle.acct_service.specs.Told.{asked}
+use Rattle.acct_service.specs.Told.{reply_asked}
 use Rattle.acct_service.specs.Serving.{calls_of, reply_to}
 
 -- calls never begin with a reply
@@ -22,18 +22,18 @@ calls_from event answer is_taken visits =
 
 module _ (first second : Event) (differ : first ≢ second) (octets : List ℕ) (was_taken : Bool) where
   abbrev late : Call
-  late = call.Asked (asked first octets was_taken)
+  late = call.Asked (reply_asked first octets was_taken)
 
   second_then_late : (event : Event) (answer : Answer) (is_taken : Bool) (visits : List Visit)
       → calls_from event answer is_taken visits ≡ call.Gave second ∷ late ∷ [] → ⊥
   second_then_late event (replied sent) is_taken visits is =
       let came : event ≡ second = cc in
-      let reply : asked event sent is_taken ≡ asked first octets was_taken = cc in
+      let reply : reply_asked event sent is_taken ≡ reply_asked first octets was_taken = cc in
       differ (sym (ap (λ (r : Asked). r.event) reply) ∙ came)
   second_then_late event (dropped reason) is_taken visits is =
-      begins_with_event visits (asked first octets was_taken) [] (cc)
+      begins_with_event visits (reply_asked first octets was_taken) [] (cc)
   second_then_late event mute is_taken visits is =
-      begins_with_event visits (asked first octets was_taken) [] (cc)
+      begins_with_event visits (reply_asked first octets was_taken) [] (cc)
 
   after_first : (visits : List Visit)
       → flat_map calls_of visits ≡ call.Gave second ∷ late ∷ [] → ⊥

@@ -9,7 +9,7 @@ use Rattle.acct_wire.specs.declared.reason.Reason.{Reason}
 use Rattle.acct_wire.specs.Outcomes.{AnswersReply, AnswersDrop}
 use Rattle.acct_desk.specs.Asks.{Ask, Asks}
 use Rattle.acct_desk.specs.Responses.{unavailable_response}
-use Rattle.acct_desk.specs.Handling.{AnswersAsk, Mutes, IsTold, IsOfBalance}
+use Rattle.acct_desk.specs.Handling.{AnswersAsk, Mutes, IsResponseOf, IsOfBalance}
 use Rattle.acct_site.specs.declared.config.Config.{Config}
 use Rattle.acct_service.specs.declared.event.What.{What}
 use Rattle.acct_service.specs.declared.event.What.TheVariants.{Datagram, Desk}
@@ -51,10 +51,11 @@ AnswersRequest config bytes moment mute effect =
     (ask : Ask) × Asks config.keys bytes moment ask × Mutes ask effect
 
 -- what comes at a moment may be answered so, and this is what that does
-abbrev pub Answers : Config → ℕ → What → Answer → Effect → Type 0
-Answers config moment (Datagram source port bytes) answer effect =
+abbrev pub AnswersEvent : Config → ℕ → What → Answer → Effect → Type 0
+AnswersEvent config moment (Datagram source port bytes) answer effect =
     AnswersDatagram config source bytes moment answer effect
-Answers config moment (Desk bytes) answer effect = AnswersRequest config bytes moment answer effect
+AnswersEvent config moment (Desk bytes) answer effect =
+    AnswersRequest config bytes moment answer effect
 
 -- a request at the desk for the balance of the account whose key it bears
 abbrev pub AsksBalance : Config → ℕ → What → Type 0
@@ -65,7 +66,7 @@ AsksBalance config moment (Desk bytes) =
 -- the response with what the desk is asked to tell, over this history
 abbrev pub IsPage : Config → List Entry → ℕ → What → Answer → Type 0
 IsPage config history moment (Desk bytes) (replied octets) =
-    (ask : Ask) × Asks config.keys bytes moment ask × IsTold config.plans history ask octets
+    (ask : Ask) × Asks config.keys bytes moment ask × IsResponseOf config.plans history ask octets
 IsPage config history moment what answer = ⊥
 
 -- ---- steps
@@ -81,7 +82,7 @@ pub record Visit : Type 0 where
 -- history, what was looked up is told of it, and the effect says which history comes after.
 pub record Step (config : Config) (history : List Entry) (visit : Visit) (after : List Entry)
     : Type 0 where
-  pub answers : Answers config visit.event.moment visit.event.what visit.answer visit.effect
+  pub answers : AnswersEvent config visit.event.moment visit.event.what visit.answer visit.effect
   pub holds : Holds config.plans history visit.effect
   pub tells : visit.effect ≡ looked
       → IsPage config history visit.event.moment visit.event.what visit.answer
@@ -100,7 +101,7 @@ Run config history (visit ∷ visits) after =
 pub record TakesStep {B : Type 0} (b : Ghosts B) (config : Config) (moment : ℕ) (what : What)
     (old new : B) (answer : Answer) : Type 0 where
   pub effect : Effect
-  pub answers : Answers config moment what answer effect
+  pub answers : AnswersEvent config moment what answer effect
   pub does : Does b config.plans old new effect
   pub tells : b.is_sound new → (history : List Entry) → StoodFor b config.plans old history
       → effect ≡ looked → IsPage config history moment what answer

@@ -18,15 +18,15 @@ use Rattle.acct_service.specs.declared.event.Event.{Event}
 use Rattle.acct_service.specs.declared.exchange.Call.{Call}
 use Rattle.acct_service.specs.declared.exchange.Call.TheVariants as call
 use Rattle.acct_service.specs.declared.server.Served.{Served}
-use Rattle.acct_service.specs.Machine.{Answer, replied, dropped, mute, Answers, AsksBalance}
+use Rattle.acct_service.specs.Machine.{Answer, replied, dropped, mute, AnswersEvent, AsksBalance}
 use Rattle.acct_service.specs.Machine.{Visit, Run}
-use Rattle.acct_service.specs.Told.{Grows, asked}
+use Rattle.acct_service.specs.Told.{Grows, reply_asked}
 
 -- ---- calls
 
 -- the call that asks for a reply to an event, if its answer is one
 abbrev pub reply_to : Event → Answer → Bool → List Call
-reply_to event (replied octets) is_taken = call.Asked (asked event octets is_taken) ∷ []
+reply_to event (replied octets) is_taken = call.Asked (reply_asked event octets is_taken) ∷ []
 reply_to event (dropped reason) is_taken = []
 reply_to event mute is_taken = []
 
@@ -144,7 +144,7 @@ pub record Attends {B : Type 0} (b : Ghosts B) (config : Config) (visits : List 
     (old_told new_told : Option (List Call)) : Type 0 where
   -- each event is answered as the machine may answer it, whatever the book held
   pub answered : (visit : Visit) → Contains visits visit
-      → Answers config visit.event.moment visit.event.what visit.answer visit.effect
+      → AnswersEvent config visit.event.moment visit.event.what visit.answer visit.effect
   -- from each history for which the content stood
   pub leads : b.is_sound new → (history : List Entry) → StoodFor b config.plans old history
       → Leads b config visits old new history

@@ -14,7 +14,7 @@ use Rattle.acct_book.specs.Outcome.{IsRepeated}
 use Rattle.acct_site.specs.declared.config.Config.{Config}
 use Rattle.acct_files.specs.Vouchers.{Fields, asked_by}
 use Rattle.acct_service.specs.declared.event.Event.{Event}
-use Rattle.acct_service.specs.Machine.{replied, Answers}
+use Rattle.acct_service.specs.Machine.{replied, AnswersEvent}
 use Rattle.acct_service.specs.Life.{Span, Life, acknowledged}
 
 -- ---- what stays
@@ -69,7 +69,7 @@ pub record MayComeAgain (plans : List Plan) (history : List Entry) : Type 0 wher
 abbrev pub CanBeServed : Config → Entry → Type 0
 CanBeServed config asked =
     (event : Event) × (octets : List ℕ)
-    × Answers config event.moment event.what (replied octets) (added asked)
+    × AnswersEvent config event.moment event.what (replied octets) (added asked)
 
 -- it is the top-up of a line of an import
 abbrev pub CanBeImported : Entry → Type 0

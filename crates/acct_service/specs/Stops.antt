@@ -1,5 +1,5 @@
 -- What a stop leaves of a book is a history that its life goes on from.
-use Rattle.std.specs.Prelude.{◌≡◌, ℕ, List, Option, Some, None}
+use Rattle.std.specs.Prelude.{ℕ, List, Option}
 use Rattle.acct_model.specs.declared.plan.Plan.{Plan}
 use Rattle.acct_model.specs.declared.entry.Entry.{Entry}
 use Rattle.acct_book.specs.declared.book.Book.{Ghosts}

@@ -21,13 +21,13 @@ given (Ok None) = []
 given (Err fault) = []
 
 -- a reply that was asked for
-abbrev pub asked : Event → List ℕ → Bool → Asked
-asked event bytes is_taken = record { event = event; bytes = bytes; is_taken = is_taken }
+abbrev pub reply_asked : Event → List ℕ → Bool → Asked
+reply_asked event bytes is_taken = record { event = event; bytes = bytes; is_taken = is_taken }
 
 module _ {T : Type 0} where
   -- the call that was asked to send this reply, which was taken or not
   abbrev pub sent : Event → List ℕ → Result T Fault → List Call
-  sent event bytes result = call.Asked (asked event bytes (is_ok result)) ∷ []
+  sent event bytes result = call.Asked (reply_asked event bytes (is_ok result)) ∷ []
 
   -- a call that fails is counted, and no other
   abbrev pub CountsFault : Result T Fault → ℕ → ℕ → Type 0

@@ -2,7 +2,7 @@
 ghost use Rattle.std.specs.Prelude.{◌≡◌, ◌++◌, ◌∷◌, [], OnOk, Some};
 ghost use Rattle.acct_service.specs.declared.exchange.Call.TheVariants.{Gave};
 ghost use Rattle.acct_service.specs.declared.exchange.Call.TheVariants as call;
-ghost use Rattle.acct_service.specs.Told.{asked};
+ghost use Rattle.acct_service.specs.Told.{reply_asked};
 ghost use Rattle.acct_service.specs.Listed.{told_of};
 
 use crate::event::Event;
@@ -91,7 +91,7 @@ fn keep_reply(
     is_taken: bool,
 ) -> Result<(), AllocError>
     ensures { OnOk result (calls.new.items
-        ≡ calls.old.items ++ call.Asked (asked event.now bytes.now is_taken) ∷ []) }
+        ≡ calls.old.items ++ call.Asked (reply_asked event.now bytes.now is_taken) ∷ []) }
 {
     let event = event.copy(alloc)?;
     let bytes = Octets::from_slice(alloc, bytes)?;

@@ -1,6 +1,6 @@
 //! Turns in slices, after each of which the server looks whether its book still tells what it holds.
 ghost use Rattle.std.specs.Prelude.{◌≡◌, ◌+◌, ◌-◌, ◌^◌, ◌≤◌, IsTrue};
-ghost use Rattle.acct_book.specs.Step.{OnlyLooks};
+ghost use Rattle.acct_book.specs.inner.Step.{OnlyLooks};
 ghost use Rattle.acct_service.specs.Serving.{Serves, AtMost};
 ghost use Rattle.acct_service.specs.Slices.{MakesTurns};
 
@@ -25,7 +25,7 @@ pub enum Until {
     Shut,
 }
 
-/// MakesTurns `limit` turns, as `serve` does, but ends where its book refuses to tell a balance after a
+/// Makes `limit` turns, as `serve` does, but ends where its book refuses to tell a balance after a
 /// slice of them: a book that is shut would answer nobody any more, and is to be opened again.
 ///
 /// What `serve` says of its turns holds of those that were made.
@@ -40,7 +40,8 @@ pub fn serve_while_open<B: Book, X: Exchange>(
 ) -> (Served, Until)
     requires turns { X.turn_count exchange.old + limit ≤ 2 ^ 64 - 1 }
     requires failures { X.failure_count exchange.old + limit ≤ 2 ^ 64 - 1 }
-    ensures turns { MakesTurns limit (X.turn_count exchange.old) (X.turn_count exchange.new) result.1 }
+    ensures turns { MakesTurns limit (X.turn_count exchange.old) (X.turn_count exchange.new)
+        result.1 }
     ensures faults { X.failure_count exchange.new
         ≡ X.failure_count exchange.old + result.0.faults }
     ensures within { AtMost limit result.0 }

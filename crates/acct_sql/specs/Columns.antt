@@ -60,17 +60,17 @@ state_in (Blob b) = Stopped
 
 -- What is none of the three is no state: it counts as stopped, with a cause of 2^64 and more, which
 -- no row has.
-abbrev pub cause_of : ℤ → ℕ → ℕ
-cause_of (pos zero) cause = cause
-cause_of (pos (suc zero)) cause = cause
-cause_of (pos (suc (suc zero))) cause = cause
-cause_of (pos (suc (suc (suc n)))) cause = 2 ^ 64 + cause
-cause_of (negsuc n) cause = 2 ^ 64 + cause
+abbrev pub cause_in_columns : ℤ → ℕ → ℕ
+cause_in_columns (pos zero) cause = cause
+cause_in_columns (pos (suc zero)) cause = cause
+cause_in_columns (pos (suc (suc zero))) cause = cause
+cause_in_columns (pos (suc (suc (suc n)))) cause = 2 ^ 64 + cause
+cause_in_columns (negsuc n) cause = 2 ^ 64 + cause
 
 -- the cause of a session by the columns of its state and its cause
 abbrev pub cause_in : Value → Value → ℕ
 cause_in Null cause = 2 ^ 64
-cause_in (Int n) cause = cause_of n (count_in cause)
+cause_in (Int n) cause = cause_in_columns n (count_in cause)
 cause_in (Real x) cause = 2 ^ 64
 cause_in (Text t) cause = 2 ^ 64
 cause_in (Blob b) cause = 2 ^ 64

@@ -1,7 +1,7 @@
 -- What an answer says, put together from what its parts say.
 use Rattle.std.proofs.Common.{◌≡◌, ℕ, ◌+◌, ◌≤◌, inl, inr, ⊎_elim, List, ◌++◌, take, drop, refl}
 use Rattle.std.proofs.Common.{sym, ap, ◌∙◌, subst, arith, ◌⊎◌, length}
-use Rattle.std.specs.Prelude.{Some, None, Result, Ok, Err}
+use Rattle.std.specs.Prelude.{Some, Result, Ok, Err}
 use Rattle.std.proofs.lemmas.List.{take_at, drop_at}
 use Rattle.radius_codec.specs.Attributes.{spellings}
 use Rattle.radius_codec.specs.Packet.{proxy_states, reply_octets}
@@ -11,14 +11,14 @@ use Rattle.acct_model.specs.declared.entry.Entry.{Entry}
 use Rattle.acct_model.specs.declared.entry.Entry.TheVariants as entries
 use Rattle.acct_model.specs.declared.reading.EntryError.{EntryError}
 use Rattle.acct_model.specs.declared.reading.EntryError.TheVariants as entry
-use Rattle.acct_model.specs.Entries.{Attributes, refusal_of, Refuses, IsEntryOf}
+use Rattle.acct_model.specs.Entries.{Attributes, refusal_of, RefusesEntry, IsEntryOf}
 use Rattle.acct_model.specs.Vouchers.{TopUpFacts}
 use Rattle.acct_book.specs.declared.book.Book.{Ghosts}
 use Rattle.acct_book.specs.declared.recording.Recorded.{Recorded}
 use Rattle.acct_book.specs.declared.recording.Recorded.TheVariants.{New, Repeat}
 use Rattle.acct_book.specs.declared.recording.RecordError.{RecordError}
 use Rattle.acct_book.specs.declared.recording.RecordError.TheVariants as error
-use Rattle.acct_book.specs.Effect.{Effect, IsTopUp, effect_of, added, limited, failed, unasked}
+use Rattle.acct_book.specs.Effect.{Effect, IsOfTopUp, effect_of, added, limited, failed, unasked}
 use Rattle.acct_book.specs.Step.{Does}
 use Rattle.acct_book.proofs.StepLemmas.{unasked_by, failed_by}
 use Rattle.acct_wire.specs.declared.client.Client.{Client}
@@ -27,9 +27,11 @@ use Rattle.acct_wire.specs.declared.reason.Reason.TheVariants.{UnknownClient, Ba
 use Rattle.acct_wire.specs.declared.reason.Reason.TheVariants.{Unavailable}
 use Rattle.acct_wire.specs.declared.answering.Outcome.TheVariants.{Reply, Drop}
 use Rattle.acct_wire.specs.Clients.{client_at}
-use Rattle.acct_wire.specs.Datagrams.{IsRequest, IsSpelled, BreaksFirst, Breaks, Asks, AsksFor}
-use Rattle.acct_wire.specs.Datagrams.{IsAsking, reason_of, RefusesAs}
-use Rattle.acct_wire.specs.Outcomes.{IsReplyFor, AnswersReply, AnswersDrop, Answers, Writes}
+use Rattle.acct_wire.specs.Datagrams.{IsRequest, IsSpelled, BreaksFirst, Breaks, RequestAsks}
+use Rattle.acct_wire.specs.Datagrams.{RequestAsksFor}
+use Rattle.acct_wire.specs.Datagrams.{IsAsking}
+use Rattle.acct_wire.specs.inner.Datagrams.{reason_of, RefusesAs}
+use Rattle.acct_wire.specs.Outcomes.{AnswersDrop, Answers, WritesReply}
 use Rattle.acct_wire.proofs.Spelled.{asked_some}
 
 -- ---- the datagram alone
@@ -38,7 +40,7 @@ use Rattle.acct_wire.proofs.Spelled.{asked_some}
 misspelled : (secret bytes : List ℕ) (identifier : ℕ) (authenticator : List ℕ)
     (attributes : Attributes) (error : EntryError)
     → IsRequest secret bytes identifier authenticator attributes
-    → Refuses (refusal_of attributes) error
+    → RefusesEntry (refusal_of attributes) error
     → BreaksFirst secret bytes (reason_of error)
     ⊎ ((reason_of error ≡ Unavailable) × IsSpelled secret bytes)
 misspelled secret bytes identifier authenticator attributes entry.NoStatus request refuses =
@@ -100,7 +102,7 @@ breaks_so clients source bytes moment reason breaks = (breaks, refl)
 
 -- an entry that a datagram asks for is no top-up
 no_topup : (name : List ℕ) (attributes : Attributes) (moment : ℕ) (asked : Entry)
-    → IsEntryOf name attributes moment asked → IsTopUp asked → ⊥
+    → IsEntryOf name attributes moment asked → IsOfTopUp asked → ⊥
 no_topup name attributes moment (entries.Report report) spelled is = is
 no_topup name attributes moment (entries.Restart restart) spelled is = is
 no_topup name attributes moment (entries.TopUp topup) spelled is = spelled
@@ -124,9 +126,9 @@ module _ {B : Type 0} (b : Ghosts B) (clients : List Client) (plans : List Plan)
 
   module _ (old new : B) (client : Client) (identifier : ℕ) (authenticator : List ℕ)
       (attributes : Attributes) (asked : Entry)
-      (asks : Asks clients source bytes moment client identifier authenticator attributes asked)
+      (asks : RequestAsks clients source bytes moment client identifier authenticator attributes asked)
     where
-      for : AsksFor clients source bytes moment asked
+      for : RequestAsksFor clients source bytes moment asked
       for = record {
         client = client;
         identifier = identifier;
@@ -207,7 +209,7 @@ pub written_past : (identifier size : ℕ) (authenticator secret before after : 
     (attributes : Attributes)
     → after ≡ reply_octets identifier authenticator attributes secret ++ drop size before
     → size ≡ 20 + length (spellings (proxy_states attributes)) → size ≤ 4096
-    → Writes before after size
+    → WritesReply before after size
 written_past identifier size authenticator secret before after attributes octets counted most =
     record {
       rest = ap (drop size) octets

@@ -1,9 +1,8 @@
 -- Why a datagram asks for one entry.
-use Rattle.std.proofs.Common.{◌≡◌, ℕ, Bool, true, false, ◌||◌, List, ◌∷◌, ◌++◌, drop, refl, sym}
+use Rattle.std.proofs.Common.{◌≡◌, ℕ, List, drop, sym}
 use Rattle.std.proofs.Common.{◌∙◌, ap, subst, arith}
-use Rattle.std.specs.Prelude.{Option, Some, None, IsTrue, slice_index, ◌==◌}
+use Rattle.std.specs.Prelude.{Option, Some, IsTrue, slice_index}
 use Rattle.std.proofs.lemmas.Bool.Decides.{nat_tests}
-use Rattle.radius_codec.specs.Packet.{front_of}
 use Rattle.radius_codec.specs.Attributes.{spellings}
 use Rattle.radius_codec.proofs.Spelling.{append_parts, Spells_one, Spells-framed}
 use Rattle.acct_model.specs.declared.entry.Entry.{Entry}
@@ -11,8 +10,6 @@ use Rattle.acct_model.specs.declared.entry.Entry.TheVariants as entries
 use Rattle.acct_model.specs.declared.report.ReportKind.{ReportKind}
 use Rattle.acct_model.specs.Entries.{Attributes, status_of, kind_of, is_restart, report_of}
 use Rattle.acct_model.specs.Entries.{IsEntryOf}
-use Rattle.acct_wire.specs.declared.client.Client.{Client}
-use Rattle.acct_wire.specs.Datagrams.{Asks}
 use Rattle.acct_wire.specs.Laws.{OneEntryIsAsked}
 
 some_one : {X : Type 0} (o : Option X) (x y : X) → o ≡ Some x → o ≡ Some y → x ≡ y

@@ -1,5 +1,5 @@
 -- Why no two clients of a site share a name or an address.
-use Rattle.std.proofs.Common.{◌≡◌, ◌≢◌, ℕ, inl, inr, true, false, cond, None, Some, List, []}
+use Rattle.std.proofs.Common.{◌≡◌, ◌≢◌, inl, inr, true, false, cond, None, Some, List, []}
 use Rattle.std.proofs.Common.{◌∷◌, ◌++◌, refl, sym, ◌∙◌, subst, arith, true≢false}
 use Rattle.std.proofs.lemmas.List.Elements.{Contains-append_left, Contains-append_right}
 use Rattle.std.proofs.lemmas.List.Kept.{AllPairs-cons}

@@ -21,7 +21,7 @@ use Rattle.acct_wire.specs.declared.reason.Reason.TheVariants.{Unavailable}
 use Rattle.acct_wire.specs.Clients.{client_at}
 use Rattle.acct_wire.specs.Datagrams.{IsRequest, BeginsFront, BeginsRequest, BeginsSigned}
 use Rattle.acct_wire.specs.Datagrams.{IsMisspelled, IsSpelled, BreaksFirst, IsBroken, IsAsking}
-use Rattle.acct_wire.specs.Datagrams.{reason_of}
+use Rattle.acct_wire.specs.inner.Datagrams.{reason_of}
 use Rattle.acct_wire.specs.Laws.{OneRuleIsBrokenFirst, AskingBreaksNone}
 
 -- some attributes are spelled behind a signed request's first twenty octets

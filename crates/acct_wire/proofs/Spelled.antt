@@ -9,7 +9,7 @@ use Rattle.acct_model.specs.declared.reading.EntryError.TheVariants.{NoStatus, U
 use Rattle.acct_model.specs.Entries.{Attributes, status_of, kind_of, is_restart, status_fault}
 use Rattle.acct_model.specs.Entries.{report_fault, refusal_of, report_of, IsEntryOf}
 use Rattle.acct_wire.specs.declared.client.Client.{Client}
-use Rattle.acct_wire.specs.Datagrams.{AsksFor, IsAsking}
+use Rattle.acct_wire.specs.Datagrams.{RequestAsksFor, IsAsking}
 
 no_fault : (e : EntryError) → Some e ≡ None → ⊥
 no_fault e h = cc
@@ -51,7 +51,7 @@ spelled_some name attributes moment none =
 
 -- a datagram that asks for some entry asks for one that can be told
 pub asked_some : (clients : List Client) (source bytes : List ℕ) (moment : ℕ)
-    → IsAsking clients source bytes → (asked : Entry) × AsksFor clients source bytes moment asked
+    → IsAsking clients source bytes → (asked : Entry) × RequestAsksFor clients source bytes moment asked
 asked_some clients source bytes moment
     (client, known, (identifier, authenticator, attributes, request, none)) =
     let spelled = spelled_some client.name attributes moment none in (

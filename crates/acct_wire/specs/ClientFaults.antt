@@ -15,9 +15,9 @@ client_fault earlier client =
     else None
 
 -- the first fault of a list of clients
-abbrev pub fault_of : List Client → Option ClientError
-fault_of clients = first_fault client_fault clients
+abbrev pub clients_fault : List Client → Option ClientError
+clients_fault clients = first_fault client_fault clients
 
 -- what the clients of a site keep
 pub record AreClients (clients : List Client) : Type 0 where
-  pub faultless : fault_of clients ≡ None
+  pub faultless : clients_fault clients ≡ None

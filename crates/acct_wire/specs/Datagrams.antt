@@ -7,7 +7,7 @@ use Rattle.radius_codec.specs.declared.packet.CodecError.TheVariants as codec
 use Rattle.acct_model.specs.declared.entry.Entry.{Entry}
 use Rattle.acct_model.specs.declared.reading.EntryError.{EntryError}
 use Rattle.acct_model.specs.declared.reading.EntryError.TheVariants as entry
-use Rattle.acct_model.specs.Entries.{Attributes, refusal_of, Refuses, IsEntryOf}
+use Rattle.acct_model.specs.Entries.{Attributes, refusal_of, IsEntryOf}
 use Rattle.acct_wire.specs.declared.client.Client.{Client}
 use Rattle.acct_wire.specs.declared.reason.Reason.{Reason}
 use Rattle.acct_wire.specs.declared.reason.Reason.TheVariants.{UnknownClient, TooShort, BadLength}
@@ -87,8 +87,8 @@ Breaks clients source bytes reason =
     ⊎ IsBroken clients source bytes reason
 
 -- The datagram is a client's signed request that spells this entry.
-pub record Asks (clients : List Client) (source bytes : List ℕ) (moment : ℕ) (client : Client)
-    (identifier : ℕ) (authenticator : List ℕ) (attributes : Attributes) (asked : Entry)
+pub record RequestAsks (clients : List Client) (source bytes : List ℕ) (moment : ℕ)
+    (client : Client) (identifier : ℕ) (authenticator : List ℕ) (attributes : Attributes) (asked : Entry)
     : Type 0 where
   pub known : client_at source clients ≡ Some client
   pub request : IsRequest client.secret bytes identifier authenticator attributes
@@ -96,13 +96,14 @@ pub record Asks (clients : List Client) (source bytes : List ℕ) (moment : ℕ)
   pub spelled : IsEntryOf client.name attributes moment asked
 
 -- The datagram asks for this entry: it is some client's signed request that spells it.
-pub record AsksFor (clients : List Client) (source bytes : List ℕ) (moment : ℕ) (asked : Entry)
-    : Type 0 where
+pub record RequestAsksFor (clients : List Client) (source bytes : List ℕ) (moment : ℕ)
+    (asked : Entry) : Type 0 where
   pub client : Client
   pub identifier : ℕ
   pub authenticator : List ℕ
   pub attributes : Attributes
-  pub asks : Asks clients source bytes moment client identifier authenticator attributes asked
+  pub asks : RequestAsks clients source bytes moment client identifier authenticator attributes
+      asked
 
 -- The datagram is a client's signed request that spells some entry, whenever it comes.
 abbrev pub IsAsking : List Client → List ℕ → List ℕ → Type 0
@@ -110,22 +111,3 @@ IsAsking clients source bytes =
     (client : Client) × (client_at source clients ≡ Some client) × IsSpelled client.secret bytes
 
 -- ---- how attributes are read
-
--- the attributes are faultless and spell this entry
-abbrev pub SpellsEntry : List ℕ → Attributes → ℕ → Entry → Type 0
-SpellsEntry name attributes moment asked =
-    (refusal_of attributes ≡ None) × IsEntryOf name attributes moment asked
-
--- how a refusal of attributes is a reason
-abbrev pub reason_of : EntryError → Reason
-reason_of entry.NoStatus = NoStatus
-reason_of entry.UnknownStatus = UnknownStatus
-reason_of entry.NoSessionId = NoSessionId
-reason_of entry.BadField = BadField
-reason_of entry.TotalTooLarge = TotalTooLarge
-reason_of entry.Memory = Unavailable
-
--- the attributes are refused so
-abbrev pub RefusesAs : Attributes → Reason → Type 0
-RefusesAs attributes reason =
-    (error : EntryError) × Refuses (refusal_of attributes) error × (reason ≡ reason_of error)

@@ -5,8 +5,8 @@ use Rattle.acct_model.specs.declared.entry.Entry.{Entry}
 use Rattle.acct_model.specs.Entries.{Attributes}
 use Rattle.acct_wire.specs.declared.client.Client.{Client}
 use Rattle.acct_wire.specs.declared.reason.Reason.{Reason}
-use Rattle.acct_wire.specs.ClientFaults.{fault_of}
-use Rattle.acct_wire.specs.Datagrams.{Breaks, Asks, IsAsking}
+use Rattle.acct_wire.specs.ClientFaults.{clients_fault}
+use Rattle.acct_wire.specs.Datagrams.{Breaks, RequestAsks, IsAsking}
 
 -- no datagram breaks two rules first
 abbrev pub OneRuleIsBrokenFirst : Type 0
@@ -22,11 +22,11 @@ AskingBreaksNone = (clients : List Client) (source bytes : List ℕ) (reason : R
 abbrev pub OneEntryIsAsked : Type 0
 OneEntryIsAsked = (clients : List Client) (source bytes : List ℕ) (moment : ℕ)
     (c d : Client) (i j : ℕ) (a b : List ℕ) (ps qs : Attributes) (one other : Entry)
-    → Asks clients source bytes moment c i a ps one
-    → Asks clients source bytes moment d j b qs other
+    → RequestAsks clients source bytes moment c i a ps one
+    → RequestAsks clients source bytes moment d j b qs other
     → (c ≡ d) × (i ≡ j) × (a ≡ b) × (ps ≡ qs) × (one ≡ other)
 
 -- no two clients of a site share a name or an address
 abbrev pub ClientsDiffer : Type 0
-ClientsDiffer = (clients : List Client) → fault_of clients ≡ None
+ClientsDiffer = (clients : List Client) → clients_fault clients ≡ None
     → AllPairs (λ one other. (one.name ≢ other.name) × (one.address ≢ other.address)) clients

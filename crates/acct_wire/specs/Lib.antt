@@ -3,3 +3,4 @@ pub mod ClientFaults
 pub mod Datagrams
 pub mod Outcomes
 pub mod Laws
+pub mod inner

@@ -9,7 +9,7 @@ use Rattle.acct_wire.specs.declared.reason.Reason.{Reason}
 use Rattle.acct_wire.specs.declared.reason.Reason.TheVariants.{BalanceLimit, Unavailable}
 use Rattle.acct_wire.specs.declared.answering.Outcome.{Outcome}
 use Rattle.acct_wire.specs.declared.answering.Outcome.TheVariants.{Reply, Drop}
-use Rattle.acct_wire.specs.Datagrams.{Breaks, Asks, AsksFor}
+use Rattle.acct_wire.specs.Datagrams.{Breaks, RequestAsks, RequestAsksFor}
 
 -- The datagram is a client's signed request that spells this entry, and these octets are the reply
 -- to that request (RFC 2866, section 3).
@@ -19,7 +19,8 @@ pub record IsReplyFor (clients : List Client) (source bytes : List ℕ) (moment 
   pub identifier : ℕ
   pub authenticator : List ℕ
   pub attributes : Attributes
-  pub asks : Asks clients source bytes moment client identifier authenticator attributes asked
+  pub asks : RequestAsks clients source bytes moment client identifier authenticator attributes
+      asked
   pub reply : octets ≡ reply_octets identifier authenticator attributes client.secret
 
 -- A reply says that the entry which the datagram asks for was added.
@@ -31,10 +32,10 @@ AnswersReply clients source bytes moment octets effect =
 -- memory refused. Any other names the first rule that is broken, and then the book was not asked.
 abbrev pub AnswersDrop : List Client → List ℕ → List ℕ → ℕ → Reason → Effect → Type 0
 AnswersDrop clients source bytes moment BalanceLimit effect =
-    (asked : Entry) × AsksFor clients source bytes moment asked
+    (asked : Entry) × RequestAsksFor clients source bytes moment asked
     × ((balance : ℤ) × (effect ≡ limited asked balance))
 AnswersDrop clients source bytes moment Unavailable effect =
-    (asked : Entry) × AsksFor clients source bytes moment asked × (effect ≡ failed asked)
+    (asked : Entry) × RequestAsksFor clients source bytes moment asked × (effect ≡ failed asked)
 AnswersDrop clients source bytes moment reason effect =
     Breaks clients source bytes reason × (effect ≡ unasked)
 
@@ -46,12 +47,12 @@ Answers clients source bytes moment array (Drop reason) effect =
     AnswersDrop clients source bytes moment reason effect
 
 -- past the reply the array is as it was
-pub record Writes (before after : List ℕ) (size : ℕ) : Type 0 where
+pub record WritesReply (before after : List ℕ) (size : ℕ) : Type 0 where
   pub rest : drop size after ≡ drop size before
   pub least : 20 ≤ size
   pub most : size ≤ 4096
 
 -- a drop leaves the array as it was
 abbrev pub Written : List ℕ → List ℕ → Outcome → Type 0
-Written before after (Reply size) = Writes before after size
+Written before after (Reply size) = WritesReply before after size
 Written before after (Drop reason) = after ≡ before

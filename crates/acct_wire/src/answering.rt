@@ -2,9 +2,10 @@
 ghost use Rattle.std.specs.Prelude.{◌≡◌, ◌⊎◌, ◌≤◌, ◌<◌, ◌^◌, IfOk, IfErr};
 ghost use Rattle.acct_book.specs.Effect.{Effect};
 ghost use Rattle.acct_book.specs.Step.{Does};
-ghost use Rattle.acct_wire.specs.Datagrams.{IsRequest, BreaksFirst, Breaks, Asks};
-ghost use Rattle.acct_wire.specs.Datagrams.{IsAsking, SpellsEntry, reason_of as reason_in};
-ghost use Rattle.acct_wire.specs.Datagrams.{RefusesAs};
+ghost use Rattle.acct_wire.specs.Datagrams.{IsRequest, BreaksFirst, Breaks, RequestAsks};
+ghost use Rattle.acct_wire.specs.Datagrams.{IsAsking};
+ghost use Rattle.acct_wire.specs.inner.Datagrams.{SpellsEntry, reason_of as reason_in};
+ghost use Rattle.acct_wire.specs.inner.Datagrams.{RefusesAs};
 ghost use Rattle.acct_wire.specs.Outcomes.{Answers, Written};
 
 use crate::client::{Client, Clients};
@@ -78,7 +79,7 @@ fn requested<'c, 'b>(
     clients: &'c Clients,
     datagram: &Datagram<'b>,
 ) -> Result<Request<'c, 'b>, Reason>
-    ensures asks { IfOk result (λ request. Asks clients.now datagram.now.source
+    ensures asks { IfOk result (λ request. RequestAsks clients.now datagram.now.source
         datagram.now.bytes.now datagram.now.moment request.client.now request.packet.id
         request.packet.authenticator request.packet.attributes request.entry) }
     ensures dropped { IfErr result (λ reason.

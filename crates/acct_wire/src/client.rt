@@ -72,7 +72,7 @@ pub enum ClientError {
 }
 
 impl Clients {
-    ghost use Rattle.acct_wire.specs.ClientFaults.{fault_of};
+    ghost use Rattle.acct_wire.specs.ClientFaults.{clients_fault};
 
     /// No clients. It takes no memory.
     pub fn none(alloc: Global) -> Clients
@@ -90,8 +90,8 @@ impl Clients {
     /// The first fault: each client in its turn for `TwiceNamed` and then for `TwiceAddressed`.
     pub fn new(list: Vec<Client>) -> Result<Clients, ClientError>
         ensures kept { IfOk result (λ kept. kept ≡ list.items) }
-        ensures faultless { OnOk result (fault_of list.items ≡ None) }
-        ensures fault { IfErr result (λ fault. fault_of list.items ≡ Some fault) }
+        ensures faultless { OnOk result (clients_fault list.items ≡ None) }
+        ensures fault { IfErr result (λ fault. clients_fault list.items ≡ Some fault) }
     {
         for i in 0..list.len() {
             if let Some(fault) = fault_behind(&list[..i], &list[i]) {

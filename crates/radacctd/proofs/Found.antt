@@ -15,7 +15,8 @@ use Rattle.acct_sql.specs.Look.{LooksAtTables}
 use Rattle.acct_commands.specs.declared.fault.Fault.{Fault}
 use Rattle.radacctd.specs.declared.left.Left.{Left}
 use Rattle.radacctd.specs.declared.left.Left.TheVariants as left
-use Rattle.radacctd.specs.Files.{AreHeldIn, WasHeldIn, IsOpenedOn, HoldsStill}
+use Rattle.radacctd.specs.Files.{AreHeldIn, WasHeldIn, HoldsStill}
+use Rattle.radacctd.specs.inner.Files.{IsOpenedOn}
 use Rattle.radacctd.specs.Files.{IsUnread, IsRefused, HasNotMade}
 
 module _ {D : Type 0} {g : Ghosts D} where

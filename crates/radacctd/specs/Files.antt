@@ -9,8 +9,7 @@ use Rattle.sqlite_store.specs.declared.store.FileStore.{FileStore}
 use Rattle.sqlite.specs.Effect.{Database, IsDatabase}
 use Rattle.sqlite.specs.Held.{Held}
 use Rattle.sqlite.specs.State.{HasCleanDisk}
-use Rattle.sqlite.specs.Files.{file_state, HoldsDatabase, AreFoundIn, IsOpened, IsClosed}
-use Rattle.sqlite.specs.Start.{FindsIn}
+use Rattle.sqlite.specs.Files.{file_state, HoldsDatabase, AreFoundIn, IsClosed}
 use Rattle.sqlite.specs.Closing.{IsCopied}
 use Rattle.acct_model.specs.declared.plan.Plan.{Plan}
 use Rattle.acct_sql.specs.declared.sql_book_error.SqlBookError.{SqlBookError}
@@ -38,10 +37,6 @@ pub record WasHeldIn (image : Image) (held : Database) : Type 0 where
   pub trees : AreHeldIn image held.trees
 
 module _ {D : Type 0} {g : Ghosts D} where
-  -- a connection that was opened over files that held the image
-  abbrev pub IsOpenedOn : Image → Held (FileStore D g) → Type 0
-  IsOpenedOn image c = HasCleanDisk (file_state c) → IsOpened c × FindsIn image (file_state c)
-
   -- ---- a book
 
   -- the book that the files held: it is kept by these plans, and has the schema number 1

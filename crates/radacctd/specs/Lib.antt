@@ -2,3 +2,4 @@ pub mod Commands
 pub mod Faults
 pub mod Files
 pub mod Jobs
+pub mod inner

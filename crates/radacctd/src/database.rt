@@ -9,7 +9,8 @@ ghost use Rattle.sqlite.specs.State.{HasCleanDisk};
 ghost use Rattle.sqlite.specs.Files.{file_state};
 ghost use Rattle.radacctd.specs.Faults.{store_fault_of};
 ghost use Rattle.radacctd.specs.Files.{IsBookOf, IsMadeIn, IsRefused, HasNotMade, IsUnread};
-ghost use Rattle.radacctd.specs.Files.{IsOpenedOn, Copies, IsUnclosed};
+ghost use Rattle.radacctd.specs.Files.{Copies, IsUnclosed};
+ghost use Rattle.radacctd.specs.inner.Files.{IsOpenedOn};
 
 use crate::left::Left;
 use acct_commands::{Fault, StoreFault};

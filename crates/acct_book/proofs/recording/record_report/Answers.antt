@@ -1,10 +1,10 @@
-use Rattle.std.proofs.Common.{◌≡◌, sym, ap, ◌∙◌, subst, rules, SFits}
+use Rattle.std.proofs.Common.{◌≡◌, sym, subst, rules, SFits}
 use Rattle.std.specs.Int.{w64}
 use Rattle.std.proofs.lemmas.Int.{to_z-of_z}
 use Rattle.acct_model.specs.declared.entry.Entry.TheVariants.{Report}
 use Rattle.acct_book.specs.declared.recording.RecordError.TheVariants.{Unavailable}
 use Rattle.acct_book.specs.Content.{with_session}
-use Rattle.acct_book.specs.Calls.{Adds}
+use Rattle.acct_book.specs.inner.Calls.{AddsEntry}
 use Rattle.acct_book.specs.Effect.{effect_of}
 use Rattle.acct_book.specs.Step.{Does}
 use Rattle.acct_book.proofs.Exits.{same_error, passed_on, now_added, write_failed}
@@ -31,7 +31,7 @@ returns-in_err-put_session g c =
     c.from_residual-in_err-put_session.ensures.1))
     (write_failed b plans entry old c.debited.new.book c.put_session.new.self c.debited.result
     c.put_session.result _ c.debited.ensures.reads c.put_session.ensures
-    (λ now. subst (Adds plans entry (b.content old)) (sym
+    (λ now. subst (AddsEntry plans entry (b.content old)) (sym
     (λ i. with_session (c.debited.ensures.reads.same now i) c.in_ok-row.row (exact i)))
     (c.in_ok-row.ensures.added now))
     g.met.B.Book.settled c.in_err-put_session.ensures.err)
@@ -46,7 +46,7 @@ returns g c =
     let exact : _ ≡ c.in_ok-row.balance = to_z-of_z w64 c.in_ok-row.balance fits in
     now_added b plans entry old c.debited.new.book c.put_session.new.self c.debited.result
     c.put_session.result _ c.debited.ensures.reads c.put_session.ensures
-    (λ now. subst (Adds plans entry (b.content old)) (sym
+    (λ now. subst (AddsEntry plans entry (b.content old)) (sym
     (λ i. with_session (c.debited.ensures.reads.same now i) c.in_ok-row.row (exact i)))
     (c.in_ok-row.ensures.added now))
     g.met.B.Book.settled c.in_ok-put_session.ensures.answers c.in_ok-put_session.ensures.ok

@@ -1,11 +1,11 @@
-use Rattle.std.proofs.Common.{◌≡◌, sym, ap, ◌∙◌, subst, rules, SFits}
+use Rattle.std.proofs.Common.{◌≡◌, sym, subst, rules, SFits}
 use Rattle.std.specs.Prelude.{Err}
 use Rattle.std.specs.Int.{w64}
 use Rattle.std.proofs.lemmas.Int.{to_z-of_z}
 use Rattle.acct_model.specs.declared.entry.Entry.TheVariants.{TopUp}
 use Rattle.acct_book.specs.declared.recording.RecordError.TheVariants.{Unavailable}
 use Rattle.acct_book.specs.Content.{with_topup}
-use Rattle.acct_book.specs.Calls.{Adds}
+use Rattle.acct_book.specs.inner.Calls.{AddsEntry}
 use Rattle.acct_book.specs.Effect.{effect_of}
 use Rattle.acct_book.specs.Step.{Does}
 use Rattle.acct_book.proofs.Exits.{same_error, topup_own, passed_on, now_added, write_failed}
@@ -33,7 +33,7 @@ returns-in_err-put_topup g c =
     c.from_residual-in_err-put_topup.ensures.1))
     (write_failed b plans entry old c.credited.new.book c.put_topup.new.self c.credited.result
     c.put_topup.result _ c.credited.ensures.reads c.put_topup.ensures
-    (λ now. subst (Adds plans entry (b.content old)) (sym
+    (λ now. subst (AddsEntry plans entry (b.content old)) (sym
     (λ i. with_topup (c.credited.ensures.reads.same now i) c.args.topup.now (exact i)))
     (rw c.in-Some.is at (c.in_ok-balance.ensures.added now)))
     g.met.B.Book.settled c.in_err-put_topup.ensures.err)
@@ -48,7 +48,7 @@ returns g c =
     let exact : _ ≡ c.in-Some.balance = to_z-of_z w64 c.in-Some.balance fits in
     now_added b plans entry old c.credited.new.book c.put_topup.new.self c.credited.result
     c.put_topup.result _ c.credited.ensures.reads c.put_topup.ensures
-    (λ now. subst (Adds plans entry (b.content old)) (sym
+    (λ now. subst (AddsEntry plans entry (b.content old)) (sym
     (λ i. with_topup (c.credited.ensures.reads.same now i) c.args.topup.now (exact i)))
     (rw c.in-Some.is at (c.in_ok-balance.ensures.added now)))
     g.met.B.Book.settled c.in_ok-put_topup.ensures.answers c.in_ok-put_topup.ensures.ok

@@ -1,4 +1,4 @@
-use Rattle.std.proofs.Common.{◌≡◌, ◌≤◌, ℕ, min, length, refl, sym, arith}
+use Rattle.std.proofs.Common.{◌≤◌, min, length, refl, sym, arith}
 use Rattle.std.proofs.lemmas.Result.{IfOk-weaker}
 use Rattle.acct_desk.proofs.AskLemmas.{asks_at_front, asks_without_front, something_asked}
 use Rattle.acct_desk.proofs.asking.ask_of_octets.Goals as goal

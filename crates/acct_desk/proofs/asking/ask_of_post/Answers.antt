@@ -1,5 +1,5 @@
-use Rattle.std.proofs.Common.{◌≡◌, Some, None, Err, refl, ap, sym, ◌∙◌}
-use Rattle.acct_desk.specs.Asks.{json_of, ask_of_json, ask_of_topup}
+use Rattle.std.proofs.Common.{Some, None, Err, refl, ap, sym}
+use Rattle.acct_desk.specs.Asks.{ask_of_topup}
 use Rattle.acct_desk.proofs.AskLemmas.{json_of-IsJson}
 use Rattle.acct_desk.proofs.asking.ask_of_post.Goals as goal
 

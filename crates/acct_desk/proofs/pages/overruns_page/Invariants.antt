@@ -3,7 +3,7 @@ use Rattle.std.specs.Prelude.{None, option_map}
 use Rattle.std.specs.List.{filter_map}
 use Rattle.serde_json.specs.View.{view}
 use Rattle.acct_desk.specs.Bodies.{overrun_in}
-use Rattle.acct_book.specs.Step.{OnlyLooks}
+use Rattle.acct_book.specs.inner.Step.{OnlyLooks}
 use Rattle.acct_desk.proofs.PageLemmas.{WalksTo}
 use Rattle.acct_desk.proofs.pages.overruns_page.Given as goal
 

@@ -1,5 +1,5 @@
 use Rattle.std.proofs.Common.{ℕ, ◌<◌, ◌≤◌, take}
-use Rattle.acct_desk.specs.Reading.{EndsInEmptyLine}
+use Rattle.acct_desk.specs.inner.Reading.{EndsInEmptyLine}
 use Rattle.acct_desk.proofs.reading.has_head_end.Given as goal
 
 abbrev pub invariant-loop-end : goal.invariant-loop-end

@@ -2,7 +2,7 @@ use Rattle.std.proofs.Common.{List, ℕ, true, inl, rules, arith, sym, subst}
 use Rattle.std.specs.Io.KnownBytes.{Consumes}
 use Rattle.std.proofs.KnownBytes.{Consumes-trans}
 use Rattle.acct_desk.specs.declared.reading.Watch.{Watch}
-use Rattle.acct_desk.specs.Reading.{StaysOpen}
+use Rattle.acct_desk.specs.inner.Reading.{StaysOpen}
 use Rattle.acct_desk.proofs.ReadingLemmas.{nothing_stays, read_on}
 use Rattle.acct_desk.proofs.reading.read_request.Goals as goal
 use Rattle.acct_desk.proofs.reading.read_request.Goals.{then-is_due+in-Some, else-is_due}

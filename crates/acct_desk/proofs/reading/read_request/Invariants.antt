@@ -1,6 +1,6 @@
 use Rattle.std.proofs.Common.{◌<◌, vec_len}
 use Rattle.std.specs.Io.KnownBytes.{Consumes}
-use Rattle.acct_desk.specs.Reading.{StaysOpen}
+use Rattle.acct_desk.specs.inner.Reading.{StaysOpen}
 use Rattle.acct_desk.proofs.reading.read_request.Given as goal
 
 abbrev pub invariant-loop : goal.invariant-loop

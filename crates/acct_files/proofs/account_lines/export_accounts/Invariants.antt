@@ -3,7 +3,7 @@ use Rattle.std.specs.Prelude.{ℤ, option_map}
 use Rattle.std.specs.Io.KnownBytes.{Appends}
 use Rattle.csv.specs.Writing.{text_written}
 use Rattle.acct_book.specs.Maps.{octets_cmp}
-use Rattle.acct_book.specs.Step.{OnlyLooks}
+use Rattle.acct_book.specs.inner.Step.{OnlyLooks}
 use Rattle.acct_files.specs.Exporting.{IsBetweenLines, export_text, account_header, account_line}
 use Rattle.acct_files.proofs.Walking.{Walked}
 use Rattle.acct_files.proofs.account_lines.export_accounts.Given as goal

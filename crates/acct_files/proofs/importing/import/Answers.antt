@@ -3,7 +3,7 @@ use Rattle.std.specs.Prelude.{option_map}
 use Rattle.std.specs.Result.{result_err}
 use Rattle.csv.specs.Reading.{strip_bom}
 use Rattle.acct_files.specs.declared.import_report.Stopped.{Stopped}
-use Rattle.acct_files.specs.Importing.{stop_of}
+use Rattle.acct_files.specs.inner.Importing.{stop_of}
 use Rattle.acct_files.proofs.Halfway.{recounted}
 use Rattle.acct_files.proofs.importing.import.Goals as goal
 

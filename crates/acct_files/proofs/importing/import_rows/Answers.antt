@@ -4,7 +4,7 @@ use Rattle.csv.specs.Reading.{source_of}
 use Rattle.csv.specs.Records.{fields_of}
 use Rattle.acct_files.specs.declared.import_report.Outcome.{Outcome}
 use Rattle.acct_files.specs.declared.import_report.Outcome.TheVariants.{Added, Repeated, Refused}
-use Rattle.acct_files.specs.Importing.{added_by}
+use Rattle.acct_files.specs.inner.Importing.{added_by}
 use Rattle.acct_files.proofs.Halfway.{at_start, beheaded, ended, more, stopped_at, too_many}
 use Rattle.acct_files.proofs.Halfway.{uncounted, unread}
 use Rattle.acct_files.proofs.Offers.{keeps_then}

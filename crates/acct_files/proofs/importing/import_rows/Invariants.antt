@@ -2,8 +2,8 @@ use Rattle.std.proofs.Common.{◌≤◌, ◌+◌, List, None}
 use Rattle.csv.specs.Reading.{source_of}
 use Rattle.acct_model.specs.declared.entry.Entry.{Entry}
 use Rattle.acct_book.specs.Step.{StoodFor}
-use Rattle.acct_files.specs.Importing.{Keeps}
-use Rattle.acct_files.specs.Reading.{IsAtRecord}
+use Rattle.acct_files.specs.Importing.{KeepsOpen}
+use Rattle.acct_files.specs.inner.Reading.{IsAtRecord}
 use Rattle.acct_files.proofs.Halfway.{Halfway}
 use Rattle.acct_files.proofs.importing.import_rows.Given as goal
 
@@ -13,7 +13,7 @@ invariant-loop-number g l = record {
   added : l.report.added + 2 ≤ l.number;
   repeated : l.report.repeated + 2 ≤ l.number;
   number : l.number ≤ 1000002;
-  keeps : Keeps g.B.Book None
+  keeps : KeepsOpen g.B.Book None
       l.report.added l.fn.book l.book;
   halfway : g.B.Book.is_sound l.book → (history : List Entry)
       → StoodFor g.B.Book l.plans l.fn.book history

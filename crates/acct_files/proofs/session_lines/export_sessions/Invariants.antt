@@ -4,7 +4,7 @@ use Rattle.csv.specs.Writing.{text_written}
 use Rattle.acct_book.specs.declared.key.Key.{Key}
 use Rattle.acct_book.specs.Row.{RowFacts}
 use Rattle.acct_book.specs.Maps.{key_cmp}
-use Rattle.acct_book.specs.Step.{OnlyLooks}
+use Rattle.acct_book.specs.inner.Step.{OnlyLooks}
 use Rattle.acct_files.specs.Exporting.{IsBetweenLines, export_text, line, session_header}
 use Rattle.acct_files.specs.Exporting.{session_fields}
 use Rattle.acct_files.proofs.Walking.{Walked}

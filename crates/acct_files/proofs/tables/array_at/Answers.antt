@@ -3,7 +3,7 @@ use Rattle.std.proofs.Common.{arith}
 use Rattle.std.proofs.lemmas.List.{length-map}
 use Rattle.toml.specs.View.{view, items_view}
 use Rattle.toml.proofs.Views.{table_get}
-use Rattle.acct_files.specs.Tables.{at_most, elements}
+use Rattle.acct_files.specs.Tables.{list_at_most, elements}
 use Rattle.acct_files.proofs.TableLemmas.{elements-view, elements_of_array, elements_of_other}
 use Rattle.acct_files.proofs.TableLemmas.{at_most_within, at_most_past}
 use Rattle.acct_files.proofs.tables.array_at.Goals as goal
@@ -20,7 +20,7 @@ returns-then-len-limit c =
     c.args.table.now.entries c.get.ensures.value) in
     let items = elements_of_array (view c.in-Some.value.now) _
     (rw c.in-Some-as_array.is at c.as_array.ensures) in
-    rw (← found) (sym (ap (at_most c.args.limit) items
+    rw (← found) (sym (ap (list_at_most c.args.limit) items
     ∙ at_most_past c.args.limit _ (rw (elements-view, length-map) (omega (arith, c.len.ensures)))))
 
 pub returns-else-len-limit : goal.returns-else-len-limit
@@ -33,7 +33,7 @@ returns-else-len-limit c =
     rw (elements-view, length-map) (omega (arith, c.len.ensures)) in
     rw (← found) (ap (λ vs. Some (map view vs)) c.as_slice.ensures.value
     ∙ ap Some (sym (elements-view c.in-Some-as_array.values.now.items))
-    ∙ sym (ap (at_most c.args.limit) items ∙ at_most_within c.args.limit _ small))
+    ∙ sym (ap (list_at_most c.args.limit) items ∙ at_most_within c.args.limit _ small))
 
 pub returns-in-None : goal.returns-in-None
 returns-in-None c =
@@ -41,4 +41,4 @@ returns-in-None c =
     c.args.table.now.entries c.get.ensures.value) in
     let items = elements_of_other (view c.in-Some.value.now)
     (rw c.in-None.is at c.as_array.ensures) in
-    rw (← found) (sym (ap (at_most c.args.limit) items))
+    rw (← found) (sym (ap (list_at_most c.args.limit) items))

@@ -3,7 +3,7 @@ use Rattle.std.specs.Io.KnownBytes.{Appends}
 use Rattle.csv.specs.Writing.{text_written}
 use Rattle.acct_model.specs.Vouchers.{TopUpFacts}
 use Rattle.acct_book.specs.Maps.{octets_cmp}
-use Rattle.acct_book.specs.Step.{OnlyLooks}
+use Rattle.acct_book.specs.inner.Step.{OnlyLooks}
 use Rattle.acct_files.specs.Exporting.{IsBetweenLines, export_text, line, topup_header}
 use Rattle.acct_files.specs.Exporting.{topup_fields}
 use Rattle.acct_files.proofs.Walking.{Walked}

@@ -1,5 +1,4 @@
-use Rattle.std.proofs.Common.{◌+◌, ◌-◌, arith}
-use Rattle.acct_service.specs.Serving.{Serves, AtMost}
+use Rattle.std.proofs.Common.{arith}
 use Rattle.acct_service.proofs.Visits.{at_most_greater, serves_more, serves_looked}
 use Rattle.acct_service.proofs.slices.serve_while_open.Goals as goal
 

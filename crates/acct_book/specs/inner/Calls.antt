@@ -10,8 +10,8 @@ use Rattle.acct_book.specs.Outcome.{IsFresh, IsRepeated}
 use Rattle.acct_book.specs.Stands.{Stands}
 
 -- with the entry the new content stands for whatever history the old one stood for
-abbrev pub Adds : List Plan → Entry → Content → Content → Type 0
-Adds plans next old new = (history : List Entry) → Stands plans old history
+abbrev pub AddsEntry : List Plan → Entry → Content → Content → Type 0
+AddsEntry plans next old new = (history : List Entry) → Stands plans old history
     → Admissible plans history next
     × IsFresh history next
     × Stands plans new (next ∷ history)
@@ -22,6 +22,6 @@ Repeats plans next content = (history : List Entry) → Stands plans content his
     → IsRepeated history next
 
 -- whatever history the content stands for, the entry is refused so
-abbrev pub Refuses : List Plan → Entry → Content → RecordError → Type 0
-Refuses plans next content error = (history : List Entry) → Stands plans content history
+abbrev pub RefusesToAdd : List Plan → Entry → Content → RecordError → Type 0
+RefusesToAdd plans next content error = (history : List Entry) → Stands plans content history
     → Holds plans history (effect_of next (Err error))
