@@ -63,8 +63,9 @@ IsUnbound told = (told ≡ fault.CannotBind) ⊎ (told ≡ fault.NoMemory)
 
 -- A run of a server over a book and an exchange, from its first turn to its last.
 module _ {B X : Type 0} (b : book.Ghosts B) (x : exchange.Ghosts X) where
-  -- It made so many turns of the exchange: all, or fewer where the book was found shut, which a
-  -- steady book never is. They are a run of the machine, and these are the counts of that run.
+  -- It made so many turns of the exchange: all, or as many as there were until the book was found
+  -- shut, which a steady book never is. They are a run of the machine, and these are the counts of
+  -- that run.
   pub record Ran (config : Config) (turns : ℕ) (old new : B) (first last : X)
       (served : Served) (why : Until) : Type 0 where
     pub turns_made : MakesTurns turns (x.turn_count first) (x.turn_count last) why

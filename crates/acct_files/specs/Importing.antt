@@ -122,8 +122,6 @@ abbrev pub MayHaveTried : Option Stopped → Option TopUpFacts → Type 0
 MayHaveTried stopped None = ⊤
 MayHaveTried stopped (Some topup) = stopped ≡ Some stop.Unavailable
 
--- ---- one record, or a stop at it
-
 -- ---- the book
 
 -- the content stands for the history, or for it with the top-up whose call failed

@@ -7,7 +7,7 @@
 //! 3. `serve` makes a number of turns over a book and an exchange. What it does is a run of that
 //!    machine: every balance and every reply is the one that the entries accepted before it
 //!    determine, whatever comes, repeated, reordered or failing (`specs/Serving.antt`).
-//!    `serve_while_open` ends besides where its book is found shut.
+//!    `serve_while_open` also ends where its book is found shut.
 //! 4. A fault of the exchange is counted, and the next turn follows. An entry that was recorded
 //!    stays recorded when its reply fails.
 #![tactic(auto)]

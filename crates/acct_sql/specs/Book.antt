@@ -1,4 +1,4 @@
--- The database of a book, what a write makes of it, and what a crash may leave.
+-- The database of a book, and what a crash may leave.
 use Rattle.std.specs.Prelude.{◌≡◌, ◌↔◌, false, IsTrue}
 use Rattle.sqlite.specs.Store.{Ghosts}
 use Rattle.sqlite.specs.Held.{Held, state}

@@ -1,5 +1,5 @@
--- What each job does: how it ends, what it prints, and what it leaves of the book's files. The
--- configuration is the one that was read from its file, which no contract can name.
+-- What each job does: how it ends, what it has printed where it ends well, and what it leaves of the
+-- book's files, with some configuration. No contract can name the file that it was read from.
 use Rattle.std.specs.Prelude.{◌≡◌, ◌⊎◌, ◌<◌, ◌^◌, ℕ, List, [], ◌∷◌, ◌++◌, Option, Some, None, Result}
 use Rattle.std.specs.Prelude.{Ok, Err, IfErr, IfSome, OnOk, codes}
 use Rattle.std.specs.Io.KnownBytes.{Appends}

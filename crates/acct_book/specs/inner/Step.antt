@@ -1,4 +1,4 @@
--- What a call does to its book, by its effect: a step from history to history.
+-- A call of the book that writes, and calls that only look.
 use Rattle.std.specs.Prelude.{◌≡◌, Result}
 use Rattle.acct_book.specs.declared.book.Book.{Ghosts}
 use Rattle.acct_book.specs.Book.{Writes}

@@ -1,4 +1,4 @@
--- When the reading of a request ends.
+-- One read of a request, and what keeps it open.
 use Rattle.std.specs.Prelude.{◌≡◌, ◌<◌, ◌≤◌, ℕ, true, false, List, ◌∷◌, ◌++◌, length}
 use Rattle.std.specs.Prelude.{take}
 use Rattle.std.specs.Prelude.{Option}

@@ -1,4 +1,4 @@
--- Where a desk request ends, over httparse's grammar of a request head.
+-- What holds of the end of a request that is whole.
 use Rattle.std.specs.Prelude.{ℕ}
 use Rattle.acct_desk.specs.declared.framing.Reach.{Reach}
 use Rattle.acct_desk.specs.declared.framing.Reach.TheVariants.{More, Whole, Bad, TooLarge}

@@ -1,4 +1,4 @@
--- The tables of clients.
+-- One table of a client.
 use Rattle.toml.specs.Data.{Data}
 use Rattle.acct_wire.specs.declared.client.Client.{Client}
 use Rattle.acct_wire.specs.ClientFaults.{client_fault}

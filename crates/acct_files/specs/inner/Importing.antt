@@ -1,5 +1,4 @@
--- What an import does: the records of a text, what became of each, and what the book then stands
--- for.
+-- What one record of an import does, and why a run over records stopped.
 use Rattle.std.specs.Prelude.{◌≡◌, ℕ}
 use Rattle.std.specs.Prelude.{Option, Some, None}
 use Rattle.std.specs.Prelude.{Result, Ok, Err}

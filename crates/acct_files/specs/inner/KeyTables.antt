@@ -1,4 +1,4 @@
--- The tables of keys.
+-- One table of a key.
 use Rattle.toml.specs.Data.{Data}
 use Rattle.acct_desk.specs.declared.keys.DeskKey.{DeskKey}
 use Rattle.acct_desk.specs.KeyFaults.{key_fault}

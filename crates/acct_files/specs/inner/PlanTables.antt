@@ -1,4 +1,4 @@
--- The tables of plans.
+-- One table of a plan.
 use Rattle.toml.specs.Data.{Data}
 use Rattle.acct_model.specs.declared.plan.Plan.{Plan}
 use Rattle.acct_model.specs.PlanFaults.{plan_fault}

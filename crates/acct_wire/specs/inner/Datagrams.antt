@@ -1,5 +1,4 @@
--- How a datagram is judged: the first rule that it breaks, or the entry that it asks to be
--- recorded.
+-- How a refusal of attributes is a reason for a drop.
 use Rattle.std.specs.Prelude.{◌≡◌, ℕ, List, None}
 use Rattle.acct_model.specs.declared.entry.Entry.{Entry}
 use Rattle.acct_model.specs.declared.reading.EntryError.{EntryError}
