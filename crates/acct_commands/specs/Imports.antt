@@ -1,7 +1,7 @@
 -- What `import` prints, and how it ends.
 use Rattle.std.specs.Prelude.{ℕ, List, [], ◌∷◌, ◌++◌, Option, None, Some, ◌≡◌, codes, decimal}
 use Rattle.std.specs.Prelude.{length}
-use Rattle.std.specs.Prelude.{flat_map, Result, IfOk}
+use Rattle.std.specs.Prelude.{flat_map, Result, IfOk, IfErr}
 use Rattle.std.specs.Io.KnownBytes.{Appends}
 use Rattle.acct_model.specs.declared.plan.Plan.{Plan}
 use Rattle.acct_model.specs.declared.entry.Entry.{Entry}
@@ -14,6 +14,7 @@ use Rattle.acct_files.specs.declared.import_report.Stopped.{Stopped}
 use Rattle.acct_files.specs.declared.import_report.Stopped.TheVariants as stop
 use Rattle.acct_files.specs.declared.import_report.ImportReport.{ImportReport}
 use Rattle.acct_commands.specs.declared.fault.Fault.{Fault}
+use Rattle.acct_commands.specs.declared.fault.Fault.TheVariants as fault
 use Rattle.acct_feed.specs.declared.status.Status.{Status}
 use Rattle.acct_feed.specs.declared.status.Status.TheVariants as status
 
@@ -66,3 +67,5 @@ module _ {B : Type 0} (b : Ghosts B) where
         → Imports b plans moment (unmarked text) history
         report.stopped report old new
     pub tells : IfOk ended (Tells report before after)
+    -- the output alone can end it by a fault
+    pub why : IfErr ended (λ told. told ≡ fault.CannotWrite)

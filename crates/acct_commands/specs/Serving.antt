@@ -1,5 +1,5 @@
 -- What `serve` does, and what it prints of it.
-use Rattle.std.specs.Prelude.{◌≡◌, ℕ, List, [], ◌∷◌, ◌++◌, ◌+◌, ◌==◌, if◌then◌else◌}
+use Rattle.std.specs.Prelude.{◌≡◌, ◌<◌, ℕ, List, [], ◌∷◌, ◌++◌, ◌+◌, ◌==◌, if◌then◌else◌}
 use Rattle.std.specs.Prelude.{Option, Result, Ok, Err, ◌⊎◌, codes}
 use Rattle.std.specs.Io.KnownBytes.{Appends}
 use Rattle.acct_book.specs.declared.book.Book as book
@@ -64,12 +64,13 @@ IsUnbound told = (told ≡ fault.CannotBind) ⊎ (told ≡ fault.NoMemory)
 -- A run of a server over a book and an exchange, from its first turn to its last.
 module _ {B X : Type 0} (b : book.Ghosts B) (x : exchange.Ghosts X) where
   -- It made so many turns of the exchange: all, or as many as there were until the book was found
-  -- shut, which a steady book never is. They are a run of the machine, and these are the counts of
-  -- that run.
+  -- shut, which a steady book never is; a sound book that is not open was found so. They are a run
+  -- of the machine, and these are the counts of that run.
   pub record Ran (config : Config) (turns : ℕ) (old new : B) (first last : X)
       (served : Served) (why : Until) : Type 0 where
     pub turns_made : MakesTurns turns (x.turn_count first) (x.turn_count last) why
     pub shut : why ≡ until.Shut → b.is_steady old → ⊥
+    pub open_is : why ≡ until.AllMade → 0 < turns → b.is_sound new → b.is_open new
     pub faults : x.failure_count last ≡ x.failure_count first + served.faults
     pub run : machine.Serves b config old new (x.told first) (x.told last) served
 

@@ -1,5 +1,5 @@
 //! `import`: credits the vouchers of a CSV text.
-ghost use Rattle.std.specs.Prelude.{◌≡◌, ◌≢◌, ◌++◌, ◌<◌, ◌^◌, IfOk, IfErr, OnOk, flat_map};
+ghost use Rattle.std.specs.Prelude.{◌≡◌, ◌≢◌, ◌++◌, ◌<◌, ◌^◌, IfOk, OnOk, flat_map};
 ghost use Rattle.std.specs.Io.KnownBytes.{Appends};
 ghost use Rattle.acct_commands.specs.Imports.{Runs, report_status, report_text, refused_line};
 
@@ -32,7 +32,6 @@ pub fn run_import<B: Book, I: Read + Drop, W: Write>(
         (I.remaining input) book.old book.new (W.contents output.old) (W.contents output.new)
         result }
     ensures other { IfOk result (λ status. status ≢ Status.WrongWords) }
-    ensures why { IfErr result (λ told. told ≡ Fault.CannotWrite) }
 {
     let report = import(alloc, input, plans, book, moment);
     write_report(output, &report)?;

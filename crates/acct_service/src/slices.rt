@@ -1,5 +1,5 @@
 //! Turns in slices, after each of which the server looks whether its book still tells what it holds.
-ghost use Rattle.std.specs.Prelude.{◌≡◌, ◌+◌, ◌-◌, ◌^◌, ◌≤◌, IsTrue};
+ghost use Rattle.std.specs.Prelude.{◌≡◌, ◌+◌, ◌-◌, ◌^◌, ◌<◌, ◌≤◌, false, IsTrue};
 ghost use Rattle.acct_book.specs.inner.Step.{OnlyLooks};
 ghost use Rattle.acct_service.specs.Serving.{Serves, AtMost};
 ghost use Rattle.acct_service.specs.Slices.{MakesTurns};
@@ -49,6 +49,8 @@ pub fn serve_while_open<B: Book, X: Exchange>(
         (X.told exchange.new) result.0 }
     // A book that never refuses to tell a balance ends no run.
     ensures shut { result.1 ≡ Until.Shut → B.is_steady book.old → ⊥ }
+    // One that is shut ends it: after all turns a sound book is open.
+    ensures open { result.1 ≡ Until.AllMade → 0 < limit → B.is_sound book.new → B.is_open book.new }
 {
     let mut out = Outbox::new();
     let mut served = Served::none();
@@ -68,6 +70,7 @@ pub fn serve_while_open<B: Book, X: Exchange>(
 fn is_shut<B: Book>(book: &mut B) -> bool
     ensures looks { OnlyLooks B.Book book.old book.new }
     ensures steady { IsTrue result → B.is_steady book.old → ⊥ }
+    ensures open { result ≡ false → B.is_sound book.new → B.is_open book.new }
 {
     book.balance(b"").is_err()
 }

@@ -13,7 +13,7 @@ use Rattle.acct_book.specs.Step.{Looks}
 use Rattle.acct_feed.specs.declared.status.Status.{Status}
 use Rattle.acct_feed.specs.declared.status.Status.TheVariants as status
 use Rattle.acct_command_line.specs.declared.job.Export.{Export}
-use Rattle.acct_commands.specs.Exports.{Exports}
+use Rattle.acct_commands.specs.Exports.{Exports, IsExportFault}
 use Rattle.acct_commands.specs.declared.fault.Fault.{Fault}
 use Rattle.radacctd.specs.declared.left.Left.{Left}
 use Rattle.radacctd.specs.declared.left.Left.TheVariants as left
@@ -71,5 +71,6 @@ module _ {D : Type 0} {g : disk.Ghosts D} (b : book.Ghosts (Held (FileStore D g)
   -- an export that a fault ended has changed nothing
   abbrev pub FailsToExport : Fault → Left D g → Type 0
   FailsToExport told (left.Open last) = IsOther image plans told last
-      ⊎ Worked image plans (λ first last. Looks b first last (refused told)) last
+      ⊎ (Worked image plans (λ first last. Looks b first last (refused told)) last
+      × IsExportFault told)
   FailsToExport told rest = IsUnread image told rest

@@ -1,7 +1,7 @@
--- What each job does: how it ends, what it has printed where it ends well, and what it leaves of the
--- book's files, with some configuration. No contract can name the file that it was read from.
-use Rattle.std.specs.Prelude.{◌≡◌, ◌⊎◌, ◌<◌, ◌^◌, ℕ, List, [], ◌∷◌, ◌++◌, Option, Some, None, Result}
-use Rattle.std.specs.Prelude.{Ok, Err, IfErr, IfSome, OnOk, codes}
+-- What each job does: how it ends, what it has printed where it ends well, and what it leaves of
+-- the book's files, with some configuration. No contract can name the file that it was read from.
+use Rattle.std.specs.Prelude.{◌≡◌, ◌⊎◌, ⊤, ◌<◌, ◌^◌, ℕ, List, [], ◌∷◌, ◌++◌, Option, Some, None}
+use Rattle.std.specs.Prelude.{Result, Ok, Err, IfErr, IfSome, OnOk, codes}
 use Rattle.std.specs.Io.KnownBytes.{Appends}
 use Rattle.sqlite_disk.specs.declared.Disk as disk
 use Rattle.sqlite_disk.specs.declared.Files.{Files}
@@ -13,6 +13,7 @@ use Rattle.sqlite.specs.Files.{file_state}
 use Rattle.acct_model.specs.declared.plan.Plan.{Plan}
 use Rattle.acct_book.specs.declared.book.Book as book
 use Rattle.acct_site.specs.declared.config.Config.{Config}
+use Rattle.acct_samples.specs.SampleSite.{sample_clients, sample_plans}
 use Rattle.acct_service.specs.declared.exchange.Exchange as exchange
 use Rattle.acct_feed.specs.Feed.{RanAfresh}
 use Rattle.acct_feed.specs.declared.status.Status.{Status}
@@ -42,9 +43,15 @@ made_line = codes "book made" ++ 10 ∷ []
 -- ---- commands without a book
 
 -- `check`: the sizes of a configuration, or why none were told
-pub record ChecksConfig (before after : Option (List ℕ)) (ended : Result Status Fault) : Type 0 where
+pub record ChecksConfig (before after : Option (List ℕ)) (ended : Result Status Fault)
+    : Type 0 where
   pub sizes : OnOk ended (TellsSizes None before after)
   pub refused : IfErr ended (IsUnchecked None)
+
+-- the site of `feed`: that of a file, or the sample's clients and plans
+abbrev pub IsSiteOf : Option (List ℕ) → Config → Type 0
+IsSiteOf None config = (config.clients ≡ sample_clients) × (config.plans ≡ sample_plans)
+IsSiteOf (Some file) config = ⊤
 
 -- a script whose lines were all good was answered over an empty book with this configuration
 pub record FeedsScript {B : Type 0} (b : book.Ghosts B) (config : Config) (text : Option (List ℕ))
@@ -152,13 +159,15 @@ module _ {D : Type 0} {g : disk.Ghosts D} where
 
       abbrev pub DoesJob : Job → Result Status Fault → Left D g → Type 0
       DoesJob (job.Feed file) ended rest =
-          (ended ≡ Ok status.Done → (config : Config) × FeedsScript m config text before after)
-          × (rest ≡ left.Nothing)
+          (ended ≡ Ok status.Done
+          → (config : Config) × IsSiteOf file config × FeedsScript m config text before after)
+          × IfErr ended (IsUnchecked None) × (rest ≡ left.Nothing)
       DoesJob (job.Check file) ended rest = ChecksConfig before after ended × (rest ≡ left.Nothing)
       DoesJob (job.Init paths) ended rest =
           ClosesOrFails (MakesBook b before after) FailsToMake ended rest
       DoesJob (job.Serve paths listening turns) ended rest =
-          ClosesOrFails (WorksAndCloses (HasServed turns)) (FailsAtWork (HasServed turns)) ended rest
+          ClosesOrFails (WorksAndCloses (HasServed turns)) (FailsAtWork (HasServed turns)) ended
+          rest
       DoesJob (job.Import paths) ended rest = (moment : ℕ) × (moment < 2 ^ 53)
           × ClosesOrFails (WorksAndCloses (HasImported moment)) (FailsAtWork (HasImported moment))
           ended rest

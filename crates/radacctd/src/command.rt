@@ -12,7 +12,9 @@ ghost use Rattle.radacctd.specs.Commands.{Closes, Fails, Worked, WritesOut, Fail
 ghost use Rattle.radacctd.specs.Files.{Copies, IsUnclosed};
 ghost use Rattle.radacctd.specs.Jobs.{DoesJob, HasNoConfig, MakesBook, FailsToMake, WorksAndCloses};
 ghost use Rattle.radacctd.specs.Jobs.{FailsAtWork, ExportsBook, ExportsNothing, FeedsScript};
-ghost use Rattle.radacctd.specs.Jobs.{text_of, made_line};
+ghost use Rattle.radacctd.specs.Jobs.{text_of, made_line, IsSiteOf};
+ghost use Rattle.acct_commands.specs.Checks.{IsUnchecked};
+ghost use Rattle.std.specs.Option.{option_copied};
 ghost use Rattle.acct_commands.specs.Serving.{RunsServer};
 ghost use Rattle.acct_commands.specs.Imports.{Runs};
 
@@ -141,8 +143,9 @@ fn feed<I: Read + Drop, W: Write + Drop>(
     output: &mut W,
 ) -> Result<Status, Fault>
     ensures other { IfOk result (λ status. status ≢ Status.WrongWords) }
+    ensures refused { IfErr result (IsUnchecked None) }
     ensures done { result ≡ Ok Status.Done → (config : Config)
-        × FeedsScript ⟦<SqlBook<MemStore> as Book>⟧ config (I.remaining input)
+        × IsSiteOf (option_copied file.entry) config × FeedsScript ⟦<SqlBook<MemStore> as Book>⟧ config (I.remaining input)
         (W.contents output.old) (W.contents output.new) }
 {
     let alloc = runtime.alloc();

@@ -36,6 +36,7 @@ loop-left-preserved g c =
       left = omega (arith, before.left);
       turns = omega (arith, before.turns, before.left, turns.turns, c.min-slice.ensures);
       faults = omega (arith, before.faults, turns.faults);
+      open_is = λ less. c.is_shut.ensures.open c.if-is_shut.false;
       room = at_most_greater _ _ c.take_turns.new.served
           (omega (arith, before.left, c.min-slice.ensures)) (turns.room _ before.room);
       serves = serves_looked b config c.args.book.now c.take_turns.new.book c.is_shut.new.book

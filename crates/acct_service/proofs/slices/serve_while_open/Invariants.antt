@@ -1,4 +1,4 @@
-use Rattle.std.proofs.Common.{◌≡◌, ◌+◌, ◌≤◌, ◌-◌}
+use Rattle.std.proofs.Common.{◌≡◌, ◌+◌, ◌<◌, ◌≤◌, ◌-◌}
 use Rattle.acct_service.specs.Serving.{Serves, AtMost}
 use Rattle.acct_service.proofs.slices.serve_while_open.Given as goal
 
@@ -10,6 +10,7 @@ invariant-loop-left g l =
       left : l.left ≤ l.limit;
       turns : x.turn_count l.exchange + l.left ≡ x.turn_count l.fn.exchange + l.limit;
       faults : x.failure_count l.exchange ≡ x.failure_count l.fn.exchange + l.served.faults;
+      open_is : l.left < l.limit → b.is_sound l.book → b.is_open l.book;
       room : AtMost (l.limit - l.left) l.served;
       serves : Serves b l.config l.fn.book l.book (x.told l.fn.exchange) (x.told l.exchange)
           l.served;

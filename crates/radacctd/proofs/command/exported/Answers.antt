@@ -21,17 +21,20 @@ returns-in-Ok-clause-exported g c = rw c.into_connection.ensures (
     })
 
 pub returns-in-Err-clause-failed : goal.returns-in-Err-clause-failed
-returns-in-Err-clause-failed g c = inr (rw c.into_connection-in-Err.ensures (
-    let looks = c.in-Err.ensures.reads in
-    record {
-      first = c.in_ok-book.book;
-      adopted = c.in_ok-book.ensures.adopted;
-      did = record {
-        was_sound = looks.was_sound;
-        was_open = looks.was_open;
-        keeps_steady = looks.keeps_steady;
-        answers = looks.answers;
-        same = looks.same;
-        adds_none = looks.adds_none;
-      };
-    }))
+returns-in-Err-clause-failed g c = inr (
+  rw c.into_connection-in-Err.ensures (
+      let looks = c.in-Err.ensures.reads in
+      record {
+        first = c.in_ok-book.book;
+        adopted = c.in_ok-book.ensures.adopted;
+        did = record {
+          was_sound = looks.was_sound;
+          was_open = looks.was_open;
+          keeps_steady = looks.keeps_steady;
+          answers = looks.answers;
+          same = looks.same;
+          adds_none = looks.adds_none;
+        };
+      }),
+  c.in-Err.ensures.why,
+)

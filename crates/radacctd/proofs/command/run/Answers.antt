@@ -5,16 +5,19 @@ use Rattle.radacctd.proofs.command.run.Goals as goal
 pub returns-in-Feed-clause-does : goal.returns-in-Feed-clause-does
 returns-in-Feed-clause-does g c =
     let out = c.without_book.ensures in
-    rw (c.in-Feed.is, out.output)
-    (λ done. c.feed-ended.ensures.done (sym out.same ∙ done), out.left)
+    let did = c.feed-ended.ensures in
+    rw (c.in-Feed.is, out.output) (
+      (λ done. rw c.as_ref.ensures.value at (did.done (sym out.same ∙ done))),
+      rw out.same did.refused,
+      out.left,
+    )
 
 pub returns-in-Check-clause-does : goal.returns-in-Check-clause-does
 returns-in-Check-clause-does g c =
     let out = c.without_book-in-Check.ensures in
-    rw (c.in-Check.is, out.output, out.same) (
-      record { sizes = c.run_check-ended.ensures.sizes; refused = c.run_check-ended.ensures.refused },
-      out.left,
-    )
+    let did = c.run_check-ended.ensures in
+    rw (c.in-Check.is, out.output, out.same)
+    (record { sizes = did.sizes; refused = did.refused }, out.left)
 
 pub returns-in-Init-clause-does : goal.returns-in-Init-clause-does
 returns-in-Init-clause-does g c =
