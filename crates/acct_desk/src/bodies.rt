@@ -241,8 +241,8 @@ pub(crate) fn overrun_value(alloc: Global, account: &[u8], overrun: u64) -> Resu
     Ok(json!(in alloc; {"account": account, "overrun": overrun})?)
 }
 
-// How far a balance is below 0.
-pub(crate) fn overrun(balance: i64) -> u64
+/// How far a balance is below 0.
+pub fn overrun(balance: i64) -> u64
     ensures { result ≡ overrun_of balance }
 {
     if balance < 0 {

@@ -14,6 +14,7 @@ mod response;
 mod routes;
 mod top_up_body;
 
+pub use bodies::overrun;
 pub use framing::{Reach, extent};
 pub use handling::handle;
 pub use keys::{DeskKey, Keys, KeysError, Role};

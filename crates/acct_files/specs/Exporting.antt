@@ -1,5 +1,5 @@
 -- What the exports write.
-use Rattle.std.specs.Prelude.{◌≡◌, ℕ, ℤ, suc, pos, negsuc, ◌+◌, ◌==◌, if◌then◌else◌}
+use Rattle.std.specs.Prelude.{◌≡◌, ℕ, ℤ, ◌+◌, ◌==◌, if◌then◌else◌}
 use Rattle.std.specs.Prelude.{List, [], ◌∷◌, ◌++◌, codes, decimal, flat_map, false}
 use Rattle.std.specs.Fmt.{signed_decimal}
 use Rattle.csv.specs.Writing.{default_writer, row_text, writer_setup, fields_written, has_written}
@@ -9,6 +9,7 @@ use Rattle.acct_model.specs.Shown.{shown, shown_address}
 use Rattle.acct_model.specs.Vouchers.{TopUpFacts}
 use Rattle.acct_book.specs.Row.{RowFacts, state_text}
 use Rattle.acct_book.specs.Charge.{charge_of_row}
+use Rattle.acct_desk.specs.Bodies.{overrun_of}
 use Rattle.acct_files.specs.declared.account_lines.AccountExport.{AccountExport}
 use Rattle.acct_files.specs.declared.account_lines.AccountExport.TheVariants.{Balances, Overruns}
 use Rattle.acct_files.specs.Vouchers.{Fields}
@@ -56,11 +57,6 @@ topup_fields topup = topup.voucher ∷ shown topup.account ∷ decimal topup.sum
 
 -- ---- accounts
 
--- by how much a balance is below 0
-abbrev pub overrun : ℤ → ℕ
-overrun (pos n) = 0
-overrun (negsuc n) = suc n
-
 abbrev pub account_header : AccountExport → Fields
 account_header Balances = codes "account" ∷ codes "balance" ∷ codes "overrun" ∷ []
 account_header Overruns = codes "account" ∷ codes "overrun" ∷ []
@@ -68,9 +64,9 @@ account_header Overruns = codes "account" ∷ codes "overrun" ∷ []
 -- the line of an account; of overruns, only an account whose overrun is above 0 has one
 abbrev pub account_line : AccountExport → List ℕ → ℤ → List ℕ
 account_line Balances account balance =
-    line (shown account ∷ signed_decimal balance ∷ decimal (overrun balance) ∷ [])
+    line (shown account ∷ signed_decimal balance ∷ decimal (overrun_of balance) ∷ [])
 account_line Overruns account balance =
-    if overrun balance == 0 then [] else line (shown account ∷ decimal (overrun balance) ∷ [])
+    if overrun_of balance == 0 then [] else line (shown account ∷ decimal (overrun_of balance) ∷ [])
 
 -- ---- a whole export
 

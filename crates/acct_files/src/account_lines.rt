@@ -6,10 +6,11 @@ ghost use Rattle.acct_book.specs.Step.{Looks};
 ghost use Rattle.acct_book.specs.Maps.{octets_cmp};
 ghost use Rattle.acct_book.specs.Walk.{AreAllPast, IsNextBalance};
 ghost use Rattle.acct_files.specs.Exporting.{IsBetweenLines, line, account_header, account_line};
-ghost use Rattle.acct_files.specs.Exporting.{export_text, overrun as overrun_of};
+ghost use Rattle.acct_files.specs.Exporting.{export_text};
 
 use crate::csv_lines::{ExportError, begin, finish, push_number, push_shown, write_line};
 use acct_book::{Book, Unavailable};
+use acct_desk::overrun;
 use csv::{ByteRecord, Writer};
 use std::alloc::Global;
 use std::io::Write;
@@ -193,15 +194,4 @@ fn write_overrun<W: Write + Drop>(
     push_shown(alloc, fields, account)?;
     push_number(fields, above)?;
     write_line(lines, fields)
-}
-
-// By how much a balance is below 0.
-fn overrun(balance: i64) -> u64
-    ensures { result ≡ overrun_of balance }
-{
-    if balance < 0 {
-        balance.unsigned_abs()
-    } else {
-        0
-    }
 }
