@@ -1,41 +1,38 @@
 -- A walk by the calls that give the next member, and the text that is written on the way.
 use Rattle.std.proofs.Common.{◌≡◌, ℕ, List, [], ◌∷◌, ◌++◌, Option, Some, None, Result, Ok, Err}
-use Rattle.std.proofs.Common.{refl, sym, ◌∙◌, ap, subst, append_assoc}
-use Rattle.std.specs.Prelude.{flat_map, OnOk, IfOk}
+use Rattle.std.proofs.Common.{map, refl, sym, ◌∙◌, ap, subst, append_assoc}
+use Rattle.std.specs.Prelude.{flat_map, IfOk}
 use Rattle.std.specs.Io.KnownBytes.{Appends, Keeps}
 use Rattle.std.specs.declared.cmp.Ordering.{Ordering}
 use Rattle.std.proofs.lemmas.Grind.{flat_map-append}
 use Rattle.std.proofs.lemmas.List.{append-nil}
-use Rattle.acct_book.specs.declared.book.Book.{Ghosts}
-use Rattle.acct_book.specs.Step.{Looks}
-use Rattle.acct_book.specs.inner.Step.{OnlyLooks}
-use Rattle.acct_book.specs.Content.{Content}
-use Rattle.acct_book.specs.Walk.{IsNext, IsWalk}
+use Rattle.acct_book.specs.Walk.{AreAllPast, IsNext, IsWalk}
 use Rattle.acct_files.specs.Exporting.{export_text, line}
 use Rattle.acct_files.specs.Vouchers.{Fields}
+use Rattle.acct_files.specs.inner.Walk.{Meets}
 
 -- ---- members
 
-module _ {K X : Type 0} (cmp : K → K → Ordering) (at : K → Option X) where
+module _ {K M : Type 0} (next : Option K → Option M → Type 0) (key_of : M → K) where
   -- from a start these are the next members, one after the other, and the walk now stands here
-  abbrev pub Walked : Option K → List (K × X) → Option K → Type 0
+  abbrev pub Walked : Option K → List M → Option K → Type 0
   Walked after [] now = now ≡ after
-  Walked after ((key, member) ∷ rest) now =
-      IsNext cmp at after (Some (key, member)) × Walked (Some key) rest now
+  Walked after (member ∷ rest) now =
+      next after (Some member) × Walked (Some (key_of member)) rest now
 
-  pub walked_more : (after : Option K) (entries : List (K × X)) (now : Option K) (key : K)
-      (member : X) → Walked after entries now → IsNext cmp at now (Some (key, member))
-      → Walked after (entries ++ (key, member) ∷ []) (Some key)
-  walked_more after [] now key member walked next =
-      (subst (λ a. IsNext cmp at a (Some (key, member))) walked next, refl)
-  walked_more after ((j, y) ∷ rest) now key member walked next =
-      (walked.0, walked_more (Some j) rest now key member walked.1 next)
+  pub walked_more : (after : Option K) (members : List M) (now : Option K) (member : M)
+      → Walked after members now → next now (Some member)
+      → Walked after (members ++ member ∷ []) (Some (key_of member))
+  walked_more after [] now member walked here =
+      (subst (λ a. next a (Some member)) walked here, refl)
+  walked_more after (m ∷ rest) now member walked here =
+      (walked.0, walked_more (Some (key_of m)) rest now member walked.1 here)
 
-  pub walked_all : (after : Option K) (entries : List (K × X)) (now : Option K)
-      → Walked after entries now → IsNext cmp at now None → IsWalk cmp at after entries
-  walked_all after [] now walked next = subst (λ a. IsNext cmp at a None) walked next
-  walked_all after ((j, y) ∷ rest) now walked next =
-      (walked.0, walked_all (Some j) rest now walked.1 next)
+  pub walked_all : (after : Option K) (members : List M) (now : Option K)
+      → Walked after members now → next now None → Meets next key_of after members
+  walked_all after [] now walked end = subst (λ a. next a None) walked end
+  walked_all after (m ∷ rest) now walked end =
+      (walked.0, walked_all (Some (key_of m)) rest now walked.1 end)
 
 -- ---- text
 
@@ -85,27 +82,53 @@ if_ok (Err e) P Q f h = tt
 -- ---- the book
 
 -- what is next of the content at the start
-pub next_here : {B K X : Type 0} (content : B → Content) (is_open : B → Type 0)
-    (cmp : K → K → Ordering) (side : Content → K → Option X) (start now new : B) (after : Option K)
-    (entry : Option (K × X))
+pub next_here : {B C : Type 0} (content : B → C) (is_open : B → Type 0)
+    (IsNextHere : C → Type 0) (start now new : B)
     → (is_open now → content now ≡ content start) → (is_open new → is_open now)
-    → (is_open new → IsNext cmp (side (content now)) after entry) → is_open new
-    → IsNext cmp (side (content start)) after entry
-next_here content is_open cmp side start now new after entry same was found opens =
-    subst (λ x. IsNext cmp (side x) after entry) (same (was opens)) (found opens)
+    → (is_open new → IsNextHere (content now)) → is_open new → IsNextHere (content start)
+next_here content is_open IsNextHere start now new same was found opens =
+    subst IsNextHere (same (was opens)) (found opens)
 
-module _ {B : Type 0} (b : Ghosts B) where
-  -- a call after them answers for all
-  pub reads_after : {T E T' E' : Type 0} (old mid new : B) (result : Result T E)
-      (told : Result T' E')
-      → OnlyLooks b old mid → Looks b mid new result
-      → (b.is_sound new → OnOk result (b.is_open new) → OnOk told (b.is_open new))
-      → Looks b old new told
-  reads_after old mid new result told quiet reads answers = record {
-    was_sound = λ s. quiet.was_sound (reads.was_sound s);
-    was_open = λ o. quiet.was_open (reads.was_open o);
-    keeps_steady = λ s. reads.keeps_steady (quiet.keeps_steady s);
-    answers = λ s. answers s (reads.answers s);
-    same = λ o. reads.same o ∙ quiet.same (reads.was_open o);
-    adds_none = λ s x l. quiet.adds_none (reads.was_sound s) x (reads.adds_none s x l);
-  }
+-- ---- an export, by the members of a content
+
+pub texts_of : {E M : Type 0} (text : E → List ℕ) (entry : M → E) (members : List M)
+    → flat_map (λ m. text (entry m)) members ≡ flat_map text (map entry members)
+texts_of text entry [] = refl
+texts_of text entry (m ∷ rest) = ap (λ t. text (entry m) ++ t) (texts_of text entry rest)
+
+module _ {J K M X : Type 0} (cmp : K → K → Ordering) (at : K → Option X)
+    (next : Option J → Option M → Type 0) (key_of : M → J) (shown : Option J → Option K)
+    (key : M → K) (value : M → X)
+    (finds : (after : Option J) (m : M) → next after (Some m)
+    → IsNext cmp at (shown after) (Some (key m, value m)))
+    (ends : (after : Option J) → next after None → IsNext cmp at (shown after) None)
+    (goes_on : (m : M) → shown (Some (key_of m)) ≡ Some (key m)) where
+  pub walk_of : (after : Option J) (members : List M) → Meets next key_of after members
+      → IsWalk cmp at (shown after) (map (λ m. (key m, value m)) members)
+  walk_of after [] meets = ends after meets
+  walk_of after (m ∷ rest) meets = (
+    finds after m meets.0,
+    subst (λ a. IsWalk cmp at a (map (λ n. (key n, value n)) rest)) (goes_on m)
+        (walk_of (Some (key_of m)) rest meets.1),
+  )
+
+  -- what was written of the members was written of the whole content
+  pub exported : {W E : Type 0} (contents : W → Option (List ℕ)) (is_open : Type 0)
+      (from : Option (List ℕ)) (header : Fields) (text : K × X → List ℕ)
+      → ((entries : List (K × X)) → IsWalk cmp at None entries → AreAllPast cmp at None entries)
+      → shown None ≡ None → (result : Result W E)
+      → IfOk result (λ w. (members : List M)
+      × Appends from (contents w) (export_text header (λ m. text (key m, value m)) members)
+      × (is_open → Meets next key_of None members))
+      → IfOk result (λ w. (entries : List (K × X))
+      × Appends from (contents w) (export_text header text entries)
+      × (is_open → AreAllPast cmp at None entries))
+  exported contents is_open from header text all starts result wrote =
+      let entry : M → K × X = λ m. (key m, value m) in
+      if_ok result _ _ (λ w told. (
+        map entry told.0,
+        subst (λ t. Appends from (contents w) (line header ++ t)) (texts_of text entry told.0)
+            told.1,
+        λ opens. all (map entry told.0) (subst (λ a. IsWalk cmp at a (map entry told.0)) starts
+            (walk_of None told.0 (told.2 opens))),
+      )) wrote

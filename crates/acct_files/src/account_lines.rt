@@ -8,7 +8,8 @@ ghost use Rattle.acct_book.specs.Walk.{AreAllPast, IsNextBalance};
 ghost use Rattle.acct_files.specs.Exporting.{IsBetweenLines, line, account_header, account_line};
 ghost use Rattle.acct_files.specs.Exporting.{export_text};
 
-use crate::csv_lines::{ExportError, begin, finish, push_number, push_shown, write_line};
+use crate::csv_lines::{ExportError, begin, push_number, push_shown, write_line};
+use crate::walk::{Export, write_members};
 use acct_book::{Book, Unavailable};
 use acct_desk::overrun;
 use csv::{ByteRecord, Writer};
@@ -23,9 +24,6 @@ pub enum AccountExport {
     /// By how much the balance of each account that is below 0 is so.
     Overruns,
 }
-
-/// The most accounts of an export.
-const MOST_ACCOUNTS: u64 = 9_223_372_036_854_775_807;
 
 /// Writes `account,balance,overrun` and a line for each account, in the order of the accounts. It
 /// holds one account at a time.
@@ -86,70 +84,56 @@ fn export_accounts<B: Book, W: Write + Drop>(
         (export_text (account_header what) (λ e. account_line what e.0 e.1) entries)
         × (B.is_open book.new → AreAllPast octets_cmp (B.content book.old).balances None entries)) }
 {
-    let mut lines = begin_accounts(writer, what)?;
-    let mut fields = ByteRecord::new(alloc);
-    let mut after: Option<Vec<u8>> = None;
-    for _turn in 0..MOST_ACCOUNTS {
-        let Some(kept) = next_account(book, &after)? else {
-            return finish(lines);
-        };
-        write_account(alloc, &mut lines, &mut fields, what, &kept)?;
-        after = Some(kept.0);
-    }
-    match next_account(book, &after)? {
-        Some(_) => Err(ExportError::Unavailable),
-        None => finish(lines),
-    }
+    write_members(alloc, book, &what, writer)
 }
 
-fn begin_accounts<W: Write + Drop>(writer: W, what: AccountExport) -> Result<Writer<W>, ExportError>
-    ensures between { IfOk result IsBetweenLines }
-    ensures text { IfOk result (λ lines. Appends (W.contents writer) (text_written W.contents lines)
-        (line (account_header what))) }
-{
-    match what {
-        AccountExport::Balances => begin(writer, &[b"account", b"balance", b"overrun"]),
-        AccountExport::Overruns => begin(writer, &[b"account", b"overrun"]),
-    }
-}
+impl Export for AccountExport {
+    type Key = Vec<u8>;
 
-// The account after this one, or the first, with its balance.
-fn next_account<B: Book>(
-    book: &mut B,
-    after: &Option<Vec<u8>>,
-) -> Result<Option<(Vec<u8>, i64)>, ExportError>
-    ensures found { B.is_open book.new
-        → IfOk result (λ kept. IsNextBalance (B.content book.old)
-        (option_map (λ a. a.items) after.now) (option_map (λ k. (k.0.items, k.1)) kept)) }
-    ensures reads { Looks B.Book
-        book.old book.new result }
-{
-    let next = match after {
-        None => book.next_account(None),
-        Some(account) => book.next_account(Some(account.as_slice())),
-    };
-    match next {
-        Ok(kept) => Ok(kept),
-        Err(Unavailable) => Err(ExportError::Unavailable),
-    }
-}
+    type Member = (Vec<u8>, i64);
 
-fn write_account<W: Write + Drop>(
-    alloc: Global,
-    lines: &mut Writer<W>,
-    fields: &mut ByteRecord,
-    what: AccountExport,
-    kept: &(Vec<u8>, i64),
-) -> Result<(), ExportError>
-    requires { IsBetweenLines lines.old }
-    ensures between { OnOk result (IsBetweenLines lines.new) }
-    ensures text { OnOk result (Appends (text_written W.contents lines.old)
-        (text_written W.contents lines.new) (account_line what kept.now.0.items kept.now.1)) }
-{
-    let balance = kept.1;
-    match what {
-        AccountExport::Balances => write_balance(alloc, lines, fields, &kept.0, balance),
-        AccountExport::Overruns => write_overrun(alloc, lines, fields, &kept.0, balance),
+    ghost is_next = { λ content after kept. IsNextBalance content
+        (option_map (λ a. a.items) after) (option_map (λ k. (k.0.items, k.1)) kept) };
+
+    ghost key_of = { λ kept. kept.0 };
+
+    ghost header = { account_header };
+
+    ghost text_of = { λ what kept. account_line what kept.0.items kept.1 };
+
+    fn begin<W: Write + Drop>(&self, writer: W) -> Result<Writer<W>, ExportError> {
+        match self {
+            AccountExport::Balances => begin(writer, &[b"account", b"balance", b"overrun"]),
+            AccountExport::Overruns => begin(writer, &[b"account", b"overrun"]),
+        }
+    }
+
+    fn next<B: Book>(
+        book: &mut B,
+        after: &Option<Vec<u8>>,
+    ) -> Result<Option<(Vec<u8>, i64)>, Unavailable> {
+        match after {
+            None => book.next_account(None),
+            Some(account) => book.next_account(Some(account.as_slice())),
+        }
+    }
+
+    fn write<W: Write + Drop>(
+        &self,
+        alloc: Global,
+        lines: &mut Writer<W>,
+        fields: &mut ByteRecord,
+        kept: &(Vec<u8>, i64),
+    ) -> Result<(), ExportError> {
+        let balance = kept.1;
+        match self {
+            AccountExport::Balances => write_balance(alloc, lines, fields, &kept.0, balance),
+            AccountExport::Overruns => write_overrun(alloc, lines, fields, &kept.0, balance),
+        }
+    }
+
+    fn into_key(kept: (Vec<u8>, i64)) -> Vec<u8> {
+        kept.0
     }
 }
 

@@ -28,6 +28,7 @@ mod session_lines;
 mod tables;
 mod topup_lines;
 mod voucher_record;
+mod walk;
 
 pub use account_lines::{AccountExport, export_balances, export_overruns};
 pub use acct_site::Config;

@@ -4,23 +4,22 @@ ghost use Rattle.std.specs.Io.KnownBytes.{Appends};
 ghost use Rattle.csv.specs.Records.{fields_of, partial_of};
 ghost use Rattle.csv.specs.Writing.{text_written};
 ghost use Rattle.acct_book.specs.declared.key.Key.{Key};
+ghost use Rattle.acct_book.specs.Content.{key_of as key_of_row};
 ghost use Rattle.acct_book.specs.Step.{Looks};
 ghost use Rattle.acct_book.specs.Maps.{key_cmp};
 ghost use Rattle.acct_book.specs.Row.{RowFacts};
 ghost use Rattle.acct_book.specs.Walk.{AreAllPast, IsNextRow};
-ghost use Rattle.acct_files.specs.Exporting.{IsBetweenLines, line, session_header, session_fields};
+ghost use Rattle.acct_files.specs.Exporting.{line, session_header, session_fields};
 ghost use Rattle.acct_files.specs.Exporting.{session_name, session_counts, session_end};
 ghost use Rattle.acct_files.specs.Exporting.{export_text};
 
-use crate::csv_lines::{ExportError, begin, finish, push, push_number, push_shown, write_line};
+use crate::csv_lines::{ExportError, begin, push, push_number, push_shown, write_line};
+use crate::walk::{Export, write_members};
 use acct_book::{Book, Key, Row, Unavailable, charge};
 use acct_model::{NoMemory, Plans, show_address};
 use csv::{ByteRecord, Writer};
 use std::alloc::Global;
 use std::io::Write;
-
-/// The most sessions of an export.
-const MOST_SESSIONS: u64 = 9_223_372_036_854_775_807;
 
 /// Writes a header and a line for each session, in the order of their keys: who it is, its octets
 /// and their price under these plans, its moments, and how it ended. It holds one session at a
@@ -43,66 +42,66 @@ pub fn export_sessions<B: Book, W: Write + Drop>(
         (export_text session_header (λ e. line (session_fields plans.now e.1)) entries)
         × (B.is_open book.new → AreAllPast key_cmp (B.content book.old).rows None entries)) }
 {
-    let mut lines = begin_sessions(writer)?;
-    let mut fields = ByteRecord::new(alloc);
-    let mut after: Option<Key> = None;
-    for _turn in 0..MOST_SESSIONS {
-        let Some(row) = next_session(book, &after)? else {
-            return finish(lines);
-        };
-        write_session(alloc, &mut lines, &mut fields, plans, &row)?;
-        after = Some(row.into_key());
-    }
-    match next_session(book, &after)? {
-        Some(_) => Err(ExportError::Unavailable),
-        None => finish(lines),
-    }
+    write_members(alloc, book, &SessionExport { plans }, writer)
 }
 
-fn begin_sessions<W: Write + Drop>(writer: W) -> Result<Writer<W>, ExportError>
-    ensures between { IfOk result IsBetweenLines }
-    ensures text { IfOk result (λ lines. Appends (W.contents writer)
-        (text_written W.contents lines) (line session_header)) }
-{
-    begin(
-        writer,
-        &[
-            b"client", b"session", b"account", b"class", b"input", b"output", b"total", b"charged",
-            b"seconds", b"first", b"last", b"state", b"cause", b"calling", b"framed",
-        ],
-    )
+// A line for each session, priced by these plans.
+#[derive(Clone, Copy)]
+struct SessionExport<'p> {
+    plans: &'p Plans,
 }
 
-// The session after the one of this key, or the first.
-fn next_session<B: Book>(book: &mut B, after: &Option<Key>) -> Result<Option<Row>, ExportError>
-    ensures found { B.is_open book.new
-        → IfOk result (λ row. IsNextRow (B.content book.old) after.now row) }
-    ensures reads { Looks B.Book
-        book.old book.new result }
-{
-    match book.next_session(after.as_ref()) {
-        Ok(row) => Ok(row),
-        Err(Unavailable) => Err(ExportError::Unavailable),
+impl<'p> Export for SessionExport<'p> {
+    type Key = Key;
+
+    type Member = Row;
+
+    ghost is_next = { IsNextRow };
+
+    ghost key_of = { key_of_row };
+
+    ghost header = { λ _. session_header };
+
+    ghost text_of = { λ export row. line (session_fields export.plans.now row) };
+
+    fn begin<W: Write + Drop>(&self, writer: W) -> Result<Writer<W>, ExportError> {
+        begin(
+            writer,
+            &[
+                b"client", b"session", b"account", b"class", b"input", b"output", b"total",
+                b"charged", b"seconds", b"first", b"last", b"state", b"cause", b"calling",
+                b"framed",
+            ],
+        )
     }
-}
 
-fn write_session<W: Write + Drop>(
-    alloc: Global,
-    lines: &mut Writer<W>,
-    fields: &mut ByteRecord,
-    plans: &Plans,
-    row: &Row,
-) -> Result<(), ExportError>
-    requires { IsBetweenLines lines.old }
-    ensures between { OnOk result (IsBetweenLines lines.new) }
-    ensures text { OnOk result (Appends (text_written W.contents lines.old)
-        (text_written W.contents lines.new) (line (session_fields plans.now row.now))) }
-{
-    fields.clear();
-    push_name(alloc, fields, row)?;
-    push_counts(fields, plans, row)?;
-    push_end(alloc, fields, row)?;
-    write_line(lines, fields)
+    fn next<B: Book>(book: &mut B, after: &Option<Key>) -> Result<Option<Row>, Unavailable>
+        ensures found { B.is_open book.new
+            → IfOk result (λ row. IsNextRow (B.content book.old) after.now row) }
+        ensures reads { Looks B.Book book.old book.new result }
+    {
+        book.next_session(after.as_ref())
+    }
+
+    fn write<W: Write + Drop>(
+        &self,
+        alloc: Global,
+        lines: &mut Writer<W>,
+        fields: &mut ByteRecord,
+        row: &Row,
+    ) -> Result<(), ExportError> {
+        fields.clear();
+        push_name(alloc, fields, row)?;
+        push_counts(fields, self.plans, row)?;
+        push_end(alloc, fields, row)?;
+        write_line(lines, fields)
+    }
+
+    fn into_key(row: Row) -> Key
+        ensures { result ≡ key_of_row row }
+    {
+        row.into_key()
+    }
 }
 
 // Client, session, account and class.

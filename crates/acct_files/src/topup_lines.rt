@@ -6,18 +6,16 @@ ghost use Rattle.acct_model.specs.Vouchers.{TopUpFacts};
 ghost use Rattle.acct_book.specs.Step.{Looks};
 ghost use Rattle.acct_book.specs.Maps.{octets_cmp};
 ghost use Rattle.acct_book.specs.Walk.{AreAllPast, IsNextTopUp};
-ghost use Rattle.acct_files.specs.Exporting.{IsBetweenLines, line, topup_header, topup_fields};
+ghost use Rattle.acct_files.specs.Exporting.{line, topup_header, topup_fields};
 ghost use Rattle.acct_files.specs.Exporting.{export_text};
 
-use crate::csv_lines::{ExportError, begin, finish, push, push_number, push_shown, write_line};
+use crate::csv_lines::{ExportError, begin, push, push_number, push_shown, write_line};
+use crate::walk::{Export, write_members};
 use acct_book::{Book, Unavailable};
 use acct_model::{Text, TopUp};
 use csv::{ByteRecord, Writer};
 use std::alloc::Global;
 use std::io::Write;
-
-/// The most top-ups of an export.
-const MOST_TOPUPS: u64 = 9_223_372_036_854_775_807;
 
 /// Writes `voucher,account,sum,when` and a line for each voucher, in the order of their numbers. It
 /// holds one top-up at a time.
@@ -39,62 +37,53 @@ pub fn export_topups<B: Book, W: Write + Drop>(
         × (B.is_open book.new
         → AreAllPast octets_cmp (B.content book.old).topups None entries)) }
 {
-    let mut lines = begin_topups(writer)?;
-    let mut fields = ByteRecord::new(alloc);
-    let mut after: Option<Text> = None;
-    for _turn in 0..MOST_TOPUPS {
-        let Some(topup) = next_topup(book, &after)? else {
-            return finish(lines);
-        };
-        write_topup(alloc, &mut lines, &mut fields, &topup)?;
-        after = Some(topup.into_voucher());
-    }
-    match next_topup(book, &after)? {
-        Some(_) => Err(ExportError::Unavailable),
-        None => finish(lines),
-    }
+    write_members(alloc, book, &TopUpExport, writer)
 }
 
-fn begin_topups<W: Write + Drop>(writer: W) -> Result<Writer<W>, ExportError>
-    ensures between { IfOk result IsBetweenLines }
-    ensures text { IfOk result (λ lines. Appends (W.contents writer)
-        (text_written W.contents lines) (line topup_header)) }
-{
-    begin(writer, &[b"voucher", b"account", b"sum", b"when"])
-}
+// A line for each voucher.
+#[derive(Clone, Copy)]
+struct TopUpExport;
 
-// The top-up after the one of this number, or the first.
-fn next_topup<B: Book>(book: &mut B, after: &Option<Text>) -> Result<Option<TopUp>, ExportError>
-    ensures found { B.is_open book.new
-        → IfOk result (λ topup. IsNextTopUp (B.content book.old) after.now topup) }
-    ensures reads { Looks B.Book
-        book.old book.new result }
-{
-    let next = match after {
-        None => book.next_topup(None),
-        Some(number) => book.next_topup(Some(number.as_str())),
-    };
-    match next {
-        Ok(topup) => Ok(topup),
-        Err(Unavailable) => Err(ExportError::Unavailable),
+impl Export for TopUpExport {
+    type Key = Text;
+
+    type Member = TopUp;
+
+    ghost is_next = { IsNextTopUp };
+
+    ghost key_of = { λ topup. topup.voucher };
+
+    ghost header = { λ _. topup_header };
+
+    ghost text_of = { λ _ topup. line (topup_fields topup) };
+
+    fn begin<W: Write + Drop>(&self, writer: W) -> Result<Writer<W>, ExportError> {
+        begin(writer, &[b"voucher", b"account", b"sum", b"when"])
     }
-}
 
-fn write_topup<W: Write + Drop>(
-    alloc: Global,
-    lines: &mut Writer<W>,
-    fields: &mut ByteRecord,
-    topup: &TopUp,
-) -> Result<(), ExportError>
-    requires { IsBetweenLines lines.old }
-    ensures between { OnOk result (IsBetweenLines lines.new) }
-    ensures text { OnOk result (Appends (text_written W.contents lines.old)
-        (text_written W.contents lines.new) (line (topup_fields topup.now))) }
-{
-    fields.clear();
-    push(fields, topup.voucher.as_str().as_bytes())?;
-    push_shown(alloc, fields, topup.account.as_slice())?;
-    push_number(fields, topup.sum)?;
-    push_number(fields, topup.when)?;
-    write_line(lines, fields)
+    fn next<B: Book>(book: &mut B, after: &Option<Text>) -> Result<Option<TopUp>, Unavailable> {
+        match after {
+            None => book.next_topup(None),
+            Some(number) => book.next_topup(Some(number.as_str())),
+        }
+    }
+
+    fn write<W: Write + Drop>(
+        &self,
+        alloc: Global,
+        lines: &mut Writer<W>,
+        fields: &mut ByteRecord,
+        topup: &TopUp,
+    ) -> Result<(), ExportError> {
+        fields.clear();
+        push(fields, topup.voucher.as_str().as_bytes())?;
+        push_shown(alloc, fields, topup.account.as_slice())?;
+        push_number(fields, topup.sum)?;
+        push_number(fields, topup.when)?;
+        write_line(lines, fields)
+    }
+
+    fn into_key(topup: TopUp) -> Text {
+        topup.into_voucher()
+    }
 }

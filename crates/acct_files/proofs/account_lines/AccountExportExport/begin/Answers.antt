@@ -1,4 +1,4 @@
-use Rattle.acct_files.proofs.account_lines.begin_accounts.Goals as goal
+use Rattle.acct_files.proofs.account_lines.AccountExportExport.begin.Goals as goal
 
 pub returns-in-Balances-clause-text : goal.returns-in-Balances-clause-text
 returns-in-Balances-clause-text g c = rw c.in-Balances.is c.begin.ensures.text

@@ -1,0 +1,107 @@
+//! The walk over the members of a book that an export writes.
+ghost use Rattle.std.specs.Prelude.{◌≡◌, ℕ, List, Option, None, IfOk, OnOk};
+ghost use Rattle.std.specs.Io.KnownBytes.{Appends};
+ghost use Rattle.csv.specs.Writing.{text_written};
+ghost use Rattle.acct_book.specs.Content.{Content};
+ghost use Rattle.acct_book.specs.Step.{Looks};
+ghost use Rattle.acct_files.specs.Exporting.{IsBetweenLines, line, export_text};
+ghost use Rattle.acct_files.specs.Vouchers.{Fields};
+ghost use Rattle.acct_files.specs.inner.Walk.{Meets};
+
+use crate::csv_lines::{ExportError, finish};
+use acct_book::{Book, Unavailable};
+use csv::{ByteRecord, Writer};
+use std::alloc::Global;
+use std::io::Write;
+
+/// The most members of an export.
+const MOST_MEMBERS: u64 = (1 << 63) - 1;
+
+/// What an export says of the members of one kind.
+pub(crate) trait Export {
+    /// By what a member is found.
+    type Key: Drop;
+
+    /// What is written.
+    type Member: Drop;
+
+    /// This member is the next after a key, or there is none.
+    ghost is_next: { Content → Option Self.Key → Option Self.Member → Type 0 };
+
+    /// The key of a member.
+    ghost key_of: { Self.Member → Self.Key };
+
+    /// The fields of the first line.
+    ghost header: { Self → Fields };
+
+    /// What is written of a member.
+    ghost text_of: { Self → Self.Member → List ℕ };
+
+    /// A writer of lines that has written the header.
+    fn begin<W: Write + Drop>(&self, writer: W) -> Result<Writer<W>, ExportError>
+        ensures between { IfOk result IsBetweenLines }
+        ensures text { IfOk result (λ lines. Appends (W.contents writer)
+            (text_written W.contents lines) (line (header self.now))) };
+
+    /// The member after the one of this key, or the first.
+    fn next<B: Book>(
+        book: &mut B,
+        after: &Option<Self::Key>,
+    ) -> Result<Option<Self::Member>, Unavailable>
+        ensures found { B.is_open book.new
+            → IfOk result (λ member. is_next (B.content book.old) after.now member) }
+        ensures reads { Looks B.Book book.old book.new result };
+
+    /// Writes what is to be written of a member.
+    fn write<W: Write + Drop>(
+        &self,
+        alloc: Global,
+        lines: &mut Writer<W>,
+        fields: &mut ByteRecord,
+        member: &Self::Member,
+    ) -> Result<(), ExportError>
+        requires { IsBetweenLines lines.old }
+        ensures between { OnOk result (IsBetweenLines lines.new) }
+        ensures text { OnOk result (Appends (text_written W.contents lines.old)
+            (text_written W.contents lines.new) (text_of self.now member.now)) };
+
+    /// The key of a member.
+    fn into_key(member: Self::Member) -> Self::Key
+        ensures { result ≡ key_of member };
+}
+
+/// Writes the header, and then what is to be written of each member of the book, in the order of
+/// their keys. It holds one member at a time.
+///
+/// # Errors
+///
+/// `Unavailable` also past 2^63 - 1 members. The book's content stays as it is, whatever the
+/// answer.
+pub(crate) fn write_members<X: Export, B: Book, W: Write + Drop>(
+    alloc: Global,
+    book: &mut B,
+    export: &X,
+    writer: W,
+) -> Result<W, ExportError>
+    ensures reads { Looks B.Book book.old book.new result }
+    ensures text { IfOk result (λ w. (members : List X.Member)
+        × Appends (W.contents writer) (W.contents w)
+        (export_text (X.header export.now) (X.text_of export.now) members)
+        × (B.is_open book.new
+        → Meets (X.is_next (B.content book.old)) X.key_of None members)) }
+{
+    let mut lines = export.begin(writer)?;
+    let mut fields = ByteRecord::new(alloc);
+    let mut after: Option<X::Key> = None;
+    for _turn in 0..MOST_MEMBERS {
+        let Some(member) = X::next(book, &after)? else {
+            return finish(lines);
+        };
+        export.write(alloc, &mut lines, &mut fields, &member)?;
+        after = Some(X::into_key(member));
+    }
+    match X::next(book, &after)? {
+        Some(_) => Err(ExportError::Unavailable),
+        None => finish(lines),
+    }
+}
