@@ -1,6 +1,6 @@
 -- Pages, by what the book told.
-use Rattle.std.proofs.Common.{true≢false, ◌≡◌, ℕ, ℤ, Bool, true, false, cond, List, [], ◌∷◌, ◌++◌, map, refl}
-use Rattle.std.proofs.Common.{ap, sym, ◌∙◌, subst}
+use Rattle.std.proofs.Common.{true≢false, ◌≡◌, ℕ, ℤ, Bool, true, false, cond, List, [], ◌∷◌}
+use Rattle.std.proofs.Common.{map, refl, ap, sym, ◌∙◌, subst}
 use Rattle.std.specs.Prelude.{Option, Some, None, Result, Ok, Err, IfOk, OnOk, IsOk, IsErr, pos}
 use Rattle.std.specs.Prelude.{negsuc, bytes_eq, nat_lt}
 use Rattle.std.specs.List.{filter_map, cons_option}
@@ -193,25 +193,6 @@ topups_told plans c history a ts st are = record {
 }
 
 -- ---- a walk over the accounts
-
--- the entries of a walk so far, and where it goes on
-abbrev pub WalksTo : (List ℕ → Option ℤ) → Option (List ℕ) → List (List ℕ × ℤ) → Option (List ℕ)
-    → Type 0
-WalksTo at after [] to = after ≡ to
-WalksTo at after ((key, member) ∷ rest) to = IsNext octets_cmp at after (Some (key, member))
-    × WalksTo at (Some key) rest to
-
-pub walks-more : (at : List ℕ → Option ℤ) (after to : Option (List ℕ)) (es : List (List ℕ × ℤ))
-    (k : List ℕ) (x : ℤ) → WalksTo at after es to → IsNext octets_cmp at to (Some (k, x))
-    → WalksTo at after (es ++ (k, x) ∷ []) (Some k)
-walks-more at after to [] k x w next =
-    (subst (λ o. IsNext octets_cmp at o (Some (k, x))) (sym w) next, refl)
-walks-more at after to ((j, y) ∷ es) k x w next = (w.0, walks-more at (Some j) to es k x w.1 next)
-
-pub walks-end : (at : List ℕ → Option ℤ) (after to : Option (List ℕ)) (es : List (List ℕ × ℤ))
-    → WalksTo at after es to → IsNext octets_cmp at to None → IsWalk octets_cmp at after es
-walks-end at after to [] w next = subst (λ o. IsNext octets_cmp at o None) (sym w) next
-walks-end at after to ((j, y) ∷ es) w next = (w.0, walks-end at (Some j) to es w.1 next)
 
 -- the accounts that a walk to the end met are the known ones
 pub accounts_told : (plans : List Plan) (c : Content) (history : List Entry)

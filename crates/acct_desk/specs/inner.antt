@@ -5,3 +5,4 @@ pub mod Pages
 pub mod Reading
 pub mod Request
 pub mod TopUpAnswers
+pub mod Walk

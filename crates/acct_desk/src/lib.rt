@@ -18,4 +18,5 @@ pub use bodies::overrun;
 pub use framing::{Reach, extent};
 pub use handling::handle;
 pub use keys::{DeskKey, Keys, KeysError, Role};
+pub use pages::WALK_LIMIT;
 pub use reading::{ReadFault, read_request};

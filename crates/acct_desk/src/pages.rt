@@ -23,8 +23,8 @@ use http::StatusCode;
 use serde_json::{Value, json};
 use std::alloc::{AllocError, Global};
 
-/// The most accounts that a walk over the book meets.
-const WALK_LIMIT: u64 = (1 << 63) - 1;
+/// The most members that a walk over a book meets.
+pub const WALK_LIMIT: u64 = (1 << 63) - 1;
 
 // The body of `/me/balance`.
 pub(crate) fn balance_page<B: Book>(
@@ -119,7 +119,8 @@ fn add_overrun(
     entry: &(Vec<u8>, i64),
 ) -> Result<(), PageError>
     ensures { OnOk result (map view over.new.items
-        ≡ map view over.old.items ++ filter_map overrun_in ((entry.now.0.items, entry.now.1) ∷ [])) }
+        ≡ map view over.old.items
+        ++ filter_map overrun_in ((entry.now.0.items, entry.now.1) ∷ [])) }
 {
     let (account, balance) = entry;
     let overrun = overrun(*balance);

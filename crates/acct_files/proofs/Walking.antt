@@ -1,4 +1,4 @@
--- A walk by the calls that give the next member, and the text that is written on the way.
+-- The text that is written on a walk, and what a whole walk met.
 use Rattle.std.proofs.Common.{◌≡◌, ℕ, List, [], ◌∷◌, ◌++◌, Option, Some, None, Result, Ok, Err}
 use Rattle.std.proofs.Common.{map, refl, sym, ◌∙◌, ap, subst, append_assoc}
 use Rattle.std.specs.Prelude.{flat_map, IfOk}
@@ -7,32 +7,9 @@ use Rattle.std.specs.declared.cmp.Ordering.{Ordering}
 use Rattle.std.proofs.lemmas.Grind.{flat_map-append}
 use Rattle.std.proofs.lemmas.List.{append-nil}
 use Rattle.acct_book.specs.Walk.{AreAllPast, IsNext, IsWalk}
+use Rattle.acct_desk.specs.inner.Walk.{Meets}
 use Rattle.acct_files.specs.Exporting.{export_text, line}
 use Rattle.acct_files.specs.Vouchers.{Fields}
-use Rattle.acct_files.specs.inner.Walk.{Meets}
-
--- ---- members
-
-module _ {K M : Type 0} (next : Option K → Option M → Type 0) (key_of : M → K) where
-  -- from a start these are the next members, one after the other, and the walk now stands here
-  abbrev pub Walked : Option K → List M → Option K → Type 0
-  Walked after [] now = now ≡ after
-  Walked after (member ∷ rest) now =
-      next after (Some member) × Walked (Some (key_of member)) rest now
-
-  pub walked_more : (after : Option K) (members : List M) (now : Option K) (member : M)
-      → Walked after members now → next now (Some member)
-      → Walked after (members ++ member ∷ []) (Some (key_of member))
-  walked_more after [] now member walked here =
-      (subst (λ a. next a (Some member)) walked here, refl)
-  walked_more after (m ∷ rest) now member walked here =
-      (walked.0, walked_more (Some (key_of m)) rest now member walked.1 here)
-
-  pub walked_all : (after : Option K) (members : List M) (now : Option K)
-      → Walked after members now → next now None → Meets next key_of after members
-  walked_all after [] now walked end = subst (λ a. next a None) walked end
-  walked_all after (m ∷ rest) now walked end =
-      (walked.0, walked_all (Some (key_of m)) rest now walked.1 end)
 
 -- ---- text
 

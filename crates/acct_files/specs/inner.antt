@@ -4,4 +4,3 @@ pub mod Importing
 pub mod KeyTables
 pub mod PlanTables
 pub mod Reading
-pub mod Walk

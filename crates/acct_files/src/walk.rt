@@ -4,18 +4,16 @@ ghost use Rattle.std.specs.Io.KnownBytes.{Appends};
 ghost use Rattle.csv.specs.Writing.{text_written};
 ghost use Rattle.acct_book.specs.Content.{Content};
 ghost use Rattle.acct_book.specs.Step.{Looks};
+ghost use Rattle.acct_desk.specs.inner.Walk.{Meets};
 ghost use Rattle.acct_files.specs.Exporting.{IsBetweenLines, line, export_text};
 ghost use Rattle.acct_files.specs.Vouchers.{Fields};
-ghost use Rattle.acct_files.specs.inner.Walk.{Meets};
 
 use crate::csv_lines::{ExportError, finish};
 use acct_book::{Book, Unavailable};
+use acct_desk::WALK_LIMIT;
 use csv::{ByteRecord, Writer};
 use std::alloc::Global;
 use std::io::Write;
-
-/// The most members of an export.
-const MOST_MEMBERS: u64 = (1 << 63) - 1;
 
 /// What an export says of the members of one kind.
 pub(crate) trait Export {
@@ -93,7 +91,7 @@ pub(crate) fn write_members<X: Export, B: Book, W: Write + Drop>(
     let mut lines = export.begin(writer)?;
     let mut fields = ByteRecord::new(alloc);
     let mut after: Option<X::Key> = None;
-    for _turn in 0..MOST_MEMBERS {
+    for _turn in 0..WALK_LIMIT {
         let Some(member) = X::next(book, &after)? else {
             return finish(lines);
         };

@@ -6,11 +6,13 @@ use Rattle.std.specs.Option.{option_copied}
 use Rattle.std.proofs.lemmas.List.Elements.{filter_map-append}
 use Rattle.serde_json.specs.Data.{Data, array, object, member, no_members}
 use Rattle.serde_json.specs.View.{view, items_of}
+use Rattle.acct_book.specs.Maps.{octets_cmp}
+use Rattle.acct_book.specs.Walk.{IsNext}
 use Rattle.acct_book.proofs.Looking.{looks_none, looks_then}
 use Rattle.acct_desk.specs.Asks.{overruns}
 use Rattle.acct_desk.specs.Bodies.{overrun_in, overruns_body}
-use Rattle.acct_desk.proofs.PageLemmas.{shows_body, overruns_plain, accounts_told, walks-more}
-use Rattle.acct_desk.proofs.PageLemmas.{walks-end, next_from}
+use Rattle.acct_desk.proofs.PageLemmas.{shows_body, overruns_plain, accounts_told, next_from}
+use Rattle.acct_desk.proofs.Walking.{walked_more, walked_all, entries_walk}
 use Rattle.acct_desk.proofs.pages.overruns_page.Goals as goal
 
 abbrev entry_of : Vec ℕ Global × ℤ → List ℕ × ℤ
@@ -47,7 +49,11 @@ returns-in-None g c =
     next_from (b.content old) (b.content mid) after to kept None (step.found o)
     (inv.reads.same was) c.start_of.ensures (ap (option_map entry_of) c.in-None.is)
     in
-    let walk = walks-end (b.content old).balances None to accounts (inv.walked.1 was) last in
+    let balances = (b.content old).balances in
+    let met =
+    walked_all (IsNext octets_cmp balances) (λ e. e.0) None accounts to (inv.walked.1 was) last
+    in
+    let walk = entries_walk octets_cmp balances None accounts met in
     (accounts, accounts_told plans (b.content old) history accounts st walk, refl))
 
 pub loop-preserved : goal.loop-preserved
@@ -75,7 +81,8 @@ loop-preserved g c =
             next_from (b.content old) (b.content mid) after to kept (Some next) (step.found o)
             (inv.reads.same was) c.start_of.ensures (ap (option_map entry_of) c.in-Some.is)
             in
-            walks-more (b.content old).balances None to accounts next.0 next.1 (inv.walked.1 was) more),
+            walked_more (IsNext octets_cmp (b.content old).balances) (λ e. e.0) None accounts to
+            next (inv.walked.1 was) more),
         c.in_ok-add_overrun-in-Some.ensures
             ∙ ap (λ xs. xs ++ filter_map overrun_in (next ∷ [])) inv.walked.2
             ∙ sym (filter_map-append overrun_in accounts (next ∷ [])),

@@ -2,7 +2,7 @@ use Rattle.std.proofs.Common.{◌++◌, ◌∷◌, [], refl, Some, None}
 use Rattle.acct_book.proofs.Looking.{looks_none, looks_then}
 use Rattle.acct_files.specs.Exporting.{export_text}
 use Rattle.acct_files.proofs.Walking.{appends_kept, export_none, grown, if_ok, next_here}
-use Rattle.acct_files.proofs.Walking.{walked_all, walked_more}
+use Rattle.acct_desk.proofs.Walking.{walked_all, walked_more}
 use Rattle.acct_files.proofs.walk.write_members.Goals as goal
 
 pub loop-turn-init : goal.loop-turn-init

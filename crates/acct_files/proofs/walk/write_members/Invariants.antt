@@ -3,7 +3,7 @@ use Rattle.std.specs.Io.KnownBytes.{Appends}
 use Rattle.csv.specs.Writing.{text_written}
 use Rattle.acct_book.specs.inner.Step.{OnlyLooks}
 use Rattle.acct_files.specs.Exporting.{IsBetweenLines, export_text}
-use Rattle.acct_files.proofs.Walking.{Walked}
+use Rattle.acct_desk.proofs.Walking.{Walked}
 use Rattle.acct_files.proofs.walk.write_members.Given as goal
 
 abbrev pub invariant-loop-turn : goal.invariant-loop-turn
