@@ -189,7 +189,8 @@ module _ {B E : Type 0} (b : Ghosts B) (plans : List Plan) (ask : Ask) (old new 
     answers = page_says page result of is;
     does = only_looked_by b plans old new (page_effect page result) shows.reads.was_sound
         shows.reads.was_open shows.reads.keeps_steady shows.reads.same shows.reads.adds_none
-        (page_own page result) (page_asked page result) (page_stays page result) (page_open page result shows)
+        (page_own page result) (page_asked page result) (page_stays page result)
+        (page_open page result shows)
         (λ _ history _. page_holds page result history) settles;
     tells = page_tells page result shows is;
     steady = λ s balance. page_steady page result (steady s balance) is;

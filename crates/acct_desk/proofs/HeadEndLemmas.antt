@@ -1,12 +1,14 @@
 -- Each request head ends in an empty line after a line that isn't empty.
-use Rattle.std.proofs.Common.{◌≡◌, ◌≢◌, ◌+◌, ◌==◌, ℕ, Bool, not, true, false, List, [], ◌∷◌, ◌++◌, length, IsTrue, refl}
-use Rattle.std.proofs.Common.{ap, sym, ◌∙◌, subst, arith, append_assoc, length-append, Option, Some}
+use Rattle.std.proofs.Common.{◌≡◌, ◌≢◌, ◌+◌, ◌==◌, ℕ, Bool, not, true, false, List, [], ◌∷◌}
+use Rattle.std.proofs.Common.{◌++◌, length, IsTrue, refl, ap, sym, ◌∙◌, subst, arith}
+use Rattle.std.proofs.Common.{append_assoc, length-append, Option, Some}
 use Rattle.std.specs.Prelude.{All}
 use Rattle.std.proofs.lemmas.Bool.Decides.{nat_tests}
 use Rattle.std.proofs.lemmas.List.{append_cancel_right}
 use Rattle.std.proofs.lemmas.List.Elements.{All-head, All-tail}
-use Rattle.httparse.specs.Grammar.{is_value_byte, AllPass, LineEnd, crlf, lf, print_end, print_blank}
-use Rattle.httparse.specs.Grammar.{print_version, Field, print_field, IsField, print_section}
+use Rattle.httparse.specs.Grammar.{is_value_byte, AllPass, LineEnd, crlf, lf, print_end}
+use Rattle.httparse.specs.Grammar.{print_blank, print_version, Field, print_field, IsField}
+use Rattle.httparse.specs.Grammar.{print_section}
 use Rattle.httparse.specs.Grammar.{RequestHead, print_request, IsRequestHead}
 use Rattle.httparse.specs.Pieces.{is_newline}
 use Rattle.acct_desk.specs.inner.Reading.{EndsInEmptyLine}
@@ -30,7 +32,8 @@ last_written : (x : ℕ) (raw : List ℕ) → is_newline x ≡ false → AllPass
 last_written x [] written all = ([], x, written, refl)
 last_written x (y ∷ raw) written all =
     let P : ℕ → Type 0 = λ b. IsTrue (is_value_byte b) in
-    let more = last_written y raw (value_is_written y (All-head P y raw all)) (All-tail P y raw all) in
+    let next = value_is_written y (All-head P y raw all) in
+    let more = last_written y raw next (All-tail P y raw all) in
     (x ∷ more.0, more.1, more.2, ap (λ bs. x ∷ bs) more.3)
 
 regroup : (front name before : List ℕ) (last : ℕ) (end : List ℕ)
@@ -66,9 +69,9 @@ section_ends front [] last x all = record {
   is = ap (λ bs. bs ++ print_end last) x.is;
 }
 section_ends front (f ∷ fields) last x all =
+    let here = field_ends front f (All-head IsField f fields all) in
     subst EndsInEmptyLine (sym (one_field_more front (print_field f) _ (print_end last)))
-    (section_ends (front ++ print_field f) fields last (field_ends front f (All-head IsField f fields all))
-    (All-tail IsField f fields all))
+    (section_ends (front ++ print_field f) fields last here (All-tail IsField f fields all))
 
 digit_is_written : (minor : ℕ) → is_newline (48 + minor) ≡ false
 digit_is_written minor = grind (arith, nat_tests)
@@ -92,9 +95,11 @@ head_ends head is =
 
 -- ---- line ends taken off
 
-pub ends_crlf : (line before : List ℕ) (end : LineEnd) → line ++ print_end end ≡ before ++ 13 ∷ 10 ∷ []
+pub ends_crlf : (line before : List ℕ) (end : LineEnd)
+    → line ++ print_end end ≡ before ++ 13 ∷ 10 ∷ []
     → ((front : List ℕ) → line ≢ front ++ 13 ∷ []) → Some before ≡ Some line
-ends_crlf line before crlf e plain = ap Some (sym (append_cancel_right line before (13 ∷ 10 ∷ []) e))
+ends_crlf line before crlf e plain =
+    ap Some (sym (append_cancel_right line before (13 ∷ 10 ∷ []) e))
 ends_crlf line before lf e plain =
     let split : before ++ 13 ∷ 10 ∷ [] ≡ (before ++ 13 ∷ []) ++ 10 ∷ [] = simp append_assoc in
     absurd (plain before (append_cancel_right line (before ++ 13 ∷ []) (10 ∷ []) (e ∙ split)))

@@ -1,7 +1,7 @@
 -- Requests that are open, and stay so as octets come.
 use Rattle.std.proofs.Common.{◌≡◌, ◌≤◌, ◌<◌, ◌+◌, ◌⊎◌, inl, inr, ℕ, zero, suc, Bool, true, false}
-use Rattle.std.proofs.Common.{List, [], ◌∷◌, ◌++◌, length, take, drop, map, refl, ap, sym, subst, ◌∙◌}
-use Rattle.std.proofs.Common.{arith, append_assoc, length-append, length-take, Option, Some}
+use Rattle.std.proofs.Common.{List, [], ◌∷◌, ◌++◌, length, take, drop, map, refl, ap, sym, subst}
+use Rattle.std.proofs.Common.{◌∙◌, arith, append_assoc, length-append, length-take, Option, Some}
 use Rattle.std.proofs.Common.{None}
 use Rattle.std.specs.Prelude.{nat_lt, nat_le, if◌then◌else◌, codes, Result, Ok, Err}
 use Rattle.std.proofs.lemmas.Bool.Decides.{nat_tests}
@@ -18,8 +18,8 @@ use Rattle.httparse.specs.Outcome.{IfComplete, OnPartial}
 use Rattle.httparse.proofs.GrammarLemmas.{ReadsRequest-append, request_unique}
 use Rattle.acct_desk.specs.declared.framing.Reach.TheVariants.{More, Whole, Bad, TooLarge}
 use Rattle.acct_desk.specs.declared.reading.Watch.{Watch}
-use Rattle.acct_desk.specs.Request.{Begins, IsHeadOf, IsExtent, reach_of, reach_of_fields, fields_of}
-use Rattle.acct_desk.specs.Request.{body_length, values_of, is_empty, reach_of_length}
+use Rattle.acct_desk.specs.Request.{Begins, IsHeadOf, IsExtent, reach_of, reach_of_fields}
+use Rattle.acct_desk.specs.Request.{fields_of, body_length, values_of, is_empty, reach_of_length}
 use Rattle.acct_desk.specs.inner.Reading.{EndsInEmptyLine, NoHeadEnds, StaysOpen}
 use Rattle.acct_desk.proofs.HeadEndLemmas.{head_ends, nothing_ends}
 
@@ -109,9 +109,11 @@ whole_later : (head body there : ℕ) → there < head + body → More
 whole_later head body there short = grind (arith, nat_tests)
 
 waits_for : (large : Bool) (head body there : ℕ) → More
-    ≡ (if large then TooLarge else (if nat_le (head + body) there then Whole (head + body) else More))
+    ≡ (if large then TooLarge
+    else (if nat_le (head + body) there then Whole (head + body) else More))
     → (later : ℕ) → later < head + body → More
-    ≡ (if large then TooLarge else (if nat_le (head + body) later then Whole (head + body) else More))
+    ≡ (if large then TooLarge
+    else (if nat_le (head + body) later then Whole (head + body) else More))
 waits_for true head body there e later short = absurd (cc)
 waits_for false head body there e later short = whole_later head body later short
 
@@ -126,8 +128,9 @@ open_body true None head there e = absurd (cc)
 open_body true (Some body) head there e =
     (body, refl, waits_for (nat_lt 4096 body) head body there e)
 
-few_fields : (bytes : List ℕ) (headers : List HeaderSpan) (spans : RequestSpans) (head : RequestHead)
-    → IsRequestAt bytes headers spans head → length headers ≡ 64 → length head.fields ≤ 64
+few_fields : (bytes : List ℕ) (headers : List HeaderSpan) (spans : RequestSpans)
+    (head : RequestHead) → IsRequestAt bytes headers spans head
+    → length headers ≡ 64 → length head.fields ≤ 64
 few_fields bytes headers spans head at room =
     let count : length (take spans.headers headers) ≡ length head.fields =
     sym (length-map (take spans.headers headers) (header_bytes bytes)) ∙ ap length at.fields
@@ -163,7 +166,8 @@ complete_stays watch bytes headers spans head is at room next =
           few = few;
         },
         waits.2 (length (bytes ++ more))
-            (let h : length (bytes ++ more) < length (print_request head) + waits.0 = omega arith in h),
+            (let short : length (bytes ++ more) < length (print_request head) + waits.0
+            = omega arith in short),
       );
     }
 

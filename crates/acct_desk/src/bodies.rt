@@ -128,7 +128,8 @@ fn put_times(members: &mut Map<String, Value>, alloc: Global, row: &Row) -> Resu
     ensures { OnOk result (members_view members.new.entries
         ≡ put (codes "seconds") (number (unsigned row.now.seconds))
         (put (codes "last") (number (unsigned row.now.last))
-        (put (codes "first") (number (unsigned row.now.first)) (members_view members.old.entries)))) }
+        (put (codes "first") (number (unsigned row.now.first))
+        (members_view members.old.entries)))) }
 {
     put_number(members, alloc, "first", row.first)?;
     put_number(members, alloc, "last", row.last)?;
@@ -141,7 +142,8 @@ fn put_octets(members: &mut Map<String, Value>, alloc: Global, row: &Row) -> Res
     ensures { OnOk result (members_view members.new.entries
         ≡ put (codes "total") (number (unsigned (row.now.input + row.now.output)))
         (put (codes "output") (number (unsigned row.now.output))
-        (put (codes "input") (number (unsigned row.now.input)) (members_view members.old.entries)))) }
+        (put (codes "input") (number (unsigned row.now.input))
+        (members_view members.old.entries)))) }
 {
     put_number(members, alloc, "input", row.input)?;
     put_number(members, alloc, "output", row.output)?;

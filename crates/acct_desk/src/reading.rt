@@ -193,7 +193,8 @@ fn ends_head(bytes: &[u8]) -> bool
 // The octets before the line end at their end.
 fn without_line_end(bytes: &[u8]) -> Option<&[u8]>
     ensures { (line : List ℕ) (end : LineEnd) → bytes.now ≡ line ++ print_end end
-        → ((front : List ℕ) → line ≢ front ++ 13 ∷ []) → option_map (λ l. l.now) result ≡ Some line }
+        → ((front : List ℕ) → line ≢ front ++ 13 ∷ [])
+        → option_map (λ l. l.now) result ≡ Some line }
 {
     match bytes.strip_suffix(b"\r\n") {
         Some(line) => Some(line),

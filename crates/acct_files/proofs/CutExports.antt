@@ -1,6 +1,6 @@
 -- Why the first three columns of an export of top-ups are a text that an import takes.
-use Rattle.std.proofs.Common.{sym, ◌≡◌, ◌<◌, ◌≤◌, ◌^◌, ℕ, Bool, true, false, ◌&&◌, List, [], ◌∷◌, length}
-use Rattle.std.proofs.Common.{map, Some, None, Ok, cond, refl, subst, arith, rules}
+use Rattle.std.proofs.Common.{sym, ◌≡◌, ◌<◌, ◌≤◌, ◌^◌, ℕ, Bool, true, false, ◌&&◌, List, [], ◌∷◌}
+use Rattle.std.proofs.Common.{length, map, Some, None, Ok, cond, refl, subst, arith, rules}
 use Rattle.std.specs.Prelude.{⊤, bytes_eq, decimal, flat_map, nat_le, take}
 use Rattle.std.specs.Char.{is_ascii_digit}
 use Rattle.std.specs.List.{filter, list_all}

@@ -56,7 +56,8 @@ module _ {V X E : Type 0} (values_of : Data → Option V) (Says : V → X → Ty
 
   -- one more
   pub more_entries : (tables : List Data) (entries : List X) (element : Data) (entry : X)
-      → AreEntries values_of Says fault tables entries → SpellsTable values_of Says fault element entry
+      → AreEntries values_of Says fault tables entries
+      → SpellsTable values_of Says fault element entry
       → fault entries entry ≡ None
       → AreEntries values_of Says fault (tables ++ element ∷ []) (entries ++ entry ∷ [])
   more_entries tables entries element entry are spells alone =
@@ -97,7 +98,8 @@ module _ {V X E : Type 0} (values_of : Data → Option V) (Says : V → X → Ty
   -- so is what spells an entry that has a fault
   pub faulty : {T : Type 0} (bad : ConfigKind) (kind_of : E → ConfigKind) (memory error : E)
       (earlier : List X) (element : Data) (entry : X) (result : Result T ConfigKind)
-      → IsErrAnd result (λ why. why ≡ kind_of error) → SpellsTable values_of Says fault element entry
+      → IsErrAnd result (λ why. why ≡ kind_of error)
+      → SpellsTable values_of Says fault element entry
       → error ≡ fault_or memory (fault earlier entry) → kind_of memory ≡ Memory
       → IfErr result (λ why. (why ≡ Memory)
       ⊎ IsFirstRefused values_of Says fault bad kind_of earlier element why)

@@ -38,4 +38,5 @@ loop-preserved g c =
     )
 
 pub returns-in-None-clause-ends : goal.returns-in-None-clause-ends
-returns-in-None-clause-ends g c = inl (rw c.deref-then-is_due.ensures.value at c.in-None.ensures.settled)
+returns-in-None-clause-ends g c =
+    inl (rw c.deref-then-is_due.ensures.value at c.in-None.ensures.settled)

@@ -8,5 +8,6 @@ use Rattle.acct_desk.proofs.reading.without_line_end.Goals as goal
 pub returns-in-Some : goal.returns-in-Some
 returns-in-Some c = λ line end e plain.
     let bytes = c.args.bytes.now in
-    let is = strip_suffix_is Decides-eqb bytes (13 ∷ 10 ∷ []) (Some c.in-Some.line) c.in-Some.ensures.cases in
+    let cases = c.in-Some.ensures.cases in
+    let is = strip_suffix_is Decides-eqb bytes (13 ∷ 10 ∷ []) (Some c.in-Some.line) cases in
     ends_crlf line c.in-Some.line.now end (sym e ∙ is) plain

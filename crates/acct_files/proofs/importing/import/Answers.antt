@@ -17,5 +17,6 @@ returns-clause-imports g c sound history stood =
     (option_map strip_bom (g.R.Read.remaining c.args.reader)) history
     (stop_of c.import_rows-run.result) c.err-report.result c.import_rows-run.new.report _
     c.args.book.now c.import_rows-run.new.book
-    c.rows_of-rows.ensures.text (err_same c.import_rows-run.result ∙ sym c.err-report.ensures.value) refl refl refl
+    c.rows_of-rows.ensures.text (err_same c.import_rows-run.result ∙ sym c.err-report.ensures.value)
+    refl refl refl
     (c.import_rows-run.ensures.imports sound history stood)
