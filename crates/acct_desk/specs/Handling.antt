@@ -80,7 +80,7 @@ Mutes (me page account) effect = (effect ≡ unasked) ⊎ (effect ≡ passed)
 Mutes overruns effect = (effect ≡ unasked) ⊎ (effect ≡ passed)
 Mutes ask effect = effect ≡ unasked
 
--- either of these
+-- what is answered: a response, or that there was no memory for one
 abbrev pub AnswersOrMutes : {E : Type 0} → Ask → Result (Vec ℕ Global) E → Effect → Type 0
 AnswersOrMutes ask (Ok octets) effect = AnswersAsk ask octets.items effect
 AnswersOrMutes ask (Err error) effect = Mutes ask effect

@@ -22,8 +22,7 @@ OneThingIsAsked = (keys : List DeskKey) (request : List ℕ) (moment : ℕ) (one
     → Asks keys request moment one → Asks keys request moment other → one ≡ other
 
 -- Over two histories in which an account has the same part, each request for a page of that account
--- by its own key is answered by the same
--- octets, wherever the book answers at all.
+-- by its own key is answered by the same octets, wherever the book answers at all.
 abbrev pub MeFromPart : Type 0
 MeFromPart = (keys : List DeskKey) (plans : List Plan) (request : List ℕ) (moment : ℕ) (page : Page)
     (account : List ℕ) (one other : List Entry) (first second : Effect) (octets others : List ℕ)

@@ -29,7 +29,7 @@ pub viewed : (values : List Value) (i : ℕ) (value : Value) → i < length valu
 viewed values i value within is =
     viewed_at values i value (slice_get_read values (length values) i value refl within is)
 
--- one more
+-- the views of the first values, and of one more
 pub viewed_more : (values : List Value) (i : ℕ) (value : Value) → i < length values
     → value ≡ get_or values i value
     → take (i + 1) (map view values) ≡ take i (map view values) ++ view value ∷ []
@@ -54,7 +54,7 @@ module _ {V X E : Type 0} (values_of : Data → Option V) (Says : V → X → Ty
   each_more [] (e ∷ entries) element entry each spells = absurd each
   each_more (t ∷ tables) [] element entry each spells = absurd each
 
-  -- one more
+  -- one table more, and the entry that it spells
   pub more_entries : (tables : List Data) (entries : List X) (element : Data) (entry : X)
       → AreEntries values_of Says fault tables entries
       → SpellsTable values_of Says fault element entry

@@ -132,8 +132,8 @@ ImportLeaves plans history (Some topup) content =
 
 module _ {B : Type 0} (b : Ghosts B) where
   -- From a history to the one after it: the book stands for that while it is open, and a crash
-  -- leaves what stands for it, or for it with
-  -- the top-up whose call failed, if before it left nothing but what stood for the history.
+  -- leaves what stands for it, or for it with the top-up whose call failed, if before it left
+  -- nothing but what stood for the history.
   pub record Moves (plans : List Plan) (history after : List Entry) (tried : Option TopUpFacts)
       (old new : B) : Type 0 where
     pub stands : StoodFor b plans new after

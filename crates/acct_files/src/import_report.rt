@@ -77,7 +77,7 @@ impl fmt::Display for Stopped {
 pub struct Refused {
     /// Its number. The header is record 1.
     pub number: u64,
-    /// Why.
+    /// Why it was refused.
     pub cause: Cause,
 }
 

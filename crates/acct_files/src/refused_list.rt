@@ -8,7 +8,7 @@ use std::marker::Model;
 
 /// Refused records in the order of their numbers, which contracts see as a list.
 pub struct RefusedList {
-    /// The records.
+    /// The refused records, those with the smallest numbers first.
     pub records: Vec<Refused>,
 }
 
@@ -29,7 +29,7 @@ impl Model for RefusedList {
 }
 
 impl RefusedList {
-    /// No records.
+    /// A list without records.
     pub fn new(alloc: Global) -> RefusedList
         ensures { result ≡ [] }
     {
