@@ -33,7 +33,7 @@ impl fmt::Display for Counts {
 /// How many datagrams were dropped for one reason.
 #[derive(Clone, Copy, PartialEq, Eq)]
 pub struct Drops {
-    /// The reason's number, 1 to 13.
+    /// The reason's number.
     pub reason: u8,
     /// How many.
     pub count: u64,

@@ -162,16 +162,16 @@ fn write_counts<W: Write>(output: &mut W, served: &Served) -> io::Result<()>
         faults: served.faults,
     };
     writeln!(output, "{counts}")?;
-    write_drops(output, &served.dropped)?;
+    write_drops(output, served)?;
     output.flush()
 }
 
 // Writes the drops for each reason that had some. Reasons are numbered from 1 on.
-fn write_drops<W: Write>(output: &mut W, dropped: &[u64; 13]) -> io::Result<()>
+fn write_drops<W: Write>(output: &mut W, served: &Served) -> io::Result<()>
     ensures { OnOk result (Appends (W.contents output.old) (W.contents output.new)
-        (drops_lines 1 dropped.now)) }
+        (drops_lines 1 served.now.dropped)) }
 {
-    for (place, count) in dropped.iter().enumerate() {
+    for (place, count) in served.dropped.iter().enumerate() {
         let drops = Drops {
             reason: place as u8 + 1,
             count: *count,

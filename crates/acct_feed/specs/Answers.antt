@@ -13,30 +13,13 @@ use Rattle.acct_book.specs.declared.recording.RecordError.{RecordError}
 use Rattle.acct_book.specs.declared.recording.RecordError.TheVariants as error
 use Rattle.acct_wire.specs.declared.answering.Outcome.{Outcome}
 use Rattle.acct_wire.specs.declared.answering.Outcome.TheVariants as outcome
-use Rattle.acct_wire.specs.declared.reason.Reason.{Reason}
-use Rattle.acct_wire.specs.declared.reason.Reason.TheVariants as reason
+use Rattle.acct_wire.specs.Reasons.{reason_number}
 use Rattle.acct_feed.specs.Octets.{shown_word}
 use Rattle.acct_feed.specs.declared.answer.Answer.{Answer}
 use Rattle.acct_feed.specs.declared.answer.Answer.TheVariants as answer
 use Rattle.acct_feed.specs.declared.answer.Credit.{Credit}
 use Rattle.acct_feed.specs.declared.answer.Credit.TheVariants as credit
 use Rattle.acct_feed.specs.declared.shown_row.ShownRow.{ShownRow}
-
--- the number of a reason, which operators see
-abbrev pub reason_number : Reason → ℕ
-reason_number reason.UnknownClient = 1
-reason_number reason.TooShort = 2
-reason_number reason.BadLength = 3
-reason_number reason.WrongCode = 4
-reason_number reason.BadAuthenticator = 5
-reason_number reason.BadAttribute = 6
-reason_number reason.NoStatus = 7
-reason_number reason.UnknownStatus = 8
-reason_number reason.NoSessionId = 9
-reason_number reason.BadField = 10
-reason_number reason.TotalTooLarge = 11
-reason_number reason.BalanceLimit = 12
-reason_number reason.Unavailable = 13
 
 -- the word for what became of a voucher
 abbrev pub credit_text : Credit → List ℕ

@@ -2,7 +2,7 @@
 ghost use Rattle.std.specs.Prelude.{◌≡◌, ◌≤◌, ◌++◌, Some, IfOk, length, codes};
 ghost use Rattle.std.specs.Fmt.{DisplaysOnOk};
 ghost use Rattle.acct_feed.specs.Answers.{ReplyFits, answer_text, after_space, credit_text};
-ghost use Rattle.acct_feed.specs.Answers.{reason_number, packet_answer, signed_answer};
+ghost use Rattle.acct_feed.specs.Answers.{packet_answer, signed_answer};
 ghost use Rattle.acct_feed.specs.Answers.{balance_answer, credit_of, session_answer};
 
 use crate::octet_words::{hex_of, word_of};
@@ -107,7 +107,7 @@ impl fmt::Display for Answer {
                 write!(f, "reply {octets}")
             }
             Answer::Dropped { reason } => {
-                let number = number_of(*reason);
+                let number = reason.number();
                 write!(f, "drop {number}")
             }
             Answer::Balance { account, balance } => {
@@ -136,13 +136,6 @@ fn write_parted<W: fmt::Write>(
         return write!(f, "reply {front}");
     }
     write!(f, "reply {front} {attributes}")
-}
-
-// The number of a reason.
-fn number_of(reason: Reason) -> u8
-    ensures { result ≡ reason_number reason }
-{
-    reason as u8
 }
 
 impl Answer {

@@ -1,6 +1,6 @@
 -- What a server does in its turns: a run of the machine, over a book, told by the exchange, and
 -- counted.
-use Rattle.std.specs.Prelude.{◌≡◌, ◌≢◌, ◌⊎◌, ◌+◌, ◌≤◌, ℕ, Bool, true, false, ◌==◌, List, [], ◌∷◌}
+use Rattle.std.specs.Prelude.{◌≡◌, ◌≢◌, ◌⊎◌, ◌+◌, ◌-◌, ◌≤◌, ℕ, Bool, true, false, ◌==◌, List, [], ◌∷◌}
 use Rattle.std.specs.Prelude.{Option, map, length, count_by, slice_index, Contains}
 use Rattle.std.specs.List.{flat_map}
 use Rattle.acct_model.specs.declared.plan.Plan.{Plan}
@@ -11,7 +11,7 @@ use Rattle.acct_book.specs.Effect.{failed}
 use Rattle.acct_book.specs.Stands.{Stands}
 use Rattle.acct_book.specs.Step.{MayAdd, StoodFor}
 use Rattle.acct_wire.specs.declared.reason.Reason.{Reason}
-use Rattle.acct_wire.specs.declared.reason.Reason.TheVariants as why
+use Rattle.acct_wire.specs.Reasons.{reason_number}
 use Rattle.acct_desk.specs.Responses.{unavailable_response}
 use Rattle.acct_site.specs.declared.config.Config.{Config}
 use Rattle.acct_service.specs.declared.event.Event.{Event}
@@ -46,25 +46,14 @@ takes_reply mute is_taken = false
 abbrev pub is_replied : Visit → Bool
 is_replied visit = takes_reply visit.answer visit.is_taken
 
--- where a reason is counted: the reasons in their order, the first at 0
-abbrev pub place_of : Reason → ℕ
-place_of why.UnknownClient = 0
-place_of why.TooShort = 1
-place_of why.BadLength = 2
-place_of why.WrongCode = 3
-place_of why.BadAuthenticator = 4
-place_of why.BadAttribute = 5
-place_of why.NoStatus = 6
-place_of why.UnknownStatus = 7
-place_of why.NoSessionId = 8
-place_of why.BadField = 9
-place_of why.TotalTooLarge = 10
-place_of why.BalanceLimit = 11
-place_of why.Unavailable = 12
+-- how many drops are counted for a reason: the reasons stand in the order of their numbers, which
+-- begin at 1
+abbrev pub drops_of : Served → Reason → ℕ
+drops_of served reason = slice_index served.dropped (reason_number reason - 1)
 
 abbrev pub drops_for : Reason → Answer → Bool
 drops_for reason (replied octets) = false
-drops_for reason (dropped other) = place_of other == place_of reason
+drops_for reason (dropped other) = reason_number other == reason_number reason
 drops_for reason mute = false
 
 -- it was dropped for this reason
@@ -85,7 +74,7 @@ pub record Counts (visits : List Visit) (served : Served) : Type 0 where
   pub events : served.events ≡ length visits
   pub replies : served.replies ≡ count_by is_replied visits
   pub dropped : (reason : Reason)
-      → slice_index served.dropped (place_of reason) ≡ count_by (is_dropped_for reason) visits
+      → drops_of served reason ≡ count_by (is_dropped_for reason) visits
   pub mute : served.mute ≡ count_by is_mute visits
 
 -- the counts rose by those of these visits
@@ -93,15 +82,14 @@ pub record CountsMore (visits : List Visit) (old new : Served) : Type 0 where
   pub events : new.events ≡ old.events + length visits
   pub replies : new.replies ≡ old.replies + count_by is_replied visits
   pub dropped : (reason : Reason)
-      → slice_index new.dropped (place_of reason)
-      ≡ slice_index old.dropped (place_of reason) + count_by (is_dropped_for reason) visits
+      → drops_of new reason ≡ drops_of old reason + count_by (is_dropped_for reason) visits
   pub mute : new.mute ≡ old.mute + count_by is_mute visits
 
 -- no count is above n
 pub record AtMost (n : ℕ) (served : Served) : Type 0 where
   pub events : served.events ≤ n
   pub replies : served.replies ≤ n
-  pub dropped : (reason : Reason) → slice_index served.dropped (place_of reason) ≤ n
+  pub dropped : (reason : Reason) → drops_of served reason ≤ n
   pub mute : served.mute ≤ n
   pub faults : served.faults ≤ n
 

@@ -1,9 +1,11 @@
 //! The turns of a server.
 ghost use Rattle.std.specs.Prelude.{◌≡◌, ℕ, ◌+◌, ◌-◌, ◌^◌, ◌<◌, ◌≤◌, ◌==◌};
-ghost use Rattle.std.specs.Prelude.{if◌then◌else◌, [], slice_index};
+ghost use Rattle.std.specs.Prelude.{if◌then◌else◌, []};
+ghost use Rattle.acct_wire.specs.Reasons.{reason_number};
 ghost use Rattle.acct_wire.specs.declared.reason.Reason.{Reason};
+ghost use Rattle.acct_wire.specs.declared.reason.TheConstants.Reason.{COUNT};
 ghost use Rattle.acct_service.specs.Serving.{Serves, TakesTurn, TakesTurns, Counts, AtMost};
-ghost use Rattle.acct_service.specs.Serving.{place_of};
+ghost use Rattle.acct_service.specs.Serving.{drops_of};
 
 use crate::exchange::Exchange;
 use crate::outbox::Outbox;
@@ -20,8 +22,8 @@ pub struct Served {
     pub events: u64,
     /// The replies that were taken.
     pub replies: u64,
-    /// The datagrams that were dropped, for each reason in the order of their numbers.
-    pub dropped: [u64; 13],
+    /// The datagrams that were dropped, for each reason in the order of the numbers.
+    pub dropped: [u64; Reason::COUNT],
     /// The requests at the desk for whose response there was no memory.
     pub mute: u64,
     /// The calls of the exchange that failed.
@@ -30,10 +32,10 @@ pub struct Served {
 
 // Where a reason is counted.
 fn place(reason: Reason) -> usize
-    ensures place { result ≡ place_of reason }
-    ensures within { result < 13 }
+    ensures place { result ≡ reason_number reason - 1 }
+    ensures within { result < COUNT }
 {
-    reason as usize - 1
+    reason.number() as usize - 1
 }
 
 impl Served {
@@ -45,19 +47,25 @@ impl Served {
         Served {
             events: 0,
             replies: 0,
-            dropped: [0; 13],
+            dropped: [0; Reason::COUNT],
             mute: 0,
             faults: 0,
         }
     }
 
+    /// How many datagrams were dropped for a reason.
+    pub fn drops_for(&self, reason: Reason) -> u64
+        ensures { result ≡ drops_of self.now reason }
+    {
+        self.dropped[place(reason)]
+    }
+
     // Counts a datagram that was dropped.
     fn count_drop(&mut self, why: Reason)
-        requires { (reason : Reason)
-            → slice_index self.old.dropped (place_of reason) < 2 ^ 64 - 1 }
-        ensures dropped { (reason : Reason) → slice_index self.new.dropped (place_of reason)
-            ≡ slice_index self.old.dropped (place_of reason)
-            + (if place_of why == place_of reason then 1 else 0) }
+        requires { (reason : Reason) → drops_of self.old reason < 2 ^ 64 - 1 }
+        ensures dropped { (reason : Reason) → drops_of self.new reason
+            ≡ drops_of self.old reason
+            + (if reason_number why == reason_number reason then 1 else 0) }
         ensures others { self.new ≡ record self.old { dropped = self.new.dropped } }
     {
         self.dropped[place(why)] += 1;

@@ -1,5 +1,6 @@
 pub mod Clients
 pub mod ClientFaults
+pub mod Reasons
 pub mod Datagrams
 pub mod Outcomes
 pub mod Laws

@@ -1,4 +1,8 @@
 //! Why a datagram is dropped.
+ghost use Rattle.std.specs.Prelude.{◌≡◌, ◌≤◌};
+ghost use Rattle.acct_wire.specs.Reasons.{reason_number};
+ghost use Rattle.acct_wire.specs.declared.reason.TheConstants.Reason.{COUNT};
+
 use thiserror::Error;
 
 /// Why a datagram is dropped, in the order in which it is tested. The number of a reason is the one
@@ -44,4 +48,18 @@ pub enum Reason {
     /// The book or memory refused.
     #[error("the book is unavailable")]
     Unavailable = 13,
+}
+
+impl Reason {
+    /// How many reasons there are. They are numbered from 1 on, and no number is left out.
+    pub const COUNT: usize = 13;
+
+    /// The number that operators see, 1 to `COUNT`.
+    pub fn number(self) -> u8
+        ensures number { result ≡ reason_number self }
+        ensures least { 1 ≤ result }
+        ensures most { result ≤ COUNT }
+    {
+        self as u8
+    }
 }

@@ -4,21 +4,21 @@ use std::alloc::Global;
 use std::fmt::Display;
 use std::test::Fail;
 
-// The reasons in the order of their tests.
-const REASONS: [u8; 13] = [
-    Reason::UnknownClient as u8,
-    Reason::TooShort as u8,
-    Reason::BadLength as u8,
-    Reason::WrongCode as u8,
-    Reason::BadAuthenticator as u8,
-    Reason::BadAttribute as u8,
-    Reason::NoStatus as u8,
-    Reason::UnknownStatus as u8,
-    Reason::NoSessionId as u8,
-    Reason::BadField as u8,
-    Reason::TotalTooLarge as u8,
-    Reason::BalanceLimit as u8,
-    Reason::Unavailable as u8,
+// The reasons in the order of their numbers.
+const REASONS: [Reason; Reason::COUNT] = [
+    Reason::UnknownClient,
+    Reason::TooShort,
+    Reason::BadLength,
+    Reason::WrongCode,
+    Reason::BadAuthenticator,
+    Reason::BadAttribute,
+    Reason::NoStatus,
+    Reason::UnknownStatus,
+    Reason::NoSessionId,
+    Reason::BadField,
+    Reason::TotalTooLarge,
+    Reason::BalanceLimit,
+    Reason::Unavailable,
 ];
 
 const CLIENT_ERRORS: [u8; 3] = [
@@ -29,7 +29,9 @@ const CLIENT_ERRORS: [u8; 3] = [
 
 #[test]
 fn reasons_and_client_errors_are_numbered(rt: HostRuntime) {
-    assert!(rt; REASONS == [1, 2, 3, 4, 5, 6, 7, 8, 9, 10, 11, 12, 13]);
+    for (place, reason) in REASONS.iter().enumerate() {
+        assert!(rt; reason.number() as usize == place + 1);
+    }
     assert!(rt; CLIENT_ERRORS == [1, 2, 3]);
 }
 

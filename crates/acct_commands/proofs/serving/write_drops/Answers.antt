@@ -7,7 +7,7 @@ use Rattle.acct_commands.proofs.serving.write_drops.Goals as goal
 
 pub loop-place-preserved : goal.loop-place-preserved
 loop-place-preserved g c =
-    let dropped = c.args.dropped.now in
+    let dropped = c.args.served.now.dropped in
     let place = c.loop-place.place in
     let inside : place < length dropped = omega (arith, c.loop-place.auto.place-end) in
     let sofar : length (take place dropped) ≡ place = length-take-le place dropped (omega arith) in

@@ -6,4 +6,4 @@ use Rattle.acct_commands.proofs.serving.write_drops.Given as goal
 
 abbrev pub invariant-loop-place : goal.invariant-loop-place
 invariant-loop-place g l = Appends (g.W.Write.contents l.fn.output)
-    (g.W.Write.contents l.output) (drops_lines 1 (take l.place l.dropped))
+    (g.W.Write.contents l.output) (drops_lines 1 (take l.place l.served.dropped))

@@ -1,11 +1,12 @@
-use Rattle.std.proofs.Common.{◌≡◌, [], ◌∷◌, slice_index, refl}
+use Rattle.std.proofs.Common.{◌≡◌, ◌-◌, replicate, slice_index, refl}
+use Rattle.acct_wire.specs.Reasons.{reason_number}
 use Rattle.acct_wire.specs.declared.reason.Reason.{Reason}
 use Rattle.acct_wire.specs.declared.reason.Reason.TheVariants.{UnknownClient}
-use Rattle.acct_service.specs.Serving.{place_of}
+use Rattle.acct_wire.specs.declared.reason.TheConstants.Reason.{COUNT}
 use Rattle.acct_service.proofs.server.Served.none.Goals as goal
 
 nothing : (reason : Reason)
-    → slice_index (0 ∷ 0 ∷ 0 ∷ 0 ∷ 0 ∷ 0 ∷ 0 ∷ 0 ∷ 0 ∷ 0 ∷ 0 ∷ 0 ∷ 0 ∷ []) (place_of reason) ≡ 0
+    → slice_index (replicate COUNT 0) (reason_number reason - 1) ≡ 0
 nothing UnknownClient = refl
 nothing other = refl
 
