@@ -5,6 +5,7 @@ use acct_samples::sample_config;
 use acct_service::lists::{ListExchange, Planned};
 use acct_service::{Asked, Call, Event, Exchange, Served, What, serve};
 use acct_site::Config;
+use acct_wire::Reason;
 use radius_codec::sign_request;
 use std::alloc::Global;
 use std::test::Fail;
@@ -177,7 +178,9 @@ fn refusals(served: &Served, exchange: &ListExchange) -> u64 {
         .iter()
         .filter(|call| octets_of(call).starts_with(b"HTTP/1.1 503 "))
         .count();
-    served.dropped[12].saturating_add(refused as u64)
+    served
+        .drops_for(Reason::Unavailable)
+        .saturating_add(refused as u64)
 }
 
 fn planned_turns(alloc: Global, turns: &[Sent]) -> Result<Vec<Planned>, Fail> {

@@ -3,16 +3,27 @@ use crate::sample_site::{AP1, Answer, Sent, Site};
 use crate::texts::*;
 use acct_book::MemBook;
 use acct_service::Served;
+use acct_wire::Reason;
 use std::alloc::Global;
 use std::test::Fail;
 
-// The turns of a run over an empty book, their replies, what is counted, and the balances of `al`
-// and `bo` afterwards.
+// The turns of a run over an empty book, their replies, what is counted beside the drops, one drop
+// for each of these reasons, and the balances of `al` and `bo` afterwards.
 struct Script {
     turns: &'static [Sent],
     answers: &'static [Answer],
     served: Served,
+    drops: &'static [Reason],
     balances: (i64, i64),
+}
+
+// What is counted in a run, with its drops.
+fn counted(script: &Script) -> Served {
+    let mut served = script.served;
+    for reason in script.drops {
+        served.dropped[reason.number() as usize - 1] = 1;
+    }
+    served
 }
 
 // Whether a run is as it is to be, and the exchange has counted as much.
@@ -23,7 +34,7 @@ fn is_served(alloc: Global, script: &Script) -> Result<bool, Fail> {
     let turns = script.turns.len() as u64;
     let events = script.served.events as usize;
     Ok(
-        ran.served == script.served
+        ran.served == counted(script)
             && ran.counts == (turns, script.served.faults, events, replies)
             && ran.right == replies
             && site.balances() == script.balances,
@@ -46,10 +57,11 @@ static THREE_TURNS: Script = Script {
     served: Served {
         events: 2,
         replies: 2,
-        dropped: [0; 13],
+        dropped: [0; Reason::COUNT],
         mute: 0,
         faults: 0,
     },
+    drops: &[],
     balances: (0, 0),
 };
 
@@ -100,10 +112,11 @@ static CHARGED: Script = Script {
     served: Served {
         events: 8,
         replies: 8,
-        dropped: [0; 13],
+        dropped: [0; Reason::COUNT],
         mute: 0,
         faults: 0,
     },
+    drops: &[],
     balances: (-20, 0),
 };
 
@@ -138,10 +151,11 @@ static TOPPED_UP: Script = Script {
     served: Served {
         events: 4,
         replies: 4,
-        dropped: [0; 13],
+        dropped: [0; Reason::COUNT],
         mute: 0,
         faults: 0,
     },
+    drops: &[],
     balances: (500, 0),
 };
 
@@ -178,10 +192,11 @@ static LOOKED_AT: Script = Script {
     served: Served {
         events: 5,
         replies: 5,
-        dropped: [0; 13],
+        dropped: [0; Reason::COUNT],
         mute: 0,
         faults: 0,
     },
+    drops: &[],
     balances: (0, -20),
 };
 
@@ -206,10 +221,11 @@ static RESTARTED: Script = Script {
     served: Served {
         events: 3,
         replies: 3,
-        dropped: [0; 13],
+        dropped: [0; Reason::COUNT],
         mute: 0,
         faults: 0,
     },
+    drops: &[],
     balances: (-20, 0),
 };
 
@@ -229,10 +245,11 @@ static LOST: Script = Script {
     served: Served {
         events: 2,
         replies: 1,
-        dropped: [0; 13],
+        dropped: [0; Reason::COUNT],
         mute: 0,
         faults: 2,
     },
+    drops: &[],
     balances: (500, 0),
 };
 
@@ -256,10 +273,17 @@ static BROKEN: Script = Script {
     served: Served {
         events: 6,
         replies: 0,
-        dropped: [1, 1, 1, 0, 1, 1, 0, 0, 0, 0, 0, 0, 0],
+        dropped: [0; Reason::COUNT],
         mute: 0,
         faults: 1,
     },
+    drops: &[
+        Reason::UnknownClient,
+        Reason::TooShort,
+        Reason::BadLength,
+        Reason::BadAuthenticator,
+        Reason::BadAttribute,
+    ],
     balances: (0, 0),
 };
 
