@@ -5,7 +5,7 @@ ghost use Rattle.std.specs.Prelude.{◌^◌, ◌<◌};
 use acct_model::{Entry, Report, entry_of};
 use radius_codec::attribute_types::{ACCT_SESSION_ID, ACCT_STATUS_TYPE, USER_NAME};
 use radius_codec::codes::{ACCOUNTING_REQUEST, ACCOUNTING_RESPONSE};
-use radius_codec::{front, read, request_matches, response_matches, write_request, write_response};
+use radius_codec::{Front, read, request_matches, response_matches, write_request, write_response};
 use std::alloc::Global;
 use std::test::Fail;
 
@@ -27,11 +27,13 @@ fn answer(
 ) -> Result<(Report, usize), Fail>
     requires { moment < 2 ^ 53 }
 {
-    let octets = front(datagram)?;
-    if octets[0] != ACCOUNTING_REQUEST || !request_matches(octets, SECRET) {
+    let front = Front::of(datagram)?;
+    if front.code() != ACCOUNTING_REQUEST || !request_matches(&front, SECRET) {
         return Err(Fail::from("no request of a client that shares the secret"));
     }
-    let packet = read(octets)?;
+    let Some(packet) = front.packet() else {
+        return Err(Fail::from("an attribute without an end"));
+    };
     let Entry::Report(report) = entry_of(alloc, "ap1", &packet, moment)? else {
         return Err(Fail::from("no report of a session"));
     };
@@ -42,11 +44,11 @@ fn answer(
 // Whether a datagram is the response to the client's request, so that it need not be sent again.
 fn is_answered(request: &[u8], datagram: &[u8]) -> Result<bool, Fail> {
     let sent = read(request)?;
-    let octets = front(datagram)?;
+    let front = Front::of(datagram)?;
     Ok(
-        octets[0] == ACCOUNTING_RESPONSE
-            && octets[1] == sent.id
-            && response_matches(octets, &sent.authenticator, SECRET),
+        front.code() == ACCOUNTING_RESPONSE
+            && front.octets()[1] == sent.id
+            && response_matches(&front, &sent.authenticator, SECRET),
     )
 }
 

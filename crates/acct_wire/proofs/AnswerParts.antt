@@ -126,7 +126,8 @@ module _ {B : Type 0} (b : Ghosts B) (clients : List Client) (plans : List Plan)
 
   module _ (old new : B) (client : Client) (identifier : ℕ) (authenticator : List ℕ)
       (attributes : Attributes) (asked : Entry)
-      (asks : RequestAsks clients source bytes moment client identifier authenticator attributes asked)
+      (asks : RequestAsks clients source bytes moment client identifier authenticator attributes
+      asked)
     where
       for : RequestAsksFor clients source bytes moment asked
       for = record {

@@ -51,7 +51,8 @@ spelled_some name attributes moment none =
 
 -- a datagram that asks for some entry asks for one that can be told
 pub asked_some : (clients : List Client) (source bytes : List ℕ) (moment : ℕ)
-    → IsAsking clients source bytes → (asked : Entry) × RequestAsksFor clients source bytes moment asked
+    → IsAsking clients source bytes
+    → (asked : Entry) × RequestAsksFor clients source bytes moment asked
 asked_some clients source bytes moment
     (client, known, (identifier, authenticator, attributes, request, none)) =
     let spelled = spelled_some client.name attributes moment none in (

@@ -88,8 +88,8 @@ Breaks clients source bytes reason =
 
 -- The datagram is a client's signed request that spells this entry.
 pub record RequestAsks (clients : List Client) (source bytes : List ℕ) (moment : ℕ)
-    (client : Client) (identifier : ℕ) (authenticator : List ℕ) (attributes : Attributes) (asked : Entry)
-    : Type 0 where
+    (client : Client) (identifier : ℕ) (authenticator : List ℕ) (attributes : Attributes)
+    (asked : Entry) : Type 0 where
   pub known : client_at source clients ≡ Some client
   pub request : IsRequest client.secret bytes identifier authenticator attributes
   pub faultless : refusal_of attributes ≡ None

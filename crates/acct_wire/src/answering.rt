@@ -14,7 +14,7 @@ use crate::reason::Reason;
 use acct_book::{Book, RecordError, record};
 use acct_model::{Entry, EntryError, Plans, entry_of};
 use radius_codec::codes::ACCOUNTING_REQUEST;
-use radius_codec::{CodecError, Packet, front, read, request_matches, write_response};
+use radius_codec::{CodecError, Front, Packet, request_matches, write_response};
 use std::alloc::Global;
 
 /// What became of a datagram.
@@ -110,20 +110,20 @@ fn request_in<'b>(secret: &[u8], bytes: &'b [u8]) -> Result<Packet<'b>, Reason>
         packet.authenticator packet.attributes) }
     ensures breaks { IfErr result (BreaksFirst secret.now bytes.now) }
 {
-    let octets = match front(bytes) {
-        Ok(octets) => octets,
+    let front = match Front::of(bytes) {
+        Ok(front) => front,
         Err(CodecError::TooShort) => return Err(Reason::TooShort),
         Err(_) => return Err(Reason::BadLength),
     };
-    if octets[0] != ACCOUNTING_REQUEST {
+    if front.code() != ACCOUNTING_REQUEST {
         return Err(Reason::WrongCode);
     }
-    if !request_matches(octets, secret) {
+    if !request_matches(&front, secret) {
         return Err(Reason::BadAuthenticator);
     }
-    match read(bytes) {
-        Ok(packet) => Ok(packet),
-        Err(_) => Err(Reason::BadAttribute),
+    match front.packet() {
+        Some(packet) => Ok(packet),
+        None => Err(Reason::BadAttribute),
     }
 }
 

@@ -27,6 +27,11 @@ pub record HasFront (bytes : List ℕ) : Type 0 where
 abbrev pub front_of : List ℕ → List ℕ
 front_of bytes = take (length_field bytes) bytes
 
+-- What a `Front` keeps: its octets are as many as their Length field counts.
+pub record IsFront (octets : List ℕ) : Type 0 where
+  pub field : HasFront octets
+  pub whole : length octets ≡ length_field octets
+
 -- The bytes begin with a packet of this code, identifier, authenticator and list of attributes (RFC
 -- 2866, section 3).
 pub record Framed (bytes : List ℕ) (code identifier : ℕ) (authenticator : List ℕ)

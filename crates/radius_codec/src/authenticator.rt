@@ -2,32 +2,30 @@
 ghost use Rattle.std.specs.Prelude.{◌≡◌, ◌≤◌, ◌↔◌, IsTrue, length};
 ghost use Rattle.radius_codec.specs.Packet.{digest, HasDigest, IsSigned, IsSignedResponse};
 
+use crate::front::Front;
 use crate::limits::{AUTHENTICATOR, HEADER};
 use md5::{Digest, Md5};
 
 /// Whether a request's authenticator is the digest of the request and the secret (RFC 2866, section
-/// 3). `front` is the whole packet without padding, as the function `front` gives it.
-pub fn request_matches(front: &[u8], secret: &[u8]) -> bool
-    requires { 20 ≤ length front.now }
+/// 3).
+pub fn request_matches(front: &Front<'_>, secret: &[u8]) -> bool
     ensures { IsTrue result ↔ IsSigned front.now secret.now }
 {
-    has_digest(front, &[0; AUTHENTICATOR], secret)
+    has_digest(front.octets(), &[0; AUTHENTICATOR], secret)
 }
 
 /// Whether a response's authenticator is the digest of the response, the authenticator of the
-/// request that it answers, and the secret (RFC 2866, section 3). `front` is the whole packet
-/// without padding, as the function `front` gives it. Code and identifier are not compared with the
-/// request's.
+/// request that it answers, and the secret (RFC 2866, section 3). Code and identifier are not
+/// compared with the request's.
 pub fn response_matches(
-    front: &[u8],
+    front: &Front<'_>,
     request_authenticator: &[u8; AUTHENTICATOR],
     secret: &[u8],
 ) -> bool
-    requires { 20 ≤ length front.now }
     ensures { IsTrue result ↔
         IsSignedResponse front.now request_authenticator.now secret.now }
 {
-    has_digest(front, request_authenticator, secret)
+    has_digest(front.octets(), request_authenticator, secret)
 }
 
 // Whether a packet's authenticator is its digest with `place` in the authenticator's place.

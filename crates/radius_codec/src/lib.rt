@@ -26,6 +26,7 @@ pub mod attribute_types;
 mod attributes;
 mod authenticator;
 pub mod codes;
+mod front;
 mod limits;
 mod packet;
 mod request;
@@ -34,6 +35,7 @@ mod writing;
 
 pub use attributes::{AttributeIter, Attributes, word_of};
 pub use authenticator::{request_matches, response_matches};
-pub use packet::{CodecError, Packet, front, read};
+pub use front::Front;
+pub use packet::{CodecError, Packet, read};
 pub use request::{TooLong, sign_request, write_request};
 pub use response::write_response;

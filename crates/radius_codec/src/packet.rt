@@ -1,10 +1,9 @@
 //! Packets as they stand in a datagram.
-ghost use Rattle.std.specs.Prelude.{◌≡◌, ℕ, List, IfOk, IfErr, OnOk};
-ghost use Rattle.radius_codec.specs.Packet.{HasFront, front_of, Framed, IsFrontFault, IsFault};
+ghost use Rattle.std.specs.Prelude.{◌≡◌, ℕ, List, IfOk, IfErr};
+ghost use Rattle.radius_codec.specs.Packet.{Framed, IsFault};
 
 use crate::attributes::Attributes;
-use crate::limits::{AUTHENTICATOR, HEADER, LONGEST_PACKET};
-use byteorder::{BigEndian, ByteOrder};
+use crate::front::Front;
 use thiserror::Error;
 
 /// A packet (RFC 2866, section 3), whose attributes lie in the datagram that it was read from.
@@ -52,37 +51,8 @@ pub fn read(bytes: &[u8]) -> Result<Packet<'_>, CodecError>
         attributes ≡ packet.attributes) }
     ensures fault { IfErr result (IsFault bytes.now) }
 {
-    let octets = front(bytes)?;
-    let Some(attributes) = Attributes::of_octets(&octets[HEADER..]) else {
-        return Err(CodecError::BadAttribute);
-    };
-    let mut authenticator = [0; AUTHENTICATOR];
-    authenticator.copy_from_slice(&octets[4..HEADER]);
-    Ok(Packet {
-        code: octets[0],
-        id: octets[1],
-        authenticator,
-        attributes,
-    })
-}
-
-/// The octets of a datagram that its Length field counts, without the padding after them (RFC
-/// 2866, section 3). The attributes are not looked at.
-///
-/// # Errors
-///
-/// `TooShort` and `BadLength`, the first that holds.
-pub fn front(bytes: &[u8]) -> Result<&[u8], CodecError>
-    ensures found { OnOk result (HasFront bytes.now) }
-    ensures octets { IfOk result (λ front. front.now ≡ front_of bytes.now) }
-    ensures fault { IfErr result (IsFrontFault bytes.now) }
-{
-    if bytes.len() < HEADER {
-        return Err(CodecError::TooShort);
+    match Front::of(bytes)?.packet() {
+        Some(packet) => Ok(packet),
+        None => Err(CodecError::BadAttribute),
     }
-    let size = BigEndian::read_u16(&bytes[2..4]) as usize;
-    if size < HEADER || size > LONGEST_PACKET || size > bytes.len() {
-        return Err(CodecError::BadLength);
-    }
-    Ok(&bytes[..size])
 }

@@ -1,7 +1,7 @@
 //! Datagrams that are read.
 use crate::samples::{FILL, PADDED_PACKET, START_PACKET};
 use foreign_packets::SECRET;
-use radius_codec::{CodecError, front, read, sign_request, word_of};
+use radius_codec::{CodecError, Front, read, sign_request, word_of};
 
 // RFC 2865, section 5: a number has four octets, the high one first.
 const NUMBERS: [(&[u8], Option<u32>); 4] = [
@@ -108,7 +108,7 @@ fn has_fault(size: usize, length: [u8; 2], fault: Option<CodecError>) -> bool {
     let mut datagram = [2; 4097];
     datagram[2..4].copy_from_slice(&length);
     match datagram.get(..size) {
-        Some(octets) => front(octets).err() == fault && read(octets).err() == fault,
+        Some(octets) => Front::of(octets).err() == fault && read(octets).err() == fault,
         None => false,
     }
 }

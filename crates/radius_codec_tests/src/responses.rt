@@ -2,7 +2,7 @@
 use crate::samples::{FILL, PADDED_PACKET, START_PACKET, holds};
 use foreign_packets::{FOREIGN_PACKETS, SECRET};
 use md5::{Digest, Md5};
-use radius_codec::{front, read, request_matches, response_matches, write_request, write_response};
+use radius_codec::{Front, read, request_matches, response_matches, write_request, write_response};
 
 // RFC 1321, section A.5.
 const DIGEST_OF_ABC: [u8; 16] = [
@@ -16,8 +16,16 @@ fn digest_of_abc(rt: HostRuntime) {
 
 #[test]
 fn a_start_matches_its_secret(rt: HostRuntime) {
-    assert!(rt; request_matches(&START_PACKET, SECRET));
-    assert!(rt; !request_matches(&START_PACKET, b"another"));
+    assert!(rt; matches(&START_PACKET, SECRET));
+    assert!(rt; !matches(&START_PACKET, b"another"));
+}
+
+// Whether a datagram is signed as a request with a secret.
+fn matches(datagram: &[u8], secret: &[u8]) -> bool {
+    match Front::of(datagram) {
+        Ok(front) => request_matches(&front, secret),
+        Err(_) => false,
+    }
 }
 
 // The response to the Start, with a digest of Python's hashlib.
@@ -54,7 +62,7 @@ fn foreign_requests_are_answered(rt: HostRuntime) {
 }
 
 fn matches_and_gets(request: &[u8], response: &[u8]) -> bool {
-    request.len() >= 20 && request_matches(request, SECRET) && gets(request, response)
+    matches(request, SECRET) && gets(request, response)
 }
 
 // The responses to foreign requests match the authenticators of these, under their secret alone.
@@ -70,9 +78,9 @@ fn foreign_responses_match(rt: HostRuntime) {
 }
 
 fn is_matched(request: &[u8], response: &[u8]) -> bool {
-    match (read(request), front(response)) {
-        (Ok(packet), Ok(octets)) => {
-            matches_found(octets, packet.authenticator) == (true, false, false)
+    match (read(request), Front::of(response)) {
+        (Ok(packet), Ok(front)) => {
+            matches_found(&front, packet.authenticator) == (true, false, false)
         }
         _ => false,
     }
@@ -80,16 +88,13 @@ fn is_matched(request: &[u8], response: &[u8]) -> bool {
 
 // Whether a response matches under the secret, under another secret, and with another authenticator
 // of its request.
-fn matches_found(octets: &[u8], authenticator: [u8; 16]) -> (bool, bool, bool) {
-    if octets.len() < 20 {
-        return (false, false, false);
-    }
+fn matches_found(front: &Front<'_>, authenticator: [u8; 16]) -> (bool, bool, bool) {
     let mut other = authenticator;
     other[15] ^= 1;
     (
-        response_matches(octets, &authenticator, SECRET),
-        response_matches(octets, &authenticator, b"xyzzy5462"),
-        response_matches(octets, &other, SECRET),
+        response_matches(front, &authenticator, SECRET),
+        response_matches(front, &authenticator, b"xyzzy5462"),
+        response_matches(front, &other, SECRET),
     )
 }
 
