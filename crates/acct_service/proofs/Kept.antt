@@ -40,7 +40,8 @@ kept_longer newer old last asked is kept =
         same,
         subst (λ cs. Contains cs (OfTopUp (topup_claim topup)))
             (sym (filter_map-append claim_of newer old) ∙ ap claims (sym is))
-            (Contains-append_right (claims newer) (claims old) (OfTopUp (topup_claim topup)) claimed),
+            (Contains-append_right (claims newer) (claims old) (OfTopUp (topup_claim topup))
+            claimed),
       )
     ]
 
@@ -193,7 +194,10 @@ span_kept plans old new span (end, goes, may) =
     let (first, was) = gone.accepted in
     let (newer, is) = stop_kept plans span end new may in
     record {
-      accepted = (newer ++ first, is ∙ ap (λ es. newer ++ es) was ∙ sym (append_assoc newer first old));
+      accepted = (
+        newer ++ first,
+        is ∙ ap (λ es. newer ++ es) was ∙ sym (append_assoc newer first old),
+      );
       acknowledged = λ asked at. kept_longer newer end new asked is (gone.acknowledged asked at);
     }
 

@@ -219,7 +219,8 @@ module _ {B : Type 0} (b : Ghosts B) (config : Config) where
       record { event = event; answer = answer; effect = t.effect; is_taken = is_taken } in
       record {
         answered = λ v. of_one
-            (λ v. AnswersEvent config v.event.moment v.event.what v.answer v.effect) visit v t.answers;
+            (λ v. AnswersEvent config v.event.moment v.event.what v.answer v.effect) visit v
+            t.answers;
         leads = λ sound history stood. record {
           after = after_effect history t.effect;
           run = (
@@ -274,8 +275,8 @@ module _ {B : Type 0} (b : Ghosts B) (config : Config) where
       → Attends b config more mid new later last
       → Attends b config (visits ++ more) old new told last
   attends_join visits more old mid new told later last first second = record {
-    answered = of_both (λ v. AnswersEvent config v.event.moment v.event.what v.answer v.effect) visits
-        more first.answered second.answered;
+    answered = of_both (λ v. AnswersEvent config v.event.moment v.event.what v.answer v.effect)
+        visits more first.answered second.answered;
     leads = λ sound history stood.
         let one = first.leads (second.keeps.was_sound sound) history stood in
         leads_join visits more old mid new history one (second.leads sound one.after one.stands);

@@ -1,7 +1,7 @@
 -- What a server does in its turns: a run of the machine, over a book, told by the exchange, and
 -- counted.
-use Rattle.std.specs.Prelude.{◌≡◌, ◌≢◌, ◌⊎◌, ◌+◌, ◌-◌, ◌≤◌, ℕ, Bool, true, false, ◌==◌, List, [], ◌∷◌}
-use Rattle.std.specs.Prelude.{Option, map, length, count_by, slice_index, Contains}
+use Rattle.std.specs.Prelude.{◌≡◌, ◌≢◌, ◌⊎◌, ◌+◌, ◌-◌, ◌≤◌, ℕ, Bool, true, false, ◌==◌, List, []}
+use Rattle.std.specs.Prelude.{◌∷◌, Option, map, length, count_by, slice_index, Contains}
 use Rattle.std.specs.List.{flat_map}
 use Rattle.acct_model.specs.declared.plan.Plan.{Plan}
 use Rattle.acct_model.specs.declared.entry.Entry.{Entry}

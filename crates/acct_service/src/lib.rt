@@ -12,18 +12,18 @@
 //!    stays recorded when its reply fails.
 #![tactic(auto)]
 
+mod answering;
 mod event;
 mod exchange;
 pub mod laws;
 pub mod lists;
-mod outbox;
 mod server;
 mod slices;
 mod stepping;
 
+pub use answering::Outbox;
 pub use event::{Event, What};
 pub use exchange::{Asked, Call, Exchange, Fault};
-pub use outbox::Outbox;
 pub use server::{Served, serve, take_turn, take_turns};
 pub use slices::{Until, serve_while_open};
 pub use stepping::{Turn, step};

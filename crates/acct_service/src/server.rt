@@ -7,8 +7,8 @@ ghost use Rattle.acct_wire.specs.declared.reason.TheConstants.Reason.{COUNT};
 ghost use Rattle.acct_service.specs.Serving.{Serves, TakesTurn, TakesTurns, Counts, AtMost};
 ghost use Rattle.acct_service.specs.Serving.{drops_of};
 
+use crate::answering::Outbox;
 use crate::exchange::Exchange;
-use crate::outbox::Outbox;
 use crate::stepping::{Turn, step};
 use acct_book::Book;
 use acct_site::Config;

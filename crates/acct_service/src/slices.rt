@@ -1,11 +1,12 @@
-//! Turns in slices, after each of which the server looks whether its book still tells what it holds.
+//! Turns in slices, after each of which the server looks whether its book still tells what it
+//! holds.
 ghost use Rattle.std.specs.Prelude.{◌≡◌, ◌+◌, ◌-◌, ◌^◌, ◌<◌, ◌≤◌, false, IsTrue};
 ghost use Rattle.acct_book.specs.inner.Step.{OnlyLooks};
 ghost use Rattle.acct_service.specs.Serving.{Serves, AtMost};
 ghost use Rattle.acct_service.specs.Slices.{MakesTurns};
 
+use crate::answering::Outbox;
 use crate::exchange::Exchange;
-use crate::outbox::Outbox;
 use crate::server::{Served, take_turns};
 use acct_book::Book;
 use acct_site::Config;

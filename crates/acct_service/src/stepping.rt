@@ -1,8 +1,8 @@
 //! One event, one answer.
 ghost use Rattle.acct_service.specs.Machine.{TakesStep, answer_of};
 
+use crate::answering::Outbox;
 use crate::event::{Event, What};
-use crate::outbox::Outbox;
 use acct_book::Book;
 use acct_site::Config;
 use acct_wire::{Datagram, Reason};

@@ -1,7 +1,7 @@
 use Rattle.std.proofs.Common.{Ok, Err}
 use Rattle.acct_model.specs.declared.shown.NoMemory.{NoMemory}
 use Rattle.acct_service.proofs.Steps.{request_step}
-use Rattle.acct_service.proofs.outbox.Outbox.answer_request.Goals as goal
+use Rattle.acct_service.proofs.answering.Outbox.answer_request.Goals as goal
 
 pub returns-in-Ok : goal.returns-in-Ok
 returns-in-Ok g c =

@@ -1,4 +1,4 @@
-//! What is to be sent.
+//! Datagrams and requests answered, and the octets that are then to be sent.
 ghost use Rattle.std.specs.Prelude.{◌≡◌, ◌≤◌, ◌<◌, ◌^◌, [], ℕ};
 ghost use Rattle.acct_service.specs.declared.event.What.TheVariants as what;
 ghost use Rattle.acct_service.specs.Machine.{TakesStep, answer_of};

@@ -1,6 +1,6 @@
 use Rattle.acct_wire.specs.declared.answering.Outcome.TheVariants.{Reply, Drop}
 use Rattle.acct_service.proofs.Steps.{datagram_step}
-use Rattle.acct_service.proofs.outbox.Outbox.answer_datagram.Goals as goal
+use Rattle.acct_service.proofs.answering.Outbox.answer_datagram.Goals as goal
 
 pub returns-in-Reply : goal.returns-in-Reply
 returns-in-Reply g c port =
