@@ -1,7 +1,8 @@
 //! `feed`: the lines of a script, answered over any book.
 //!
 //! 1. A line is read whole before it is answered; what isn't in the language is a bad line.
-//! 2. What a line is answered by, and its text, are definitions (`specs/Feed.antt`, `Answers.antt`).
+//! 2. What a line is answered by, and its text, are definitions (`specs/Feed.antt`,
+//!    `Answers.antt`).
 //! 3. A run answers each line over the book as the line before left it, and prints its answer.
 #![tactic(auto)]
 

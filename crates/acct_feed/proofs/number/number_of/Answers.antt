@@ -3,15 +3,13 @@ use Rattle.std.specs.Char.{is_ascii_digit}
 use Rattle.std.specs.List.{list_all}
 use Rattle.acct_feed.proofs.Numbers.{parsed, too_long, no_digits}
 use Rattle.acct_feed.proofs.number.number_of.Goals as goal
-use Rattle.acct_feed.proofs.number.number_of.Goals.{then-word-gt-MOST_DIGITS-via-then-word-gt-MOST_DIGITS}
-use Rattle.acct_feed.proofs.number.number_of.Goals.{then-word-gt-MOST_DIGITS-via-else-word-gt-MOST_DIGITS+then-not-are_digits}
 
 pub returns-then-word-gt-MOST_DIGITS : goal.returns-then-word-gt-MOST_DIGITS
 returns-then-word-gt-MOST_DIGITS c =
     elim c.then-word-gt-MOST_DIGITS.branch [
-      | then-word-gt-MOST_DIGITS-via-then-word-gt-MOST_DIGITS w ↦ let long : 20 < length
+      | goal.then-word-gt-MOST_DIGITS-via-then-word-gt-MOST_DIGITS w ↦ let long : 20 < length
           c.args.word.now = omega arith in too_long c.args.word.now long
-      | then-word-gt-MOST_DIGITS-via-else-word-gt-MOST_DIGITS+then-not-are_digits w ↦ let none :
+      | goal.then-word-gt-MOST_DIGITS-via-else-word-gt-MOST_DIGITS+then-not-are_digits w ↦ let none :
           list_all is_ascii_digit c.args.word.now ≡ false = search rules in
           no_digits c.args.word.now none
     ]
