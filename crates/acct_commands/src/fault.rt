@@ -1,6 +1,7 @@
 //! What ends a command before its time.
 ghost use Rattle.std.specs.Prelude.{◌≡◌, ◌≢◌, Some, IfOk};
-ghost use Rattle.acct_commands.specs.Endings.{fault_text, store_fault_text, fault_status, ended_status};
+ghost use Rattle.acct_commands.specs.Endings.{fault_text, store_fault_text, fault_status};
+ghost use Rattle.acct_commands.specs.Endings.{ended_status};
 
 use acct_feed::Status;
 use acct_files::ConfigError;
