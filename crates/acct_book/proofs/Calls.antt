@@ -21,21 +21,21 @@ use Rattle.acct_book.proofs.Steps.{topup_over}
 -- what was read of a content before a report is put into it
 pub record ReportRead (plans : List Plan) (c : Content) (r : ReportFacts) (row : RowFacts)
     (before after : ℕ) (balance : ℤ) : Type 0 where
-  pub row_is : row ≡ next_row (c.rows (report_key r)) r
+  pub row_is : row ≡ next_row plans (c.rows (report_key r)) r
   pub before_is : before ≡ charge_before plans (c.rows (report_key r))
   pub after_is : after ≡ charge_of_row plans row
   pub balance_is : balance ≡ kept_balance c row.account
 
 pub report_read : (plans : List Plan) (c0 c1 : Content) (r : ReportFacts) (key : Key)
     (found : Option RowFacts) (row : RowFacts) (before after : ℕ) (account : List ℕ) (balance : ℤ)
-    → c1 ≡ c0 → key ≡ report_key r → found ≡ c0.rows key → row ≡ next_row found r
+    → c1 ≡ c0 → key ≡ report_key r → found ≡ c0.rows key → row ≡ next_row plans found r
     → before ≡ charge_before plans found → after ≡ charge_of_row plans row → account ≡ row.account
     → balance ≡ kept_balance c1 account
     → ReportRead plans c0 r row before after balance
 report_read plans c0 c1 r key found row before after account balance same k f w b a u n =
     let f' : found ≡ c0.rows (report_key r) = f ∙ ap c0.rows k in
     record {
-      row_is = w ∙ ap (λ o. next_row o r) f';
+      row_is = w ∙ ap (λ o. next_row plans o r) f';
       before_is = b ∙ ap (charge_before plans) f';
       after_is = a;
       balance_is = n ∙ (λ i. kept_balance (same i) (u i));
@@ -45,9 +45,10 @@ pub read_moved : (plans : List Plan) (c : Content) (r : ReportFacts) (row : RowF
     (before after : ℕ) (balance : ℤ) → ReportRead plans c r row before after balance
     → (balance +ℤ pos before) -ℤ pos after ≡ after_report plans c r
 read_moved plans c r row before after balance read =
-    let b : balance ≡ kept_balance c (next_row (c.rows (report_key r)) r).account = read.balance_is
+    let b : balance ≡ kept_balance c (next_row plans (c.rows (report_key r)) r).account =
+    read.balance_is
     ∙ ap (λ x. kept_balance c x.account) read.row_is in
-    let a : after ≡ charge_of_row plans (next_row (c.rows (report_key r)) r) = read.after_is
+    let a : after ≡ charge_of_row plans (next_row plans (c.rows (report_key r)) r) = read.after_is
     ∙ ap (charge_of_row plans) read.row_is in
     λ i. (b i +ℤ pos (read.before_is i)) -ℤ pos (a i)
 
@@ -59,7 +60,7 @@ pub read_new : (plans : List Plan) (c : Content) (history : List Entry) (r : Rep
 read_new plans c history r row before after balance m new read st is fits put =
     let is' : m ≡ after_report plans c r = is ∙ read_moved plans c r row before after balance
     read in
-    let put' : new ≡ with_session c (next_row (c.rows (report_key r)) r)
+    let put' : new ≡ with_session c (next_row plans (c.rows (report_key r)) r)
     (after_report plans c r) = put ∙ (λ i. with_session c (read.row_is i) (is' i)) in
     subst (IsNew plans history (entry.Report r)) (sym put')
     (report_new plans c history r st (subst InRange is' fits))
@@ -70,7 +71,8 @@ pub read_over : (plans : List Plan) (c : Content) (history : List Entry) (r : Re
     → (InRange ((balance +ℤ pos before) -ℤ pos after) → ⊥)
     → IsOverLimit plans history (entry.Report r) balance
 read_over plans c history r row before after balance read st over =
-    let b : balance ≡ kept_balance c (next_row (c.rows (report_key r)) r).account = read.balance_is
+    let b : balance ≡ kept_balance c (next_row plans (c.rows (report_key r)) r).account =
+    read.balance_is
     ∙ ap (λ x. kept_balance c x.account) read.row_is in
     subst (IsOverLimit plans history (entry.Report r)) (sym b)
     (report_over plans c history r st (λ fits. over (subst InRange

@@ -6,6 +6,7 @@ use Rattle.std.specs.Bool.{Decides}
 use Rattle.std.specs.List.{filter}
 use Rattle.std.specs.Option.{option_or, option_and_then, option_map_or}
 use Rattle.std.proofs.lemmas.List.Elements.{Contains-append_right}
+use Rattle.acct_model.specs.declared.plan.Plan.{Plan}
 use Rattle.acct_model.specs.declared.report.ReportKind.{ReportKind}
 use Rattle.acct_model.specs.declared.report.ReportKind.TheVariants.{Start, Stop, Interim}
 use Rattle.acct_model.specs.declared.entry.Restart.{Restart}
@@ -13,6 +14,7 @@ use Rattle.acct_model.specs.declared.entry.Entry.{Entry}
 use Rattle.acct_model.specs.declared.entry.Entry.TheVariants as entry
 use Rattle.acct_model.specs.Report.{ReportFacts}
 use Rattle.acct_model.specs.History.{session_of, same_session, all_reports, reports, first_of}
+use Rattle.acct_model.specs.History.{plan_of}
 use Rattle.acct_model.proofs.Lists.{here, nowhere, all_listed, from_filter, to_filter}
 use Rattle.acct_model.proofs.Balances.{first_of-none}
 use Rattle.acct_model.proofs.Same.{Decides-bytes_eq, Decides-same_session}
@@ -27,6 +29,7 @@ use Rattle.acct_book.specs.Rows.{name_of, is_stop, has_octets, first_stop, is_re
 use Rattle.acct_book.specs.Rows.{cause_of, calling_of, framed_of, row_from, row_of}
 use Rattle.acct_book.specs.inner.Next.{report_key, state_after, cause_after, raised_row}
 use Rattle.acct_book.specs.inner.Next.{next_row, charge_before}
+use Rattle.acct_book.specs.Charge.{plan_of_row}
 use Rattle.acct_book.specs.Laws.{RowsHaveTheirKeys, RowsAreOfSessions, IsFirstWith, IsFirstSaid}
 use Rattle.acct_book.specs.Laws.{RowsAreCharged, IsStopped, IsRestarted, IsStateOf, IsCauseOf}
 use Rattle.acct_book.specs.Laws.{RowsSayTheirEnds, StaysEnded, EndedStaysEnded}
@@ -45,20 +48,23 @@ some_of f None y is = cc
 some_of f (Some x) y is = (x, refl, cc)
 
 -- a row is made of all reports of its session and the first of them
-pub row_made : (history : List Entry) (key : Key) (row : RowFacts) → row_of history key ≡ Some row
+pub row_made : (plans : List Plan) (history : List Entry) (key : Key) (row : RowFacts)
+    → row_of plans history key ≡ Some row
     → (first : ReportFacts) × (first_of (all_of history key) ≡ Some first)
-    × (row_from key (is_restarted history key) (all_of history key) first ≡ row)
-row_made history key row is =
-    some_of (row_from key (is_restarted history key) (all_of history key))
+    × (row_from (plan_of plans history (name_of key)) key (is_restarted history key)
+    (all_of history key) first ≡ row)
+row_made plans history key row is =
+    some_of (row_from (plan_of plans history (name_of key)) key (is_restarted history key)
+    (all_of history key))
     (first_of (all_of history key)) row is
 
 pub rows_have_keys : RowsHaveTheirKeys
-rows_have_keys history key row is = ap key_of (sym (row_made history key row is).2)
+rows_have_keys plans history key row is = ap key_of (sym (row_made plans history key row is).2)
 
 pub rows_are_charged : RowsAreCharged
 rows_are_charged plans history key row is =
-    ap (charge_before plans) (sym is)
-    ∙ charge-row plans key (is_restarted history key) (all_of history key)
+    let made = row_made plans history key row is in
+    ap (charge_before plans) (sym is) ∙ charge-row plans history key made.0 made.1
 
 first_listed : {X : Type 0} (xs : List X) (x : X) → first_of xs ≡ Some x → Contains xs x
 first_listed [] x is = cc
@@ -78,11 +84,11 @@ to_first (y ∷ ys) x there = elim (first_of ys) as (λ o.
     ]
 
 pub rows_of_sessions : RowsAreOfSessions
-rows_of_sessions history key =
+rows_of_sessions plans history key =
     let name = name_of key in
     let all = all_of history key in
     let test = λ (report : ReportFacts). same_session name (session_of report) in (
-      λ (row, is). let made = row_made history key row is in
+      λ (row, is). let made = row_made plans history key row is in
           let kept = from_filter test (all_reports history) made.0
           (first_listed all made.0 made.1) in
           (sessions_listed.listed history name).1 (
@@ -93,8 +99,10 @@ rows_of_sessions history key =
       λ listed. let said = (sessions_listed.listed history name).0 listed in
           let first = to_first all said.0 (to_filter test (all_reports history) said.0 said.1
           ((Decides-same_session name (session_of said.0)).1 (sym said.2))) in (
-            row_from key (is_restarted history key) all first.0,
-            ap (option_map (row_from key (is_restarted history key) all)) first.1,
+            row_from (plan_of plans history (name_of key)) key (is_restarted history key) all
+                first.0,
+            ap (option_map (row_from (plan_of plans history (name_of key)) key
+                (is_restarted history key) all)) first.1,
           ),
     )
 
@@ -334,9 +342,9 @@ cause_says all None false is = record {
 }
 
 pub rows_say_ends : RowsSayTheirEnds
-rows_say_ends history key row is =
+rows_say_ends plans history key row is =
     let all = all_of history key in
-    let made = row_made history key row is in
+    let made = row_made plans history key row is in
     subst (λ (r : RowFacts). IsStateOf history key r.state × IsCauseOf all r.state r.cause)
     made.2 (
       state_says history key (first_stop all) (is_restarted history key) refl refl,
@@ -374,8 +382,9 @@ cause_stays Start old new = refl
 cause_stays Stop old new = refl
 cause_stays Interim old new = refl
 
-raised_stays : (row : RowFacts) (report : ReportFacts) → StaysEnded row (raised_row row report)
-raised_stays row report = record {
+raised_stays : (plan : Option Plan) (row : RowFacts) (report : ReportFacts)
+    → StaysEnded row (raised_row plan row report)
+raised_stays plan row report = record {
   ended = state_stays report.kind row.state;
   stopped = λ e. (
     ap (state_after report.kind) e ∙ stop_stays report.kind,
@@ -401,37 +410,39 @@ closed_stays client row = elim (bytes_eq client row.client) as (λ b.
     ]
 
 -- the row of a session after some entries more
-abbrev Goes : List Entry → Key → RowFacts → Type 0
-Goes history key row = (after : RowFacts) × (row_of history key ≡ Some after) × StaysEnded row after
+abbrev Goes : List Plan → List Entry → Key → RowFacts → Type 0
+Goes plans history key row =
+    (after : RowFacts) × (row_of plans history key ≡ Some after) × StaysEnded row after
 
-report_goes : (report : ReportFacts) (history : List Entry) (key : Key) (row : RowFacts) (b : Bool)
-    → same_key (report_key report) key ≡ b → row_of history key ≡ Some row
-    → Goes (entry.Report report ∷ history) key row
-report_goes report history key row true same is =
+report_goes : (plans : List Plan) (report : ReportFacts) (history : List Entry) (key : Key)
+    (row : RowFacts) (b : Bool)
+    → same_key (report_key report) key ≡ b → row_of plans history key ≡ Some row
+    → Goes plans (entry.Report report ∷ history) key row
+report_goes plans report history key row true same is =
     let own : report_key report ≡ key = key_is (report_key report) key same in (
-      raised_row row report,
-      ap (row_of (entry.Report report ∷ history)) (sym own)
-          ∙ row_of-report report history
-          ∙ ap (λ o. Some (next_row o report)) (ap (row_of history) own ∙ is),
-      raised_stays row report,
+      raised_row (plan_of_row plans row) row report,
+      ap (row_of plans (entry.Report report ∷ history)) (sym own)
+          ∙ row_of-report plans report history
+          ∙ ap (λ o. Some (next_row plans o report)) (ap (row_of plans history) own ∙ is),
+      raised_stays (plan_of_row plans row) row report,
     )
-report_goes report history key row false same is =
-    (row, row_of-other report history key same ∙ is, stays_itself row)
+report_goes plans report history key row false same is =
+    (row, row_of-other plans report history key same ∙ is, stays_itself row)
 
-one_goes : (next : Entry) (history : List Entry) (key : Key) (row : RowFacts)
-    → row_of history key ≡ Some row → Goes (next ∷ history) key row
-one_goes (entry.Report report) history key row is =
-    report_goes report history key row (same_key (report_key report) key) refl is
-one_goes (entry.Restart restart) history key row is = (
+one_goes : (plans : List Plan) (next : Entry) (history : List Entry) (key : Key) (row : RowFacts)
+    → row_of plans history key ≡ Some row → Goes plans (next ∷ history) key row
+one_goes plans (entry.Report report) history key row is =
+    report_goes plans report history key row (same_key (report_key report) key) refl is
+one_goes plans (entry.Restart restart) history key row is = (
   closed_by restart.client row,
-  row_of-restart restart history key ∙ ap (option_map (closed_by restart.client)) is,
+  row_of-restart plans restart history key ∙ ap (option_map (closed_by restart.client)) is,
   closed_stays restart.client row,
 )
-one_goes (entry.TopUp topup) history key row is = (row, is, stays_itself row)
+one_goes plans (entry.TopUp topup) history key row is = (row, is, stays_itself row)
 
 pub ended_stays : EndedStaysEnded
-ended_stays [] history key row is = (row, is, stays_itself row)
-ended_stays (next ∷ later) history key row is =
-    let before = ended_stays later history key row is in
-    let now = one_goes next (later ++ history) key before.0 before.1 in
+ended_stays plans [] history key row is = (row, is, stays_itself row)
+ended_stays plans (next ∷ later) history key row is =
+    let before = ended_stays plans later history key row is in
+    let now = one_goes plans next (later ++ history) key before.0 before.1 in
     (now.0, now.1, stays_on row before.0 now.0 before.2 now.2)

@@ -27,22 +27,23 @@ abbrev user_in : Option ReportFacts → Option (List ℕ)
 user_in o = option_map (λ first. first.user) o
 
 -- the account of the row before is that of the row after
-own_before : (a : List ℕ) (o : Option RowFacts) (r : ReportFacts)
-    → bytes_eq a (next_row o r).account ≡ false → own_row a o ≡ None
-own_before a None r e = refl
-own_before a (Some row) r e = ap (λ b. cond b (Some row) None) e
+own_before : (plans : List Plan) (a : List ℕ) (o : Option RowFacts) (r : ReportFacts)
+    → bytes_eq a (next_row plans o r).account ≡ false → own_row a o ≡ None
+own_before plans a None r e = refl
+own_before plans a (Some row) r e = ap (λ b. cond b (Some row) None) e
 
-rows_stay : (a : List ℕ) (history : List Entry) (r : ReportFacts) (k : Key) (b : Bool)
-    → same_key (report_key r) k ≡ b → bytes_eq a (row_after r history).account ≡ false
-    → own_row a (row_of (entry.Report r ∷ history) k) ≡ own_row a (row_of history k)
-rows_stay a history r k true e other =
+rows_stay : (plans : List Plan) (a : List ℕ) (history : List Entry) (r : ReportFacts) (k : Key)
+    (b : Bool)
+    → same_key (report_key r) k ≡ b → bytes_eq a (row_after plans r history).account ≡ false
+    → own_row a (row_of plans (entry.Report r ∷ history) k) ≡ own_row a (row_of plans history k)
+rows_stay plans a history r k true e other =
     let at : k ≡ report_key r = sym (key_is (report_key r) k e) in
-    ap (λ x. own_row a (row_of (entry.Report r ∷ history) x)) at
-    ∙ ap (own_row a) (row_of-report r history)
-    ∙ ap (λ b. cond b (Some (row_after r history)) None) other
-    ∙ sym (own_before a (row_of history (report_key r)) r other)
-    ∙ ap (λ x. own_row a (row_of history x)) (sym at)
-rows_stay a history r k false e other = ap (own_row a) (row_of-other r history k e)
+    ap (λ x. own_row a (row_of plans (entry.Report r ∷ history) x)) at
+    ∙ ap (own_row a) (row_of-report plans r history)
+    ∙ ap (λ b. cond b (Some (row_after plans r history)) None) other
+    ∙ sym (own_before plans a (row_of plans history (report_key r)) r other)
+    ∙ ap (λ x. own_row a (row_of plans history x)) (sym at)
+rows_stay plans a history r k false e other = ap (own_row a) (row_of-other plans r history k e)
 
 first_stays : (a : List ℕ) (o : Option TopUpFacts) (t : TopUpFacts) → bytes_eq a t.account ≡ false
     → own_topup a (option_or o (Some t)) ≡ own_topup a o
@@ -62,17 +63,18 @@ pub other_parts_stay : (plans : List Plan) (history : List Entry) (account : Lis
     → OtherPartsStay plans history account
 other_parts_stay plans history a = record {
   reports = λ r not_mine.
-      let account : account_of history (entry.Report r) ≡ Some (row_after r history).account = ap
-      (λ rs. user_in (first_of rs)) (reports-own history r) ∙ after-account r history in
-      let other : bytes_eq a (row_after r history).account ≡ false =
-      Decides-false (bytes_eq a (row_after r history).account)
-      (Decides-bytes_eq a (row_after r history).account)
+      let account : account_of history (entry.Report r)
+      ≡ Some (row_after plans r history).account = ap
+      (λ rs. user_in (first_of rs)) (reports-own history r) ∙ after-account plans r history in
+      let other : bytes_eq a (row_after plans r history).account ≡ false =
+      Decides-false (bytes_eq a (row_after plans r history).account)
+      (Decides-bytes_eq a (row_after plans r history).account)
       (λ e. not_mine (account ∙ ap Some (sym e))) in
-      let before = balance-other plans r history a (octets_sym (row_after r history).account a
+      let before = balance-other plans r history a (octets_sym (row_after plans r history).account a
       ∙ other) in
       λ i. record {
         balance = before i;
-        rows = λ k. rows_stay a history r k (same_key (report_key r) k) refl other i;
+        rows = λ k. rows_stay plans a history r k (same_key (report_key r) k) refl other i;
         topups = λ n. own_topup a (topup_of history n);
       };
   topups = λ t not_mine.
@@ -81,7 +83,7 @@ other_parts_stay plans history a = record {
       let before = balance-topup-other plans history t a (λ e. not_mine (sym e)) in
       λ i. record {
         balance = before i;
-        rows = λ k. own_row a (row_of history k);
+        rows = λ k. own_row a (row_of plans history k);
         topups = λ n. topups_stay a (filter (λ u. bytes_eq n u.voucher) (all_topups history)) t
             (bytes_eq n t.voucher) other i;
       };

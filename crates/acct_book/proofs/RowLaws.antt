@@ -1,17 +1,18 @@
 -- Why a row says what it says of its session's reports.
-use Rattle.std.proofs.Common.{◌≡◌, ℕ, ◌+◌, ◌≤◌, Bool, true, false, cond, List, [], ◌∷◌, map, max}
+use Rattle.std.proofs.Common.{◌≡◌, ℕ, ◌≤◌, Bool, true, false, cond, List, [], ◌∷◌, map, max}
 use Rattle.std.proofs.Common.{min, refl, sym, ◌∙◌, subst, arith}
 use Rattle.std.specs.Prelude.{Option, Some, None, Contains, nat_le, option_map}
 use Rattle.std.specs.List.{All}
 use Rattle.std.proofs.lemmas.Bool.Decides.{nat_tests}
 use Rattle.std.proofs.lemmas.List.Elements.{All-cons, All-weaker, Contains-append_left}
 use Rattle.std.proofs.lemmas.List.Elements.{Contains-append_right}
+use Rattle.acct_model.specs.declared.plan.Plan.{Plan}
 use Rattle.acct_model.specs.Report.{ReportFacts}
-use Rattle.acct_model.specs.History.{reports, first_of, largest}
+use Rattle.acct_model.specs.History.{reports, first_of, largest, plan_of}
 use Rattle.acct_book.specs.declared.key.Key.{Key}
 use Rattle.acct_book.specs.Row.{RowFacts}
-use Rattle.acct_book.specs.Rows.{name_of, smallest, counters, exceeds, greatest, is_restarted}
-use Rattle.acct_book.specs.Rows.{row_from}
+use Rattle.acct_book.specs.Rows.{name_of, smallest, counters, Rank, rank_of, is_above, exceeds}
+use Rattle.acct_book.specs.Rows.{greatest, is_restarted, row_from}
 use Rattle.acct_book.specs.Laws.{IsAtMost, IsRowOf, RowsAreOfReports}
 use Rattle.acct_book.proofs.Rows.{higher-none0, higher-none1}
 use Rattle.acct_book.proofs.Ends.{calling_first, address_first}
@@ -24,40 +25,77 @@ there x y xs h = Contains-append_right (x ∷ []) xs y h
 
 -- ---- counters
 
-at_most_itself : (a : ℕ × ℕ) → IsAtMost a a
-at_most_itself a = (omega arith, λ e. omega arith)
+at_most_itself : (a : Rank) → IsAtMost a a
+at_most_itself a = record {
+  counted = omega arith;
+  total = λ e. omega arith;
+  input = λ e f. omega arith;
+}
 
-at_most_trans : (a b c : ℕ × ℕ) → IsAtMost a b → IsAtMost b c → IsAtMost a c
-at_most_trans a b c h k = (
-  omega (arith, h.0, k.0),
-  λ e. let ab : a.0 + a.1 ≡ b.0 + b.1 = omega
-      (arith, h.0, k.0, e) in let bc : b.0 + b.1 ≡ c.0 + c.1 = omega (arith, h.0, k.0, e) in omega
-      (arith, h.1 ab, k.1 bc),
-)
+at_most_trans : (a b c : Rank) → IsAtMost a b → IsAtMost b c → IsAtMost a c
+at_most_trans a b c h k = record {
+  counted = omega (arith, h.counted, k.counted);
+  total = λ e.
+      let ab : a.counted ≡ b.counted = omega (arith, h.counted, k.counted, e) in
+      let bc : b.counted ≡ c.counted = omega (arith, h.counted, k.counted, e) in
+      omega (arith, h.total ab, k.total bc);
+  input = λ e f.
+      let ab : a.counted ≡ b.counted = omega (arith, h.counted, k.counted, e) in
+      let bc : b.counted ≡ c.counted = omega (arith, h.counted, k.counted, e) in
+      let ab' : a.total ≡ b.total = omega (arith, h.total ab, k.total bc, f) in
+      let bc' : b.total ≡ c.total = omega (arith, h.total ab, k.total bc, f) in
+      omega (arith, h.input ab ab', k.input bc bc');
+}
 
-over : (i o j p : ℕ) → exceeds (i, o) (j, p) ≡ true → IsAtMost (j, p) (i, o)
-over i o j p e = (grind (arith, nat_tests), λ s. grind (arith, nat_tests))
+abbrev rank : ℕ → ℕ → ℕ → Rank
+rank n t i = record { counted = n; total = t; input = i }
 
-under : (i o j p : ℕ) → exceeds (i, o) (j, p) ≡ false → IsAtMost (i, o) (j, p)
-under i o j p e = (grind (arith, nat_tests), λ s. grind (arith, nat_tests))
+over_at : (n t i m u j : ℕ) → is_above (rank n t i) (rank m u j) ≡ true
+    → IsAtMost (rank m u j) (rank n t i)
+over_at n t i m u j e = record {
+  counted = grind (arith, nat_tests);
+  total = λ s. grind (arith, nat_tests);
+  input = λ s v. grind (arith, nat_tests);
+}
 
-left_at : (a b : ℕ × ℕ) (x : Bool) → exceeds a b ≡ x → IsAtMost a (cond x a b)
-left_at a b true e = at_most_itself a
-left_at a b false e = under a.0 a.1 b.0 b.1 e
+under_at : (n t i m u j : ℕ) → is_above (rank n t i) (rank m u j) ≡ false
+    → IsAtMost (rank n t i) (rank m u j)
+under_at n t i m u j e = record {
+  counted = grind (arith, nat_tests);
+  total = λ s. grind (arith, nat_tests);
+  input = λ s v. grind (arith, nat_tests);
+}
 
-right_at : (a b : ℕ × ℕ) (x : Bool) → exceeds a b ≡ x → IsAtMost b (cond x a b)
-right_at a b true e = over a.0 a.1 b.0 b.1 e
-right_at a b false e = at_most_itself b
+module _ (plan : Option Plan) where
+  abbrev placed : ℕ × ℕ → Rank
+  placed a = rank_of plan a
 
-none_above : (rs : List ReportFacts) → All (λ r. IsAtMost (counters r) (greatest rs)) rs
-none_above [] = λ k d h. absurd (omega (arith, h))
-none_above (r ∷ rs) =
-    let top = greatest (r ∷ rs) in
-    let test = exceeds (counters r) (greatest rs) in
-    All-cons (λ x. IsAtMost (counters x) top) r rs (left_at (counters r) (greatest rs) test refl)
-    (All-weaker (λ x. IsAtMost (counters x) (greatest rs)) (λ x. IsAtMost (counters x) top)
-    (λ x h. at_most_trans (counters x) (greatest rs) top h
-    (right_at (counters r) (greatest rs) test refl)) rs (none_above rs))
+  left_at : (a b : ℕ × ℕ) (x : Bool) → exceeds plan a b ≡ x
+      → IsAtMost (placed a) (placed (cond x a b))
+  left_at a b true e = at_most_itself (placed a)
+  left_at a b false e =
+      under_at (placed a).counted (placed a).total (placed a).input (placed b).counted
+      (placed b).total (placed b).input e
+
+  right_at : (a b : ℕ × ℕ) (x : Bool) → exceeds plan a b ≡ x
+      → IsAtMost (placed b) (placed (cond x a b))
+  right_at a b true e =
+      over_at (placed a).counted (placed a).total (placed a).input (placed b).counted
+      (placed b).total (placed b).input e
+  right_at a b false e = at_most_itself (placed b)
+
+  none_above : (rs : List ReportFacts)
+      → All (λ r. IsAtMost (placed (counters r)) (placed (greatest plan rs))) rs
+  none_above [] = λ k d h. absurd (omega (arith, h))
+  none_above (r ∷ rs) =
+      let top = greatest plan (r ∷ rs) in
+      let test = exceeds plan (counters r) (greatest plan rs) in
+      All-cons (λ x. IsAtMost (placed (counters x)) (placed top)) r rs
+      (left_at (counters r) (greatest plan rs) test refl)
+      (All-weaker (λ x. IsAtMost (placed (counters x)) (placed (greatest plan rs)))
+      (λ x. IsAtMost (placed (counters x)) (placed top))
+      (λ x h. at_most_trans (placed (counters x)) (placed (greatest plan rs)) (placed top) h
+      (right_at (counters r) (greatest plan rs) test refl)) rs (none_above rs))
 
 abbrev Counted : List ReportFacts → ℕ × ℕ → Type 0
 Counted rs c = (r : ReportFacts) × Contains rs r × (counters r ≡ c)
@@ -67,18 +105,18 @@ counted_at : (r : ReportFacts) (rs : List ReportFacts) (g : ℕ × ℕ) (x : Boo
 counted_at r rs g true h = (r, here r rs, refl)
 counted_at r rs g false h = (h.0, there r h.0 rs h.1, h.2)
 
-counted : (r : ReportFacts) (rs : List ReportFacts) → Counted (r ∷ rs) (greatest (r ∷ rs))
-counted r [] = (
+counted : (plan : Option Plan) (r : ReportFacts) (rs : List ReportFacts)
+    → Counted (r ∷ rs) (greatest plan (r ∷ rs))
+counted plan r [] = (
   r,
   here r [],
   λ i. (
-    sym (higher-none0 r.input r.output) i,
-    sym
-        (higher-none1 r.input r.output) i,
+    sym (higher-none0 plan r.input r.output) i,
+    sym (higher-none1 plan r.input r.output) i,
   ),
 )
-counted r (o ∷ os) = counted_at r (o ∷ os) (greatest (o ∷ os))
-    (exceeds (counters r) (greatest (o ∷ os))) (counted o os)
+counted plan r (o ∷ os) = counted_at r (o ∷ os) (greatest plan (o ∷ os))
+    (exceeds plan (counters r) (greatest plan (o ∷ os))) (counted plan o os)
 
 -- ---- least and greatest numbers
 
@@ -142,15 +180,16 @@ none_smaller f (r ∷ o ∷ os) =
 
 -- ---- the row
 
-row_at : (key : Key) (b : Bool) (r : ReportFacts) (rs : List ReportFacts) (x : ReportFacts)
-    → first_of (r ∷ rs) ≡ Some x → IsRowOf (r ∷ rs) (row_from key b (r ∷ rs) x)
-row_at key b r rs x is = record {
+row_at : (plan : Option Plan) (key : Key) (b : Bool) (r : ReportFacts) (rs : List ReportFacts)
+    (x : ReportFacts)
+    → first_of (r ∷ rs) ≡ Some x → IsRowOf plan (r ∷ rs) (row_from plan key b (r ∷ rs) x)
+row_at plan key b r rs x is = record {
   first = x;
   is_first = is;
   account = refl;
   class = refl;
-  counted = counted r rs;
-  none_above = none_above (r ∷ rs);
+  counted = counted plan r rs;
+  none_above = none_above plan (r ∷ rs);
   longest = record {
     said = largest_said (λ y. y.seconds) r rs;
     bounded = none_larger
@@ -170,16 +209,18 @@ row_at key b r rs x is = record {
   address = address_first (r ∷ rs);
 }
 
-row_for : (key : Key) (b : Bool) (all : List ReportFacts) (row : RowFacts) (o : Option ReportFacts)
-    → first_of all ≡ o → option_map (row_from key b all) o ≡ Some row → IsRowOf all row
-row_for key b all row None is e = absurd (cc)
-row_for key b [] row (Some x) is e = absurd (cc)
-row_for key b (r ∷ rs) row (Some x) is e = subst (IsRowOf (r ∷ rs))
-    (some_is (row_from key b (r ∷ rs) x) row e) (row_at key b r rs x is)
+row_for : (plan : Option Plan) (key : Key) (b : Bool) (all : List ReportFacts) (row : RowFacts)
+    (o : Option ReportFacts)
+    → first_of all ≡ o → option_map (row_from plan key b all) o ≡ Some row → IsRowOf plan all row
+row_for plan key b all row None is e = absurd (cc)
+row_for plan key b [] row (Some x) is e = absurd (cc)
+row_for plan key b (r ∷ rs) row (Some x) is e = subst (IsRowOf plan (r ∷ rs))
+    (some_is (row_from plan key b (r ∷ rs) x) row e) (row_at plan key b r rs x is)
   where
     some_is : (p q : RowFacts) → Some p ≡ Some q → p ≡ q
     some_is p q h = cc
 
 pub rows_are : RowsAreOfReports
-rows_are history key row is = let all = reports history (name_of key) in row_for key
-    (is_restarted history key) all row (first_of all) refl is
+rows_are plans history key row is = let all = reports history (name_of key) in
+    row_for (plan_of plans history (name_of key)) key (is_restarted history key) all row
+    (first_of all) refl is

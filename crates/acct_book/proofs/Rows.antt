@@ -1,6 +1,6 @@
 -- The row of a session after one more entry.
-use Rattle.std.proofs.Common.{◌≡◌, ℕ, ◌+◌, Bool, true, false, ◌&&◌, ◌||◌, cond, List, [], ◌∷◌, map}
-use Rattle.std.proofs.Common.{max, refl, sym, ap, ◌∙◌, true≢false, arith}
+use Rattle.std.proofs.Common.{◌≡◌, ◌≢◌, ℕ, ◌+◌, Bool, true, false, ◌&&◌, ◌||◌, cond, List, []}
+use Rattle.std.proofs.Common.{◌∷◌, map, max, refl, sym, ap, ◌∙◌, true≢false, arith}
 use Rattle.std.specs.Prelude.{Option, Some, None, bytes_eq, is_some, option_map}
 use Rattle.std.specs.List.{filter}
 use Rattle.std.specs.Option.{option_or, option_and_then, option_map_or}
@@ -10,39 +10,91 @@ use Rattle.acct_model.specs.declared.report.ReportKind.TheVariants.{Start, Stop,
 use Rattle.acct_model.specs.declared.entry.Restart.{Restart}
 use Rattle.acct_model.specs.declared.entry.Entry.{Entry}
 use Rattle.acct_model.specs.declared.entry.Entry.TheVariants as entry
+use Rattle.acct_model.specs.declared.plan.Plan.{Plan}
+use Rattle.acct_model.specs.declared.plan.Count.{Count}
+use Rattle.acct_model.specs.declared.plan.Count.TheVariants.{Both, Input, Output}
 use Rattle.acct_model.specs.Report.{ReportFacts}
-use Rattle.acct_model.specs.History.{session_of, same_session, reports, first_of, largest}
-use Rattle.acct_model.specs.History.{greatest_total}
-use Rattle.acct_model.proofs.Balances.{reports-own, reports-other, first_of-more}
+use Rattle.acct_model.specs.Plans.{counted_by, counted_under}
+use Rattle.acct_model.specs.History.{session_of, same_session, reports, first_of, largest, plan_by}
+use Rattle.acct_model.specs.History.{plan_of, greatest_counted}
+use Rattle.acct_model.proofs.Balances.{reports-own, reports-other, first_of-more, plan-later}
+use Rattle.acct_model.proofs.Balances.{plan-other}
 use Rattle.acct_book.specs.declared.key.Key.{Key}
 use Rattle.acct_book.specs.declared.row.SessionState.{SessionState}
 use Rattle.acct_book.specs.declared.row.SessionState.TheVariants.{Stopped}
 use Rattle.acct_book.specs.Row.{RowFacts}
 use Rattle.acct_book.specs.Content.{same_key, closed_by, closed_row}
-use Rattle.acct_book.specs.Rows.{name_of, smallest, higher, greatest, first_that, is_stop}
+use Rattle.acct_book.specs.Rows.{name_of, smallest, Rank, is_above, exceeds, higher}
+use Rattle.acct_book.specs.Rows.{greatest, first_that, is_stop}
 use Rattle.acct_book.specs.Rows.{has_octets, first_stop, calling_of, framed_of, is_restarted}
 use Rattle.acct_book.specs.Rows.{state_of, cause_of, row_from, row_of_reports, row_of}
 use Rattle.acct_book.specs.inner.Next.{report_key, state_after, cause_after, or_octets, first_row}
-use Rattle.acct_book.specs.inner.Next.{raised_row, next_row}
+use Rattle.acct_book.specs.inner.Next.{raised_row, next_row_by, plan_found, next_row}
 use Rattle.acct_book.proofs.Keys.{Decides-same_key}
 
 -- ---- counters
 
-higher-total : (i o j p n : ℕ) → j + p ≡ n → (higher (i, o) (j, p)).0 +
-    (higher (i, o) (j, p)).1 ≡ max (i + o) n
-higher-total i o j p n h = grind (arith, nat_tests)
+abbrev rank : ℕ → ℕ → ℕ → Rank
+rank n t i = record { counted = n; total = t; input = i }
 
--- the greatest counters have the greatest total
-pub greatest-total : (rs : List ReportFacts) → (greatest rs).0 + (greatest rs).1 ≡ greatest_total rs
-greatest-total [] = refl
-greatest-total (r ∷ rs) = higher-total r.input r.output (greatest rs).0 (greatest rs).1
-    (greatest_total rs) (greatest-total rs)
+above_most : (n t i m u j : ℕ) → is_above (rank n t i) (rank m u j) ≡ true → n ≡ max n m
+above_most n t i m u j e = grind (arith, nat_tests)
 
-pub higher-none0 : (i o : ℕ) → (higher (i, o) (0, 0)).0 ≡ i
-higher-none0 i o = grind (arith, nat_tests)
+below_most : (n t i m u j : ℕ) → is_above (rank n t i) (rank m u j) ≡ false → m ≡ max n m
+below_most n t i m u j e = grind (arith, nat_tests)
 
-pub higher-none1 : (i o : ℕ) → (higher (i, o) (0, 0)).1 ≡ o
-higher-none1 i o = grind (arith, nat_tests)
+higher-counted : (plan : Option Plan) (a b : ℕ × ℕ) (n : ℕ) → counted_under plan b.0 b.1 ≡ n
+    → counted_under plan (higher plan a b).0 (higher plan a b).1
+    ≡ max (counted_under plan a.0 a.1) n
+higher-counted plan a b n h =
+    let k = counted_under plan a.0 a.1 in
+    let m = counted_under plan b.0 b.1 in
+    elim (exceeds plan a b) as (λ x. exceeds plan a b ≡ x
+    → counted_under plan (cond x a b).0 (cond x a b).1 ≡ max k n) [
+      | true ↦ λ e. above_most k (a.0 + a.1) a.0 m (b.0 + b.1) b.0 e ∙ ap (max k) h
+      | false ↦ λ e. below_most k (a.0 + a.1) a.0 m (b.0 + b.1) b.0 e ∙ ap (max k) h
+    ] refl
+
+none_by : (count : Count) → counted_by count 0 0 ≡ 0
+none_by Both = refl
+none_by Input = refl
+none_by Output = refl
+
+counted-none : (plan : Option Plan) → counted_under plan 0 0 ≡ 0
+counted-none None = refl
+counted-none (Some plan) = none_by plan.count
+
+-- of the greatest counters the greatest number is counted
+pub greatest-counted : (plan : Option Plan) (rs : List ReportFacts)
+    → counted_under plan (greatest plan rs).0 (greatest plan rs).1 ≡ greatest_counted plan rs
+greatest-counted plan [] = counted-none plan
+greatest-counted plan (r ∷ rs) = higher-counted plan (r.input, r.output) (greatest plan rs)
+    (greatest_counted plan rs) (greatest-counted plan rs)
+
+none_below : (n t i m : ℕ) → m ≡ 0 → is_above (rank n t i) (rank m 0 0) ≡ false → t ≡ 0
+none_below n t i m z e = grind (arith, nat_tests)
+
+pub higher-none0 : (plan : Option Plan) (i o : ℕ) → (higher plan (i, o) (0, 0)).0 ≡ i
+higher-none0 plan i o =
+    elim (exceeds plan (i, o) (0, 0)) as (λ x. exceeds plan (i, o) (0, 0) ≡ x
+    → (cond {A = ℕ × ℕ} x (i, o) (0, 0)).0 ≡ i) [
+      | true ↦ λ e. refl
+      | false ↦ λ e.
+          let none : i + o ≡ 0 = none_below (counted_under plan i o) (i + o) i
+          (counted_under plan 0 0) (counted-none plan) e in
+          let is : 0 ≡ i = omega (arith, none) in is
+    ] refl
+
+pub higher-none1 : (plan : Option Plan) (i o : ℕ) → (higher plan (i, o) (0, 0)).1 ≡ o
+higher-none1 plan i o =
+    elim (exceeds plan (i, o) (0, 0)) as (λ x. exceeds plan (i, o) (0, 0) ≡ x
+    → (cond {A = ℕ × ℕ} x (i, o) (0, 0)).1 ≡ o) [
+      | true ↦ λ e. refl
+      | false ↦ λ e.
+          let none : i + o ≡ 0 = none_below (counted_under plan i o) (i + o) i
+          (counted_under plan 0 0) (counted-none plan) e in
+          let is : 0 ≡ o = omega (arith, none) in is
+    ] refl
 
 -- ---- the first report that passes a test
 
@@ -176,15 +228,15 @@ max_none : (n : ℕ) → max n 0 ≡ n
 max_none n = omega arith
 
 -- a session's first report
-first_from : (r : ReportFacts) (b : Bool) → b ≡ false → row_from (report_key r) b
-    (r ∷ []) r ≡ first_row r
-first_from r b off = λ i. record {
+first_from : (plan : Option Plan) (r : ReportFacts) (b : Bool) → b ≡ false
+    → row_from plan (report_key r) b (r ∷ []) r ≡ first_row r
+first_from plan r b off = λ i. record {
   client = r.client;
   session = r.session;
   account = r.user;
   class = r.class;
-  input = higher-none0 r.input r.output i;
-  output = higher-none1 r.input r.output i;
+  input = higher-none0 plan r.input r.output i;
+  output = higher-none1 plan r.input r.output i;
   seconds = max_none r.seconds i;
   first = r.when;
   last = max_none r.when i;
@@ -195,36 +247,38 @@ first_from r b off = λ i. record {
 }
 
 -- a later report
-raised_from : (key : Key) (r : ReportFacts) (b : Bool) (o : ReportFacts) (os : List ReportFacts)
-    (x : ReportFacts) → row_from key b (r ∷ o ∷ os) x ≡ raised_row (row_from key b (o ∷ os) x) r
-raised_from key r b o os x = λ i. record {
+raised_from : (plan : Option Plan) (key : Key) (r : ReportFacts) (b : Bool) (o : ReportFacts)
+    (os : List ReportFacts) (x : ReportFacts)
+    → row_from plan key b (r ∷ o ∷ os) x ≡ raised_row plan (row_from plan key b (o ∷ os) x) r
+raised_from plan key r b o os x = λ i. record {
   client = key.client;
   session = key.session;
   account = x.user;
   class = x.class;
-  input = (greatest (r ∷ o ∷ os)).0;
-  output = (greatest (r ∷ o ∷ os)).1;
-  seconds = (row_from key b (r ∷ o ∷ os) x).seconds;
-  first = (row_from key b (r ∷ o ∷ os) x).first;
-  last = (row_from key b (r ∷ o ∷ os) x).last;
+  input = (greatest plan (r ∷ o ∷ os)).0;
+  output = (greatest plan (r ∷ o ∷ os)).1;
+  seconds = (row_from plan key b (r ∷ o ∷ os) x).seconds;
+  first = (row_from plan key b (r ∷ o ∷ os) x).first;
+  last = (row_from plan key b (r ∷ o ∷ os) x).last;
   state = state_at r r.kind (filter (λ y. is_stop y.kind) (o ∷ os)) b i;
   cause = cause_at r r.kind (filter (λ y. is_stop y.kind) (o ∷ os)) b i;
   calling = calling_more r (o ∷ os) i;
   framed = framed_more r (o ∷ os) i;
 }
 
--- one more report of a session
-pub row_from-report : (r : ReportFacts) (b : Bool) (rs : List ReportFacts)
-    → (first_of rs ≡ None → b ≡ false) → row_of_reports (report_key r) b (r ∷ rs) ≡ Some
-    (next_row (row_of_reports (report_key r) b rs) r)
-row_from-report r b [] h = ap Some (first_from r b (h refl))
-row_from-report r b (o ∷ os) h =
+-- one more report of a session with this plan
+pub row_from-report : (plan : Option Plan) (r : ReportFacts) (b : Bool) (rs : List ReportFacts)
+    → (first_of rs ≡ None → b ≡ false) → row_of_reports plan (report_key r) b (r ∷ rs) ≡ Some
+    (next_row_by plan (row_of_reports plan (report_key r) b rs) r)
+row_from-report plan r b [] h = ap Some (first_from plan r b (h refl))
+row_from-report plan r b (o ∷ os) h =
     let key = report_key r in
     let first = first_is o os in
     let x = first.0 in
-    ap (option_map (row_from key b (r ∷ o ∷ os))) (first_of-more r x (o ∷ os) first.1)
-    ∙ ap Some (raised_from key r b o os x)
-    ∙ ap (λ f. Some (next_row (option_map (row_from key b (o ∷ os)) f) r)) (sym first.1)
+    ap (option_map (row_from plan key b (r ∷ o ∷ os))) (first_of-more r x (o ∷ os) first.1)
+    ∙ ap Some (raised_from plan key r b o os x)
+    ∙ ap (λ f. Some (next_row_by plan (option_map (row_from plan key b (o ∷ os)) f) r))
+    (sym first.1)
 
 or_none : {A : Type 0} (o : Option A) (x : A) → option_or o (Some x) ≡ None → ⊥
 or_none None x e = cc
@@ -250,35 +304,74 @@ none-restarted (entry.Restart x ∷ older) key e =
     ∙ off_at (bytes_eq x.client key.client) (is_restarted older key) (none-restarted older key e)
 none-restarted (entry.TopUp t ∷ older) key e = none-restarted older key e
 
--- the row of the report's session
-pub row_of-report : (r : ReportFacts) (history : List Entry)
-    → row_of (entry.Report r ∷ history) (report_key r) ≡ Some
-    (next_row (row_of history (report_key r)) r)
-row_of-report r history =
+-- the row of a session has the session's plan
+plan_at : (plans : List Plan) (plan : Option Plan) (key : Key) (b : Bool) (all : List ReportFacts)
+    (o : Option ReportFacts)
+    → plan_found plans (option_map (row_from plan key b all) o) ≡ plan_by plans o
+plan_at plans plan key b all None = refl
+plan_at plans plan key b all (Some x) = refl
+
+pub row-plan : (plans : List Plan) (history : List Entry) (key : Key)
+    → plan_found plans (row_of plans history key) ≡ plan_of plans history (name_of key)
+row-plan plans history key =
+    plan_at plans (plan_of plans history (name_of key)) key (is_restarted history key)
+    (reports history (name_of key)) (first_of (reports history (name_of key)))
+
+-- the row of the report's session, by the plan from before
+grown_at : (plans : List Plan) (r : ReportFacts) (history : List Entry) (o : Option ReportFacts)
+    → first_of (reports history (session_of r)) ≡ o
+    → row_of_reports (plan_of plans (entry.Report r ∷ history) (session_of r)) (report_key r)
+    (is_restarted history (report_key r)) (r ∷ reports history (session_of r))
+    ≡ Some (next_row_by (plan_of plans history (session_of r))
+    (row_of plans history (report_key r)) r)
+grown_at plans r history None is =
     let key = report_key r in
-    ap (row_of_reports key (is_restarted history key)) (reports-own history r)
-    ∙ row_from-report r (is_restarted history key) (reports history (session_of r))
-    (none-restarted history key)
+    let b = is_restarted history key in
+    let rs = reports history (session_of r) in
+    let old = plan_of plans history (session_of r) in
+    let new = plan_of plans (entry.Report r ∷ history) (session_of r) in
+    row_from-report new r b rs (none-restarted history key)
+    ∙ ap (λ o. Some (next_row_by new (option_map (row_from new key b rs) o) r)) is
+    ∙ sym (ap (λ o. Some (next_row_by old (option_map (row_from old key b rs) o) r)) is)
+grown_at plans r history (Some x) is =
+    let key = report_key r in
+    let b = is_restarted history key in
+    let rs = reports history (session_of r) in
+    ap (λ p. row_of_reports p key b (r ∷ rs)) (plan-later plans history r x is)
+    ∙ row_from-report (plan_of plans history (session_of r)) r b rs (none-restarted history key)
+
+-- the row of the report's session
+pub row_of-report : (plans : List Plan) (r : ReportFacts) (history : List Entry)
+    → row_of plans (entry.Report r ∷ history) (report_key r) ≡ Some
+    (next_row plans (row_of plans history (report_key r)) r)
+row_of-report plans r history =
+    let key = report_key r in
+    ap (row_of_reports (plan_of plans (entry.Report r ∷ history) (session_of r)) key
+    (is_restarted history key)) (reports-own history r)
+    ∙ grown_at plans r history (first_of (reports history (session_of r))) refl
+    ∙ ap (λ p. Some (next_row_by p (row_of plans history key) r)) (sym (row-plan plans history key))
 
 -- the other rows stay
-pub row_of-other : (r : ReportFacts) (history : List Entry) (key : Key)
-    → same_key (report_key r) key ≡ false → row_of (entry.Report r ∷ history) key
-    ≡ row_of history key
-row_of-other r history key e =
-    ap (row_of_reports key (is_restarted history key)) (reports-other history r (name_of key)
-    (λ is. true≢false (sym ((Decides-same_key (report_key r) key).1
-    (λ i. record { client = (sym is i).client; session = (sym is i).session })) ∙ e)))
+pub row_of-other : (plans : List Plan) (r : ReportFacts) (history : List Entry) (key : Key)
+    → same_key (report_key r) key ≡ false → row_of plans (entry.Report r ∷ history) key
+    ≡ row_of plans history key
+row_of-other plans r history key e =
+    let other : name_of key ≢ session_of r =
+    λ is. true≢false (sym ((Decides-same_key (report_key r) key).1
+    (λ i. record { client = (sym is i).client; session = (sym is i).session })) ∙ e) in
+    λ i. row_of_reports (plan-other plans history r (name_of key) other i) key
+    (is_restarted history key) (reports-other history r (name_of key) other i)
 
 -- ---- a restart
 
-abbrev row_with : Key → List ReportFacts → ReportFacts → SessionState → ℕ → RowFacts
-row_with key all first state cause = record {
+abbrev row_with : Option Plan → Key → List ReportFacts → ReportFacts → SessionState → ℕ → RowFacts
+row_with plan key all first state cause = record {
   client = key.client;
   session = key.session;
   account = first.user;
   class = first.class;
-  input = (greatest all).0;
-  output = (greatest all).1;
+  input = (greatest plan all).0;
+  output = (greatest plan all).1;
   seconds = largest (map (λ report. report.seconds) all);
   first = smallest (map (λ report. report.when) all);
   last = largest (map (λ report. report.when) all);
@@ -288,32 +381,37 @@ row_with key all first state cause = record {
   framed = framed_of all;
 }
 
-closed_with : (key : Key) (client : List ℕ) (all : List ReportFacts) (x : ReportFacts) (m : Bool)
+closed_with : (plan : Option Plan) (key : Key) (client : List ℕ) (all : List ReportFacts)
+    (x : ReportFacts) (m : Bool)
     (o : Option ReportFacts) (b : Bool) → bytes_eq client key.client ≡ m
-    → row_with key all x (state_of o ((m && true) || b))
-    (cause_of o ((m && true) || b)) ≡ closed_by client (row_with key all x (state_of o b)
+    → row_with plan key all x (state_of o ((m && true) || b))
+    (cause_of o ((m && true) || b)) ≡ closed_by client (row_with plan key all x (state_of o b)
     (cause_of o b))
-closed_with key client all x false o b e = sym (ap (λ c. let row = row_with key all x (state_of o b)
-    (cause_of o b) in cond c (closed_row row row.state) row) e)
-closed_with key client all x true (Some s) b e = sym (ap
-    (λ c. let row = row_with key all x (state_of (Some s) b) (cause_of (Some s) b) in cond c
+closed_with plan key client all x false o b e = sym (ap
+    (λ c. let row = row_with plan key all x (state_of o b) (cause_of o b) in cond c
     (closed_row row row.state) row) e)
-closed_with key client all x true None true e = sym (ap (λ c. let row = row_with key all x
+closed_with plan key client all x true (Some s) b e = sym (ap
+    (λ c. let row = row_with plan key all x (state_of (Some s) b) (cause_of (Some s) b) in cond c
+    (closed_row row row.state) row) e)
+closed_with plan key client all x true None true e = sym (ap (λ c. let row = row_with plan key all x
     (state_of None true) (cause_of None true) in cond c (closed_row row row.state) row) e)
-closed_with key client all x true None false e = sym (ap
-    (λ c. let row = row_with key all x (state_of None false) (cause_of None false) in cond c
+closed_with plan key client all x true None false e = sym (ap
+    (λ c. let row = row_with plan key all x (state_of None false) (cause_of None false) in cond c
     (closed_row row row.state) row) e)
 
-closed_at : (key : Key) (client : List ℕ) (b : Bool) (all : List ReportFacts)
+closed_at : (plan : Option Plan) (key : Key) (client : List ℕ) (b : Bool) (all : List ReportFacts)
     (o : Option ReportFacts)
-    → option_map (row_from key ((bytes_eq client key.client && is_some o) || b) all) o ≡ option_map
-    (closed_by client) (option_map (row_from key b all) o)
-closed_at key client b all None = refl
-closed_at key client b all (Some x) = ap Some (closed_with key client all x
+    → option_map (row_from plan key ((bytes_eq client key.client && is_some o) || b) all) o
+    ≡ option_map
+    (closed_by client) (option_map (row_from plan key b all) o)
+closed_at plan key client b all None = refl
+closed_at plan key client b all (Some x) = ap Some (closed_with plan key client all x
     (bytes_eq client key.client) (first_stop all) b refl)
 
 -- a restart closes the live session of its client
-pub row_of-restart : (x : Restart) (history : List Entry) (key : Key)
-    → row_of (entry.Restart x ∷ history) key ≡ option_map (closed_by x.client) (row_of history key)
-row_of-restart x history key = closed_at key x.client (is_restarted history key)
+pub row_of-restart : (plans : List Plan) (x : Restart) (history : List Entry) (key : Key)
+    → row_of plans (entry.Restart x ∷ history) key
+    ≡ option_map (closed_by x.client) (row_of plans history key)
+row_of-restart plans x history key =
+    closed_at (plan_of plans history (name_of key)) key x.client (is_restarted history key)
     (reports history (name_of key)) (first_of (reports history (name_of key)))

@@ -11,27 +11,29 @@ use Rattle.acct_model.specs.declared.entry.Entry.{Entry}
 use Rattle.acct_model.specs.declared.entry.Entry.TheVariants as entry
 use Rattle.acct_model.specs.Report.{ReportFacts}
 use Rattle.acct_model.specs.Vouchers.{TopUpFacts}
-use Rattle.acct_model.specs.Plans.{plan_for, price_under}
-use Rattle.acct_model.specs.History.{session_of, reports, first_of, greatest_total, is_owner}
-use Rattle.acct_model.specs.History.{plan_of, charge_of, share, all_topups, topup_of, balance_of}
-use Rattle.acct_model.specs.History.{is_known, InRange, Admissible}
+use Rattle.acct_model.specs.Plans.{price_under}
+use Rattle.acct_model.specs.History.{session_of, reports, first_of, is_owner, plan_of, charge_of}
+use Rattle.acct_model.specs.History.{all_topups, topup_of, balance_of, is_known, InRange}
+use Rattle.acct_model.specs.History.{Admissible}
 use Rattle.acct_model.proofs.Same.{Decides-bytes_eq}
 use Rattle.acct_model.proofs.TopUps.{Agrees-fresh}
-use Rattle.acct_model.proofs.Balances.{reports-own, first_of-none, balance-report}
+use Rattle.acct_model.proofs.Balances.{reports-own, cost_before, cost_after, before-none}
+use Rattle.acct_model.proofs.Balances.{balance-report}
 use Rattle.acct_model.proofs.Balances.{balance-report-other, balance-topup, balance-topup-other}
 use Rattle.acct_model.proofs.Known.{is_known-report, is_known-topup, balance-unknown}
 use Rattle.acct_book.specs.declared.key.Key.{Key}
 use Rattle.acct_book.specs.Row.{RowFacts}
 use Rattle.acct_book.specs.Content.{Content, same_key, key_of, kept_balance, with_session}
 use Rattle.acct_book.specs.Content.{with_topup, with_closed}
-use Rattle.acct_book.specs.Rows.{row_from, row_of_reports, is_restarted, row_of}
-use Rattle.acct_book.specs.Charge.{charge_of_row}
-use Rattle.acct_book.specs.inner.Next.{report_key, next_row, charge_before}
+use Rattle.acct_book.specs.Rows.{name_of, row_from, row_of_reports, is_restarted, row_of}
+use Rattle.acct_book.specs.Charge.{charge_by, charge_of_row}
+use Rattle.acct_book.specs.inner.Next.{report_key, plan_found, next_row, charge_before}
 use Rattle.acct_book.specs.Stands.{Stands}
 use Rattle.acct_book.specs.inner.Calls.{AddsEntry}
 use Rattle.acct_book.specs.Outcome.{IsFresh, IsOverLimit}
 use Rattle.acct_book.proofs.Keys.{octets_refl, octets_are, octets_sym, key_is}
-use Rattle.acct_book.proofs.Rows.{greatest-total, row_of-report, row_of-other, row_of-restart}
+use Rattle.acct_book.proofs.Rows.{greatest-counted, first_is, row-plan, row_of-report, row_of-other}
+use Rattle.acct_book.proofs.Rows.{row_of-restart}
 
 -- the entry may be accepted and no voucher of it was kept, and the content stands for the history
 -- with it
@@ -49,71 +51,87 @@ account_in o = option_map (λ row. row.account) o
 abbrev user_in : Option ReportFacts → Option (List ℕ)
 user_in o = option_map (λ first. first.user) o
 
-account_at : (key : Key) (b : Bool) (all : List ReportFacts) (o : Option ReportFacts)
-    → account_in (option_map (row_from key b all) o) ≡ user_in o
-account_at key b all None = refl
-account_at key b all (Some x) = refl
+account_at : (plan : Option Plan) (key : Key) (b : Bool) (all : List ReportFacts)
+    (o : Option ReportFacts)
+    → account_in (option_map (row_from plan key b all) o) ≡ user_in o
+account_at plan key b all None = refl
+account_at plan key b all (Some x) = refl
 
-charge_at : (plans : List Plan) (key : Key) (b : Bool) (all : List ReportFacts)
-    (o : Option ReportFacts) → (o ≡ None → greatest_total all ≡ 0)
-    → charge_before plans (option_map (row_from key b all) o) ≡ price_under (plan_of plans o)
-    (greatest_total all)
-charge_at plans key b all None h = refl
-charge_at plans key b all (Some x) h = ap (price_under (plan_for plans x.class))
-    (greatest-total all)
+-- a row that was found costs the price by its plan
+charge_found : (plans : List Plan) (found : Option RowFacts) (row : RowFacts) → found ≡ Some row
+    → charge_before plans found ≡ charge_by (plan_found plans found) row
+charge_found plans found row is =
+    ap (charge_before plans) is ∙ sym (ap (λ o. charge_by (plan_found plans o) row) is)
 
 -- a row tells what its session costs
-pub charge-row : (plans : List Plan) (key : Key) (b : Bool) (all : List ReportFacts)
-    → charge_before plans (row_of_reports key b all) ≡ charge_of plans all
-charge-row plans key b all = charge_at plans key b all (first_of all)
-    (λ e. ap greatest_total (first_of-none all e))
+pub charge-row : (plans : List Plan) (history : List Entry) (key : Key) (x : ReportFacts)
+    → first_of (reports history (name_of key)) ≡ Some x
+    → charge_before plans (row_of plans history key) ≡ charge_of plans history (name_of key)
+charge-row plans history key x is =
+    let all = reports history (name_of key) in
+    let plan = plan_of plans history (name_of key) in
+    let row = row_from plan key (is_restarted history key) all x in
+    charge_found plans (row_of plans history key) row
+    (ap (option_map (row_from plan key (is_restarted history key) all)) is)
+    ∙ ap (λ p. charge_by p row) (row-plan plans history key)
+    ∙ ap (price_under plan) (greatest-counted plan all)
 
 -- ---- a report
 
-abbrev pub row_after : ReportFacts → List Entry → RowFacts
-row_after r history = next_row (row_of history (report_key r)) r
+abbrev pub row_after : List Plan → ReportFacts → List Entry → RowFacts
+row_after plans r history = next_row plans (row_of plans history (report_key r)) r
 
-own_row : (r : ReportFacts) (history : List Entry) → row_of_reports (report_key r)
+-- the first report of a session that has one more
+first_after : (r : ReportFacts) (history : List Entry)
+    → (x : ReportFacts)
+    × (first_of (reports (entry.Report r ∷ history) (session_of r)) ≡ Some x)
+first_after r history =
+    let first = first_is r (reports history (session_of r)) in
+    (first.0, ap first_of (reports-own history r) ∙ first.1)
+
+own_row : (plans : List Plan) (r : ReportFacts) (history : List Entry)
+    → row_of_reports (plan_of plans (entry.Report r ∷ history) (session_of r)) (report_key r)
     (is_restarted history (report_key r)) (r ∷ reports history (session_of r)) ≡ Some
-    (row_after r history)
-own_row r history = ap (row_of_reports (report_key r) (is_restarted history (report_key r)))
-    (sym (reports-own history r)) ∙ row_of-report r history
+    (row_after plans r history)
+own_row plans r history =
+    ap (row_of_reports (plan_of plans (entry.Report r ∷ history) (session_of r)) (report_key r)
+    (is_restarted history (report_key r))) (sym (reports-own history r))
+    ∙ row_of-report plans r history
 
 -- the row after the report has the account of the session's first report
-pub after-account : (r : ReportFacts) (history : List Entry)
-    → user_in (first_of (r ∷ reports history (session_of r))) ≡ Some (row_after r history).account
-after-account r history =
-    sym (account_at (report_key r) (is_restarted history (report_key r))
+pub after-account : (plans : List Plan) (r : ReportFacts) (history : List Entry)
+    → user_in (first_of (r ∷ reports history (session_of r)))
+    ≡ Some (row_after plans r history).account
+after-account plans r history =
+    sym (account_at (plan_of plans (entry.Report r ∷ history) (session_of r)) (report_key r)
+    (is_restarted history (report_key r))
     (r ∷ reports history (session_of r)) (first_of (r ∷ reports history (session_of r))))
-    ∙ ap account_in (own_row r history)
+    ∙ ap account_in (own_row plans r history)
 
 pub after-charge : (plans : List Plan) (r : ReportFacts) (history : List Entry)
-    → charge_of plans (r ∷ reports history (session_of r)) ≡ charge_of_row plans
-    (row_after r history)
+    → charge_of plans (entry.Report r ∷ history) (session_of r) ≡ charge_of_row plans
+    (row_after plans r history)
 after-charge plans r history =
-    sym (charge-row plans (report_key r) (is_restarted history (report_key r))
-    (r ∷ reports history (session_of r))) ∙ ap (charge_before plans) (own_row r history)
+    let first = first_after r history in
+    sym (charge-row plans (entry.Report r ∷ history) (report_key r) first.0 first.1)
+    ∙ ap (charge_before plans) (row_of-report plans r history)
 
-pub before-charge : (plans : List Plan) (r : ReportFacts) (history : List Entry)
-    → charge_of plans (reports history (session_of r)) ≡ charge_before plans
-    (row_of history (report_key r))
-before-charge plans r history = sym (charge-row plans (report_key r)
-    (is_restarted history (report_key r)) (reports history (session_of r)))
-
-key_in_at : (key : Key) (b : Bool) (all : List ReportFacts) (o : Option ReportFacts)
-    (row : RowFacts) → option_map (row_from key b all) o ≡ Some row → key_of row ≡ key
-key_in_at key b all None row e = absurd (cc)
-key_in_at key b all (Some x) row e = ap key_of (sym (is (row_from key b all x) row e))
+key_in_at : (plan : Option Plan) (key : Key) (b : Bool) (all : List ReportFacts)
+    (o : Option ReportFacts) (row : RowFacts)
+    → option_map (row_from plan key b all) o ≡ Some row → key_of row ≡ key
+key_in_at plan key b all None row e = absurd (cc)
+key_in_at plan key b all (Some x) row e = ap key_of (sym (is (row_from plan key b all x) row e))
   where
     is : (a c : RowFacts) → Some a ≡ Some c → a ≡ c
     is a c e = cc
 
-pub after-key : (r : ReportFacts) (history : List Entry)
-    → key_of (row_after r history) ≡ report_key r
-after-key r history =
-    key_in_at (report_key r) (is_restarted history (report_key r))
+pub after-key : (plans : List Plan) (r : ReportFacts) (history : List Entry)
+    → key_of (row_after plans r history) ≡ report_key r
+after-key plans r history =
+    key_in_at (plan_of plans (entry.Report r ∷ history) (session_of r)) (report_key r)
+    (is_restarted history (report_key r))
     (r ∷ reports history (session_of r)) (first_of (r ∷ reports history (session_of r)))
-    (row_after r history) (own_row r history)
+    (row_after plans r history) (own_row plans r history)
 
 owner_at : (a u : List ℕ) (o : Option ReportFacts) → user_in o ≡ Some u
     → is_owner a o ≡ bytes_eq a u
@@ -124,48 +142,57 @@ owner_at a u (Some x) e = ap (bytes_eq a) (is x.user u e)
     is p q e = cc
 
 -- who is charged
-pub mine : (r : ReportFacts) (history : List Entry) (a : List ℕ)
+pub mine : (plans : List Plan) (r : ReportFacts) (history : List Entry) (a : List ℕ)
     → is_owner a (first_of (r ∷ reports history (session_of r))) ≡ bytes_eq
-    (row_after r history).account a
-mine r history a = owner_at a (row_after r history).account
-    (first_of (r ∷ reports history (session_of r))) (after-account r history)
-    ∙ octets_sym a (row_after r history).account
+    (row_after plans r history).account a
+mine plans r history a = owner_at a (row_after plans r history).account
+    (first_of (r ∷ reports history (session_of r))) (after-account plans r history)
+    ∙ octets_sym a (row_after plans r history).account
 
-owner_or : (a : List ℕ) (r : ReportFacts) (o : Option ReportFacts) (n : ℕ)
-    → is_owner a (option_or o (Some r)) ≡ true → (o ≡ None → n ≡ 0) → cond (is_owner a o) n 0 ≡ n
-owner_or a r None n e h = sym (h refl)
-owner_or a r (Some x) n e h = ap (λ b. cond b n 0) e
-
-free : (plans : List Plan) (rs : List ReportFacts) → first_of rs ≡ None → charge_of plans rs ≡ 0
-free plans rs e = ap (charge_of plans) (first_of-none rs e)
+-- what the session cost its owner before the report
+owed_before : (plans : List Plan) (r : ReportFacts) (history : List Entry) (a : List ℕ)
+    → is_owner a (first_of (r ∷ reports history (session_of r))) ≡ true
+    → (o : Option ReportFacts) → first_of (reports history (session_of r)) ≡ o
+    → cost_before plans history r a ≡ charge_before plans (row_of plans history (report_key r))
+owed_before plans r history a own None is =
+    let key = report_key r in
+    before-none plans history r a is
+    ∙ sym (ap (λ o. charge_before plans (option_map (row_from
+    (plan_of plans history (session_of r)) key (is_restarted history key)
+    (reports history (session_of r))) o)) is)
+owed_before plans r history a own (Some x) is =
+    let n = charge_of plans history (session_of r) in
+    let owner : is_owner a (first_of (reports history (session_of r))) ≡ true =
+    ap (is_owner a) is ∙ sym (ap (λ o. is_owner a (option_or o (Some r))) is) ∙ own in
+    ap (λ b. cond b n 0) owner ∙ sym (charge-row plans history (report_key r) x is)
 
 -- the balance of the account that it is charged to
 pub balance-own : (plans : List Plan) (r : ReportFacts) (history : List Entry) (a : List ℕ)
-    → bytes_eq (row_after r history).account a ≡ true
+    → bytes_eq (row_after plans r history).account a ≡ true
     → balance_of plans (entry.Report r ∷ history) a ≡ (balance_of plans history a +ℤ pos
-    (charge_before plans (row_of history (report_key r)))) -ℤ pos
-    (charge_of_row plans (row_after r history))
+    (charge_before plans (row_of plans history (report_key r)))) -ℤ pos
+    (charge_of_row plans (row_after plans r history))
 balance-own plans r history a e =
     let rs = reports history (session_of r) in
-    let own : is_owner a (first_of (r ∷ rs)) ≡ true = mine r history a ∙ e in
-    let before : share (charge_of plans) a rs ≡ charge_before plans
-    (row_of history (report_key r)) = owner_or a r (first_of rs) (charge_of plans rs) own
-    (free plans rs) ∙ before-charge plans r history in
-    let after : share (charge_of plans) a (r ∷ rs) ≡ charge_of_row plans (row_after r history) = ap
-    (λ b. cond b (charge_of plans (r ∷ rs)) 0) own ∙ after-charge plans r history in
+    let own : is_owner a (first_of (r ∷ rs)) ≡ true = mine plans r history a ∙ e in
+    let before = owed_before plans r history a own (first_of rs) refl in
+    let after : cost_after plans history r a ≡ charge_of_row plans (row_after plans r history) = ap
+    (λ b. cond b (charge_of plans (entry.Report r ∷ history) (session_of r)) 0) own
+    ∙ after-charge plans r history in
     balance-report plans history r a ∙ (λ i. (balance_of plans history a +ℤ pos (before i)) -ℤ pos
     (after i))
 
 pub balance-other : (plans : List Plan) (r : ReportFacts) (history : List Entry) (a : List ℕ)
-    → bytes_eq (row_after r history).account a ≡ false
+    → bytes_eq (row_after plans r history).account a ≡ false
     → balance_of plans (entry.Report r ∷ history) a ≡ balance_of plans history a
-balance-other plans r history a e = balance-report-other plans history r a (mine r history a ∙ e)
+balance-other plans r history a e =
+    balance-report-other plans history r a (mine plans r history a ∙ e)
 
-pub known-after : (r : ReportFacts) (history : List Entry) (a : List ℕ)
-    → is_known (entry.Report r ∷ history) a ≡ (bytes_eq (row_after r history).account a
+pub known-after : (plans : List Plan) (r : ReportFacts) (history : List Entry) (a : List ℕ)
+    → is_known (entry.Report r ∷ history) a ≡ (bytes_eq (row_after plans r history).account a
     || is_known history a)
-known-after r history a = is_known-report history r a ∙ ap (λ b. b || is_known history a)
-    (mine r history a)
+known-after plans r history a = is_known-report history r a ∙ ap (λ b. b || is_known history a)
+    (mine plans r history a)
 
 -- ---- what a book keeps
 
@@ -205,53 +232,60 @@ range_at plans old new a m false own other fits was = subst InRange (sym (other 
 -- the balance after a report
 abbrev pub after_report : List Plan → Content → ReportFacts → ℤ
 after_report plans c r =
-    let row = next_row (c.rows (report_key r)) r in
+    let row = next_row plans (c.rows (report_key r)) r in
     (kept_balance c row.account +ℤ pos (charge_before plans (c.rows (report_key r)))) -ℤ pos
     (charge_of_row plans row)
 
-rows_at : (r : ReportFacts) (history : List Entry) (k : Key) (b : Bool)
-    → same_key (report_key r) k ≡ b → cond b (Some (row_after r history))
-    (row_of history k) ≡ row_of (entry.Report r ∷ history) k
-rows_at r history k true e = sym (ap (row_of (entry.Report r ∷ history))
-    (sym (key_is (report_key r) k e)) ∙ row_of-report r history)
-rows_at r history k false e = sym (row_of-other r history k e)
+rows_at : (plans : List Plan) (r : ReportFacts) (history : List Entry) (k : Key) (b : Bool)
+    → same_key (report_key r) k ≡ b → cond b (Some (row_after plans r history))
+    (row_of plans history k) ≡ row_of plans (entry.Report r ∷ history) k
+rows_at plans r history k true e = sym (ap (row_of plans (entry.Report r ∷ history))
+    (sym (key_is (report_key r) k e)) ∙ row_of-report plans r history)
+rows_at plans r history k false e = sym (row_of-other plans r history k e)
 
 -- it is the balance
 pub after_report_is : (plans : List Plan) (c : Content) (history : List Entry) (r : ReportFacts)
-    → Stands plans c history → (a : List ℕ) → bytes_eq (row_after r history).account a ≡ true
+    → Stands plans c history → (a : List ℕ) → bytes_eq (row_after plans r history).account a ≡ true
     → balance_of plans (entry.Report r ∷ history) a ≡ after_report plans c r
 after_report_is plans c history r st a e =
-    let is : (row_after r history).account ≡ a = octets_are (row_after r history).account a e in
-    let row : c.rows (report_key r) ≡ row_of history (report_key r) = st.rows (report_key r) in
+    let is : (row_after plans r history).account ≡ a =
+    octets_are (row_after plans r history).account a e in
+    let row : c.rows (report_key r) ≡ row_of plans history (report_key r) =
+    st.rows (report_key r) in
     balance-own plans r history a e
     ∙ ap (λ x. (balance_of plans history x +ℤ pos (charge_before plans
-    (row_of history (report_key r)))) -ℤ pos (charge_of_row plans (row_after r history))) (sym is)
-    ∙ ap (λ z. (z +ℤ pos (charge_before plans (row_of history (report_key r)))) -ℤ pos
-    (charge_of_row plans (row_after r history))) (sym (kept-balance plans c history st
-    (row_after r history).account))
-    ∙ ap (λ o. (kept_balance c (next_row o r).account +ℤ pos (charge_before plans o)) -ℤ pos
-    (charge_of_row plans (next_row o r))) (sym row)
+    (row_of plans history (report_key r)))) -ℤ pos
+    (charge_of_row plans (row_after plans r history))) (sym is)
+    ∙ ap (λ z. (z +ℤ pos (charge_before plans (row_of plans history (report_key r)))) -ℤ pos
+    (charge_of_row plans (row_after plans r history))) (sym (kept-balance plans c history st
+    (row_after plans r history).account))
+    ∙ ap (λ o. (kept_balance c (next_row plans o r).account +ℤ pos (charge_before plans o)) -ℤ pos
+    (charge_of_row plans (next_row plans o r))) (sym row)
 
 pub report_stands : (plans : List Plan) (c : Content) (history : List Entry) (r : ReportFacts)
     → Stands plans c history → InRange (after_report plans c r)
-    → Stands plans (with_session c (next_row (c.rows (report_key r)) r) (after_report plans c r))
+    → Stands plans
+    (with_session c (next_row plans (c.rows (report_key r)) r) (after_report plans c r))
     (entry.Report r ∷ history)
 report_stands plans c history r st fits =
-    let row : next_row (c.rows (report_key r)) r ≡ row_after r history = ap (λ o. next_row o r)
+    let row : next_row plans (c.rows (report_key r)) r ≡ row_after plans r history =
+    ap (λ o. next_row plans o r)
     (st.rows (report_key r)) in
     let m : ℤ = after_report plans c r in
     let next = entry.Report r ∷ history in
-    let test = bytes_eq (row_after r history).account in
+    let test = bytes_eq (row_after plans r history).account in
     let own = after_report_is plans c history r st in
     let other = balance-other plans r history in
     subst (λ x. Stands plans (with_session c x m) next) (sym row) (record {
       rows = λ k.
-          ap (λ s. cond (same_key s k) (Some (row_after r history)) (c.rows k))
-          (after-key r history)
-          ∙ ap (λ o. cond (same_key (report_key r) k) (Some (row_after r history)) o) (st.rows k)
-          ∙ rows_at r history k (same_key (report_key r) k) refl;
+          ap (λ s. cond (same_key s k) (Some (row_after plans r history)) (c.rows k))
+          (after-key plans r history)
+          ∙ ap (λ o. cond (same_key (report_key r) k) (Some (row_after plans r history)) o)
+          (st.rows k)
+          ∙ rows_at plans r history k (same_key (report_key r) k) refl;
       balances = λ a. ap (λ o. cond (test a) (Some m) o) (st.balances a)
-          ∙ balances_at plans history next a m (test a) (known-after r history a) (own a) (other a);
+          ∙ balances_at plans history next a m (test a) (known-after plans r history a) (own a)
+          (other a);
       topups = st.topups;
       in_range = λ a. range_at plans history next a m (test a) (own a) (other a) fits
           (st.in_range a);
@@ -259,7 +293,8 @@ report_stands plans c history r st fits =
 
 pub report_new : (plans : List Plan) (c : Content) (history : List Entry) (r : ReportFacts)
     → Stands plans c history → InRange (after_report plans c r)
-    → IsNew plans history (entry.Report r) (with_session c (next_row (c.rows (report_key r)) r)
+    → IsNew plans history (entry.Report r)
+    (with_session c (next_row plans (c.rows (report_key r)) r)
     (after_report plans c r))
 report_new plans c history r st fits =
     let stands = report_stands plans c history r st fits in
@@ -273,18 +308,21 @@ report_new plans c history r st fits =
 pub report_over : (plans : List Plan) (c : Content) (history : List Entry) (r : ReportFacts)
     → Stands plans c history → (InRange (after_report plans c r) → ⊥)
     → IsOverLimit plans history (entry.Report r) (kept_balance c
-    (next_row (c.rows (report_key r)) r).account)
+    (next_row plans (c.rows (report_key r)) r).account)
 report_over plans c history r st over =
-    let row : next_row (c.rows (report_key r)) r ≡ row_after r history = ap (λ o. next_row o r)
+    let row : next_row plans (c.rows (report_key r)) r ≡ row_after plans r history =
+    ap (λ o. next_row plans o r)
     (st.rows (report_key r)) in
     record {
       fresh = tt;
-      account = (row_after r history).account;
-      changes = ap (λ rs. user_in (first_of rs)) (reports-own history r) ∙ after-account r history;
+      account = (row_after plans r history).account;
+      changes = ap (λ rs. user_in (first_of rs)) (reports-own history r)
+          ∙ after-account plans r history;
       carried = ap (λ x. kept_balance c x.account) row ∙ kept-balance plans c history st
-          (row_after r history).account;
+          (row_after plans r history).account;
       out_of_range = λ fits. over (subst InRange (after_report_is plans c history r st
-          (row_after r history).account (octets_refl (row_after r history).account)) fits);
+          (row_after plans r history).account (octets_refl (row_after plans r history).account))
+          fits);
     }
 
 -- ---- a top-up
@@ -374,7 +412,7 @@ pub restart_new : (plans : List Plan) (c : Content) (history : List Entry) (x : 
     → Stands plans c history → IsNew plans history (entry.Restart x) (with_closed c x.client)
 restart_new plans c history x st =
     let stands : Stands plans (with_closed c x.client) (entry.Restart x ∷ history) = record {
-      rows = λ k. ap (option_map _) (st.rows k) ∙ sym (row_of-restart x history k);
+      rows = λ k. ap (option_map _) (st.rows k) ∙ sym (row_of-restart plans x history k);
       balances = st.balances;
       topups = st.topups;
       in_range = st.in_range;

@@ -1,6 +1,6 @@
 -- Laws of rows, in plain words. Functions of the module `laws` have them as their contracts.
-use Rattle.std.specs.Prelude.{◌≡◌, ◌≢◌, ◌↔◌, ◌⊎◌, ℕ, ◌+◌, ◌≤◌, List, [], ◌∷◌, ◌++◌, None}
-use Rattle.std.specs.Prelude.{Some, Contains}
+use Rattle.std.specs.Prelude.{◌≡◌, ◌≢◌, ◌↔◌, ◌⊎◌, ℕ, ◌≤◌, List, [], ◌∷◌, ◌++◌, Option}
+use Rattle.std.specs.Prelude.{Some, None, Contains}
 use Rattle.std.specs.List.{All}
 use Rattle.acct_model.specs.declared.plan.Plan.{Plan}
 use Rattle.acct_model.specs.declared.entry.Entry.{Entry}
@@ -8,33 +8,35 @@ use Rattle.acct_model.specs.declared.entry.Entry.TheVariants as entry
 use Rattle.acct_model.specs.declared.entry.Restart.{Restart}
 use Rattle.acct_model.specs.declared.report.ReportKind.TheVariants.{Stop}
 use Rattle.acct_model.specs.Report.{ReportFacts}
-use Rattle.acct_model.specs.History.{sessions, reports, first_of, charge_of}
+use Rattle.acct_model.specs.History.{sessions, reports, first_of, plan_of, charge_of}
 use Rattle.acct_book.specs.declared.key.Key.{Key}
 use Rattle.acct_book.specs.declared.row.SessionState.{SessionState}
 use Rattle.acct_book.specs.declared.row.SessionState.TheVariants.{Live, Closed, Stopped}
 use Rattle.acct_book.specs.Row.{RowFacts}
 use Rattle.acct_book.specs.Content.{key_of}
 use Rattle.acct_book.specs.Charge.{charge_of_row}
-use Rattle.acct_book.specs.Rows.{name_of, counters, row_of}
+use Rattle.acct_book.specs.Rows.{name_of, counters, Rank, rank_of, row_of}
 
 -- ---- which rows there are
 
 -- the row of a session stands under the session's key
 abbrev pub RowsHaveTheirKeys : Type 0
-RowsHaveTheirKeys = (history : List Entry) (key : Key) (row : RowFacts)
-    → row_of history key ≡ Some row → key_of row ≡ key
+RowsHaveTheirKeys = (plans : List Plan) (history : List Entry) (key : Key) (row : RowFacts)
+    → row_of plans history key ≡ Some row → key_of row ≡ key
 
 -- there is a row exactly for each session of the history
 abbrev pub RowsAreOfSessions : Type 0
-RowsAreOfSessions = (history : List Entry) (key : Key)
-    → ((row : RowFacts) × (row_of history key ≡ Some row))
+RowsAreOfSessions = (plans : List Plan) (history : List Entry) (key : Key)
+    → ((row : RowFacts) × (row_of plans history key ≡ Some row))
     ↔ Contains (sessions history) (name_of key)
 
 -- ---- what a row says of its session's reports
 
--- by the sum of input and output, and then by the input
-abbrev pub IsAtMost : ℕ × ℕ → ℕ × ℕ → Type 0
-IsAtMost a b = (a.0 + a.1 ≤ b.0 + b.1) × (a.0 + a.1 ≡ b.0 + b.1 → a.0 ≤ b.0)
+-- by what is counted, then by the sum of input and output, and then by the input
+pub record IsAtMost (a b : Rank) : Type 0 where
+  pub counted : a.counted ≤ b.counted
+  pub total : a.counted ≡ b.counted → a.total ≤ b.total
+  pub input : a.counted ≡ b.counted → a.total ≡ b.total → a.input ≤ b.input
 
 -- some report says the number, and each report this of it
 pub record IsExtreme (number : ReportFacts → ℕ) (n : ℕ) (Bounds : ℕ → Type 0)
@@ -58,8 +60,8 @@ IsFirstSaid value empty all said =
     × (said ≡ value first))
     ⊎ (All (λ report. value report ≡ empty) all × (said ≡ empty))
 
--- what a row says of all reports of its session
-pub record IsRowOf (all : List ReportFacts) (row : RowFacts) : Type 0 where
+-- what a row says of all reports of its session, which has this plan
+pub record IsRowOf (plan : Option Plan) (all : List ReportFacts) (row : RowFacts) : Type 0 where
   -- account and class are the first report's
   pub first : ReportFacts
   pub is_first : first_of all ≡ Some first
@@ -68,7 +70,8 @@ pub record IsRowOf (all : List ReportFacts) (row : RowFacts) : Type 0 where
   -- input and output are those of one report, and no report is above it
   pub counted : (report : ReportFacts) × Contains all report
       × (counters report ≡ (row.input, row.output))
-  pub none_above : All (λ report. IsAtMost (counters report) (row.input, row.output)) all
+  pub none_above : All (λ report. IsAtMost (rank_of plan (counters report))
+      (rank_of plan (row.input, row.output))) all
   -- the greatest session time, the least moment and the greatest
   pub longest : IsExtreme (λ report. report.seconds) row.seconds (λ n. n ≤ row.seconds) all
   pub earliest : IsExtreme (λ report. report.when) row.first (λ n. row.first ≤ n) all
@@ -79,14 +82,15 @@ pub record IsRowOf (all : List ReportFacts) (row : RowFacts) : Type 0 where
 
 -- a row says of its session's reports what each field is named for
 abbrev pub RowsAreOfReports : Type 0
-RowsAreOfReports = (history : List Entry) (key : Key) (row : RowFacts)
-    → row_of history key ≡ Some row → IsRowOf (reports history (name_of key)) row
+RowsAreOfReports = (plans : List Plan) (history : List Entry) (key : Key) (row : RowFacts)
+    → row_of plans history key ≡ Some row
+    → IsRowOf (plan_of plans history (name_of key)) (reports history (name_of key)) row
 
 -- the row of a session says what the session costs
 abbrev pub RowsAreCharged : Type 0
 RowsAreCharged = (plans : List Plan) (history : List Entry) (key : Key) (row : RowFacts)
-    → row_of history key ≡ Some row
-    → charge_of_row plans row ≡ charge_of plans (reports history (name_of key))
+    → row_of plans history key ≡ Some row
+    → charge_of_row plans row ≡ charge_of plans history (name_of key)
 
 -- ---- how a session ends
 
@@ -119,8 +123,8 @@ pub record IsCauseOf (all : List ReportFacts) (state : SessionState) (cause : �
 
 -- a row says whether and how its session has ended
 abbrev pub RowsSayTheirEnds : Type 0
-RowsSayTheirEnds = (history : List Entry) (key : Key) (row : RowFacts)
-    → row_of history key ≡ Some row
+RowsSayTheirEnds = (plans : List Plan) (history : List Entry) (key : Key) (row : RowFacts)
+    → row_of plans history key ≡ Some row
     → IsStateOf history key row.state
     × IsCauseOf (reports history (name_of key)) row.state row.cause
 
@@ -132,6 +136,6 @@ pub record StaysEnded (before after : RowFacts) : Type 0 where
 
 -- whatever is accepted later, a session keeps its row, and an ended one never opens again
 abbrev pub EndedStaysEnded : Type 0
-EndedStaysEnded = (later history : List Entry) (key : Key) (row : RowFacts)
-    → row_of history key ≡ Some row
-    → (after : RowFacts) × (row_of (later ++ history) key ≡ Some after) × StaysEnded row after
+EndedStaysEnded = (plans : List Plan) (later history : List Entry) (key : Key) (row : RowFacts)
+    → row_of plans history key ≡ Some row
+    → (after : RowFacts) × (row_of plans (later ++ history) key ≡ Some after) × StaysEnded row after

@@ -36,7 +36,7 @@ own_topup account (Some topup) = if bytes_eq account topup.account then Some top
 abbrev pub part_of : List Plan → List Entry → List ℕ → Part
 part_of plans history account = record {
   balance = balance_of plans history account;
-  rows = λ key. own_row account (row_of history key);
+  rows = λ key. own_row account (row_of plans history key);
   topups = λ number. own_topup account (topup_of history number);
 }
 

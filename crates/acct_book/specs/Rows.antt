@@ -10,8 +10,10 @@ use Rattle.acct_model.specs.declared.report.ReportKind.{ReportKind}
 use Rattle.acct_model.specs.declared.report.ReportKind.TheVariants.{Start, Stop, Interim}
 use Rattle.acct_model.specs.declared.entry.Entry.{Entry}
 use Rattle.acct_model.specs.declared.entry.Entry.TheVariants as entry
+use Rattle.acct_model.specs.declared.plan.Plan.{Plan}
 use Rattle.acct_model.specs.Report.{ReportFacts}
-use Rattle.acct_model.specs.History.{SessionName, reports, first_of, largest}
+use Rattle.acct_model.specs.Plans.{counted_under}
+use Rattle.acct_model.specs.History.{SessionName, reports, first_of, largest, plan_of}
 use Rattle.acct_book.specs.declared.key.Key.{Key}
 use Rattle.acct_book.specs.declared.row.SessionState.{SessionState}
 use Rattle.acct_book.specs.declared.row.SessionState.TheVariants.{Live, Closed, Stopped}
@@ -33,18 +35,38 @@ smallest (n ∷ m ∷ ns) = min n (smallest (m ∷ ns))
 abbrev pub counters : ReportFacts → ℕ × ℕ
 counters report = (report.input, report.output)
 
--- the first counters are above the second: by their sum, and then by the input
-abbrev pub exceeds : ℕ × ℕ → ℕ × ℕ → Bool
-exceeds a b = nat_lt (b.0 + b.1) (a.0 + a.1) || ((a.0 + a.1) == (b.0 + b.1) && nat_lt b.0 a.0)
+-- of two counters: what the plan counts of them, their sum and their input
+pub record Rank : Type 0 where
+  pub counted : ℕ
+  pub total : ℕ
+  pub input : ℕ
+
+abbrev pub rank_of : Option Plan → ℕ × ℕ → Rank
+rank_of plan c = record {
+  counted = counted_under plan c.0 c.1;
+  total = c.0 + c.1;
+  input = c.0;
+}
+
+-- the first is above the second: by what is counted, then by the sum, and then by the input
+abbrev pub is_above : Rank → Rank → Bool
+is_above a b =
+    nat_lt b.counted a.counted
+    || (a.counted == b.counted
+    && (nat_lt b.total a.total || (a.total == b.total && nat_lt b.input a.input)))
+
+-- the first counters are above the second
+abbrev pub exceeds : Option Plan → ℕ × ℕ → ℕ × ℕ → Bool
+exceeds plan a b = is_above (rank_of plan a) (rank_of plan b)
 
 -- the counters that are above the others
-abbrev pub higher : ℕ × ℕ → ℕ × ℕ → ℕ × ℕ
-higher a b = if exceeds a b then a else b
+abbrev pub higher : Option Plan → ℕ × ℕ → ℕ × ℕ → ℕ × ℕ
+higher plan a b = if exceeds plan a b then a else b
 
 -- the greatest counters of the reports
-abbrev pub greatest : List ReportFacts → ℕ × ℕ
-greatest [] = (0, 0)
-greatest (report ∷ older) = higher (counters report) (greatest older)
+abbrev pub greatest : Option Plan → List ReportFacts → ℕ × ℕ
+greatest plan [] = (0, 0)
+greatest plan (report ∷ older) = higher plan (counters report) (greatest plan older)
 
 -- ---- the first report that says something
 
@@ -102,15 +124,15 @@ cause_of None false = 0
 
 -- ---- the row
 
--- the row of a session by all its reports and the first of them
-abbrev pub row_from : Key → Bool → List ReportFacts → ReportFacts → RowFacts
-row_from key restarted all first = record {
+-- the row of a session by its plan, all its reports and the first of them
+abbrev pub row_from : Option Plan → Key → Bool → List ReportFacts → ReportFacts → RowFacts
+row_from plan key restarted all first = record {
   client = key.client;
   session = key.session;
   account = first.user;
   class = first.class;
-  input = (greatest all).0;
-  output = (greatest all).1;
+  input = (greatest plan all).0;
+  output = (greatest plan all).1;
   seconds = largest (map (λ report. report.seconds) all);
   first = smallest (map (λ report. report.when) all);
   last = largest (map (λ report. report.when) all);
@@ -121,9 +143,10 @@ row_from key restarted all first = record {
 }
 
 -- the row of the reports, if there is one
-abbrev pub row_of_reports : Key → Bool → List ReportFacts → Option RowFacts
-row_of_reports key restarted all = option_map (row_from key restarted all) (first_of all)
+abbrev pub row_of_reports : Option Plan → Key → Bool → List ReportFacts → Option RowFacts
+row_of_reports plan key restarted all = option_map (row_from plan key restarted all) (first_of all)
 
 -- the row of a session, if a report of it was accepted
-abbrev pub row_of : List Entry → Key → Option RowFacts
-row_of history key = row_of_reports key (is_restarted history key) (reports history (name_of key))
+abbrev pub row_of : List Plan → List Entry → Key → Option RowFacts
+row_of plans history key = row_of_reports (plan_of plans history (name_of key)) key
+    (is_restarted history key) (reports history (name_of key))

@@ -10,7 +10,7 @@ use Rattle.acct_book.specs.Content.{Content}
 -- The rows are those of the history's sessions, the balances those of the accounts that own a
 -- session or a voucher, the top-ups the first of each number, and every balance is in range.
 pub record Stands (plans : List Plan) (content : Content) (history : List Entry) : Type 0 where
-  pub rows : (key : Key) → content.rows key ≡ row_of history key
+  pub rows : (key : Key) → content.rows key ≡ row_of plans history key
   pub balances : (account : List ℕ) → content.balances account
       ≡ (if is_known history account then Some (balance_of plans history account) else None)
   pub topups : (number : List ℕ) → content.topups number ≡ topup_of history number

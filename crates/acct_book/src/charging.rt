@@ -3,13 +3,14 @@ ghost use Rattle.std.specs.Prelude.{◌≡◌, ◌<◌, ◌^◌};
 ghost use Rattle.acct_book.specs.Charge.{charge_of_row};
 
 use crate::row::Row;
-use acct_model::{Plans, price};
+use acct_model::{Plans, counted, price};
 
-/// What the session of a row costs: the price of its octets, by the plan of its class. It takes no
-/// memory.
+/// What the session of a row costs: the price of what the plan of its class counts of its octets.
+/// It takes no memory.
 pub fn charge(plans: &Plans, row: &Row) -> u128
     ensures exact { result ≡ charge_of_row plans.now row.now }
     ensures bound { result < 2 ^ 93 }
 {
-    price(plans.plan_of(row.class.as_slice()), row.total())
+    let plan = plans.plan_of(row.class.as_slice());
+    price(plan, counted(plan, row.input, row.output))
 }

@@ -56,14 +56,15 @@ pub fn rows_are_of_sessions()
 {}
 
 /// Account and class of a row are those of its session's first report, its counters those of the
-/// greatest report, its moments and session time the least and the greatest that a report said, its
-/// calling station and its address those of the first report that says one.
+/// report that is greatest by what the plan counts, then by the total and then by the input, its
+/// moments and session time the least and the greatest that a report said, its calling station and
+/// its address those of the first report that says one.
 pub fn rows_are_of_reports()
     ensures { RowsAreOfReports }
 {}
 
-/// The row of a session says what the session costs: `charge` of it is the price of the session's
-/// greatest total, by the plan of its first report's class.
+/// The row of a session says what the session costs: `charge` of it is the price of the greatest
+/// number that the plan of its first report's class counts.
 pub fn rows_are_charged()
     ensures { RowsAreCharged }
 {}

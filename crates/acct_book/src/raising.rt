@@ -1,10 +1,10 @@
 //! The row of a session after one more report.
-ghost use Rattle.std.specs.Prelude.{◌≡◌, IfOk};
+ghost use Rattle.std.specs.Prelude.{◌≡◌, Some, IfOk};
 ghost use Rattle.acct_book.specs.inner.Next.{first_row, raised_row, raised_counters, state_after};
 ghost use Rattle.acct_book.specs.inner.Next.{cause_after, or_octets};
 
 use crate::row::{Row, SessionState};
-use acct_model::{Octets, Report, ReportKind};
+use acct_model::{Octets, Plan, Report, ReportKind, counted};
 use std::alloc::{AllocError, Global};
 
 // The row of a session's first report.
@@ -28,13 +28,17 @@ pub(crate) fn new_row(alloc: Global, report: &Report) -> Result<Row, AllocError>
     })
 }
 
-// The greater counters, by their total and then by the input.
-pub(crate) fn later_counters(row: &Row, report: &Report) -> (u64, u64)
-    ensures { result ≡ raised_counters row.now report.now }
+// The greater counters: by what the plan counts, then by their total and then by the input.
+pub(crate) fn later_counters(plan: &Plan, row: &Row, report: &Report) -> (u64, u64)
+    ensures { result ≡ raised_counters (Some plan.now) row.now report.now }
 {
     let total = report.input + report.output;
     let kept = row.input + row.output;
-    if total > kept || (total == kept && report.input > row.input) {
+    let counts = counted(plan, report.input, report.output);
+    let best = counted(plan, row.input, row.output);
+    if counts > best
+        || (counts == best && (total > kept || (total == kept && report.input > row.input)))
+    {
         (report.input, report.output)
     } else {
         (row.input, row.output)

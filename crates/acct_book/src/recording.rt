@@ -2,8 +2,9 @@
 //!
 //! 1. A report is charged to the account of its session's first report, by the plan of that
 //!    report's class.
-//! 2. A report debits the price of the session's new greatest total less the price of the one
-//!    before: a total that is no greater debits nothing, and no report gives money back.
+//! 2. A report debits the price of the greatest number that the session's plan now counts less the
+//!    price of the one before: a number that is no greater debits nothing, and no report gives
+//!    money back.
 //! 3. A report changes one row and one balance, both by one call of the book or neither.
 //! 4. A voucher is credited once. A number that is kept with the same account and sum is a repeat
 //!    and changes nothing, with another account or sum it is refused.
@@ -213,7 +214,7 @@ fn advance(
     found: Option<Row>,
     report: &Report,
 ) -> Result<(Row, u128), AllocError>
-    ensures row { IfOk result (λ p. p.0 ≡ next_row found report.now) }
+    ensures row { IfOk result (λ p. p.0 ≡ next_row plans.now found report.now) }
     ensures before { IfOk result (λ p. p.1 ≡ charge_before plans.now found) }
     ensures small { IfOk result (λ p. p.1 < 2 ^ 93) }
 {
@@ -221,7 +222,8 @@ fn advance(
         None => Ok((new_row(alloc, report)?, 0)),
         Some(row) => {
             let before = charge(plans, &row);
-            Ok((row.raised(alloc, report)?, before))
+            let plan = plans.plan_of(row.class.as_slice());
+            Ok((row.raised(alloc, plan, report)?, before))
         }
     }
 }

@@ -4,7 +4,7 @@ ghost use Rattle.acct_book.specs.Row.{state_text};
 
 use crate::key::Key;
 use crate::raising::{later_calling, later_cause, later_counters, later_state};
-use acct_model::{Octets, Report, Text};
+use acct_model::{Octets, Plan, Report, Text};
 use std::alloc::{AllocError, Global};
 use std::fmt;
 use std::marker::Model;
@@ -55,7 +55,7 @@ pub struct Row {
     pub account: Octets,
     /// The Class of the first report, which names the plan.
     pub class: Octets,
-    /// Octets received from the user's port, of the report with the greatest total.
+    /// Octets received from the user's port, of the report of which the session's plan counts most.
     pub input: u64,
     /// Octets sent to the user's port, of the same report.
     pub output: u64,
@@ -195,11 +195,16 @@ impl Row {
         }
     }
 
-    /// The row after a later report.
-    pub(crate) fn raised(self, alloc: Global, report: &Report) -> Result<Row, AllocError>
-        ensures { IfOk result (λ raised. raised ≡ raised_row self report.now) }
+    /// The row after a later report of a session with this plan.
+    pub(crate) fn raised(
+        self,
+        alloc: Global,
+        plan: &Plan,
+        report: &Report,
+    ) -> Result<Row, AllocError>
+        ensures { IfOk result (λ raised. raised ≡ raised_row (Some plan.now) self report.now) }
     {
-        let (input, output) = later_counters(&self, report);
+        let (input, output) = later_counters(plan, &self, report);
         let Row {
             client,
             session,

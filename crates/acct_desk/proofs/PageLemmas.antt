@@ -151,11 +151,11 @@ rows_told plans c history a rows st are = record {
   in_order = are.in_order;
   each = λ row. (
     (λ h. let found = (are.each row).0 h in (
-      own_row_is a (row_of history (key_of row)) row (sym (st.rows (key_of row))
+      own_row_is a (row_of plans history (key_of row)) row (sym (st.rows (key_of row))
           ∙ found.0) found.1,
       refl,
     )),
-    (λ h. let own = own_row_at a (row_of history (key_of row)) row h.0 in
+    (λ h. let own = own_row_at a (row_of plans history (key_of row)) row h.0 in
         (are.each row).1 (st.rows (key_of row) ∙ own.0, own.1)),
   );
 }

@@ -4,6 +4,7 @@ use Rattle.std.specs.Prelude.{length, Option, option_and_then, codes}
 use Rattle.std.specs.List.{list_any}
 use Rattle.toml.specs.Data.{Data, Members}
 use Rattle.acct_model.specs.declared.plan.Plan.{Plan}
+use Rattle.acct_model.specs.declared.plan.Count.TheVariants.{Both}
 use Rattle.acct_model.specs.declared.plans.PlanError.{PlanError}
 use Rattle.acct_model.specs.declared.plans.PlanError.TheVariants.{BadBlock, BadUnit}
 use Rattle.acct_model.specs.declared.plans.PlanError.TheVariants as fault
@@ -38,11 +39,12 @@ plan_values value = option_and_then plan_values_in (table_shown plan_names value
 abbrev pub is_class : List ℕ → Bool
 is_class class = nat_le 1 (length class) && nat_le (length class) 253
 
--- the values are those of this plan, with a class within its rule
+-- the values are those of this plan, which counts both, with a class within its rule
 pub record SaysPlan (values : PlanValues) (plan : Plan) : Type 0 where
   pub class_is : values.0 ≡ plan.class
   pub block_is : values.1 ≡ pos plan.block
   pub unit_is : values.2 ≡ pos plan.unit
+  pub count_is : plan.count ≡ Both
   pub class_fits : is_class plan.class ≡ true
 
 -- the tables spell these plans, each within its bounds, of which no two share a class

@@ -9,7 +9,7 @@ ghost use Rattle.acct_files.specs.declared.config_error.ConfigKind.TheVariants a
 use crate::config_error::{ConfigError, ConfigKind, ConfigTable};
 use crate::entries::{Entries, entries_of};
 use crate::tables::{integer_at, table_of, text_at};
-use acct_model::{Octets, Plan, PlanError, PlanList, Plans};
+use acct_model::{Count, Octets, Plan, PlanError, PlanList, Plans};
 use std::alloc::Global;
 use toml::Value;
 
@@ -73,7 +73,13 @@ fn plan_of(alloc: Global, table: &Value) -> Result<Plan, ConfigKind>
         return Err(ConfigKind::BadPlan);
     };
     let class = Octets::from_slice(alloc, class.as_bytes())?;
-    Ok(Plan { class, block, unit })
+    let count = Count::Both;
+    Ok(Plan {
+        class,
+        block,
+        unit,
+        count,
+    })
 }
 
 // The class, the block and the unit of a plan's table.

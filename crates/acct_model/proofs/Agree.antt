@@ -1,11 +1,12 @@
 -- When two lists of entries have the same balances.
 use Rattle.std.proofs.Common.{◌≡◌, ◌≤◌, List, sym, ◌∙◌, ap, arith}
-use Rattle.std.specs.Prelude.{Contains, pos, ◌-ℤ◌}
+use Rattle.std.specs.Prelude.{Contains, Option, pos, ◌-ℤ◌}
 use Rattle.acct_model.specs.declared.plan.Plan.{Plan}
 use Rattle.acct_model.specs.declared.entry.Entry.{Entry}
-use Rattle.acct_model.specs.Report.{ReportFacts, total}
+use Rattle.acct_model.specs.Report.{ReportFacts}
 use Rattle.acct_model.specs.Vouchers.{TopUpFacts}
-use Rattle.acct_model.specs.History.{SessionName, session_of, all_reports, all_topups}
+use Rattle.acct_model.specs.Plans.{plan_for, counted_under}
+use Rattle.acct_model.specs.History.{SessionName, session_of, all_reports, counted_of, all_topups}
 use Rattle.acct_model.specs.Claims.{ReportClaim, TopUpClaim, OfReport, OfTopUp, report_claim}
 use Rattle.acct_model.specs.Claims.{topup_claim, claims, IsConsistent, ClaimsNoMore}
 use Rattle.acct_model.specs.Agreement.{BalancesAreEqual, ClaimsTheSame}
@@ -19,19 +20,29 @@ same_names r q e = ap
     (λ (c : ReportClaim). let s : SessionName =
     record { client = c.client; session = c.session } in s) e
 
-pub same_totals : (r q : ReportFacts) → report_claim r ≡ report_claim q → total r ≤ total q
-same_totals r q e =
-    let i : r.input ≡ q.input = ap (λ (c : ReportClaim). c.input) e in
-    let o : r.output ≡ q.output = ap (λ (c : ReportClaim). c.output) e in
-    omega (arith, i, o)
+pub same_counted : (plan : Option Plan) (r q : ReportFacts) → report_claim r ≡ report_claim q
+    → counted_of plan r ≤ counted_of plan q
+same_counted plan r q e =
+    let n = counted_of plan r in
+    let m = counted_of plan q in
+    let same : n ≡ m = ap (λ (c : ReportClaim). counted_under plan c.input c.output) e in
+    let le : n ≤ m = omega (arith, same) in le
 
--- where no claim is more, each report is covered by one of its own claim
-pub covers-claimed : (these those : List Entry) → ClaimsNoMore these those
-    → Covers (all_reports those) (all_reports these)
-covers-claimed these those more r h =
+-- where no claim is more, each report has one of its own claim, of which each plan counts no less
+pub counted-claimed : (plan : Option Plan) (these those : List Entry) → ClaimsNoMore these those
+    → (r : ReportFacts) → Contains (all_reports these) r
+    → (q : ReportFacts) × Contains (all_reports those) q × (session_of q ≡ session_of r)
+    × (counted_of plan r ≤ counted_of plan q)
+counted-claimed plan these those more r h =
     let q = report_of_claim those (report_claim r)
     (more (OfReport (report_claim r)) (claim_of_report these r h)) in
-    (q.0, q.1, same_names q.0 r q.2, same_totals r q.0 (sym q.2))
+    (q.0, q.1, same_names q.0 r q.2, same_counted plan r q.0 (sym q.2))
+
+-- where no claim is more, each report is covered
+pub covers-claimed : (plans : List Plan) (these those : List Entry) → ClaimsNoMore these those
+    → Covers plans (all_reports those) (all_reports these)
+covers-claimed plans these those more r h =
+    counted-claimed (plan_for plans r.class) these those more r h
 
 among_claimed : (these those : List Entry)
     → ((t : TopUpFacts) → Contains (all_topups these) t
@@ -53,11 +64,11 @@ pub balances-covered : (plans : List Plan) (these those : List Entry) → IsCons
     → ClaimsNoMore these those
     → ((t : TopUpFacts) → Contains (all_topups those) t
     → Contains (claims these) (OfTopUp (topup_claim t)))
-    → Covers (all_reports these) (all_reports those)
+    → Covers plans (all_reports these) (all_reports those)
     → BalancesAreEqual plans these those
 balances-covered plans these those consistent more topped covered account =
-    let alike : AreAlike (all_reports these) (all_reports those) = record {
-      up = covers-claimed these those more;
+    let alike : AreAlike plans (all_reports these) (all_reports those) = record {
+      up = covers-claimed plans these those more;
       down = covered;
       alike = λ r q at_r at_q same.
           let x = report_of_claim those (report_claim r)
@@ -82,4 +93,4 @@ balances-same plans these those consistent same account =
     let from : ClaimsNoMore those these = λ c. (same c).1 in
     sym (balances-covered plans those these consistent from
     (λ t h. to (OfTopUp (topup_claim t)) (claim_of_topup these t h))
-    (covers-claimed these those to) account)
+    (covers-claimed plans these those to) account)

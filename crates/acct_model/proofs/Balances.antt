@@ -1,19 +1,19 @@
 -- How one more entry moves a balance.
 use Rattle.std.proofs.Common.{◌≡◌, ◌≢◌, ℕ, ◌+◌, true, false, cond, ◌||◌, List, [], ◌∷◌, map, refl}
-use Rattle.std.proofs.Common.{ap, arith}
+use Rattle.std.proofs.Common.{sym, ◌∙◌, ap, arith}
 use Rattle.std.proofs.lemmas.Int.{ints}
-use Rattle.std.specs.Prelude.{pos, ◌-ℤ◌, ◌+ℤ◌, bytes_eq, max, Option, Some, None}
+use Rattle.std.specs.Prelude.{pos, ◌-ℤ◌, ◌+ℤ◌, bytes_eq, Option, Some, None}
 use Rattle.std.specs.List.{list_any, sum_by, filter}
 use Rattle.std.specs.Option.{option_or}
 use Rattle.acct_model.specs.declared.plan.Plan.{Plan}
 use Rattle.acct_model.specs.declared.entry.Restart.{Restart}
 use Rattle.acct_model.specs.declared.entry.Entry.{Entry}
 use Rattle.acct_model.specs.declared.entry.Entry.TheVariants as entry
-use Rattle.acct_model.specs.Report.{ReportFacts, total}
+use Rattle.acct_model.specs.Report.{ReportFacts}
 use Rattle.acct_model.specs.Vouchers.{TopUpFacts}
-use Rattle.acct_model.specs.Plans.{plan_for, price_under}
+use Rattle.acct_model.specs.Plans.{plan_for}
 use Rattle.acct_model.specs.History.{SessionName, session_of, same_session, all_reports, reports}
-use Rattle.acct_model.specs.History.{distinct, first_of, greatest_total, is_owner, plan_of}
+use Rattle.acct_model.specs.History.{distinct, first_of, is_owner, plan_by, plan_of, cost_of}
 use Rattle.acct_model.specs.History.{charge_of, share, owned, charged, all_topups, topups, topup_of}
 use Rattle.acct_model.specs.History.{Voucher, voucher_of, same_voucher, credited, balance_of}
 use Rattle.acct_model.proofs.Same.{Decides-bytes_eq, Decides-same_session, Decides-same_voucher}
@@ -44,62 +44,49 @@ of_session : SessionName → List ReportFacts → List ReportFacts
 of_session name rs = filter (λ r. same_session name (session_of r)) rs
 
 -- a session without a report weighs nothing
-share_listed : (weight : List ReportFacts → ℕ) (account : List ℕ) (name : SessionName)
-    (rs : List ReportFacts)
+share_listed : (weight : ℕ) (account : List ℕ) (name : SessionName) (rs : List ReportFacts)
     → cond (list_any (same_session name) (map session_of rs))
-    (share weight account (of_session name rs)) 0 ≡ share weight account (of_session name rs)
+    (share account (first_of (of_session name rs)) weight) 0
+    ≡ share account (first_of (of_session name rs)) weight
 unfolding of_session
 share_listed weight account name [] = refl
 share_listed weight account name (r ∷ rs) =
     elim (same_session name (session_of r)) as (λ b.
     cond (b || list_any (same_session name) (map session_of rs))
-    (share weight account (cond b (r ∷ of_session name rs) (of_session name rs))) 0
-    ≡ share weight account (cond b (r ∷ of_session name rs) (of_session name rs))) [
+    (share account (first_of (cond b (r ∷ of_session name rs) (of_session name rs))) weight) 0
+    ≡ share account (first_of (cond b (r ∷ of_session name rs) (of_session name rs))) weight) [
       | true ↦ refl
       | false ↦ share_listed weight account name rs
     ]
 
--- A report changes what its own session weighs, and nothing else.
-pub owned-report : (weight : List ReportFacts → ℕ) (history : List Entry) (report : ReportFacts)
+-- A report changes what its own session weighs, where it changes the weight of no other.
+pub owned-report : (before after : SessionName → ℕ) (history : List Entry) (report : ReportFacts)
     (account : List ℕ)
-    → owned weight (entry.Report report ∷ history) account + share weight account
-    (reports history (session_of report))
-    ≡ owned weight history account + share weight account
-    (report ∷ reports history (session_of report))
+    → ((name : SessionName) → name ≢ session_of report → after name ≡ before name)
+    → owned after (entry.Report report ∷ history) account
+    + share account (first_of (reports history (session_of report))) (before (session_of report))
+    ≡ owned before history account
+    + share account (first_of (report ∷ reports history (session_of report)))
+    (after (session_of report))
 unfolding of_session
-owned-report weight history report account =
+owned-report before after history report account same =
     let s = session_of report in
-    let before : SessionName → ℕ = λ name. share weight account (reports history name) in
-    let after : SessionName
-    → ℕ = λ name. share weight account (reports (entry.Report report ∷ history) name) in
+    let old : SessionName → ℕ = λ name. share account (first_of (reports history name))
+    (before name) in
+    let new : SessionName
+    → ℕ = λ name. share account (first_of (reports (entry.Report report ∷ history) name))
+    (after name) in
     let agree : (name : SessionName) → name ≢ s
-    → after name ≡ before name =
-    λ name other. ap (share weight account) (reports-other history report name other) in
-    let own : after s ≡ share weight account (report ∷ reports history s) =
-    ap (share weight account) (reports-own history report) in
-    let step = sum_by-distinct-more same_session Decides-same_session before after s agree
+    → new name ≡ old name =
+    λ name other i. share account (first_of (reports-other history report name other i))
+    (same name other i) in
+    let own : new s ≡ share account (first_of (report ∷ reports history s)) (after s) =
+    ap (λ rs. share account (first_of rs) (after s)) (reports-own history report) in
+    let step = sum_by-distinct-more same_session Decides-same_session old new s agree
     (map session_of (all_reports history)) in
     let listed : cond (list_any (same_session s) (map session_of (all_reports history)))
-    (before s) 0 ≡ before s = share_listed weight account s (all_reports history) in
+    (old s) 0 ≡ old s = share_listed (before s) account s (all_reports history) in
     omega (arith, step, listed, own)
-
--- An account's balance moves by the difference of what the report's session costs it.
-pub balance-report : (plans : List Plan) (history : List Entry) (report : ReportFacts)
-    (account : List ℕ)
-    → balance_of plans (entry.Report report ∷ history) account
-    ≡ (balance_of plans history account +ℤ pos
-    (share (charge_of plans) account (reports history (session_of report))))
-    -ℤ pos (share (charge_of plans) account (report ∷ reports history (session_of report)))
-balance-report plans history report account =
-    moved (credited history account) (charged plans (entry.Report report ∷ history) account)
-    (share (charge_of plans) account (reports history (session_of report)))
-    (charged plans history account)
-    (share (charge_of plans) account (report ∷ reports history (session_of report)))
-    (owned-report (charge_of plans) history report account)
-  where
-    moved : (credit new before old after : ℕ) → new + before ≡ old + after
-        → pos credit -ℤ pos new ≡ ((pos credit -ℤ pos old) +ℤ pos before) -ℤ pos after
-    moved credit new before old after h = omega (arith, ints)
 
 -- ---- the first of a list
 
@@ -116,56 +103,142 @@ pub first_of-none : {X : Type 0} (xs : List X) → first_of xs ≡ None → xs �
 first_of-none [] e = refl
 first_of-none (x ∷ xs) e = absurd (or_some (first_of xs) x e)
 
+-- ---- the plan of a session after a report
+
+-- a session's first report finds the plan of its class
+pub plan-first : (plans : List Plan) (history : List Entry) (report : ReportFacts)
+    → first_of (reports history (session_of report)) ≡ None
+    → plan_of plans (entry.Report report ∷ history) (session_of report)
+    ≡ plan_for plans report.class
+plan-first plans history report none =
+    ap (λ rs. plan_by plans (first_of rs)) (reports-own history report)
+    ∙ ap (λ o. plan_by plans (option_or o (Some report))) none
+
+-- a later one leaves the plan as it is
+pub plan-later : (plans : List Plan) (history : List Entry) (report first : ReportFacts)
+    → first_of (reports history (session_of report)) ≡ Some first
+    → plan_of plans (entry.Report report ∷ history) (session_of report)
+    ≡ plan_of plans history (session_of report)
+plan-later plans history report first is =
+    ap (λ rs. plan_by plans (first_of rs)) (reports-own history report)
+    ∙ ap (λ o. plan_by plans (option_or o (Some report))) is ∙ sym (ap (plan_by plans) is)
+
+-- and so does a report of another session
+pub plan-other : (plans : List Plan) (history : List Entry) (report : ReportFacts)
+    (name : SessionName) → name ≢ session_of report
+    → plan_of plans (entry.Report report ∷ history) name ≡ plan_of plans history name
+plan-other plans history report name other =
+    ap (λ rs. plan_by plans (first_of rs)) (reports-other history report name other)
+
+-- ---- what a session costs after a report
+
+-- another session costs what it cost
+pub charge-other : (plans : List Plan) (history : List Entry) (report : ReportFacts)
+    (name : SessionName) → name ≢ session_of report
+    → charge_of plans (entry.Report report ∷ history) name ≡ charge_of plans history name
+charge-other plans history report name other =
+    λ i. cost_of (plan-other plans history report name other i)
+    (reports-other history report name other i)
+
+-- its own session costs what its reports cost by its plan
+pub charge-own : (plans : List Plan) (history : List Entry) (report : ReportFacts)
+    → charge_of plans (entry.Report report ∷ history) (session_of report)
+    ≡ cost_of (plan_of plans (entry.Report report ∷ history) (session_of report))
+    (report ∷ reports history (session_of report))
+charge-own plans history report =
+    ap (cost_of (plan_of plans (entry.Report report ∷ history) (session_of report)))
+    (reports-own history report)
+
+-- and by its plan from before, where there was a report of it
+pub charge-later : (plans : List Plan) (history : List Entry) (report first : ReportFacts)
+    → first_of (reports history (session_of report)) ≡ Some first
+    → charge_of plans (entry.Report report ∷ history) (session_of report)
+    ≡ cost_of (plan_of plans history (session_of report))
+    (report ∷ reports history (session_of report))
+charge-later plans history report first is =
+    charge-own plans history report
+    ∙ ap (λ plan. cost_of plan (report ∷ reports history (session_of report)))
+    (plan-later plans history report first is)
+
+-- ---- what the report's session costs an account
+
+-- what the session of a report costs an account before and after the report
+abbrev pub cost_before : List Plan → List Entry → ReportFacts → List ℕ → ℕ
+cost_before plans history report account =
+    share account (first_of (reports history (session_of report)))
+    (charge_of plans history (session_of report))
+
+abbrev pub cost_after : List Plan → List Entry → ReportFacts → List ℕ → ℕ
+cost_after plans history report account =
+    share account (first_of (report ∷ reports history (session_of report)))
+    (charge_of plans (entry.Report report ∷ history) (session_of report))
+
+-- A report changes what its own session costs, and nothing else.
+pub charged-report : (plans : List Plan) (history : List Entry) (report : ReportFacts)
+    (account : List ℕ)
+    → charged plans (entry.Report report ∷ history) account
+    + cost_before plans history report account
+    ≡ charged plans history account + cost_after plans history report account
+charged-report plans history report account =
+    owned-report (charge_of plans history) (charge_of plans (entry.Report report ∷ history))
+    history report account (charge-other plans history report)
+
+-- An account's balance moves by the difference of what the report's session costs it.
+pub balance-report : (plans : List Plan) (history : List Entry) (report : ReportFacts)
+    (account : List ℕ)
+    → balance_of plans (entry.Report report ∷ history) account
+    ≡ (balance_of plans history account +ℤ pos (cost_before plans history report account))
+    -ℤ pos (cost_after plans history report account)
+balance-report plans history report account =
+    moved (credited history account) (charged plans (entry.Report report ∷ history) account)
+    (cost_before plans history report account) (charged plans history account)
+    (cost_after plans history report account) (charged-report plans history report account)
+  where
+    moved : (credit new before old after : ℕ) → new + before ≡ old + after
+        → pos credit -ℤ pos new ≡ ((pos credit -ℤ pos old) +ℤ pos before) -ℤ pos after
+    moved credit new before old after h = omega (arith, ints)
+
 -- ---- what a report's session costs after it
 
--- a session's first report
-pub share-first : (plans : List Plan) (account : List ℕ) (report : ReportFacts)
-    → share (charge_of plans) account (report ∷ [])
-    ≡ cond (bytes_eq account report.user)
-    (price_under (plan_for plans report.class) (total report)) 0
-share-first plans account report =
-    ap (λ n. cond (bytes_eq account report.user) (price_under (plan_for plans report.class) n) 0)
-    (let e : max (total report) 0 ≡ total report = omega arith in e)
-
--- a session whose first report is known
-pub share-known : (plans : List Plan) (account : List ℕ) (first : ReportFacts)
-    (rs : List ReportFacts) → first_of rs ≡ Some first
-    → share (charge_of plans) account rs
+-- where the session's first report was there before: the costs before and after by one plan
+pub before-known : (plans : List Plan) (history : List Entry) (report first : ReportFacts)
+    (account : List ℕ) → first_of (reports history (session_of report)) ≡ Some first
+    → cost_before plans history report account
     ≡ cond (bytes_eq account first.user)
-    (price_under (plan_for plans first.class) (greatest_total rs)) 0
-share-known plans account first rs is =
-    ap (λ o. cond (is_owner account o) (price_under (plan_of plans o) (greatest_total rs)) 0) is
+    (cost_of (plan_of plans history (session_of report)) (reports history (session_of report))) 0
+before-known plans history report first account is =
+    ap (λ o. share account o (charge_of plans history (session_of report))) is
 
--- a later report of it
-pub share-later : (plans : List Plan) (account : List ℕ) (first report : ReportFacts)
-    (rs : List ReportFacts) → first_of rs ≡ Some first
-    → share (charge_of plans) account (report ∷ rs)
+pub after-known : (plans : List Plan) (history : List Entry) (report first : ReportFacts)
+    (account : List ℕ) → first_of (reports history (session_of report)) ≡ Some first
+    → cost_after plans history report account
     ≡ cond (bytes_eq account first.user)
-    (price_under (plan_for plans first.class) (max (total report) (greatest_total rs))) 0
-share-later plans account first report rs is =
-    share-known plans account first (report ∷ rs) (first_of-more report first rs is)
+    (cost_of (plan_of plans history (session_of report))
+    (report ∷ reports history (session_of report))) 0
+after-known plans history report first account is = λ i. share account
+    (first_of-more report first (reports history (session_of report)) is i)
+    (charge-later plans history report first is i)
 
--- who owns a session after a report
-pub is_owner-later : (account : List ℕ) (report : ReportFacts) (rs : List ReportFacts)
-    → is_owner account (first_of (report ∷ rs))
-    ≡ is_owner account (option_or (first_of rs) (Some report))
-is_owner-later account report rs = refl
+-- where there was none the session cost nothing
+pub before-none : (plans : List Plan) (history : List Entry) (report : ReportFacts)
+    (account : List ℕ) → first_of (reports history (session_of report)) ≡ None
+    → cost_before plans history report account ≡ 0
+before-none plans history report account none =
+    ap (λ o. share account o (charge_of plans history (session_of report))) none
 
-other_share : (weight : List ReportFacts → ℕ) (account : List ℕ) (report : ReportFacts)
-    (rs : List ReportFacts) (o : Option ReportFacts)
+other_share : (account : List ℕ) (report : ReportFacts) (o : Option ReportFacts)
     → is_owner account (option_or o (Some report)) ≡ false → is_owner account o ≡ false
-other_share weight account report rs None e = refl
-other_share weight account report rs (Some first) e = e
+other_share account report None e = refl
+other_share account report (Some first) e = e
 
 -- whoever does not own the session after the report didn't before
-pub share-other : (weight : List ReportFacts → ℕ) (account : List ℕ) (report : ReportFacts)
-    (rs : List ReportFacts)
-    → is_owner account (first_of (report ∷ rs)) ≡ false → (share weight account (report ∷ rs) ≡ 0)
-    × (share weight account rs ≡ 0)
-share-other weight account report rs e = (
-  ap (λ b. cond b (weight (report ∷ rs)) 0) e,
-  ap (λ b. cond b (weight rs) 0)
-      (other_share weight account report rs (first_of rs) e),
+pub share-other : (account : List ℕ) (report : ReportFacts) (rs : List ReportFacts)
+    (before after : ℕ)
+    → is_owner account (first_of (report ∷ rs)) ≡ false
+    → (share account (first_of (report ∷ rs)) after ≡ 0) × (share account (first_of rs) before ≡ 0)
+share-other account report rs before after e = (
+  ap (λ b. cond b after 0) e,
+  ap (λ b. cond b before 0) (other_share account report (first_of rs) e),
 )
 
 -- A report moves no balance but its session's owner's.
@@ -174,9 +247,10 @@ pub balance-report-other : (plans : List Plan) (history : List Entry) (report : 
     → is_owner account (first_of (report ∷ reports history (session_of report))) ≡ false
     → balance_of plans (entry.Report report ∷ history) account ≡ balance_of plans history account
 balance-report-other plans history report account e =
-    let none = share-other (charge_of plans) account report
-    (reports history (session_of report)) e in
-    let step = owned-report (charge_of plans) history report account in
+    let none = share-other account report (reports history (session_of report))
+    (charge_of plans history (session_of report))
+    (charge_of plans (entry.Report report ∷ history) (session_of report)) e in
+    let step = charged-report plans history report account in
     let same : charged plans (entry.Report report ∷ history) account
     ≡ charged plans history account = omega (arith, step, none.0, none.1) in
     ap (λ n. pos (credited history account) -ℤ pos n) same

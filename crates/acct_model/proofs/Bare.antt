@@ -7,16 +7,17 @@ use Rattle.acct_model.specs.declared.plan.Plan.{Plan}
 use Rattle.acct_model.specs.declared.report.ReportKind.TheVariants.{Interim}
 use Rattle.acct_model.specs.declared.entry.Entry.{Entry}
 use Rattle.acct_model.specs.declared.entry.Entry.TheVariants as entry
-use Rattle.acct_model.specs.Report.{ReportFacts, total}
+use Rattle.acct_model.specs.Report.{ReportFacts}
 use Rattle.acct_model.specs.Vouchers.{TopUpFacts}
 use Rattle.acct_model.specs.Plans.{price_under}
 use Rattle.acct_model.specs.History.{SessionName, session_of, same_session, all_reports, reports}
-use Rattle.acct_model.specs.History.{distinct, first_of, greatest_total, is_owner, plan_of}
-use Rattle.acct_model.specs.History.{charge_of, share, charged, all_topups, voucher_of}
+use Rattle.acct_model.specs.History.{distinct, first_of, plan_by, counted_of, greatest_counted}
+use Rattle.acct_model.specs.History.{cost_of, share, charged, all_topups, voucher_of}
 use Rattle.acct_model.specs.History.{same_voucher, credited, balance_of}
 use Rattle.acct_model.specs.Claims.{ReportClaim, TopUpClaim, Claim, OfReport, OfTopUp, report_claim}
 use Rattle.acct_model.specs.Claims.{topup_claim, claims}
 use Rattle.acct_model.specs.Agreement.{BalancesAreEqual}
+use Rattle.acct_model.proofs.Alike.{cost_to}
 
 -- the report and the top-up that say a claim and nothing else
 report_by : ReportClaim → ReportFacts
@@ -101,39 +102,39 @@ first_bare (r ∷ rs) =
     ap (λ o. option_or o (Some (bare_report r))) (first_bare rs)
     ∙ option_or_map bare_report (first_of rs) r
 
-greatest_bare : (rs : List ReportFacts) → greatest_total (map bare_report rs) ≡ greatest_total rs
+greatest_bare : (plan : Option Plan) (rs : List ReportFacts)
+    → greatest_counted plan (map bare_report rs) ≡ greatest_counted plan rs
 unfolding bare_report report_by
-greatest_bare [] = refl
-greatest_bare (r ∷ rs) = ap (λ n. max (total r) n) (greatest_bare rs)
+greatest_bare plan [] = refl
+greatest_bare plan (r ∷ rs) = ap (λ n. max (counted_of plan r) n) (greatest_bare plan rs)
 
-cost_bare : (plans : List Plan) (account : List ℕ) (first : Option ReportFacts) (n : ℕ)
-    → cond (is_owner account (option_map bare_report first))
-    (price_under (plan_of plans (option_map bare_report first)) n) 0
-    ≡ cond (is_owner account first) (price_under (plan_of plans first) n) 0
+first_cost_bare : (plans : List Plan) (account : List ℕ) (rs : List ReportFacts)
+    (first : Option ReportFacts)
+    → share account (option_map bare_report first)
+    (cost_of (plan_by plans (option_map bare_report first)) rs)
+    ≡ share account first (cost_of (plan_by plans first) rs)
 unfolding bare_report report_by
-cost_bare plans account None n = refl
-cost_bare plans account (Some first) n = refl
+first_cost_bare plans account rs None = refl
+first_cost_bare plans account rs (Some first) = refl
 
-share_bare : (plans : List Plan) (account : List ℕ) (rs : List ReportFacts)
-    → share (charge_of plans) account (map bare_report rs) ≡ share (charge_of plans) account rs
-share_bare plans account rs =
-    let parts : share (charge_of plans) account (map bare_report rs)
-    ≡ cond (is_owner account (option_map bare_report (first_of rs)))
-    (price_under (plan_of plans (option_map bare_report (first_of rs))) (greatest_total rs)) 0 =
-    λ i. cond (is_owner account (first_bare rs i))
-    (price_under (plan_of plans (first_bare rs i)) (greatest_bare rs i)) 0 in
-    parts ∙ cost_bare plans account (first_of rs) (greatest_total rs)
+cost_bare : (plans : List Plan) (account : List ℕ) (rs : List ReportFacts)
+    → cost_to plans account (map bare_report rs) ≡ cost_to plans account rs
+cost_bare plans account rs =
+    let bare_rs = map bare_report rs in
+    ap (λ o. share account o (cost_of (plan_by plans o) bare_rs)) (first_bare rs)
+    ∙ first_cost_bare plans account bare_rs (first_of rs)
+    ∙ ap (λ n. share account (first_of rs) (price_under (plan_by plans (first_of rs)) n))
+    (greatest_bare (plan_by plans (first_of rs)) rs)
 
 charged_bare : (plans : List Plan) (es : List Entry) (account : List ℕ)
     → charged plans (bare es) account ≡ charged plans es account
 charged_bare plans es account =
     let shares : (name : SessionName)
-    → share (charge_of plans) account (reports (bare es) name)
-    ≡ share (charge_of plans) account (reports es name) =
-    λ name. ap (λ rs. share (charge_of plans) account
+    → cost_to plans account (reports (bare es) name) ≡ cost_to plans account (reports es name) =
+    λ name. ap (λ rs. cost_to plans account
     (filter (λ r. same_session name (session_of r)) rs)) (reports_bare es)
-    ∙ ap (share (charge_of plans) account) (session_bare name (all_reports es))
-    ∙ share_bare plans account (reports es name) in
+    ∙ ap (cost_to plans account) (session_bare name (all_reports es))
+    ∙ cost_bare plans account (reports es name) in
     let names : map session_of (all_reports (bare es)) ≡ map session_of (all_reports es) =
     ap (map session_of) (reports_bare es) ∙ named_bare (all_reports es) in
     λ i. sum_by (λ name. shares name i) (distinct same_session (names i))

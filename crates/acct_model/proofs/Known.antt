@@ -21,8 +21,8 @@ use Rattle.acct_model.proofs.Balances.{owned-report, share-other}
 abbrev pub owns : List Entry → List ℕ → SessionName → Bool
 owns history account name = is_owner account (first_of (reports history name))
 
-abbrev one : List ReportFacts → ℕ
-one reports = 1
+abbrev one : SessionName → ℕ
+one name = 1
 
 sum_any_at : (b : Bool) (n : ℕ) (any : Bool) → nat_lt 0 n ≡ any
     → nat_lt 0 (cond b 1 0 + n) ≡ (b || any)
@@ -54,30 +54,31 @@ below_sum_at : (f : SessionName → ℕ) (s : SessionName) (keys : List SessionN
 below_sum_at f s keys true is = le-sum_by-distinct same_session Decides-same_session f s keys is
 below_sum_at f s keys false is = omega arith
 
-no_reports : (weight : List ReportFacts → ℕ) (account : List ℕ) (name : SessionName)
+no_reports : (weight : ℕ) (account : List ℕ) (name : SessionName)
     (rs : List ReportFacts) → list_any (same_session name) (map session_of rs) ≡ false
-    → share weight account (filter (λ r. same_session name (session_of r)) rs) ≡ 0
+    → share account (first_of (filter (λ r. same_session name (session_of r)) rs)) weight ≡ 0
 no_reports weight account name [] e = refl
 no_reports weight account name (r ∷ rs) e =
     elim (same_session name (session_of r)) as (λ b.
     (b || list_any (same_session name) (map session_of rs)) ≡ false
-    → share weight account
-    (cond b (r ∷ filter (λ r. same_session name (session_of r)) rs)
-    (filter (λ r. same_session name (session_of r)) rs)) ≡ 0) [
+    → share account
+    (first_of (cond b (r ∷ filter (λ r. same_session name (session_of r)) rs)
+    (filter (λ r. same_session name (session_of r)) rs))) weight ≡ 0) [
       | true ↦ λ h. absurd (true≢false h)
       | false ↦ λ h. no_reports weight account name rs h
     ] e
 
 -- what a session weighs is a part of what its owner's sessions weigh
-pub share-le_owned : (weight : List ReportFacts → ℕ) (history : List Entry) (name : SessionName)
-    (account : List ℕ) → share weight account (reports history name) ≤ owned weight history account
+pub share-le_owned : (weight : SessionName → ℕ) (history : List Entry) (name : SessionName)
+    (account : List ℕ)
+    → share account (first_of (reports history name)) (weight name) ≤ owned weight history account
 share-le_owned weight history name account =
-    let f : SessionName → ℕ = λ k. share weight account (reports history k) in
+    let f : SessionName → ℕ = λ k. share account (first_of (reports history k)) (weight k) in
     let keys = map session_of (all_reports history) in
     elim (list_any (same_session name) keys) as (λ b. list_any (same_session name) keys ≡ b
     → f name ≤ sum_by f (distinct same_session keys)) [
       | true ↦ λ is. le-sum_by-distinct same_session Decides-same_session f name keys is
-      | false ↦ λ is. omega (arith, no_reports weight account name (all_reports history) is)
+      | false ↦ λ is. omega (arith, no_reports (weight name) account name (all_reports history) is)
     ] refl
 
 -- A report makes its session's owner known.
@@ -92,10 +93,10 @@ owns-report history report account =
     sym (sum_any (owns (entry.Report report ∷ history) account)
     (sessions (entry.Report report ∷ history)))
     ∙ known_if_above (owned one (entry.Report report ∷ history) account) (owned one history account)
-    (share one account rs) (share one account (report ∷ rs)) mine
-    (owned-report one history report account) refl
+    (share account (first_of rs) 1) (share account (first_of (report ∷ rs)) 1) mine
+    (owned-report one one history report account (λ name other. refl)) refl
     (share-le_owned one history (session_of report) account)
-    (λ e. (share-other one account report rs e).1)
+    (λ e. (share-other account report rs 1 1 e).1)
     (share_at_most account (is_owner account (first_of rs)))
     ∙ ap (λ b. mine || b) (sum_any (owns history account) (sessions history))
 
@@ -159,8 +160,7 @@ pub balance-unknown : (plans : List Plan) (history : List Entry) (account : List
 balance-unknown plans history account unknown =
     let both = or_false (list_any (owns history account) (sessions history))
     (list_any (λ topup. bytes_eq account topup.account) (all_topups history)) unknown in
-    let free_of = free (owns history account) (λ name. charge_of plans (reports history name))
-    (sessions history) both.0 in
+    let free_of = free (owns history account) (charge_of plans history) (sessions history) both.0 in
     let none = no_topups account (all_topups history) both.1 in
     λ i. pos (sum_by (λ v. v.1) (distinct same_voucher (map voucher_of (none i)))) -ℤ pos
     (free_of i)

@@ -8,11 +8,13 @@ use Rattle.std.specs.Bool.{Decides}
 use Rattle.std.specs.List.{list_any, IsDistinct, AllByRecursion}
 use Rattle.std.specs.Option.{option_or}
 use Rattle.acct_model.specs.declared.entry.Entry.{Entry}
-use Rattle.acct_model.specs.Report.{ReportFacts, total}
+use Rattle.acct_model.specs.declared.plan.Plan.{Plan}
+use Rattle.acct_model.specs.Report.{ReportFacts}
 use Rattle.acct_model.specs.History.{SessionName, session_of, same_session, all_reports, reports}
-use Rattle.acct_model.specs.History.{distinct, sessions, first_of, is_owner, greatest_total}
+use Rattle.acct_model.specs.History.{distinct, sessions, first_of, is_owner, counted_of}
+use Rattle.acct_model.specs.History.{greatest_counted}
 use Rattle.acct_model.specs.History.{all_topups, topups, voucher_of, same_voucher, is_known}
-use Rattle.acct_model.specs.Laws.{OwnsSession, OwnsVoucher, GreatestTotalIsReached}
+use Rattle.acct_model.specs.Laws.{OwnsSession, OwnsVoucher, GreatestCountIsReached}
 use Rattle.acct_model.specs.Laws.{SessionsAreReported, VouchersAreToppedUp, KnownAccountsOwn}
 use Rattle.acct_model.proofs.Same.{Decides-bytes_eq, Decides-same_session, Decides-same_voucher}
 use Rattle.acct_model.proofs.Known.{owns}
@@ -114,40 +116,45 @@ vouchers_listed = record {
       (map voucher_of (topups history account));
 }
 
-highest : (report : ReportFacts) (older : List ReportFacts) → (one : ReportFacts)
-    × Contains (report ∷ older) one × (total one ≡ greatest_total (report ∷ older))
-highest report [] = (
-  report,
-  here report [],
-  (let e : total report ≡ max (total report) 0 = omega arith in e),
-)
-highest report (next ∷ older) =
-    let rest = highest next older in
-    elim (cases_lt (greatest_total (next ∷ older)) (total report)) [
+highest : (plan : Option Plan) (report : ReportFacts) (older : List ReportFacts)
+    → (one : ReportFacts) × Contains (report ∷ older) one
+    × (counted_of plan one ≡ greatest_counted plan (report ∷ older))
+highest plan report [] =
+    let n = counted_of plan report in
+    (report, here report [], (let e : n ≡ max n 0 = omega arith in e))
+highest plan report (next ∷ older) =
+    let rest = highest plan next older in
+    let n = counted_of plan report in
+    let g = greatest_counted plan (next ∷ older) in
+    elim (cases_lt g n) [
       | inl le ↦ (
         report,
         here report (next ∷ older),
-        (let e : total report ≡ max (total report) (greatest_total (next ∷ older)) =
-            omega (arith, le) in e),
+        (let e : n ≡ max n g = omega (arith, le) in e),
       )
       | inr more ↦ (
         rest.0,
         deeper report rest.0 (next ∷ older) rest.1,
-        rest.2
-            ∙ (let e : greatest_total (next ∷ older)
-            ≡ max (total report) (greatest_total (next ∷ older)) = omega (arith, more) in e),
+        rest.2 ∙ (let e : g ≡ max n g = omega (arith, more) in e),
       )
     ]
 
-pub below_greatest : (rs : List ReportFacts) (one : ReportFacts) → Contains rs one
-    → total one ≤ greatest_total rs
-below_greatest [] one h = absurd (nowhere one h)
-below_greatest (r ∷ rs) one h = elim (front_or_behind r one rs h) [
-  | inl is ↦ let same : total r ≡ total one = ap total is in omega (arith, same)
-  | inr behind ↦ omega (arith, below_greatest rs one behind)
-]
+pub below_greatest : (plan : Option Plan) (rs : List ReportFacts) (one : ReportFacts)
+    → Contains rs one → counted_of plan one ≤ greatest_counted plan rs
+below_greatest plan [] one h = absurd (nowhere one h)
+below_greatest plan (r ∷ rs) one h =
+    let n = counted_of plan r in
+    let m = counted_of plan one in
+    let g = greatest_counted plan rs in
+    elim (front_or_behind r one rs h) [
+      | inl is ↦ let same : n ≡ m = ap (counted_of plan) is in
+          let e : m ≤ max n g = omega (arith, same) in e
+      | inr behind ↦
+          let below : m ≤ g = below_greatest plan rs one behind in
+          let e : m ≤ max n g = omega (arith, below) in e
+    ]
 
-pub greatest_reached : GreatestTotalIsReached
+pub greatest_reached : GreatestCountIsReached
 greatest_reached = record { reached = highest; bound = below_greatest }
 
 pub first_deepest : (later : List ReportFacts) (report : ReportFacts)

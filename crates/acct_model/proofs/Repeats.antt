@@ -1,46 +1,60 @@
 -- What is accepted again moves no balance.
-use Rattle.std.proofs.Common.{◌≡◌, ℕ, ◌≤◌, inl, inr, List, [], ◌∷◌, refl, sym, ◌∙◌, ap, subst}
+use Rattle.std.proofs.Common.{◌≡◌, ◌≤◌, inl, inr, List, ◌∷◌, refl, sym, ◌∙◌, ap, subst}
 use Rattle.std.proofs.Common.{arith, cond}
-use Rattle.std.specs.Prelude.{Contains, pos, ◌-ℤ◌, Some, max, bytes_eq}
+use Rattle.std.specs.Prelude.{ℕ, Contains, pos, ◌-ℤ◌, Option, None, Some, max, bytes_eq}
 use Rattle.acct_model.specs.declared.plan.Plan.{Plan}
 use Rattle.acct_model.specs.declared.entry.Entry.{Entry}
 use Rattle.acct_model.specs.declared.entry.Entry.TheVariants as entry
-use Rattle.acct_model.specs.Report.{ReportFacts, total}
+use Rattle.acct_model.specs.Report.{ReportFacts}
 use Rattle.acct_model.specs.Vouchers.{TopUpFacts}
-use Rattle.acct_model.specs.Plans.{plan_for, price_under}
-use Rattle.acct_model.specs.History.{session_of, all_reports, reports, greatest_total, charge_of}
-use Rattle.acct_model.specs.History.{share, charged, all_topups, voucher_of, credited}
-use Rattle.acct_model.proofs.Members.{greatest_reached}
-use Rattle.acct_model.proofs.Balances.{owned-report, share-known, share-later}
+use Rattle.acct_model.specs.Plans.{price_under}
+use Rattle.acct_model.specs.History.{session_of, all_reports, reports, first_of, plan_of}
+use Rattle.acct_model.specs.History.{counted_of, greatest_counted, charged, all_topups, voucher_of}
+use Rattle.acct_model.specs.History.{credited}
+use Rattle.acct_model.proofs.Balances.{first_of-none, cost_before, cost_after, charged-report}
+use Rattle.acct_model.proofs.Balances.{before-known, after-known}
+use Rattle.acct_model.proofs.Members.{below_greatest}
 use Rattle.acct_model.specs.Claims.{TopUpClaim, Claim, OfReport, OfTopUp, report_claim, topup_claim}
 use Rattle.acct_model.specs.Claims.{claim_of, claims}
 use Rattle.acct_model.specs.Agreement.{BalancesAreEqual}
 use Rattle.acct_model.proofs.Lists.{deeper, nowhere, front_or_behind}
-use Rattle.acct_model.proofs.Alike.{first_there, credited-among, to_session}
+use Rattle.acct_model.proofs.Alike.{credited-among, to_session}
 use Rattle.acct_model.proofs.Claimed.{report_of_claim, topup_of_claim}
-use Rattle.acct_model.proofs.Agree.{same_names, same_totals}
+use Rattle.acct_model.proofs.Agree.{same_names, same_counted}
 
--- a session costs the same with one more report whose total is reached already
-share_repeated : (plans : List Plan) (account : List ℕ) (r q : ReportFacts) (rs : List ReportFacts)
-    → Contains rs q → total r ≤ total q
-    → share (charge_of plans) account (r ∷ rs) ≡ share (charge_of plans) account rs
-share_repeated plans account r q [] h le = absurd (nowhere q h)
-share_repeated plans account r q (x ∷ rs) h le =
-    let first = first_there x rs in
-    let reach : max (total r) (greatest_total (x ∷ rs)) ≡ greatest_total (x ∷ rs) =
-    omega (arith, le, greatest_reached.bound (x ∷ rs) q h) in
-    share-later plans account first.0 r (x ∷ rs) first.2
-    ∙ ap (λ n. cond (bytes_eq account first.0.user)
-    (price_under (plan_for plans first.0.class) n) 0) reach
-    ∙ sym (share-known plans account first.0 (x ∷ rs) first.2)
+-- a session costs the same after one more report, where its plan counts no less of another
+pub cost-same : (plans : List Plan) (history : List Entry) (report one : ReportFacts)
+    (account : List ℕ)
+    → Contains (reports history (session_of report)) one
+    → counted_of (plan_of plans history (session_of report)) report
+    ≤ counted_of (plan_of plans history (session_of report)) one → (o : Option ReportFacts)
+    → first_of (reports history (session_of report)) ≡ o
+    → cost_after plans history report account ≡ cost_before plans history report account
+cost-same plans history report one account listed less None is =
+    absurd (nowhere one (subst (λ xs. Contains xs one)
+    (first_of-none (reports history (session_of report)) is) listed))
+cost-same plans history report one account listed less (Some first) is =
+    let rs = reports history (session_of report) in
+    let plan = plan_of plans history (session_of report) in
+    let n = counted_of plan report in
+    let g = greatest_counted plan rs in
+    let below : counted_of plan one ≤ g = below_greatest plan rs one listed in
+    let same : max n g ≡ g = omega (arith, less, below) in
+    after-known plans history report first account is
+    ∙ ap (λ k. cond (bytes_eq account first.user) (price_under plan k) 0) same
+    ∙ sym (before-known plans history report first account is)
 
+-- what the plan of its session counts of it is reached already
 charged_repeated : (plans : List Plan) (history : List Entry) (r q : ReportFacts) (account : List ℕ)
-    → Contains (all_reports history) q → session_of q ≡ session_of r → total r ≤ total q
+    → Contains (all_reports history) q → session_of q ≡ session_of r
+    → counted_of (plan_of plans history (session_of r)) r
+    ≤ counted_of (plan_of plans history (session_of r)) q
     → charged plans (entry.Report r ∷ history) account ≡ charged plans history account
 charged_repeated plans history r q account there same le =
-    let step = owned-report (charge_of plans) history r account in
-    let own = share_repeated plans account r q (reports history (session_of r))
-    (to_session (session_of r) (all_reports history) q there (sym same)) le in
+    let step = charged-report plans history r account in
+    let own = cost-same plans history r q account
+    (to_session (session_of r) (all_reports history) q there (sym same)) le
+    (first_of (reports history (session_of r))) refl in
     omega (arith, step, own)
 
 pub credited_repeated : (history : List Entry) (t u : TopUpFacts) (account : List ℕ)
@@ -63,7 +77,7 @@ balance-repeated plans history (entry.Report r) claim is there account =
     let q = report_of_claim history (report_claim r)
     (subst (λ c. Contains (claims history) c) (sym own) there) in
     let cost = charged_repeated plans history r q.0 account q.1 (same_names q.0 r q.2)
-    (same_totals r q.0 (sym q.2)) in
+    (same_counted (plan_of plans history (session_of r)) r q.0 (sym q.2)) in
     λ i. pos (credited history account) -ℤ pos (cost i)
 balance-repeated plans history (entry.Restart r) claim is there account = refl
 balance-repeated plans history (entry.TopUp t) claim is there account =

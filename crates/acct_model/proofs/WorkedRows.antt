@@ -2,14 +2,16 @@
 use Rattle.std.proofs.Common.{◌≡◌, ℕ, List, [], ◌∷◌, refl}
 use Rattle.std.specs.Prelude.{ℤ, pos, negsuc, None, codes, true, false}
 use Rattle.acct_model.specs.declared.plan.Plan.{Plan}
+use Rattle.acct_model.specs.declared.plan.Count.{Count}
+use Rattle.acct_model.specs.declared.plan.Count.TheVariants.{Both, Input, Output}
 use Rattle.acct_model.specs.declared.entry.Entry.{Entry}
 use Rattle.acct_model.specs.declared.entry.Entry.TheVariants as entry
 use Rattle.acct_model.specs.declared.report.ReportKind.TheVariants.{Interim}
 use Rattle.acct_model.specs.History.{balance_of, is_known}
 
 abbrev plans : List Plan
-plans = record { class = codes "gold"; block = 1048576; unit = 10 }
-    ∷ record { class = codes "default"; block = 1000000; unit = 5 } ∷ []
+plans = record { class = codes "gold"; block = 1048576; unit = 10; count = Both }
+    ∷ record { class = codes "default"; block = 1000000; unit = 5; count = Both } ∷ []
 
 -- an interim update of a session of `al`
 abbrev update : List ℕ → List ℕ → ℕ → Entry
@@ -83,3 +85,45 @@ owner = refl
 
 stranger : is_known (update (codes "s1") [] 0 ∷ []) (codes "bo") ≡ false
 stranger = refl
+
+-- a plan `link` that counts so, after input 5,000,000 and output 1 and after input 0 and output
+-- 1,048,577 of one session, in both orders
+abbrev link : Count → List Plan
+link count = record { class = codes "link"; block = 1048576; unit = 10; count = count } ∷ plans
+
+abbrev linked : ℕ → ℕ → Entry
+linked input output = entry.Report (record {
+  client = codes "ap1";
+  session = codes "s5";
+  user = codes "al";
+  class = codes "link";
+  kind = Interim;
+  input = input;
+  output = output;
+  seconds = 0;
+  when = 2000;
+  cause = 0;
+  calling = [];
+  framed = None;
+})
+
+abbrev owes : Count → List Entry → ℤ
+owes count history = balance_of (link count) history (codes "al")
+
+counts_out_1 : owes Output (linked 5000000 1 ∷ []) ≡ negsuc 9
+counts_out_1 = refl
+
+counts_out_2 : owes Output (linked 0 1048577 ∷ linked 5000000 1 ∷ []) ≡ negsuc 19
+counts_out_2 = refl
+
+counts_out_other : owes Output (linked 5000000 1 ∷ linked 0 1048577 ∷ []) ≡ negsuc 19
+counts_out_other = refl
+
+counts_in : owes Input (linked 0 1048577 ∷ linked 5000000 1 ∷ []) ≡ negsuc 49
+counts_in = refl
+
+counts_in_other : owes Input (linked 5000000 1 ∷ linked 0 1048577 ∷ []) ≡ negsuc 49
+counts_in_other = refl
+
+counts_both : owes Both (linked 0 1048577 ∷ linked 5000000 1 ∷ []) ≡ negsuc 49
+counts_both = refl

@@ -11,9 +11,9 @@ use Rattle.std.specs.Option.{option_or}
 use Rattle.acct_model.specs.declared.plan.Plan.{Plan}
 use Rattle.acct_model.specs.declared.entry.Entry.{Entry}
 use Rattle.acct_model.specs.declared.entry.Entry.TheVariants as entry
-use Rattle.acct_model.specs.Report.{ReportFacts, total}
+use Rattle.acct_model.specs.Report.{ReportFacts}
 use Rattle.acct_model.specs.Vouchers.{TopUpFacts}
-use Rattle.acct_model.specs.Plans.{plan_for, price_under}
+use Rattle.acct_model.specs.Plans.{plan_for, counted_under, price_under}
 
 -- ---- sessions
 
@@ -64,10 +64,6 @@ abbrev pub largest : List ℕ → ℕ
 largest [] = 0
 largest (n ∷ ns) = max n (largest ns)
 
--- the greatest total of a session's reports
-abbrev pub greatest_total : List ReportFacts → ℕ
-greatest_total reports = largest (map total reports)
-
 -- ---- what a session costs
 
 -- the account that a session is charged to is the user of its first report
@@ -75,27 +71,44 @@ abbrev pub is_owner : List ℕ → Option ReportFacts → Bool
 is_owner account None = false
 is_owner account (Some first) = bytes_eq account first.user
 
+-- the plan that the class of a first report names
+abbrev pub plan_by : List Plan → Option ReportFacts → Option Plan
+plan_by plans None = None
+plan_by plans (Some first) = plan_for plans first.class
+
 -- the plan of a session is the one that the class of its first report names
-abbrev pub plan_of : List Plan → Option ReportFacts → Option Plan
-plan_of plans None = None
-plan_of plans (Some first) = plan_for plans first.class
+abbrev pub plan_of : List Plan → List Entry → SessionName → Option Plan
+plan_of plans history name = plan_by plans (first_of (reports history name))
 
--- the price of a session: that of its greatest total, by the plan of its first report
-abbrev pub charge_of : List Plan → List ReportFacts → ℕ
-charge_of plans reports = price_under (plan_of plans (first_of reports)) (greatest_total reports)
+-- what a plan counts of a report
+abbrev pub counted_of : Option Plan → ReportFacts → ℕ
+counted_of plan report = counted_under plan report.input report.output
 
--- a weight of a session that the account owns
-abbrev pub share : (List ReportFacts → ℕ) → List ℕ → List ReportFacts → ℕ
-share weight account reports = if is_owner account (first_of reports) then weight reports else 0
+-- the greatest number that a plan counts of one of these reports
+abbrev pub greatest_counted : Option Plan → List ReportFacts → ℕ
+greatest_counted plan reports = largest (map (counted_of plan) reports)
+
+-- what the reports of a session cost by its plan: the price of the greatest number that it counts
+abbrev pub cost_of : Option Plan → List ReportFacts → ℕ
+cost_of plan reports = price_under plan (greatest_counted plan reports)
+
+-- the price of a session
+abbrev pub charge_of : List Plan → List Entry → SessionName → ℕ
+charge_of plans history name = cost_of (plan_of plans history name) (reports history name)
+
+-- the weight of a session whose first report this is, if the account owns it
+abbrev pub share : List ℕ → Option ReportFacts → ℕ → ℕ
+share account first weight = if is_owner account first then weight else 0
 
 -- the weights of all sessions that the account owns, added up
-abbrev pub owned : (List ReportFacts → ℕ) → List Entry → List ℕ → ℕ
+abbrev pub owned : (SessionName → ℕ) → List Entry → List ℕ → ℕ
 owned weight history account =
-    sum_by (λ name. share weight account (reports history name)) (sessions history)
+    sum_by (λ name. share account (first_of (reports history name)) (weight name))
+    (sessions history)
 
 -- what the sessions of an account cost
 abbrev pub charged : List Plan → List Entry → List ℕ → ℕ
-charged plans history account = owned (charge_of plans) history account
+charged plans history account = owned (charge_of plans history) history account
 
 -- ---- what vouchers give
 
@@ -140,8 +153,8 @@ credited history account = sum_by (λ voucher. voucher.1) (vouchers history acco
 
 -- ---- balances
 
--- the balance of an account: what its distinct vouchers give, less the price of each of its
--- sessions' greatest total
+-- the balance of an account: what its distinct vouchers give, less the price of the greatest number
+-- that the plan of each of its sessions counts
 abbrev pub balance_of : List Plan → List Entry → List ℕ → ℤ
 balance_of plans history account =
     pos (credited history account) -ℤ pos (charged plans history account)

@@ -1,16 +1,18 @@
 -- Laws above histories and shown octets, in the subject's own words. Functions of the module `laws`
 -- have them as their contracts.
-use Rattle.std.specs.Prelude.{◌≡◌, ◌≢◌, ℕ, ◌<◌, ◌≤◌, ◌↔◌, ◌⊎◌, IsTrue, None, Some, List, [], ◌∷◌}
-use Rattle.std.specs.Prelude.{◌++◌, Contains, All}
+use Rattle.std.specs.Prelude.{◌≡◌, ◌≢◌, ℕ, ◌<◌, ◌≤◌, ◌↔◌, ◌⊎◌, IsTrue, Option, None, Some, List}
+use Rattle.std.specs.Prelude.{[], ◌∷◌, ◌++◌, Contains, All}
 use Rattle.std.specs.List.{IsDistinct}
 use Rattle.percent_encoding.specs.Percent.{percent_decode}
 use Rattle.acct_model.specs.declared.entry.Entry.{Entry}
-use Rattle.acct_model.specs.Report.{ReportFacts, total}
+use Rattle.acct_model.specs.declared.plan.Plan.{Plan}
+use Rattle.acct_model.specs.Report.{ReportFacts}
 use Rattle.acct_model.specs.Vouchers.{TopUpFacts}
 use Rattle.acct_model.specs.Shown.{shown}
 use Rattle.acct_model.specs.History.{SessionName, session_of, same_session, all_reports, reports}
-use Rattle.acct_model.specs.History.{sessions, first_of, greatest_total, all_topups, topup_of}
-use Rattle.acct_model.specs.History.{voucher_of, Voucher, same_voucher, vouchers, is_known}
+use Rattle.acct_model.specs.History.{sessions, first_of, counted_of, greatest_counted, all_topups}
+use Rattle.acct_model.specs.History.{topup_of, voucher_of, Voucher, same_voucher, vouchers}
+use Rattle.acct_model.specs.History.{is_known}
 
 -- shown octets read back
 abbrev pub ShownReadsBack : Type 0
@@ -22,13 +24,13 @@ abbrev pub FirstIsDeepest : Type 0
 FirstIsDeepest = (later : List ReportFacts) (report : ReportFacts)
     → first_of (later ++ report ∷ []) ≡ Some report
 
--- the greatest total is that of one of the reports, and none is above it
-pub record GreatestTotalIsReached : Type 0 where
-  pub reached : (report : ReportFacts) (older : List ReportFacts)
+-- the greatest number that a plan counts is that of one of the reports, and none is above it
+pub record GreatestCountIsReached : Type 0 where
+  pub reached : (plan : Option Plan) (report : ReportFacts) (older : List ReportFacts)
       → (one : ReportFacts) × Contains (report ∷ older) one
-      × (total one ≡ greatest_total (report ∷ older))
-  pub bound : (reports : List ReportFacts) (one : ReportFacts) → Contains reports one
-      → total one ≤ greatest_total reports
+      × (counted_of plan one ≡ greatest_counted plan (report ∷ older))
+  pub bound : (plan : Option Plan) (reports : List ReportFacts) (one : ReportFacts)
+      → Contains reports one → counted_of plan one ≤ greatest_counted plan reports
 
 -- the sessions are those of the reports, each once
 pub record SessionsAreReported : Type 0 where

@@ -6,31 +6,34 @@ use Rattle.acct_model.specs.declared.plan.Plan.{Plan}
 use Rattle.acct_model.specs.declared.entry.Entry.{Entry}
 use Rattle.acct_model.specs.declared.entry.Entry.TheVariants as entry
 use Rattle.acct_model.specs.declared.entry.Restart.{Restart}
-use Rattle.acct_model.specs.Report.{ReportFacts, total}
+use Rattle.acct_model.specs.Report.{ReportFacts}
 use Rattle.acct_model.specs.Vouchers.{TopUpFacts}
 use Rattle.acct_model.specs.Plans.{IsLeastBlocks, plan_for}
 use Rattle.acct_model.specs.PlanFaults.{plans_fault}
-use Rattle.acct_model.specs.History.{SessionName, session_of, reports, first_of, greatest_total}
-use Rattle.acct_model.specs.History.{charge_of, all_topups, topup_of, balance_of, AreInRange}
-use Rattle.acct_model.specs.History.{Admissible}
+use Rattle.acct_model.specs.History.{SessionName, session_of, reports, first_of, plan_of}
+use Rattle.acct_model.specs.History.{counted_of, greatest_counted, charge_of, all_topups, topup_of}
+use Rattle.acct_model.specs.History.{balance_of, AreInRange, Admissible}
 
 -- A session costs the unit of its plan, which the class of its first report names, for each of the
--- least blocks that cover its greatest total.
+-- least blocks that cover the greatest number that the plan counts of one of its reports.
 abbrev pub SessionIsCharged : Type 0
 SessionIsCharged = (plans : List Plan) (history : List Entry) (name : SessionName)
     (first : ReportFacts) (plan : Plan)
     → first_of (reports history name) ≡ Some first
     → plan_for plans first.class ≡ Some plan
     → 0 < plan.block
-    → (blocks : ℕ) × IsLeastBlocks plan.block (greatest_total (reports history name)) blocks
-    × (charge_of plans (reports history name) ≡ plan.unit * blocks)
+    → (blocks : ℕ)
+    × IsLeastBlocks plan.block (greatest_counted (Some plan) (reports history name)) blocks
+    × (charge_of plans history name ≡ plan.unit * blocks)
 
 -- What reports do to balances: a report moves no balance but that of its session's owner and none
--- at all where its total was reached before, and no report gives money back.
+-- at all where the number that the plan counts was reached before, and no report gives money back.
 pub record ReportsAreChargedOnce : Type 0 where
   pub once : (plans : List Plan) (history : List Entry) (report one : ReportFacts)
       (account : List ℕ)
-      → Contains (reports history (session_of report)) one → total report ≤ total one
+      → Contains (reports history (session_of report)) one
+      → counted_of (plan_of plans history (session_of report)) report
+      ≤ counted_of (plan_of plans history (session_of report)) one
       → balance_of plans (entry.Report report ∷ history) account ≡ balance_of plans history account
   pub owner : (plans : List Plan) (history : List Entry) (report first : ReportFacts)
       (account : List ℕ)

@@ -4,12 +4,24 @@ use Rattle.std.specs.Prelude.{bytes_eq}
 use Rattle.std.specs.List.{find}
 use Rattle.std.specs.Option.{option_or}
 use Rattle.acct_model.specs.declared.plan.Plan.{Plan}
+use Rattle.acct_model.specs.declared.plan.Count.{Count}
+use Rattle.acct_model.specs.declared.plan.Count.TheVariants.{Both, Input, Output}
+
+-- what is counted of an input and an output: both together, the input, or the output
+abbrev pub counted_by : Count → ℕ → ℕ → ℕ
+counted_by Both input output = input + output
+counted_by Input input output = input
+counted_by Output input output = output
+
+-- what a plan counts of an input and an output
+abbrev pub counted : Plan → ℕ → ℕ → ℕ
+counted plan input output = counted_by plan.count input output
 
 -- how many blocks n octets start
 abbrev pub started_blocks : ℕ → ℕ → ℕ
 started_blocks block n = (n + (block - 1)) / block
 
--- the price of n octets: the unit for each block that was started
+-- the price of n counted octets: the unit for each block that was started
 abbrev pub price_of : Plan → ℕ → ℕ
 price_of plan n = plan.unit * started_blocks plan.block n
 
@@ -30,6 +42,11 @@ default_class = codes "default"
 abbrev pub plan_for : List Plan → List ℕ → Option Plan
 plan_for plans class =
     option_or (find (has_class class) plans) (find (has_class default_class) plans)
+
+-- what a plan counts, if there is one, else both together
+abbrev pub counted_under : Option Plan → ℕ → ℕ → ℕ
+counted_under None input output = input + output
+counted_under (Some plan) input output = counted plan input output
 
 -- the price of n octets under a plan, if there is one
 abbrev pub price_under : Option Plan → ℕ → ℕ

@@ -1,5 +1,5 @@
 //! Laws above the definitions: functions without effect, whose contracts are the laws.
-ghost use Rattle.acct_model.specs.Laws.{ShownReadsBack, FirstIsDeepest, GreatestTotalIsReached};
+ghost use Rattle.acct_model.specs.Laws.{ShownReadsBack, FirstIsDeepest, GreatestCountIsReached};
 ghost use Rattle.acct_model.specs.Laws.{SessionsAreReported, VouchersAreToppedUp};
 ghost use Rattle.acct_model.specs.Laws.{TopUpIsFirst, KnownAccountsOwn};
 ghost use Rattle.acct_model.specs.PlanLaws.{StartedBlocksAreLeast, FaultlessPlansKeepBounds};
@@ -37,9 +37,9 @@ pub fn first_is_deepest()
     ensures { FirstIsDeepest }
 {}
 
-/// A session's greatest total is that of one of its reports, and none is above it.
-pub fn greatest_total_is_reached()
-    ensures { GreatestTotalIsReached }
+/// The greatest number that a plan counts is that of one of the reports, and none is above it.
+pub fn greatest_count_is_reached()
+    ensures { GreatestCountIsReached }
 {}
 
 /// The sessions of a history are those of its reports, each once.
@@ -62,13 +62,15 @@ pub fn topup_is_first()
     ensures { TopUpIsFirst }
 {}
 
-/// A session costs its plan's unit for each of the least blocks that cover its greatest total.
+/// A session costs its plan's unit for each of the least blocks that cover the greatest number that
+/// the plan counts of one of its reports.
 pub fn session_is_charged()
     ensures { SessionIsCharged }
 {}
 
-/// A report moves a balance only where its total is above all of its session, and gives no money
-/// back; a voucher is credited once; a restart moves no money and is always admissible.
+/// A report moves a balance only where its plan counts more of it than of each earlier report of
+/// its session, and gives no money back; a voucher is credited once; a restart moves no money and is
+/// always admissible.
 pub fn money_moves_once()
     ensures { MoneyMovesOnce }
 {}

@@ -7,11 +7,11 @@
 //!    User-Name of its first accepted report, by the plan that the Class of that report names.
 //! 3. A total is input and output together, gigawords counted (RFC 2869, sections 5.1 and 5.2), at
 //!    most 2^63 - 1 octets.
-//! 4. A plan's price is its unit for each block that was started. A class without a plan is priced
-//!    by the plan `default`.
+//! 4. A plan counts the total, the input or the output. Its price is its unit for each block of
+//!    counted octets that was started. A class without a plan is priced by the plan `default`.
 //! 5. A history is the list of accepted entries, the newest first; `specs/History.antt` says what
-//!    follows from it: the sessions, their owners and greatest totals, the vouchers, and each
-//!    account's balance. The module `laws` says what holds of all histories.
+//!    follows from it: the sessions, their owners and charges, the vouchers, and each account's
+//!    balance. The module `laws` says what holds of all histories.
 #![tactic(auto)]
 
 mod address;
@@ -32,7 +32,7 @@ mod top_up;
 pub use address::{address_of, show_address};
 pub use entry::{Entry, Restart};
 pub use octets::Octets;
-pub use plan::{Plan, price};
+pub use plan::{Count, Plan, counted, price};
 pub use plan_list::PlanList;
 pub use plans::{PlanError, Plans};
 pub use reading::{EntryError, entry_of};

@@ -1,8 +1,19 @@
-//! A plan and its prices.
-ghost use Rattle.std.specs.Prelude.{◌≡◌, ◌+◌, ◌-◌, ◌*◌, ◌<◌, ◌≤◌, ℕ};
-ghost use Rattle.acct_model.specs.Plans.{price_of, IsLeastBlocks};
+//! A plan, what it counts and its prices.
+ghost use Rattle.std.specs.Prelude.{◌≡◌, ◌+◌, ◌-◌, ◌*◌, ◌<◌, ◌≤◌, ◌^◌, ℕ};
+ghost use Rattle.acct_model.specs.Plans.{counted, price_of, IsLeastBlocks};
 
 use crate::octets::Octets;
+
+/// Which octets of a session its plan counts.
+#[derive(Clone, Copy, PartialEq, Eq, Debug)]
+pub enum Count {
+    /// Input and output together.
+    Both,
+    /// The input alone.
+    Input,
+    /// The output alone.
+    Output,
+}
 
 /// What the sessions of a class pay: a unit for each block that was started.
 pub struct Plan {
@@ -12,6 +23,8 @@ pub struct Plan {
     pub block: u64,
     /// What a block costs, 0 to 10^9 in the plans of a site.
     pub unit: u64,
+    /// Which octets are counted.
+    pub count: Count,
 }
 
 // It is written out, so that a caller does not prove again how each part is dropped.
@@ -21,20 +34,36 @@ impl Drop for Plan {
             class: _,
             block: _,
             unit: _,
+            count: _,
         } = self;
     }
 }
 
-/// What a total of octets costs: `unit` times the least number of blocks that cover it.
-pub fn price(plan: &Plan, total: u64) -> u128
+/// What a plan counts of an input and an output: both together, the input or the output. It takes
+/// no memory.
+pub fn counted(plan: &Plan, input: u64, output: u64) -> u64
+    requires { input + output < 2 ^ 63 }
+    ensures exact { result ≡ counted plan.now input output }
+    ensures most { result ≤ input + output }
+    ensures bound { result < 2 ^ 63 }
+{
+    match plan.count {
+        Count::Both => input + output,
+        Count::Input => input,
+        Count::Output => output,
+    }
+}
+
+/// What a counted number of octets costs: `unit` times the least number of blocks that cover it.
+pub fn price(plan: &Plan, octets: u64) -> u128
     requires { 0 < plan.now.block }
-    ensures exact { result ≡ price_of plan.now total }
-    ensures least { (blocks : ℕ) × IsLeastBlocks plan.now.block total blocks
+    ensures exact { result ≡ price_of plan.now octets }
+    ensures least { (blocks : ℕ) × IsLeastBlocks plan.now.block octets blocks
         × (result ≡ plan.now.unit * blocks) }
-    ensures most { result ≤ total * plan.now.unit }
+    ensures most { result ≤ octets * plan.now.unit }
 {
     let unit = plan.unit;
     let block = u128::from(plan.block);
-    let blocks = (u128::from(total) + (block - 1)) / block;
+    let blocks = (u128::from(octets) + (block - 1)) / block;
     u128::from(unit) * blocks
 }

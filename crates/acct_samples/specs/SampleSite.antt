@@ -1,15 +1,16 @@
 -- The sample site.
 use Rattle.std.specs.Prelude.{List, [], ◌∷◌, codes}
 use Rattle.acct_model.specs.declared.plan.Plan.{Plan}
+use Rattle.acct_model.specs.declared.plan.Count.TheVariants.{Both}
 use Rattle.acct_desk.specs.declared.keys.DeskKey.{DeskKey}
 use Rattle.acct_desk.specs.declared.keys.Role.TheVariants.{Account, Cashier}
 use Rattle.acct_wire.specs.declared.client.Client.{Client}
 
 abbrev pub gold : Plan
-gold = record { class = codes "gold"; block = 1048576; unit = 10 }
+gold = record { class = codes "gold"; block = 1048576; unit = 10; count = Both }
 
 abbrev pub default_plan : Plan
-default_plan = record { class = codes "default"; block = 1000000; unit = 5 }
+default_plan = record { class = codes "default"; block = 1000000; unit = 5; count = Both }
 
 abbrev pub sample_plans : List Plan
 sample_plans = gold ∷ default_plan ∷ []

@@ -2,7 +2,7 @@
 ghost use Rattle.std.specs.Prelude.{◌≡◌, IfOk};
 ghost use Rattle.acct_samples.specs.SampleSite.{sample_plans};
 
-use acct_model::{Octets, Plan, Plans};
+use acct_model::{Count, Octets, Plan, Plans};
 use std::alloc::{AllocError, Global};
 
 /// The plans `gold`, of 1,048,576 octets a block and 10 a unit, and `default`, of 1,000,000 octets
@@ -23,15 +23,22 @@ pub fn sample_plans(alloc: Global) -> Result<Plans, AllocError>
     }
 }
 
-/// The plan of a class: the octets of a block, and what each started block costs.
+/// The plan of a class, which counts input and output together: the octets of a block, and what
+/// each started block costs.
 ///
 /// # Errors
 ///
 /// Only where memory is refused.
 pub fn plan(alloc: Global, class: &[u8], block: u64, unit: u64) -> Result<Plan, AllocError>
     ensures { IfOk result (λ plan.
-        plan ≡ record { class = class.now; block = block; unit = unit }) }
+        plan ≡ record { class = class.now; block = block; unit = unit; count = Count.Both }) }
 {
     let class = Octets::from_slice(alloc, class)?;
-    Ok(Plan { class, block, unit })
+    let count = Count::Both;
+    Ok(Plan {
+        class,
+        block,
+        unit,
+        count,
+    })
 }

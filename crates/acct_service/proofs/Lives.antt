@@ -1,6 +1,6 @@
 -- What is kept has its claims, and so settles.
 use Rattle.std.proofs.Common.{◌≡◌, inl, inr, List, [], ◌∷◌, refl, sym}
-use Rattle.std.proofs.Common.{◌∙◌, ap, subst, arith, Some, None}
+use Rattle.std.proofs.Common.{◌∙◌, ◌≤◌, ap, subst, arith, Some, None}
 use Rattle.std.specs.Prelude.{Contains, bytes_eq}
 use Rattle.std.specs.List.{filter}
 use Rattle.std.specs.Option.{option_or}
@@ -8,11 +8,12 @@ use Rattle.acct_model.specs.declared.plan.Plan.{Plan}
 use Rattle.acct_model.specs.declared.entry.Entry.{Entry}
 use Rattle.acct_model.specs.declared.entry.Entry.TheVariants as entry
 use Rattle.acct_model.specs.Vouchers.{TopUpFacts}
-use Rattle.acct_model.specs.History.{all_topups, first_of, topup_of}
+use Rattle.acct_model.specs.Plans.{plan_for}
+use Rattle.acct_model.specs.History.{counted_of, all_topups, first_of, topup_of}
 use Rattle.acct_model.specs.Claims.{Claim, OfReport, OfTopUp, report_claim, topup_claim, claim_of}
 use Rattle.acct_model.specs.Claims.{claims, ClaimsNoMore}
 use Rattle.acct_model.specs.Agreement.{BalancesAreEqual}
-use Rattle.acct_model.proofs.Agree.{covers-claimed, balances-covered}
+use Rattle.acct_model.proofs.Agree.{counted-claimed, balances-covered}
 use Rattle.acct_model.proofs.Claimed.{claim_of_topup}
 use Rattle.acct_model.proofs.Lists.{here, deeper, nowhere, front_or_behind, from_filter}
 use Rattle.acct_model.proofs.Same.{Decides-bytes_eq}
@@ -97,14 +98,21 @@ kept_claims these those kept claim h =
 -- A history whose claims are sent ones and which has each acknowledged claim has the balances of
 -- what was sent.
 pub settles : (plans : List Plan) (sent told last : List Entry) → ClaimsNoMore told last
-    → IsDelivered sent told last → BalancesAreEqual plans last sent
+    → IsDelivered plans sent told last → BalancesAreEqual plans last sent
 settles plans sent told last kept (no_other, by) =
     balances-covered plans last sent by.consistent no_other
     (λ t h. kept (OfTopUp (topup_claim t)) (by.topups t h))
     (λ r h.
+    let plan = plan_for plans r.class in
     let s = by.reports r h in
-    let q = covers-claimed told last kept s.0 s.1 in
-    (q.0, q.1, q.2 ∙ s.2, omega (arith, s.3, q.3)))
+    let q = counted-claimed plan told last kept s.0 s.1 in
+    let sent_counts = counted_of plan r in
+    let told_counts = counted_of plan s.0 in
+    let last_counts = counted_of plan q.0 in
+    let up : sent_counts ≤ told_counts = s.3 in
+    let on : told_counts ≤ last_counts = q.3 in
+    let no_less : sent_counts ≤ last_counts = omega (arith, up, on) in
+    (q.0, q.1, q.2 ∙ s.2, no_less))
 
 -- ---- repeated top-ups
 

@@ -9,12 +9,10 @@ use Rattle.std.specs.Option.{option_or}
 use Rattle.acct_model.specs.declared.plan.Plan.{Plan}
 use Rattle.acct_model.specs.declared.entry.Entry.{Entry}
 use Rattle.acct_model.specs.declared.entry.Entry.TheVariants as entry
-use Rattle.acct_model.specs.Plans.{price_under}
-use Rattle.acct_model.specs.Report.{ReportFacts}
 use Rattle.acct_model.specs.Vouchers.{TopUpFacts}
-use Rattle.acct_model.specs.History.{all_topups, first_of, greatest_total, plan_of, charge_of}
-use Rattle.acct_model.specs.History.{owned, credited, balance_of, InRange, AreInRange, Agrees}
-use Rattle.acct_model.specs.History.{AgreesWithAll, Admissible}
+use Rattle.acct_model.specs.History.{SessionName, reports, all_topups, first_of, plan_by, cost_of}
+use Rattle.acct_model.specs.History.{charge_of, owned, credited, balance_of, InRange, AreInRange}
+use Rattle.acct_model.specs.History.{Agrees, AgreesWithAll, Admissible}
 use Rattle.acct_model.specs.Claims.{TopUpClaim, OfReport, OfTopUp, report_claim, topup_claim}
 use Rattle.acct_model.specs.Claims.{claims}
 use Rattle.acct_model.proofs.Lists.{nowhere, front_or_behind, to_filter, from_filter}
@@ -122,11 +120,11 @@ effect_orderly plans old unasked holds h = h
 
 -- ---- plans that price alike
 
-charge_alike : (these those : List Plan) → PriceAlike these those → (reports : List ReportFacts)
-    → charge_of these reports ≡ charge_of those reports
-charge_alike these those alike reports =
-    ap (λ plan. price_under plan (greatest_total reports))
-    (elim (first_of reports) as (λ first. plan_of these first ≡ plan_of those first) [
+charge_alike : (these those : List Plan) → PriceAlike these those → (history : List Entry)
+    (name : SessionName) → charge_of these history name ≡ charge_of those history name
+charge_alike these those alike history name =
+    ap (λ plan. cost_of plan (reports history name))
+    (elim (first_of (reports history name)) as (λ one. plan_by these one ≡ plan_by those one) [
       | None ↦ refl
       | Some first ↦ alike first.class
     ])
@@ -135,7 +133,7 @@ balance_alike : (these those : List Plan) → PriceAlike these those → (histor
     (account : List ℕ) → balance_of these history account ≡ balance_of those history account
 balance_alike these those alike history account = λ i.
     pos (credited history account)
-    -ℤ pos (owned (λ reports. charge_alike these those alike reports i) history account)
+    -ℤ pos (owned (λ name. charge_alike these those alike history name i) history account)
 
 orderly_alike : (these those : List Plan) (history : List Entry) → PriceAlike these those
     → IsOrderly these history → IsOrderly those history

@@ -128,7 +128,7 @@ delivers config (e ∷ older) (holds, way, before) =
 
 possible : (config : Config) (sent : List Entry) → IsConsistent sent → CanBeSent config sent
     → (spans : List Span) × Life config.plans [] spans sent
-    × IsDelivered sent (acknowledged spans) sent
+    × IsDelivered config.plans sent (acknowledged spans) sent
 possible config sent consistent fine =
     let d = delivers config sent fine in
     let told : ClaimsNoMore sent (acknowledged d.spans) =
@@ -140,7 +140,7 @@ possible config sent consistent fine =
         record {
           consistent = consistent;
           topups = λ t h. told (OfTopUp (topup_claim t)) (claim_of_topup sent t h);
-          reports = covers-claimed sent (acknowledged d.spans) told;
+          reports = covers-claimed config.plans sent (acknowledged d.spans) told;
         },
       ),
     )

@@ -3,9 +3,10 @@ use Rattle.std.specs.Prelude.{◌≡◌, ◌⊎◌, ◌≤◌, ℕ, List, [], �
 use Rattle.acct_model.specs.declared.plan.Plan.{Plan}
 use Rattle.acct_model.specs.declared.entry.Entry.{Entry}
 use Rattle.acct_model.specs.declared.entry.Entry.TheVariants as entry
-use Rattle.acct_model.specs.Report.{ReportFacts, total}
+use Rattle.acct_model.specs.Report.{ReportFacts}
 use Rattle.acct_model.specs.Vouchers.{TopUpFacts}
-use Rattle.acct_model.specs.History.{session_of, all_reports, all_topups, Admissible}
+use Rattle.acct_model.specs.Plans.{plan_for}
+use Rattle.acct_model.specs.History.{session_of, all_reports, counted_of, all_topups, Admissible}
 use Rattle.acct_model.specs.Claims.{OfReport, OfTopUp, report_claim, topup_claim, claims}
 use Rattle.acct_model.specs.Claims.{IsConsistent, ClaimsNoMore}
 use Rattle.acct_model.specs.Agreement.{BalancesAreEqual}
@@ -34,25 +35,28 @@ pub record HasKept (old confirmed last : List Entry) : Type 0 where
 
 -- ---- what was to be delivered
 
--- among these entries is a report of the report's session whose total is no less
-abbrev pub IsCovered : ReportFacts → List Entry → Type 0
-IsCovered report these =
+-- among these entries is a report of the report's session of which no less is counted, by the plan
+-- of the report's class
+abbrev pub IsCovered : List Plan → ReportFacts → List Entry → Type 0
+IsCovered plans report these =
     (other : ReportFacts) × Contains (all_reports these) other
-    × (session_of other ≡ session_of report) × (total report ≤ total other)
+    × (session_of other ≡ session_of report)
+    × (counted_of (plan_for plans report.class) report
+    ≤ counted_of (plan_for plans report.class) other)
 
 -- The sent entries are consistent, and each was acknowledged: a top-up by its claim, a report by
 -- one of its session that covers it.
-pub record IsSettledBy (sent confirmed : List Entry) : Type 0 where
+pub record IsSettledBy (plans : List Plan) (sent confirmed : List Entry) : Type 0 where
   pub consistent : IsConsistent sent
   pub topups : (topup : TopUpFacts) → Contains (all_topups sent) topup
       → Contains (claims confirmed) (OfTopUp (topup_claim topup))
   pub reports : (report : ReportFacts) → Contains (all_reports sent) report
-      → IsCovered report confirmed
+      → IsCovered plans report confirmed
 
 -- the same, and nothing but the sent entries was accepted, but for Accounting-On and Accounting-Off
-abbrev pub IsDelivered : List Entry → List Entry → List Entry → Type 0
-IsDelivered sent confirmed last =
-    ClaimsNoMore last sent × IsSettledBy sent confirmed
+abbrev pub IsDelivered : List Plan → List Entry → List Entry → List Entry → Type 0
+IsDelivered plans sent confirmed last =
+    ClaimsNoMore last sent × IsSettledBy plans sent confirmed
 
 -- What was accepted may come again, its reply being lost: a report may be accepted and moves no
 -- balance, a top-up is a repeat.
@@ -93,7 +97,7 @@ pub record LifeSettles : Type 0 where
   -- What was sent in the end counts as if nothing had been lost, repeated or reordered, and as if
   -- the server had never stopped.
   pub settled : (plans : List Plan) (sent last : List Entry) (spans : List Span)
-      → Life plans [] spans last → IsDelivered sent (acknowledged spans) last
+      → Life plans [] spans last → IsDelivered plans sent (acknowledged spans) last
       → BalancesAreEqual plans last sent
   -- what was committed and never answered may be sent again
   pub resent : (plans : List Plan) (last : List Entry) (spans : List Span)
@@ -102,4 +106,4 @@ pub record LifeSettles : Type 0 where
   -- delivered.
   pub possible : (config : Config) (sent : List Entry) → IsConsistent sent → CanBeSent config sent
       → (spans : List Span) × Life config.plans [] spans sent
-      × IsDelivered sent (acknowledged spans) sent
+      × IsDelivered config.plans sent (acknowledged spans) sent

@@ -9,7 +9,7 @@ use Rattle.acct_book.specs.declared.key.Key.{Key}
 use Rattle.acct_book.specs.declared.row.SessionState.{SessionState}
 use Rattle.acct_book.specs.declared.row.SessionState.TheVariants.{Live, Closed, Stopped}
 use Rattle.acct_book.specs.Row.{RowFacts}
-use Rattle.acct_book.specs.Charge.{charge_of_row}
+use Rattle.acct_book.specs.Charge.{plan_of_row, charge_of_row}
 use Rattle.acct_book.specs.Rows.{higher, counters}
 
 -- the key of a report's session
@@ -54,14 +54,14 @@ first_row r = record {
 }
 
 -- the greater counters
-abbrev pub raised_counters : RowFacts → ReportFacts → ℕ × ℕ
-raised_counters row r = higher (counters r) (row.input, row.output)
+abbrev pub raised_counters : Option Plan → RowFacts → ReportFacts → ℕ × ℕ
+raised_counters plan row r = higher plan (counters r) (row.input, row.output)
 
 -- the row after a later report: client, session, account and class stay the first report's
-abbrev pub raised_row : RowFacts → ReportFacts → RowFacts
-raised_row row r = record row {
-  input = (raised_counters row r).0;
-  output = (raised_counters row r).1;
+abbrev pub raised_row : Option Plan → RowFacts → ReportFacts → RowFacts
+raised_row plan row r = record row {
+  input = (raised_counters plan row r).0;
+  output = (raised_counters plan row r).1;
   seconds = max r.seconds row.seconds;
   first = min r.when row.first;
   last = max r.when row.last;
@@ -71,10 +71,19 @@ raised_row row r = record row {
   framed = option_or row.framed r.framed;
 }
 
+-- the row after a report of a session with this plan
+abbrev pub next_row_by : Option Plan → Option RowFacts → ReportFacts → RowFacts
+next_row_by plan None r = first_row r
+next_row_by plan (Some row) r = raised_row plan row r
+
+-- the plan of the row that was found
+abbrev pub plan_found : List Plan → Option RowFacts → Option Plan
+plan_found plans None = None
+plan_found plans (Some row) = plan_of_row plans row
+
 -- the row after a report
-abbrev pub next_row : Option RowFacts → ReportFacts → RowFacts
-next_row None r = first_row r
-next_row (Some row) r = raised_row row r
+abbrev pub next_row : List Plan → Option RowFacts → ReportFacts → RowFacts
+next_row plans found r = next_row_by (plan_found plans found) found r
 
 -- what a session cost before, which is nothing where it has no row
 abbrev pub charge_before : List Plan → Option RowFacts → ℕ

@@ -9,18 +9,18 @@ overflow_mul-result c =
     rw (c.from-2.ensures, c.from-block.ensures, c.from.ensures)
     (omega (
       arith,
-      price_fits c.args.plan.now.unit c.args.plan.now.block c.args.total c.requires
-          small c.ranges.total.fits,
+      price_fits c.args.plan.now.unit c.args.plan.now.block c.args.octets c.requires
+          small c.ranges.octets.fits,
     ))
 
 pub returns-clause-least : goal.returns-clause-least
 returns-clause-least c = (
-  started_blocks c.args.plan.now.block c.args.total,
-  IsLeastBlocks-started c.args.plan.now.block c.args.total c.requires,
+  started_blocks c.args.plan.now.block c.args.octets,
+  IsLeastBlocks-started c.args.plan.now.block c.args.octets c.requires,
   rw (c.from-2.ensures, c.from-block.ensures, c.from.ensures) refl,
 )
 
 pub returns-clause-most : goal.returns-clause-most
 returns-clause-most c =
     rw (c.from-2.ensures, c.from-block.ensures, c.from.ensures)
-    (price-le c.args.plan.now.unit c.args.plan.now.block c.args.total c.requires)
+    (price-le c.args.plan.now.unit c.args.plan.now.block c.args.octets c.requires)
