@@ -1,5 +1,5 @@
 //! Plans, and what they charge.
-use acct_model::{Plan, PlanError, PlanList, Plans, price};
+use acct_model::{Count, Plan, PlanError, PlanList, Plans, counted, price};
 use acct_samples::{plan, sample_plans};
 use std::alloc::Global;
 use std::test::Fail;
@@ -28,6 +28,23 @@ fn started_blocks_are_charged(rt: HostRuntime) -> Result<(), Fail> {
 fn is_price(plans: &Plans, total: u64, wanted: u128) -> bool {
     let gold = plans.plan_of(b"gold");
     gold.block > 0 && price(gold, total) == wanted
+}
+
+// What a plan counts of an input of 5,000,000 and an output of 3.
+const COUNTS: [(Count, u64); 3] = [
+    (Count::Both, 5_000_003),
+    (Count::Input, 5_000_000),
+    (Count::Output, 3),
+];
+
+#[test]
+fn plans_count_octets(rt: HostRuntime) -> Result<(), Fail> {
+    let mut link = plan(rt.alloc(), b"link", 1_048_576, 10)?;
+    for (count, wanted) in COUNTS {
+        link.count = count;
+        assert!(rt; counted(&link, 5_000_000, 3) == wanted, "{count:?}");
+    }
+    Ok(())
 }
 
 #[test]
