@@ -5,6 +5,7 @@ use std::alloc::Global;
 use std::test::Fail;
 
 /// An entry in plain words.
+#[derive(Clone, Copy)]
 pub(crate) enum Said {
     /// An Interim of a user with a Class, by its octets, at the moment 2000.
     Counts(&'static [u8], &'static [u8], u64),
