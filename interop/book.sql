@@ -12,6 +12,10 @@ CREATE TABLE session (client TEXT NOT NULL, id BLOB NOT NULL, account BLOB NOT N
   PRIMARY KEY (client, id)) STRICT;
 CREATE INDEX session_account ON session (account);
 CREATE INDEX voucher_account ON voucher (account);
-INSERT INTO meta VALUES ('schema', 1);
+CREATE TABLE plan_count (class BLOB NOT NULL PRIMARY KEY, mode INTEGER NOT NULL) STRICT;
+CREATE TABLE session_plan (client TEXT NOT NULL, id BLOB NOT NULL, plan_class BLOB NOT NULL,
+  PRIMARY KEY (client, id)) STRICT;
+INSERT INTO meta VALUES ('schema', 3);
 INSERT INTO price_plan VALUES (CAST('gold' AS BLOB), 1048576, 10),
   (CAST('default' AS BLOB), 1000000, 5);
+INSERT INTO plan_count VALUES (CAST('gold' AS BLOB), 0), (CAST('default' AS BLOB), 0);

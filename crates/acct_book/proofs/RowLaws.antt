@@ -188,6 +188,7 @@ row_at plan key b r rs x is = record {
   is_first = is;
   account = refl;
   class = refl;
+  plan = refl;
   counted = counted plan r rs;
   none_above = none_above plan (r ∷ rs);
   longest = record {

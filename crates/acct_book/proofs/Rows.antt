@@ -14,11 +14,14 @@ use Rattle.acct_model.specs.declared.plan.Plan.{Plan}
 use Rattle.acct_model.specs.declared.plan.Count.{Count}
 use Rattle.acct_model.specs.declared.plan.Count.TheVariants.{Both, Input, Output}
 use Rattle.acct_model.specs.Report.{ReportFacts}
-use Rattle.acct_model.specs.Plans.{counted_by, counted_under}
+use Rattle.std.proofs.lemmas.Slice.Eq.{bytes_eq-Decides}
+use Rattle.std.specs.List.{find}
+use Rattle.acct_model.specs.Plans.{counted_by, counted_under, has_class, default_class, plan_for}
 use Rattle.acct_model.specs.History.{session_of, same_session, reports, first_of, largest, plan_by}
 use Rattle.acct_model.specs.History.{plan_of, greatest_counted}
 use Rattle.acct_model.proofs.Balances.{reports-own, reports-other, first_of-more, plan-later}
-use Rattle.acct_model.proofs.Balances.{plan-other}
+use Rattle.acct_model.proofs.Balances.{plan-first, plan-other}
+use Rattle.acct_book.specs.Charge.{class_of_plan, plan_of_row}
 use Rattle.acct_book.specs.declared.key.Key.{Key}
 use Rattle.acct_book.specs.declared.row.SessionState.{SessionState}
 use Rattle.acct_book.specs.declared.row.SessionState.TheVariants.{Stopped}
@@ -229,12 +232,13 @@ max_none n = omega arith
 
 -- a session's first report
 first_from : (plan : Option Plan) (r : ReportFacts) (b : Bool) → b ≡ false
-    → row_from plan (report_key r) b (r ∷ []) r ≡ first_row r
+    → row_from plan (report_key r) b (r ∷ []) r ≡ first_row plan r
 first_from plan r b off = λ i. record {
   client = r.client;
   session = r.session;
   account = r.user;
   class = r.class;
+  plan = class_of_plan plan;
   input = higher-none0 plan r.input r.output i;
   output = higher-none1 plan r.input r.output i;
   seconds = max_none r.seconds i;
@@ -255,6 +259,7 @@ raised_from plan key r b o os x = λ i. record {
   session = key.session;
   account = x.user;
   class = x.class;
+  plan = class_of_plan plan;
   input = (greatest plan (r ∷ o ∷ os)).0;
   output = (greatest plan (r ∷ o ∷ os)).1;
   seconds = (row_from plan key b (r ∷ o ∷ os) x).seconds;
@@ -304,25 +309,72 @@ none-restarted (entry.Restart x ∷ older) key e =
     ∙ off_at (bytes_eq x.client key.client) (is_restarted older key) (none-restarted older key e)
 none-restarted (entry.TopUp t ∷ older) key e = none-restarted older key e
 
--- the row of a session has the session's plan
-plan_at : (plans : List Plan) (plan : Option Plan) (key : Key) (b : Bool) (all : List ReportFacts)
-    (o : Option ReportFacts)
-    → plan_found plans (option_map (row_from plan key b all) o) ≡ plan_by plans o
-plan_at plans plan key b all None = refl
-plan_at plans plan key b all (Some x) = refl
+-- a plan that was found has the class
+found_class : (class : List ℕ) (plans : List Plan) (plan : Plan)
+    → find (has_class class) plans ≡ Some plan → class ≡ plan.class
+found_class class [] plan h = absurd cc
+found_class class (p ∷ plans) plan h = go (has_class class p) refl h
+    (found_class class plans plan)
+  where
+    go : (b : Bool) → has_class class p ≡ b → cond b (Some p) (find (has_class class) plans)
+        ≡ Some plan → (find (has_class class) plans ≡ Some plan → class ≡ plan.class)
+        → class ≡ plan.class
+    go true is h later = let same : p ≡ plan = cc in (bytes_eq-Decides class p.class).0 is
+        ∙ ap (λ (q : Plan). q.class) same
+    go false is h later = later h
 
-pub row-plan : (plans : List Plan) (history : List Entry) (key : Key)
-    → plan_found plans (row_of plans history key) ≡ plan_of plans history (name_of key)
-row-plan plans history key =
-    plan_at plans (plan_of plans history (name_of key)) key (is_restarted history key)
-    (reports history (name_of key)) (first_of (reports history (name_of key)))
+kept_at : (plans : List Plan) (class : List ℕ) (own : Option Plan)
+    → find (has_class class) plans ≡ own → (other : Option Plan)
+    → find (has_class default_class) plans ≡ other
+    → plan_for plans (class_of_plan (option_or own other)) ≡ option_or own other
+kept_at plans class (Some plan) is other default =
+    ap (plan_for plans) (sym (found_class class plans plan is))
+    ∙ ap (λ o. option_or o (find (has_class default_class) plans)) is
+kept_at plans class None is (Some plan) default =
+    ap (plan_for plans) (sym (found_class default_class plans plan default))
+    ∙ ap (λ o. option_or o o) default
+kept_at plans class None is None default = ap (λ o. option_or o o) default
+
+-- the plan of a class is found by its own class
+kept_for : (plans : List Plan) (class : List ℕ)
+    → plan_for plans (class_of_plan (plan_for plans class)) ≡ plan_for plans class
+kept_for plans class = kept_at plans class _ refl _ refl
+
+-- the row of a session has the session's plan
+pub row-plan : (plans : List Plan) (history : List Entry) (key : Key) (first : ReportFacts)
+    → first_of (reports history (name_of key)) ≡ Some first → (row : RowFacts)
+    → row.plan ≡ class_of_plan (plan_of plans history (name_of key))
+    → plan_of_row plans row ≡ plan_of plans history (name_of key)
+row-plan plans history key first is row kept =
+    let by : plan_of plans history (name_of key) ≡ plan_for plans first.class =
+    ap (plan_by plans) is in
+    ap (plan_for plans) kept ∙ (ap (λ p. plan_for plans (class_of_plan p)) by
+    ∙ (kept_for plans first.class ∙ sym by))
+
+-- the plan that a report finds is that of its session with it
+found-plan : (plans : List Plan) (r : ReportFacts) (history : List Entry) (o : Option ReportFacts)
+    → first_of (reports history (session_of r)) ≡ o
+    → plan_found plans r (row_of plans history (report_key r))
+    ≡ plan_of plans (entry.Report r ∷ history) (session_of r)
+found-plan plans r history None is =
+    let key = report_key r in
+    let old = plan_of plans history (session_of r) in
+    ap (λ o. plan_found plans r (option_map (row_from old key (is_restarted history key)
+    (reports history (session_of r))) o)) is ∙ sym (plan-first plans history r is)
+found-plan plans r history (Some x) is =
+    let key = report_key r in
+    let old = plan_of plans history (session_of r) in
+    let all = reports history (session_of r) in
+    ap (λ o. plan_found plans r (option_map (row_from old key (is_restarted history key) all) o)) is
+    ∙ (row-plan plans history key x is (row_from old key (is_restarted history key) all x) refl
+    ∙ sym (plan-later plans history r x is))
 
 -- the row of the report's session, by the plan from before
 grown_at : (plans : List Plan) (r : ReportFacts) (history : List Entry) (o : Option ReportFacts)
     → first_of (reports history (session_of r)) ≡ o
     → row_of_reports (plan_of plans (entry.Report r ∷ history) (session_of r)) (report_key r)
     (is_restarted history (report_key r)) (r ∷ reports history (session_of r))
-    ≡ Some (next_row_by (plan_of plans history (session_of r))
+    ≡ Some (next_row_by (plan_of plans (entry.Report r ∷ history) (session_of r))
     (row_of plans history (report_key r)) r)
 grown_at plans r history None is =
     let key = report_key r in
@@ -332,13 +384,15 @@ grown_at plans r history None is =
     let new = plan_of plans (entry.Report r ∷ history) (session_of r) in
     row_from-report new r b rs (none-restarted history key)
     ∙ ap (λ o. Some (next_row_by new (option_map (row_from new key b rs) o) r)) is
-    ∙ sym (ap (λ o. Some (next_row_by old (option_map (row_from old key b rs) o) r)) is)
+    ∙ sym (ap (λ o. Some (next_row_by new (option_map (row_from old key b rs) o) r)) is)
 grown_at plans r history (Some x) is =
     let key = report_key r in
     let b = is_restarted history key in
     let rs = reports history (session_of r) in
     ap (λ p. row_of_reports p key b (r ∷ rs)) (plan-later plans history r x is)
     ∙ row_from-report (plan_of plans history (session_of r)) r b rs (none-restarted history key)
+    ∙ ap (λ p. Some (next_row_by p (row_of plans history key) r))
+    (sym (plan-later plans history r x is))
 
 -- the row of the report's session
 pub row_of-report : (plans : List Plan) (r : ReportFacts) (history : List Entry)
@@ -349,7 +403,8 @@ row_of-report plans r history =
     ap (row_of_reports (plan_of plans (entry.Report r ∷ history) (session_of r)) key
     (is_restarted history key)) (reports-own history r)
     ∙ grown_at plans r history (first_of (reports history (session_of r))) refl
-    ∙ ap (λ p. Some (next_row_by p (row_of plans history key) r)) (sym (row-plan plans history key))
+    ∙ ap (λ p. Some (next_row_by p (row_of plans history key) r))
+    (sym (found-plan plans r history (first_of (reports history (session_of r))) refl))
 
 -- the other rows stay
 pub row_of-other : (plans : List Plan) (r : ReportFacts) (history : List Entry) (key : Key)
@@ -370,6 +425,7 @@ row_with plan key all first state cause = record {
   session = key.session;
   account = first.user;
   class = first.class;
+  plan = class_of_plan plan;
   input = (greatest plan all).0;
   output = (greatest plan all).1;
   seconds = largest (map (λ report. report.seconds) all);

@@ -27,7 +27,7 @@ use Rattle.acct_book.specs.Content.{Content, same_key, key_of, kept_balance, wit
 use Rattle.acct_book.specs.Content.{with_topup, with_closed}
 use Rattle.acct_book.specs.Rows.{name_of, row_from, row_of_reports, is_restarted, row_of}
 use Rattle.acct_book.specs.Charge.{charge_by, charge_of_row}
-use Rattle.acct_book.specs.inner.Next.{report_key, plan_found, next_row, charge_before}
+use Rattle.acct_book.specs.inner.Next.{report_key, next_row, charge_before}
 use Rattle.acct_book.specs.Stands.{Stands}
 use Rattle.acct_book.specs.inner.Calls.{AddsEntry}
 use Rattle.acct_book.specs.Outcome.{IsFresh, IsOverLimit}
@@ -57,12 +57,6 @@ account_at : (plan : Option Plan) (key : Key) (b : Bool) (all : List ReportFacts
 account_at plan key b all None = refl
 account_at plan key b all (Some x) = refl
 
--- a row that was found costs the price by its plan
-charge_found : (plans : List Plan) (found : Option RowFacts) (row : RowFacts) → found ≡ Some row
-    → charge_before plans found ≡ charge_by (plan_found plans found) row
-charge_found plans found row is =
-    ap (charge_before plans) is ∙ sym (ap (λ o. charge_by (plan_found plans o) row) is)
-
 -- a row tells what its session costs
 pub charge-row : (plans : List Plan) (history : List Entry) (key : Key) (x : ReportFacts)
     → first_of (reports history (name_of key)) ≡ Some x
@@ -71,9 +65,8 @@ charge-row plans history key x is =
     let all = reports history (name_of key) in
     let plan = plan_of plans history (name_of key) in
     let row = row_from plan key (is_restarted history key) all x in
-    charge_found plans (row_of plans history key) row
-    (ap (option_map (row_from plan key (is_restarted history key) all)) is)
-    ∙ ap (λ p. charge_by p row) (row-plan plans history key)
+    ap (λ o. charge_before plans (option_map (row_from plan key (is_restarted history key) all) o))
+    is ∙ ap (λ p. charge_by p row) (row-plan plans history key x is row refl)
     ∙ ap (price_under plan) (greatest-counted plan all)
 
 -- ---- a report

@@ -1,12 +1,17 @@
 -- What the session of a row costs.
-use Rattle.std.specs.Prelude.{ℕ, List, Option}
+use Rattle.std.specs.Prelude.{ℕ, List, Option, Some, None}
 use Rattle.acct_model.specs.declared.plan.Plan.{Plan}
-use Rattle.acct_model.specs.Plans.{plan_for, counted_under, price_under}
+use Rattle.acct_model.specs.Plans.{plan_for, default_class, counted_under, price_under}
 use Rattle.acct_book.specs.Row.{RowFacts}
 
--- the plan of a row: that of its class
+-- the class of a session's plan
+abbrev pub class_of_plan : Option Plan → List ℕ
+class_of_plan None = default_class
+class_of_plan (Some plan) = plan.class
+
+-- the plan of a row: the one that it keeps
 abbrev pub plan_of_row : List Plan → RowFacts → Option Plan
-plan_of_row plans row = plan_for plans row.class
+plan_of_row plans row = plan_for plans row.plan
 
 -- the price of what the plan counts of a row's octets
 abbrev pub charge_by : Option Plan → RowFacts → ℕ

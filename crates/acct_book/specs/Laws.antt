@@ -14,7 +14,7 @@ use Rattle.acct_book.specs.declared.row.SessionState.{SessionState}
 use Rattle.acct_book.specs.declared.row.SessionState.TheVariants.{Live, Closed, Stopped}
 use Rattle.acct_book.specs.Row.{RowFacts}
 use Rattle.acct_book.specs.Content.{key_of}
-use Rattle.acct_book.specs.Charge.{charge_of_row}
+use Rattle.acct_book.specs.Charge.{class_of_plan, charge_of_row}
 use Rattle.acct_book.specs.Rows.{name_of, counters, Rank, rank_of, row_of}
 
 -- ---- which rows there are
@@ -61,17 +61,19 @@ IsFirstSaid value empty all said =
     ⊎ (All (λ report. value report ≡ empty) all × (said ≡ empty))
 
 -- what a row says of all reports of its session, which has this plan
-pub record IsRowOf (plan : Option Plan) (all : List ReportFacts) (row : RowFacts) : Type 0 where
+pub record IsRowOf (its_plan : Option Plan) (all : List ReportFacts) (row : RowFacts) : Type 0 where
   -- account and class are the first report's
   pub first : ReportFacts
   pub is_first : first_of all ≡ Some first
   pub account : row.account ≡ first.user
   pub class : row.class ≡ first.class
+  -- and the plan is the one that it found
+  pub plan : row.plan ≡ class_of_plan its_plan
   -- input and output are those of one report, and no report is above it
   pub counted : (report : ReportFacts) × Contains all report
       × (counters report ≡ (row.input, row.output))
-  pub none_above : All (λ report. IsAtMost (rank_of plan (counters report))
-      (rank_of plan (row.input, row.output))) all
+  pub none_above : All (λ report. IsAtMost (rank_of its_plan (counters report))
+      (rank_of its_plan (row.input, row.output))) all
   -- the greatest session time, the least moment and the greatest
   pub longest : IsExtreme (λ report. report.seconds) row.seconds (λ n. n ≤ row.seconds) all
   pub earliest : IsExtreme (λ report. report.when) row.first (λ n. row.first ≤ n) all

@@ -9,6 +9,7 @@ pub record RowFacts : Type 0 where
   pub session : List ℕ
   pub account : List ℕ
   pub class : List ℕ
+  pub plan : List ℕ
   pub input : ℕ
   pub output : ℕ
   pub seconds : ℕ

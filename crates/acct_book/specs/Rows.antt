@@ -18,6 +18,7 @@ use Rattle.acct_book.specs.declared.key.Key.{Key}
 use Rattle.acct_book.specs.declared.row.SessionState.{SessionState}
 use Rattle.acct_book.specs.declared.row.SessionState.TheVariants.{Live, Closed, Stopped}
 use Rattle.acct_book.specs.Row.{RowFacts}
+use Rattle.acct_book.specs.Charge.{class_of_plan}
 
 -- the session that a key names
 abbrev pub name_of : Key → SessionName
@@ -131,6 +132,7 @@ row_from plan key restarted all first = record {
   session = key.session;
   account = first.user;
   class = first.class;
+  plan = class_of_plan plan;
   input = (greatest plan all).0;
   output = (greatest plan all).1;
   seconds = largest (map (λ report. report.seconds) all);

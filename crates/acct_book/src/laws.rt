@@ -55,10 +55,10 @@ pub fn rows_are_of_sessions()
     ensures { RowsAreOfSessions }
 {}
 
-/// Account and class of a row are those of its session's first report, its counters those of the
-/// report that is greatest by what the plan counts, then by the total and then by the input, its
-/// moments and session time the least and the greatest that a report said, its calling station and
-/// its address those of the first report that says one.
+/// Account and class of a row are those of its session's first report, its plan the one that this
+/// class found, its counters those of the report that is greatest by what the plan counts, then by
+/// the total and then by the input, its moments and session time the least and the greatest that a
+/// report said, its calling station and its address those of the first report that says one.
 pub fn rows_are_of_reports()
     ensures { RowsAreOfReports }
 {}

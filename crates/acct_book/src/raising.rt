@@ -7,15 +7,16 @@ use crate::row::{Row, SessionState};
 use acct_model::{Octets, Plan, Report, ReportKind, counted};
 use std::alloc::{AllocError, Global};
 
-// The row of a session's first report.
-pub(crate) fn new_row(alloc: Global, report: &Report) -> Result<Row, AllocError>
-    ensures { IfOk result (λ row. row ≡ first_row report.now) }
+// The row of a session's first report, which found this plan.
+pub(crate) fn new_row(alloc: Global, plan: &Plan, report: &Report) -> Result<Row, AllocError>
+    ensures { IfOk result (λ row. row ≡ first_row (Some plan.now) report.now) }
 {
     Ok(Row {
         client: report.client.copy(alloc)?,
         session: report.session.copy(alloc)?,
         account: report.user.copy(alloc)?,
         class: report.class.copy(alloc)?,
+        plan: plan.class.copy(alloc)?,
         input: report.input,
         output: report.output,
         seconds: report.seconds,

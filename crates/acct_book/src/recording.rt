@@ -1,7 +1,7 @@
 //! Records one entry. `record` keeps these rules, for whatever keeps the book:
 //!
-//! 1. A report is charged to the account of its session's first report, by the plan of that
-//!    report's class.
+//! 1. A report is charged to the account of its session's first report, by the plan that the class
+//!    of that report found. The session's row keeps it.
 //! 2. A report debits the price of the greatest number that the session's plan now counts less the
 //!    price of the one before: a number that is no greater debits nothing, and no report gives
 //!    money back.
@@ -219,10 +219,13 @@ fn advance(
     ensures small { IfOk result (λ p. p.1 < 2 ^ 93) }
 {
     match found {
-        None => Ok((new_row(alloc, report)?, 0)),
+        None => {
+            let plan = plans.plan_of(report.class.as_slice());
+            Ok((new_row(alloc, plan, report)?, 0))
+        }
         Some(row) => {
             let before = charge(plans, &row);
-            let plan = plans.plan_of(row.class.as_slice());
+            let plan = plans.plan_of(row.plan.as_slice());
             Ok((row.raised(alloc, plan, report)?, before))
         }
     }

@@ -53,8 +53,11 @@ pub struct Row {
     pub session: Octets,
     /// The account that is charged: the User-Name of the first report.
     pub account: Octets,
-    /// The Class of the first report, which names the plan.
+    /// The Class of the first report.
     pub class: Octets,
+    /// The class of the plan that the session is charged by: the first report's Class where a plan
+    /// has it, else `default`.
+    pub plan: Octets,
     /// Octets received from the user's port, of the report of which the session's plan counts most.
     pub input: u64,
     /// Octets sent to the user's port, of the same report.
@@ -83,6 +86,7 @@ impl Drop for Row {
             session: _,
             account: _,
             class: _,
+            plan: _,
             input: _,
             output: _,
             seconds: _,
@@ -106,6 +110,7 @@ impl Model for Row {
       session = r.session;
       account = r.account;
       class = r.class;
+      plan = r.plan;
       input = r.input;
       output = r.output;
       seconds = r.seconds;
@@ -151,6 +156,7 @@ impl Row {
             session,
             account: _,
             class: _,
+            plan: _,
             input: _,
             output: _,
             seconds: _,
@@ -173,6 +179,7 @@ impl Row {
             session: self.session.copy(alloc)?,
             account: self.account.copy(alloc)?,
             class: self.class.copy(alloc)?,
+            plan: self.plan.copy(alloc)?,
             input: self.input,
             output: self.output,
             seconds: self.seconds,
@@ -210,6 +217,7 @@ impl Row {
             session,
             account,
             class,
+            plan,
             input: _,
             output: _,
             seconds,
@@ -225,6 +233,7 @@ impl Row {
             session,
             account,
             class,
+            plan,
             input,
             output,
             seconds: report.seconds.max(seconds),

@@ -8,6 +8,8 @@ mod counts;
 #[cfg(test)]
 mod entries;
 #[cfg(test)]
+mod kept_plans;
+#[cfg(test)]
 mod recording;
 #[cfg(test)]
 mod texts;

@@ -25,7 +25,7 @@ const CLOSED: Ends = Some((Closed, 11, 1000, 1000));
 
 const STOPPED: Ends = Some((Stopped, 1, 1000, 1000));
 
-// Blocks are paid when they are started, and only the rise of the greatest total is paid.
+// Blocks are paid when they are started, and only the rise of the greatest counted number is paid.
 const RISE: &[Line] = &[
     (Counts(b"al", b"gold", 0), "new", 0, LIVE),
     (Counts(b"al", b"gold", 1), "new", -10, LIVE),
@@ -165,8 +165,8 @@ fn vouchers_are_credited_once(rt: HostRuntime) -> Result<(), Fail> {
     Ok(())
 }
 
-// Two reports whose numbers all differ: of the one with the greater total the octets are kept, and
-// of each other number the greatest, the first or the least.
+// Two reports whose numbers all differ: of the one of which the plan counts more the octets are
+// kept, and of each other number the greatest, the first or the least.
 const WHOLE: &[Said] = &[
     Tells(Words {
         client: "ap1",
@@ -217,9 +217,14 @@ fn is_whole(row: &Row) -> bool {
     (
         row.account.as_slice(),
         row.class.as_slice(),
+        row.plan.as_slice(),
         row.calling.as_slice(),
-    ) == (b"al".as_slice(), b"gold".as_slice(), b"00-0c".as_slice())
-        && (row.input, row.output, row.seconds) == (1_048_570, 8, 60)
+    ) == (
+        b"al".as_slice(),
+        b"gold".as_slice(),
+        b"gold".as_slice(),
+        b"00-0c".as_slice(),
+    ) && (row.input, row.output, row.seconds) == (1_048_570, 8, 60)
         && (row.first, row.last, row.cause) == (1990, 2000, 2)
         && row.framed == Some([10, 9, 8, 7])
 }

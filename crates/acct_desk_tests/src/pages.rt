@@ -88,6 +88,15 @@ const OVERRUNS: &[u8] =
     Connection: close\r\n\r\n{\"overruns\":[{\"account\":\"al\",\"overrun\":31},\
     {\"account\":\"c%00\",\"overrun\":12}]}";
 
+// The class of the plan that a class finds: only `gold` has one of its own.
+fn plan_of(alloc: Global, class: &[u8]) -> Result<Octets, Fail> {
+    let plan = match class {
+        b"gold" => class,
+        _ => b"default",
+    };
+    Ok(Octets::from_slice(alloc, plan)?)
+}
+
 fn row_of(alloc: Global, line: &Line) -> Result<Row, Fail> {
     let (client, session, account, class, calling) = line.names;
     Ok(Row {
@@ -95,6 +104,7 @@ fn row_of(alloc: Global, line: &Line) -> Result<Row, Fail> {
         session: Octets::from_slice(alloc, session)?,
         account: Octets::from_slice(alloc, account)?,
         class: Octets::from_slice(alloc, class)?,
+        plan: plan_of(alloc, class)?,
         input: u64::from(line.octets.0),
         output: u64::from(line.octets.1),
         seconds: line.times.0,

@@ -121,12 +121,22 @@ static LINES: [(Line, i64); 2] = [
     ),
 ];
 
+// The class of the plan that a class finds: only `gold` has one of its own.
+fn plan_of(alloc: Global, class: &[u8]) -> Result<Octets, Fail> {
+    let plan = match class {
+        b"gold" => class,
+        _ => b"default",
+    };
+    Ok(Octets::from_slice(alloc, plan)?)
+}
+
 fn row_of(alloc: Global, line: &Line) -> Result<Row, Fail> {
     Ok(Row {
         client: Text::from_str(alloc, "ap1")?,
         session: Octets::from_slice(alloc, line.names.0)?,
         account: Octets::from_slice(alloc, line.names.1)?,
         class: Octets::from_slice(alloc, line.names.2)?,
+        plan: plan_of(alloc, line.names.2)?,
         input: u64::from(line.octets.0),
         output: u64::from(line.octets.1),
         seconds: line.times.0,

@@ -119,11 +119,20 @@ counts_out_2 = refl
 counts_out_other : owes Output (linked 5000000 1 ∷ linked 0 1048577 ∷ []) ≡ negsuc 19
 counts_out_other = refl
 
+counts_in_1 : owes Input (linked 5000000 1 ∷ []) ≡ negsuc 49
+counts_in_1 = refl
+
 counts_in : owes Input (linked 0 1048577 ∷ linked 5000000 1 ∷ []) ≡ negsuc 49
 counts_in = refl
 
 counts_in_other : owes Input (linked 5000000 1 ∷ linked 0 1048577 ∷ []) ≡ negsuc 49
 counts_in_other = refl
+
+counts_both_1 : owes Both (linked 5000000 1 ∷ []) ≡ negsuc 49
+counts_both_1 = refl
+
+counts_both_other : owes Both (linked 5000000 1 ∷ linked 0 1048577 ∷ []) ≡ negsuc 49
+counts_both_other = refl
 
 counts_both : owes Both (linked 0 1048577 ∷ linked 5000000 1 ∷ []) ≡ negsuc 49
 counts_both = refl

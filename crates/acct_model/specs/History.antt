@@ -2,8 +2,7 @@
 --
 -- A history is the list of accepted entries, **the newest first**: a history H with one more entry
 -- e is e ∷ H, and what was accepted first stands deepest. It holds no totals and no balances: each
--- is
--- computed from the entries alone.
+-- is computed from the entries alone.
 use Rattle.std.specs.Prelude.{◌≡◌, ℕ, ◌^◌, max, Bool, false, ◌&&◌, ◌||◌, Option, None, Some, List}
 use Rattle.std.specs.Prelude.{[], ◌∷◌, if◌then◌else◌, map, ℤ, pos, ◌-ℤ◌, ◌≤ℤ◌, ◌==◌, bytes_eq}
 use Rattle.std.specs.List.{All, filter, filter_map, list_any, sum_by}

@@ -69,8 +69,8 @@ pub fn session_is_charged()
 {}
 
 /// A report moves a balance only where its plan counts more of it than of each earlier report of
-/// its session, and gives no money back; a voucher is credited once; a restart moves no money and is
-/// always admissible.
+/// its session, and gives no money back; a voucher is credited once; a restart moves no money and
+/// is always admissible.
 pub fn money_moves_once()
     ensures { MoneyMovesOnce }
 {}

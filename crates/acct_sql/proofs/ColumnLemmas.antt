@@ -17,15 +17,18 @@ use Rattle.sqlite_rules.proofs.ListLemmas.{all_has}
 use Rattle.acct_model.specs.Vouchers.{TopUpFacts}
 use Rattle.acct_book.specs.Row.{RowFacts}
 use Rattle.acct_book.specs.Content.{key_of}
-use Rattle.acct_sql.specs.Tables.{book_schema, account, session, voucher}
+use Rattle.acct_sql.specs.Tables.{book_schema, account, session, voucher, session_plan}
 use Rattle.acct_sql.specs.Columns.{session_in_columns, topup_in_columns, columns, count_in, int_in}
 use Rattle.acct_sql.specs.Columns.{state_in, cause_in, code_of, framed_in, framed_octets}
+use Rattle.sqlite_rules.specs.Lists.{Has}
+use Rattle.acct_sql.specs.Columns.{session_plan_columns}
 use Rattle.acct_sql.specs.Content.{content_in_tables, is_session, is_account, is_voucher}
-use Rattle.acct_sql.specs.Kept.{KeepsSession, KeepsTopUp, KeepsBalance}
+use Rattle.acct_sql.specs.Content.{content_without_plans, plans_in_tables, with_plan}
+use Rattle.acct_sql.specs.Kept.{KeepsSession, KeepsTopUp, KeepsBalance, AreColumns}
 use Rattle.acct_sql.specs.Book.{IsBook}
 use Rattle.acct_sql.proofs.FindLemmas.{find_has}
 use Rattle.acct_sql.proofs.ValueLemmas.{blob_is, text_is}
-use Rattle.acct_sql.proofs.KeyLemmas.{one_session, one_account, one_voucher}
+use Rattle.acct_sql.proofs.KeyLemmas.{one_session, one_session_plan, one_account, one_voucher}
 use Rattle.acct_sql.proofs.SessionLemmas.{key_here}
 use Rattle.acct_sql.proofs.CloseLemmas.{typed, typed_at, shifted}
 use Rattle.acct_sql.proofs.KeyedLemmas.{voucher_account}
@@ -112,53 +115,110 @@ was_found f (Some x) y h = let same : f x ≡ y = cc in (x, refl, sym same)
 
 -- ---- a row of each table
 
+-- a session of fewer than 2^64 seconds is one whose plan is kept
+plan_told : (plan : Option (List ℕ)) (bare facts : RowFacts) → facts ≡ with_plan plan bare
+    → facts.seconds < 2 ^ 64
+    → (class : List ℕ) × (plan ≡ Some class) × (facts ≡ record bare { plan = class })
+plan_told None bare facts is fits =
+    let never : facts.seconds ≡ 2 ^ 64 + bare.seconds = ap (λ (r : RowFacts). r.seconds) is in
+    absurd (omega (arith, never, fits))
+plan_told (Some class) bare facts is fits = (class, refl, is)
+
+-- the row of the table `session_plan` that tells the plan of a session
+record IsPlanRowOf (db : Database) (facts : RowFacts) (row : Row) : Type 0 where
+  there : Has (db.trees session_plan.tree) row
+  says : AreColumns (session_plan_columns facts) (columns row)
+  alone : (other : Row) → Has (db.trees session_plan.tree) other
+      → is_session (key_of facts) other ≡ true → other ≡ row
+
+plan_row_is : (db : Database) (book : IsBook db) (facts : RowFacts) (row : Row)
+    → find (is_session (key_of facts)) (db.trees session_plan.tree) ≡ Some row
+    → facts.plan ≡ bytes (column row 3) → IsPlanRowOf db facts row
+plan_row_is db book facts row found is =
+    let here = find_has (is_session (key_of facts)) (db.trees session_plan.tree) row found in
+    let key = key_here (key_of facts) row here.1 in
+    let types = subst (λ schema. Keeps Datatype schema db.trees) book.schema
+    (book.sound.obeys.rules Datatype) in
+    let there = subst (λ schema. Keeps NotNull schema db.trees) book.schema
+    (book.sound.obeys.rules NotNull) in
+    let kinds : passes Datatype book_schema db.trees session_plan row
+    ≡ true = all_has (λ r. passes Datatype book_schema db.trees session_plan r ≡ true)
+    (db.trees session_plan.tree) row types.1.1.1.1.1.1.0 here.0 in
+    let present : passes NotNull book_schema db.trees session_plan row
+    ≡ true = all_has (λ r. passes NotNull book_schema db.trees session_plan r ≡ true)
+    (db.trees session_plan.tree) row there.1.1.1.1.1.1.0 here.0 in
+    let kind_is = subst (λ v. is_of kind.Blob v ≡ true) (shifted row 2)
+    (typed_at session_plan.columns 0 (drop 1 row) (refl, (refl, (refl, tt)))
+    (and_parts _ _ kinds).0 2 _ refl) in
+    let present_is = present_at session_plan.columns 0 row (refl, (refl, (refl, tt))) present 2
+    (omega arith) in
+    record {
+      there = here.0;
+      says = (
+        key.0,
+        (key.1, (octets_are (column row 3) kind_is present_is ∙ ap Blob (sym is), tt)),
+      );
+      alone = λ other k mine. one_session_plan db book (key_of facts) other row k here.0 mine
+          here.1;
+    }
+
 pub keeps_session : (db : Database) (book : IsBook db) (facts : RowFacts) → facts.input < 2 ^ 64
     → facts.output < 2 ^ 64 → facts.seconds < 2 ^ 64 → facts.first < 2 ^ 64 → facts.last < 2 ^ 64
     → facts.cause < 2 ^ 64 → (content_in_tables db.trees).rows (key_of facts) ≡ Some facts
     → KeepsSession facts db.trees
 keeps_session db book facts input output seconds first last cause kept =
-    let found = was_found (λ r. session_in_columns (columns r)) (find (is_session (key_of facts))
-    (db.trees session.tree)) facts kept in
-    let here = find_has (is_session (key_of facts)) (db.trees session.tree) found.0 found.1 in
-    let key = key_here (key_of facts) found.0 here.1 in
-    let at = typed db book found.0 here.0 in
+    let planned = was_found (with_plan (plans_in_tables db.trees (key_of facts)))
+    ((content_without_plans db.trees).rows (key_of facts)) facts kept in
+    let class = plan_told (plans_in_tables db.trees (key_of facts)) planned.0 facts planned.2
+    seconds in
+    let bare = was_found (λ r. session_in_columns (columns r)) (find (is_session (key_of facts))
+    (db.trees session.tree)) planned.0 planned.1 in
+    let same : facts ≡ record (session_in_columns (columns bare.0)) { plan = class.0 } =
+    class.2 ∙ ap (λ (r : RowFacts). record r { plan = class.0 }) bare.2 in
+    let kept_row = was_found (λ r. bytes (column r 3)) (find (is_session (key_of facts))
+    (db.trees session_plan.tree)) class.0 class.1 in
+    let plan_row = plan_row_is db book facts kept_row.0 kept_row.1
+    (ap (λ (r : RowFacts). r.plan) class.2 ∙ kept_row.2) in
+    let here = find_has (is_session (key_of facts)) (db.trees session.tree) bare.0 bare.1 in
+    let key = key_here (key_of facts) bare.0 here.1 in
+    let at = typed db book bare.0 here.0 in
     let rules = subst (λ schema. Keeps NotNull schema db.trees) book.schema
     (book.sound.obeys.rules NotNull) in
-    let present : passes NotNull book_schema db.trees session found.0
+    let present : passes NotNull book_schema db.trees session bare.0
     ≡ true = all_has (λ row. passes NotNull book_schema db.trees session row ≡ true)
-    (db.trees session.tree) found.0 rules.1.1.1.1.0 here.0 in
-    let present_in = present_at session.columns 0 found.0 (
+    (db.trees session.tree) bare.0 rules.1.1.1.1.0 here.0 in
+    let present_in = present_at session.columns 0 bare.0 (
       refl,
       (
         refl,
         (refl, (refl, (refl, (refl, (refl, (refl, (refl, (refl, (refl, (refl, (refl, tt))))))))))),
       ),
     ) present in
-    let account_is = octets_are (column found.0 3) (at 2 _ refl) (present_in 2 (omega arith))
-    ∙ ap Blob (sym (ap (λ (r : RowFacts). r.account) found.2)) in
-    let class_is = octets_are (column found.0 4) (at 3 _ refl) (present_in 3 (omega arith))
-    ∙ ap Blob (sym (ap (λ (r : RowFacts). r.class) found.2)) in
-    let input_is = count_is (column found.0 5) facts.input (ap (λ (r : RowFacts). r.input) found.2)
+    let account_is = octets_are (column bare.0 3) (at 2 _ refl) (present_in 2 (omega arith))
+    ∙ ap Blob (sym (ap (λ (r : RowFacts). r.account) same)) in
+    let class_is = octets_are (column bare.0 4) (at 3 _ refl) (present_in 3 (omega arith))
+    ∙ ap Blob (sym (ap (λ (r : RowFacts). r.class) same)) in
+    let input_is = count_is (column bare.0 5) facts.input (ap (λ (r : RowFacts). r.input) same)
     input in
-    let output_is = count_is (column found.0 6) facts.output
-    (ap (λ (r : RowFacts). r.output) found.2) output in
-    let seconds_is = count_is (column found.0 7) facts.seconds
-    (ap (λ (r : RowFacts). r.seconds) found.2) seconds in
-    let first_is = count_is (column found.0 8) facts.first (ap (λ (r : RowFacts). r.first) found.2)
+    let output_is = count_is (column bare.0 6) facts.output
+    (ap (λ (r : RowFacts). r.output) same) output in
+    let seconds_is = count_is (column bare.0 7) facts.seconds
+    (ap (λ (r : RowFacts). r.seconds) same) seconds in
+    let first_is = count_is (column bare.0 8) facts.first (ap (λ (r : RowFacts). r.first) same)
     first in
-    let last_is = count_is (column found.0 9) facts.last (ap (λ (r : RowFacts). r.last) found.2)
+    let last_is = count_is (column bare.0 9) facts.last (ap (λ (r : RowFacts). r.last) same)
     last in
-    let ended = ap (λ (r : RowFacts). r.cause) found.2 in
-    let state_here = state_is (column found.0 10) (column found.0 11) facts.cause ended cause
-    ∙ ap (λ s. Int (pos (code_of s))) (sym (ap (λ (r : RowFacts). r.state) found.2)) in
-    let cause_here = cause_is (column found.0 10) (column found.0 11) facts.cause ended cause in
-    let calling_is = octets_are (column found.0 12) (at 11 _ refl) (present_in 11 (omega arith))
-    ∙ ap Blob (sym (ap (λ (r : RowFacts). r.calling) found.2)) in
-    let framed_is = octets_are (column found.0 13) (at 12 _ refl) (present_in 12 (omega arith))
-    ∙ ap Blob (framed_back (bytes (column found.0 13))
-    ∙ ap framed_octets (sym (ap (λ (r : RowFacts). r.framed) found.2))) in
+    let ended = ap (λ (r : RowFacts). r.cause) same in
+    let state_here = state_is (column bare.0 10) (column bare.0 11) facts.cause ended cause
+    ∙ ap (λ s. Int (pos (code_of s))) (sym (ap (λ (r : RowFacts). r.state) same)) in
+    let cause_here = cause_is (column bare.0 10) (column bare.0 11) facts.cause ended cause in
+    let calling_is = octets_are (column bare.0 12) (at 11 _ refl) (present_in 11 (omega arith))
+    ∙ ap Blob (sym (ap (λ (r : RowFacts). r.calling) same)) in
+    let framed_is = octets_are (column bare.0 13) (at 12 _ refl) (present_in 12 (omega arith))
+    ∙ ap Blob (framed_back (bytes (column bare.0 13))
+    ∙ ap framed_octets (sym (ap (λ (r : RowFacts). r.framed) same))) in
     record {
-      row = found.0;
+      row = bare.0;
       there = here.0;
       says = (
         key.0,
@@ -185,8 +245,12 @@ keeps_session db book facts input output seconds first last cause kept =
           ),
         ),
       );
-      alone = λ other there mine. one_session db book (key_of facts) other found.0 there here.0
+      alone = λ other there mine. one_session db book (key_of facts) other bare.0 there here.0
           mine here.1;
+      plan = kept_row.0;
+      plan_there = plan_row.there;
+      plan_says = plan_row.says;
+      plan_alone = plan_row.alone;
     }
 
 pub keeps_topup : (db : Database) (book : IsBook db) (facts : TopUpFacts) → facts.sum < 2 ^ 64

@@ -107,6 +107,20 @@ module _ {S T E F : Type 0} (g : Ghosts S) (old end : Held S) (mid : State)
         subst IsBook (sym (undone clean r o)) (resting.book (old_clean clean)
         (k.was_open (r.was_open o)))
 
+    stay_by : HasCleanDisk last → IsTrue last.is_open
+        → (HasCleanDisk mid → OnOk done (mid.now ≡ (state g old).now)) → (r : Result T E)
+        → OnOk r (IsOk done × Shows mid last mid.now mid.now false)
+        → OnErr r (IsRolledBack mid last ⊎ (IsOk done × (mid.in_transaction ≡ false))) → last.now
+        ≡ (state g old).now
+    stay_by clean o looked (Ok x) ok err = ok.1.now_is ∙ of_ok done ok.0 (looked (mid_clean clean))
+    stay_by clean o looked (Err e) ok err = undone clean (rolled clean err) o
+
+    -- after a look the tables are as they were
+    pub tables_stay : (HasCleanDisk mid → OnOk done (mid.now ≡ (state g old).now))
+        → IsOpenBook last → last.now ≡ (state g old).now
+    tables_stay looked o = stay_by o.0.0 o.0.1 looked result (finished.ok o.0.0)
+        (finished.err o.0.0)
+
     pub rests : IsResting last
     rests = record {
       autocommit = finished.ended;

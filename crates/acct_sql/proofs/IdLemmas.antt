@@ -21,13 +21,13 @@ use Rattle.sqlite.specs.Held.{Held, state}
 use Rattle.sqlite.specs.State.{State, IsUnchanged, Shown}
 use Rattle.sqlite_rules.specs.Lists.{Has}
 use Rattle.sqlite_rules.proofs.ListLemmas.{all_has}
-use Rattle.acct_sql.specs.Tables.{book_schema, account, voucher, session}
+use Rattle.acct_sql.specs.Tables.{book_schema, account, voucher, session, session_plan}
 use Rattle.acct_sql.specs.Tidy.{IsTidy}
 use Rattle.acct_sql.specs.inner.Rising.{ShowsRising, shown_id}
 use Rattle.acct_sql.specs.declared.statements.TheConstants as texts
 use Rattle.acct_sql.proofs.QueryLemmas.{over_table, all_rows, has_shown, answer_of}
 use Rattle.acct_sql.proofs.TextLemmas.{ids_shown, by_rowid, account_rowids, voucher_rowids}
-use Rattle.acct_sql.proofs.TextLemmas.{session_rowids}
+use Rattle.acct_sql.proofs.TextLemmas.{session_rowids, session_plan_rowids}
 
 module _ {X K : Type 0} (e : K → K → Bool) (flips : (x y : K) → e x y ≡ e y x) (key : X → K) where
   apart : (x : X) (xs : List X) (y : X) → AllByRecursion (λ k. e (key x) k ≡ false) (map key xs)
@@ -147,6 +147,11 @@ module _ (old new : State) (rows : List Row) (has : old.now.schema ≡ book_sche
   sessions_tidy h = ids_tidy session.tree old.now.trees rows (answer_of session_rowids [] old new
       rows has h) ints sorted
 
+  session_plans_tidy : Shown texts.SESSION_PLAN_ROWIDS.now [] old new rows
+      → IsTidy (old.now.trees session_plan.tree)
+  session_plans_tidy h = ids_tidy session_plan.tree old.now.trees rows (answer_of
+      session_plan_rowids [] old new rows has h) ints sorted
+
 -- ---- rows that are read one at a time
 
 module _ {S : Type 0} (g : Ghosts S) (old new : Held S)
@@ -172,3 +177,10 @@ module _ {S : Type 0} (g : Ghosts S) (old new : Held S)
   sessions_rise h = subst (λ (d : Database). IsTidy (d.trees session.tree)) h.same.0.now_is
       (sessions_tidy (state g h.before) (state g new) h.rows (has_then h.before h.same) h.rising.ids
       h.rising.sorted h.shown)
+
+  pub session_plans_rise : ShowsRising g texts.SESSION_PLAN_ROWIDS.now old new
+      → IsTidy ((state g old).now.trees session_plan.tree)
+  session_plans_rise h = subst (λ (d : Database). IsTidy (d.trees session_plan.tree))
+      h.same.0.now_is
+      (session_plans_tidy (state g h.before) (state g new) h.rows (has_then h.before h.same)
+      h.rising.ids h.rising.sorted h.shown)

@@ -13,7 +13,7 @@ use Rattle.sqlite_rules.specs.Lists.{Has}
 use Rattle.sqlite_rules.proofs.ListLemmas.{all_has}
 use Rattle.sqlite.specs.Effect.{Database}
 use Rattle.acct_book.specs.declared.key.Key.{Key}
-use Rattle.acct_sql.specs.Tables.{book_schema, account, voucher, session}
+use Rattle.acct_sql.specs.Tables.{book_schema, account, voucher, session, session_plan}
 use Rattle.acct_sql.specs.Tidy.{IsTidy}
 use Rattle.acct_sql.specs.Content.{is_session, is_account, is_voucher}
 use Rattle.acct_sql.specs.Book.{IsBook}
@@ -87,4 +87,28 @@ one_session db book key r s here there first second =
       blob_equal key.session,
     ) refl in
     one_row (db.trees session.tree) book.sessions (1 ∷ 2 ∷ []) r s here there
+    (not-true _ (and_parts _ _ row).0) agrees
+
+pub one_session_plan : (db : Database) → IsBook db → (key : Key) → IsOne (is_session key)
+    (db.trees session_plan.tree)
+unfolding first_key
+one_session_plan db book key r s here there first second =
+    let rules = subst (λ schema. Keeps Unique schema db.trees) book.schema
+    (book.sound.obeys.rules Unique) in
+    let row : passes Unique book_schema db.trees session_plan r
+    ≡ true = all_has (λ row. passes Unique book_schema db.trees session_plan row
+    ≡ true) (db.trees session_plan.tree)
+    r rules.1.1.1.1.1.1.0 here in
+    let f = and_parts _ _ first in
+    let s' = and_parts _ _ second in
+    let agrees : agree plain (1 ∷ 2 ∷ []) s (1 ∷ 2 ∷ []) r ≡ true =
+    rw (
+      text_is key.client (column s 1) s'.0,
+      text_is key.client (column r 1) f.0,
+      blob_is key.session (column s 2) s'.1,
+      blob_is key.session (column r 2) f.1,
+      text_equal key.client,
+      blob_equal key.session,
+    ) refl in
+    one_row (db.trees session_plan.tree) book.plans (1 ∷ 2 ∷ []) r s here there
     (not-true _ (and_parts _ _ row).0) agrees

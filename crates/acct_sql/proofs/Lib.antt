@@ -6,6 +6,7 @@ pub mod StatementLemmas
 pub mod TextLemmas
 pub mod KeyLemmas
 pub mod SessionLemmas
+pub mod SessionPlanLemmas
 pub mod CloseLemmas
 pub mod AccountLemmas
 pub mod VoucherLemmas
@@ -20,6 +21,7 @@ mod KeyedLemmas
 mod ColumnLemmas
 mod WalkLemmas
 mod ListLemmas
+mod PlanReadLemmas
 mod IdLemmas
 mod RisingLemmas
 mod LookLemmas

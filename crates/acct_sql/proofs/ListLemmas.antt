@@ -31,8 +31,9 @@ use Rattle.acct_book.specs.Walk.{AreRowsOf, AreTopUpsOf}
 use Rattle.acct_sql.specs.Tables.{voucher, session}
 use Rattle.acct_sql.specs.Columns.{session_in_columns, topup_in_columns, columns}
 use Rattle.acct_sql.specs.Content.{is_session, is_voucher, content_in_tables}
+use Rattle.acct_sql.specs.Content.{content_without_plans}
 use Rattle.acct_sql.specs.Book.{IsBook, content_at}
-use Rattle.acct_sql.specs.inner.AtRest.{HasShown}
+use Rattle.acct_sql.specs.inner.AtRest.{HasShown, bare_at}
 use Rattle.acct_sql.specs.declared.statements.TheConstants as texts
 use Rattle.acct_sql.proofs.TextLemmas.{session_shown, topup_shown, sessions_filter, topups_filter}
 use Rattle.acct_sql.proofs.TextLemmas.{by_key, by_name, sessions_of_account, topups_of_account}
@@ -62,7 +63,7 @@ module _ (old new : State) (account : List ℕ) (shown : List Row) (book : IsBoo
 
   pub sessions_each : Shown texts.SESSIONS_OF_ACCOUNT.now (Blob account ∷ []) old new shown
       → (member : RowFacts) → Contains (map read_session shown) member
-      ↔ (((content_in_tables db).rows (key_of member) ≡ Some member)
+      ↔ (((content_without_plans db).rows (key_of member) ≡ Some member)
       × IsTrue (bytes_eq account member.account))
   sessions_each h member = (listed, unlisted)
     where
@@ -71,7 +72,7 @@ module _ (old new : State) (account : List ℕ) (shown : List Row) (book : IsBoo
       answer = answer_of sessions_of_account params old new shown book.schema h
 
       listed : Contains (map read_session shown) member →
-          ((content_in_tables db).rows (key_of member) ≡ Some member)
+          ((content_without_plans db).rows (key_of member) ≡ Some member)
           × IsTrue (bytes_eq account member.account)
       listed there =
           let at = has_mapped read_session shown member (has_contained (map read_session shown)
@@ -88,14 +89,14 @@ module _ (old new : State) (account : List ℕ) (shown : List Row) (book : IsBoo
           (λ s there passes. one_session old.now book k.0 s r.0 there r.1 passes k.1)) in
           let payer : column r.0 3 ≡ Blob account = equal_blob (column r.0 3) account
           (and_parts _ _ r.2).0 in (
-            subst (λ m. (content_in_tables db).rows (key_of m) ≡ Some m) (sym is)
-                (subst (λ key. (content_in_tables db).rows key ≡ Some (session_in_columns
+            subst (λ m. (content_without_plans db).rows (key_of m) ≡ Some m) (sym is)
+                (subst (λ key. (content_without_plans db).rows key ≡ Some (session_in_columns
                 (columns r.0))) own found),
             (bytes_eq-Decides account member.account).1 (sym
                 (ap (λ (m : RowFacts). m.account) is ∙ ap bytes payer)),
           )
 
-      unlisted : ((content_in_tables db).rows (key_of member) ≡ Some member)
+      unlisted : ((content_without_plans db).rows (key_of member) ≡ Some member)
           × IsTrue (bytes_eq account member.account) → Contains (map read_session shown) member
       unlisted there =
           let r = found_row (λ r. session_in_columns (columns r)) (find (is_session (key_of member))
@@ -170,10 +171,10 @@ module _ {S : Type 0} (g : Ghosts S) (old : Held S) (book : IsBook (state g old)
     (account : List ℕ) (shown : List Row) where
   pub rows_are : (rows : List RowFacts) → HasShown g old texts.SESSIONS_OF_ACCOUNT.now
       (Blob account ∷ []) shown → rows ≡ map (λ r. session_in_columns (column r)) shown
-      → IsStrictlySortedBy key_cmp (map key_of rows) → AreRowsOf (content_at g old) account rows
+      → IsStrictlySortedBy key_cmp (map key_of rows) → AreRowsOf (bare_at g old) account rows
   rows_are rows h is sorted = record {
     in_order = sorted;
-    each = λ member. subst (λ rs. Contains rs member ↔ (((content_at g old).rows (key_of member)
+    each = λ member. subst (λ rs. Contains rs member ↔ (((bare_at g old).rows (key_of member)
         ≡ Some member) × IsTrue (bytes_eq account member.account))) (sym is)
         (sessions_each (state g (record old { in_transaction = true })) (state g h.0) account shown
         book h.1 member);

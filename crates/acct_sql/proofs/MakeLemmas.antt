@@ -15,8 +15,8 @@ use Rattle.sqlite.specs.Listing.{understood}
 use Rattle.sqlite.specs.State.{State, mode_of, Writes, Executes}
 use Rattle.sqlite.proofs.Callers.{IsPlain, command_of, statement_of, runs_as}
 use Rattle.acct_sql.specs.Tables.{book_schema, no_schema, meta, price_plan, account, voucher}
-use Rattle.acct_sql.specs.Tables.{session, index_of}
-use Rattle.acct_sql.specs.inner.NewBook.{AreEmpty}
+use Rattle.acct_sql.specs.Tables.{session, plan_count, session_plan, first_schema, index_of}
+use Rattle.acct_sql.specs.inner.NewBook.{AreFirstEmpty}
 use Rattle.acct_sql.specs.declared.statements.TheConstants as texts
 use Rattle.acct_sql.proofs.StatementLemmas.{went, same_value}
 
@@ -30,7 +30,15 @@ stage n = record {
 
 -- and with the first of the two other indexes
 abbrev pub six : Schema
-six = record book_schema { indexes = take 6 book_schema.indexes }
+six = record first_schema { indexes = take 6 book_schema.indexes }
+
+-- the first tables and what each plan counts
+abbrev pub with_counts : Schema
+with_counts = record {
+  tables = take 6 book_schema.tables;
+  indexes = take 8 book_schema.indexes;
+  views = [];
+}
 
 -- what CREATE TABLE did
 pub record HasDefined (schema after : Schema) (old new : Database) : Type 0 where
@@ -206,14 +214,78 @@ pub vouchers_plain : IsPlain (understood six texts.VOUCHER_ACCOUNT_INDEX.now)
 unfolding understood everything
 vouchers_plain = (refl, refl)
 
--- ---- all of them
+pub count_is : (command_of (understood first_schema texts.PLAN_COUNT_TABLE.now) ≡ CreateTable)
+    × (statement_of texts.PLAN_COUNT_TABLE.now (understood first_schema texts.PLAN_COUNT_TABLE.now)
+    ≡ texts.PLAN_COUNT_TABLE.now) × (table_defined_by texts.PLAN_COUNT_TABLE.now
+    ≡ Ok (record plan_count { tree = 0 }))
+unfolding understood everything
+count_is = (refl, refl, refl)
+
+pub count_plain : IsPlain (understood first_schema texts.PLAN_COUNT_TABLE.now)
+unfolding understood everything
+count_plain = (refl, refl)
+
+pub count_next : created first_schema (record plan_count { tree = 0 }) ≡ with_counts
+count_next = let one : decimal 1 ≡ codes "1" = decimal_digit 1 (omega arith) in rw one refl
+
+pub kept_is : (command_of (understood with_counts texts.SESSION_PLAN_TABLE.now) ≡ CreateTable)
+    × (statement_of texts.SESSION_PLAN_TABLE.now (understood with_counts
+    texts.SESSION_PLAN_TABLE.now) ≡ texts.SESSION_PLAN_TABLE.now)
+    × (table_defined_by texts.SESSION_PLAN_TABLE.now ≡ Ok (record session_plan { tree = 0 }))
+unfolding understood everything
+kept_is = (refl, refl, refl)
+
+pub kept_plain : IsPlain (understood with_counts texts.SESSION_PLAN_TABLE.now)
+unfolding understood everything
+kept_plain = (refl, refl)
+
+pub kept_next : created with_counts (record session_plan { tree = 0 }) ≡ book_schema
+kept_next = let one : decimal 1 ≡ codes "1" = decimal_digit 1 (omega arith) in rw one refl
+
+-- what the two tables of plans are made in, and what they leave of the others
+pub record HasDefinedPlans (old new : Database) : Type 0 where
+  pub schema : new.schema ≡ book_schema
+  pub sound : IsDatabase new
+  pub counts : new.trees plan_count.tree ≡ []
+  pub session_plans : new.trees session_plan.tree ≡ []
+  pub others : KeepsRows first_schema.tables old.trees new.trees
+
+pub plans_defined : (a b c : State) (i j : ℕ) → a.now.schema ≡ first_schema
+    → Executes texts.PLAN_COUNT_TABLE.now [] a b (Ok i)
+    → Executes texts.SESSION_PLAN_TABLE.now [] b c (Ok j) → HasDefinedPlans a.now c.now
+plans_defined a b c i j has one two =
+    let x = defines first_schema with_counts texts.PLAN_COUNT_TABLE.now
+    (record plan_count { tree = 0 }) a b i count_is count_plain count_next refl has one in
+    let y = defines with_counts book_schema texts.SESSION_PLAN_TABLE.now
+    (record session_plan { tree = 0 }) b c j kept_is kept_plain kept_next refl x.listed two in
+    record {
+      schema = y.listed;
+      sound = y.sound;
+      counts = y.others.1.1.1.1.1.0 ∙ x.empty;
+      session_plans = y.empty;
+      others = (
+        y.others.0 ∙ x.others.0,
+        (
+          y.others.1.0 ∙ x.others.1.0,
+          (
+            y.others.1.1.0 ∙ x.others.1.1.0,
+            (
+              y.others.1.1.1.0 ∙ x.others.1.1.1.0,
+              (y.others.1.1.1.1.0 ∙ x.others.1.1.1.1.0, x.others.1.1.1.1.1),
+            ),
+          ),
+        ),
+      );
+    }
+
+-- ---- the first tables
 
 pub all_made : (a b c d e f g h : State) (i j k l m n o : ℕ) → a.now.schema ≡ no_schema
     → Executes texts.META_TABLE.now [] a b (Ok i) → Executes texts.PLAN_TABLE.now [] b c (Ok j)
     → Executes texts.ACCOUNT_TABLE.now [] c d (Ok k) → Executes texts.VOUCHER_TABLE.now [] d e
     (Ok l) → Executes texts.SESSION_TABLE.now [] e f (Ok m)
     → Executes texts.SESSION_ACCOUNT_INDEX.now [] f g (Ok n)
-    → Executes texts.VOUCHER_ACCOUNT_INDEX.now [] g h (Ok o) → AreEmpty h.now
+    → Executes texts.VOUCHER_ACCOUNT_INDEX.now [] g h (Ok o) → AreFirstEmpty h.now
 all_made a b c d e f g h i j k l m n o has one two three four five six' seven =
     let x1 = defines no_schema (stage 1) texts.META_TABLE.now (record meta { tree = 0 }) a b i
     meta_is meta_plain meta_next refl has one in
@@ -227,7 +299,7 @@ all_made a b c d e f g h i j k l m n o has one two three four five six' seven =
     session_is session_plain session_next refl x4.listed five in
     let x6 = indexes (stage 5) six texts.SESSION_ACCOUNT_INDEX.now 4 session by_account f g n
     by_account_is by_account_plain refl x5.listed six' in
-    let x7 = indexes six book_schema texts.VOUCHER_ACCOUNT_INDEX.now 3 voucher vouchers g h o
+    let x7 = indexes six first_schema texts.VOUCHER_ACCOUNT_INDEX.now 3 voucher vouchers g h o
     vouchers_is vouchers_plain refl x6.listed seven in
     record {
       schema = x7.listed;

@@ -12,13 +12,14 @@ use Rattle.sqlite.proofs.StateLemmas.{survives_then}
 use Rattle.sqlite.proofs.Callers.{survives_begin}
 use Rattle.sqlite_rules.proofs.ListLemmas.{all_has, all_from}
 use Rattle.acct_model.specs.declared.plan.Plan.{Plan}
-use Rattle.acct_sql.specs.Tables.{book_schema, price_plan}
-use Rattle.acct_sql.specs.Make.{KeepsPlans, IsPlanRow}
+use Rattle.acct_sql.specs.Tables.{book_schema, price_plan, plan_count}
+use Rattle.acct_sql.specs.Make.{KeepsPrices, KeepsCounts, IsPlanRow, IsCountRow}
 use Rattle.acct_sql.specs.Look.{IsIdle, LooksAtTables}
-use Rattle.acct_sql.specs.inner.Looked.{ShowsPlan, IsShownIn, IsPlanIn, AreShown}
+use Rattle.acct_sql.specs.inner.Looked.{ShowsPlan, ShowsCount, IsShownIn, IsPlanIn, AreShown}
+use Rattle.acct_sql.specs.declared.adopting.PlanTable.TheVariants.{Prices, Counts}
 use Rattle.acct_sql.specs.declared.statements.TheConstants as texts
 use Rattle.acct_sql.proofs.QueryLemmas.{over_table, all_rows, shown_has, has_shown, answer_of}
-use Rattle.acct_sql.proofs.TextLemmas.{plan_shown, plan_rows}
+use Rattle.acct_sql.proofs.TextLemmas.{plan_shown, plan_rows, count_shown, count_rows}
 
 module _ (old new : State) (rows : List Row) (plans : List Plan) (has : old.now.schema
     ≡ book_schema) (h : Shown texts.PLANS.now [] old new rows) where
@@ -34,33 +35,78 @@ module _ (old new : State) (rows : List Row) (plans : List Plan) (has : old.now.
       → ShowsPlan plan (eval_all plan_shown ([] ∷ r ∷ []))
   is_said plan r says = record { class = says.class; block = says.block; unit = says.unit }
 
-  pub plans_shown : AreShown plans rows → KeepsPlans plans old.now.trees
+  pub plans_shown : AreShown Prices plans rows → KeepsPrices plans old.now.trees
   plans_shown shown = record {
     each = λ plan there.
-        let row = all_has (IsShownIn rows) plans plan shown.0 there in
+        let row = all_has (IsShownIn Prices rows) plans plan shown.0 there in
         let r = shown_has price_plan.tree [] plan_shown [] Null old.now.trees [] rows answer row.0
         row.1 in
         (r.0, r.1, says plan r.0 (subst (ShowsPlan plan) r.3 row.2));
     only = λ r there.
-        let plan = all_has (IsPlanIn plans) rows (eval_all plan_shown ([] ∷ r ∷ [])) shown.1
+        let plan = all_has (IsPlanIn Prices plans) rows (eval_all plan_shown ([] ∷ r ∷ [])) shown.1
         (has_shown price_plan.tree [] plan_shown [] Null old.now.trees [] rows answer r there refl)
         in
         (plan.0, plan.1, says plan.0 r plan.2);
   }
 
-  pub shown_plans : KeepsPlans plans old.now.trees → AreShown plans rows
+  pub shown_plans : KeepsPrices plans old.now.trees → AreShown Prices plans rows
   shown_plans kept = (
-    all_from (IsShownIn rows) plans (λ plan there.
+    all_from (IsShownIn Prices rows) plans (λ plan there.
         let r = kept.each plan there in (
           eval_all plan_shown ([] ∷ r.0 ∷ []),
           has_shown price_plan.tree [] plan_shown [] Null old.now.trees [] rows answer r.0 r.1 refl,
           is_said plan r.0 r.2,
         )),
-    all_from (IsPlanIn plans) rows (λ row there.
+    all_from (IsPlanIn Prices plans) rows (λ row there.
         let r = shown_has price_plan.tree [] plan_shown [] Null old.now.trees [] rows answer row
         there in
         let plan = kept.only r.0 r.1 in
         (plan.0, plan.1, subst (ShowsPlan plan.0) (sym r.3) (is_said plan.0 r.0 plan.2))),
+  )
+
+-- ---- what the plans count
+
+module _ (old new : State) (rows : List Row) (plans : List Plan) (has : old.now.schema
+    ≡ book_schema) (h : Shown texts.PLAN_COUNTS.now [] old new rows) where
+  count_answer : IsAnswerAs Null (over_table plan_count.tree [] count_shown [] all_rows) old.now.trees []
+      rows
+  count_answer = answer_of count_rows [] old new rows has h
+
+  counts_so : (plan : Plan) (r : Row) → ShowsCount plan (eval_all count_shown ([] ∷ r ∷ []))
+      → IsCountRow plan r
+  counts_so plan r shows = record { class = shows.class; mode = shows.mode }
+
+  is_counted : (plan : Plan) (r : Row) → IsCountRow plan r
+      → ShowsCount plan (eval_all count_shown ([] ∷ r ∷ []))
+  is_counted plan r says = record { class = says.class; mode = says.mode }
+
+  pub counts_shown : AreShown Counts plans rows → KeepsCounts plans old.now.trees
+  counts_shown shown = record {
+    each = λ plan there.
+        let row = all_has (IsShownIn Counts rows) plans plan shown.0 there in
+        let r = shown_has plan_count.tree [] count_shown [] Null old.now.trees [] rows count_answer row.0
+        row.1 in
+        (r.0, r.1, counts_so plan r.0 (subst (ShowsCount plan) r.3 row.2));
+    only = λ r there.
+        let plan = all_has (IsPlanIn Counts plans) rows (eval_all count_shown ([] ∷ r ∷ [])) shown.1
+        (has_shown plan_count.tree [] count_shown [] Null old.now.trees [] rows count_answer r there refl)
+        in
+        (plan.0, plan.1, counts_so plan.0 r plan.2);
+  }
+
+  pub shown_counts : KeepsCounts plans old.now.trees → AreShown Counts plans rows
+  shown_counts kept = (
+    all_from (IsShownIn Counts rows) plans (λ plan there.
+        let r = kept.each plan there in (
+          eval_all count_shown ([] ∷ r.0 ∷ []),
+          has_shown plan_count.tree [] count_shown [] Null old.now.trees [] rows count_answer r.0 r.1 refl,
+          is_counted plan r.0 r.2,
+        )),
+    all_from (IsPlanIn Counts plans) rows (λ row there.
+        let r = shown_has plan_count.tree [] count_shown [] Null old.now.trees [] rows count_answer row
+        there in
+        let plan = kept.only r.0 r.1 in
+        (plan.0, plan.1, subst (ShowsCount plan.0) (sym r.3) (is_counted plan.0 r.0 plan.2))),
   )
 
 -- ---- a list of one

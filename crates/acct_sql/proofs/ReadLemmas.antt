@@ -24,10 +24,12 @@ use Rattle.acct_book.specs.declared.book.Unavailable.{Unavailable}
 use Rattle.acct_sql.specs.Tables.{book_schema, account, voucher, session}
 use Rattle.acct_sql.specs.Columns.{session_in_columns, topup_in_columns, columns, int_in}
 use Rattle.acct_sql.specs.Content.{is_session, is_account, is_voucher, content_in_tables}
+use Rattle.acct_sql.specs.Content.{content_without_plans}
 use Rattle.acct_sql.specs.Book.{IsBook, IsResting, IsOpenBook, content_at, is_sound_at, is_open_at}
 use Rattle.acct_sql.specs.Book.{is_steady_at, left_at}
 use Rattle.acct_sql.specs.inner.Inside.{HasMade}
 use Rattle.acct_sql.specs.inner.AtRest.{HasReadBook, HasShown, HasFirst, row_found, Wrote}
+use Rattle.acct_sql.specs.inner.AtRest.{bare_at, IsAtRest, ReadsAtRest, StaysAtRest}
 use Rattle.acct_sql.specs.declared.statements.TheConstants as texts
 use Rattle.acct_sql.proofs.CommitLemmas.{of_ok, unavailable}
 use Rattle.acct_sql.proofs.TextLemmas as t
@@ -44,8 +46,8 @@ use Rattle.acct_sql.proofs.StepLemmas.{rolled_keeps, unchanged_keeps}
 
 pub session_found : (key : Key) (old new : State) (rows : List Row) → IsBook old.now
     → Shown texts.SESSION_OF_KEY.now (Text key.client ∷ Blob key.session ∷ []) old new rows
-    → row_found (λ r. session_in_columns (column r)) rows ≡ (content_in_tables old.now.trees).rows
-    key
+    → row_found (λ r. session_in_columns (column r)) rows
+    ≡ (content_without_plans old.now.trees).rows key
 session_found key old new rows book h =
     go rows (answer_of t.session_of_key (Text key.client ∷ Blob key.session ∷ []) old new rows
     book.schema h)
@@ -53,7 +55,7 @@ session_found key old new rows book h =
     go : (shown : List Row) → IsAnswerAs Null (over_table session.tree t.session_filter
         t.session_shown [] all_rows) old.now.trees (Text key.client ∷ Blob key.session ∷ []) shown
         → row_found (λ r. session_in_columns (column r)) shown
-        ≡ (content_in_tables old.now.trees).rows key
+        ≡ (content_without_plans old.now.trees).rows key
     go [] a = sym (ap (option_map (λ r. session_in_columns (columns r)))
         (none_is (is_session key) (old.now.trees session.tree) (λ r there. not_true _ (λ mine.
         let k = key_here key r mine in
@@ -208,6 +210,14 @@ look_made sql params old new rows books plain on h =
       content = ap (λ (d : Database). content_in_tables d.trees) same.0.now_is;
     }
 
+pub look_same : (sql : List ℕ) (params : Row) (old new : State) (rows : List Row)
+    → (IsTrue old.is_open → IsBook old.now) → IsPlain (understood book_schema sql)
+    → Shown sql params old new rows → new.now ≡ old.now
+look_same sql params old new rows books plain h =
+    let book = books (shown_open sql params old new rows h).0 in
+    (shown_same sql params old new rows (subst (λ schema. IsPlain (understood schema sql))
+    (sym book.schema) plain) h).0.now_is
+
 pub look_kept : (sql : List ℕ) (params : Row) (old new : State) {V : Type 0} (items : V → List Row)
     (r : Result V Error) → IsTrue old.in_transaction
     → IfOk r (λ rows. Shown sql params old new (items rows))
@@ -298,7 +308,7 @@ first_is read rows front o target same first found = ap (option_map read)
 module _ {S : Type 0} (g : Ghosts S) (old : Held S) where
   pub session_shown : (key : Key) (rows : List Row) → IsBook (state g old).now
       → HasShown g old texts.SESSION_OF_KEY.now (Text key.client ∷ Blob key.session ∷ []) rows
-      → row_found (λ r. session_in_columns (column r)) rows ≡ (content_at g old).rows key
+      → row_found (λ r. session_in_columns (column r)) rows ≡ (bare_at g old).rows key
   session_shown key rows book h = session_found key (state g (record old { in_transaction = true }))
       (state g h.0) rows book h.1
 
@@ -316,7 +326,7 @@ module _ {S : Type 0} (g : Ghosts S) (old : Held S) where
 
   pub session_first : (key : Key) (o : Option RowFacts) → IsBook (state g old).now
       → HasFirst g old texts.SESSION_OF_KEY.now (Text key.client ∷ Blob key.session ∷ [])
-      (λ r. session_in_columns (column r)) o → o ≡ (content_at g old).rows key
+      (λ r. session_in_columns (column r)) o → o ≡ (bare_at g old).rows key
   session_first key o book h = sym h.2 ∙ session_shown key h.0 book h.1
 
   pub topup_first : (number : List ℕ) (o : Option TopUpFacts) → IsBook (state g old).now
@@ -335,4 +345,54 @@ read_then g old mid new first second a b = record {
   answers = b.answers;
   same = λ o. b.same o ∙ a.same (b.was_open o);
   adds_none = λ s c left. a.adds_none (b.was_sound s) c (b.adds_none s c left);
+}
+
+-- ---- reads of a book that is at rest
+
+-- before the first of them
+pub stays_first : {S : Type 0} (g : Ghosts S) (old : Held S) → IsAtRest g old → StaysAtRest g old old
+stays_first g old resting = record {
+  resting = resting;
+  read = record {
+    was_sound = λ s. s;
+    was_open = λ o. o;
+    keeps_steady = λ s. s;
+    answers = λ s. tt;
+    same = λ o. refl;
+    adds_none = λ s c left. left;
+  };
+  tables = λ o. refl;
+}
+
+-- after one more
+pub stays_more : {S T E : Type 0} (g : Ghosts S) (old mid new : Held S) (more : Result T E)
+    → StaysAtRest g old mid → ReadsAtRest g mid new more → StaysAtRest g old new
+stays_more g old mid new more a b = record {
+  resting = b.resting;
+  read = record {
+    was_sound = λ s. a.read.was_sound (b.read.was_sound s);
+    was_open = λ o. a.read.was_open (b.read.was_open o);
+    keeps_steady = λ s. b.read.keeps_steady (a.read.keeps_steady s);
+    answers = λ s. tt;
+    same = λ o. b.read.same o ∙ a.read.same (b.read.was_open o);
+    adds_none = λ s c left. a.read.adds_none (b.read.was_sound s) c (b.read.adds_none s c left);
+  };
+  tables = λ o. b.tables o ∙ a.tables (b.read.was_open o);
+}
+
+-- they are a read whose answer says that the book is open
+pub stays_read : {S T E : Type 0} (g : Ghosts S) (old new : Held S) (result : Result T E)
+    → StaysAtRest g old new → (is_sound_at g new → OnOk result (is_open_at g new))
+    → ReadsAtRest g old new result
+stays_read g old new result a answers = record {
+  resting = a.resting;
+  read = record {
+    was_sound = a.read.was_sound;
+    was_open = a.read.was_open;
+    keeps_steady = a.read.keeps_steady;
+    answers = answers;
+    same = a.read.same;
+    adds_none = a.read.adds_none;
+  };
+  tables = a.tables;
 }

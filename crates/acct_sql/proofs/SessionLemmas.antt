@@ -22,6 +22,7 @@ use Rattle.acct_sql.specs.Tables.{book_schema, session}
 use Rattle.acct_sql.specs.Columns.{session_columns, session_in_columns, columns, state_in, code_of}
 use Rattle.acct_sql.specs.Columns.{cause_in, framed_in, framed_octets}
 use Rattle.acct_sql.specs.Content.{is_session}
+use Rattle.acct_sql.specs.inner.Inside.{without_plan}
 use Rattle.acct_sql.specs.Book.{IsBook}
 use Rattle.acct_sql.proofs.TextLemmas.{session_filter, session_project}
 use Rattle.acct_sql.proofs.QueryLemmas.{meets, shown_has, has_shown}
@@ -58,7 +59,7 @@ cause_back Stopped cause = refl
 
 -- the columns of a row read back as it
 pub read_back : (row : RowFacts) (id : _) → framed_in (framed_octets row.framed) ≡ row.framed
-    → session_in_columns (columns (id ∷ session_columns row)) ≡ row
+    → session_in_columns (columns (id ∷ session_columns row)) ≡ without_plan row
 read_back row id framed = rw (state_back row.state, cause_back row.state row.cause, framed) refl
 
 -- the row that has a key is found by it alone
@@ -69,7 +70,7 @@ key_here key r h = let parts = and_parts _ _ h in (
   blob_is key.session (column r 2) parts.1,
 )
 
-here_key : (key : Key) (r : Row) → column r 1 ≡ Text key.client → column r 2 ≡ Blob key.session
+pub here_key : (key : Key) (r : Row) → column r 1 ≡ Text key.client → column r 2 ≡ Blob key.session
     → is_session key r ≡ true
 here_key key r a b = rw (a, b, is_its_text key.client, is_its_blob key.session) refl
 
@@ -80,7 +81,7 @@ same_blob : (s t : List ℕ) → Blob s ≡ Blob t → s ≡ t
 same_blob s t e = cc
 
 -- two keys of one row are one
-one_key : (a b : Key) (r : Row) → is_session a r ≡ true → is_session b r ≡ true → a ≡ b
+pub one_key : (a b : Key) (r : Row) → is_session a r ≡ true → is_session b r ≡ true → a ≡ b
 one_key a b r h k =
     let x = key_here a r h in
     let y = key_here b r k in
@@ -194,12 +195,12 @@ module _ (row : RowFacts) (old new : State) (count : ℕ) (book : IsBook old.now
 
   -- a row was met, so it is the new one
   pub set_row : count ≢ 0 → (key : Key) → rows_in (new.now.trees session.tree) key
-      ≡ update same_key (rows_in (old.now.trees session.tree)) (key_of row) (Some row) key
+      ≡ update same_key (rows_in (old.now.trees session.tree)) (key_of row) (Some (without_plan row)) key
   set_row some key = go (same_key (key_of row) key) refl
       (some_shown done.answer count done.counted some)
     where
       go : (b : Bool) → same_key (key_of row) key ≡ b → (r : Row) × Has done.answer r
-          → rows_in (new.now.trees session.tree) key ≡ cond b (Some row) (rows_in
+          → rows_in (new.now.trees session.tree) key ≡ cond b (Some (without_plan row)) (rows_in
           (old.now.trees session.tree) key)
       go true is shown =
           let r = shown_has session.tree session_filter session_project [] Null old.now.trees params
@@ -209,11 +210,11 @@ module _ (row : RowFacts) (old new : State) (count : ℕ) (book : IsBook old.now
           (λ s h passes. one_session old.now book (key_of row) s r.0 h r.1 passes mine) in
           let made_here : step r.0 ≡ cast kind.Integer (column r.0 0) ∷ session_columns row = ap
           (λ b. cond b (made r.0) r.0) r.2 ∙ made_is r.0 mine in
-          let here : rows_in (new.now.trees session.tree) (key_of row) ≡ Some row =
+          let here : rows_in (new.now.trees session.tree) (key_of row) ≡ Some (without_plan row) =
           ap (option_map (λ r. session_in_columns (columns r)))
           (found (key_of row) ∙ (ap (option_map step) at ∙ ap Some made_here))
           ∙ ap Some (read_back row (cast kind.Integer (column r.0 0)) framed) in
-          subst (λ k. rows_in (new.now.trees session.tree) k ≡ Some row) (key_is
+          subst (λ k. rows_in (new.now.trees session.tree) k ≡ Some (without_plan row)) (key_is
           (key_of row) key is) here
       go false is shown = set_other key is
 
@@ -252,17 +253,17 @@ module _ (row : RowFacts) (old new : State) (book : IsBook old.now)
       (λ is r h. subst (λ k. is_session k r ≡ false) (key_is (key_of row) key
       (sym (put_key key) ∙ is)) (fresh r h)) added
 
-  shown_if : (b : Bool) (x : Row) (o : Option Row) → session_in_columns (columns x) ≡ row
+  shown_if : (b : Bool) (x : Row) (o : Option Row) → session_in_columns (columns x) ≡ without_plan row
       → option_map (λ r. session_in_columns (columns r)) (cond b (Some x) o)
-      ≡ cond b (Some row) (option_map (λ r. session_in_columns (columns r)) o)
+      ≡ cond b (Some (without_plan row)) (option_map (λ r. session_in_columns (columns r)) o)
   shown_if true x o is = ap Some is
   shown_if false x o is = refl
 
   pub new_row : (key : Key) → rows_in (new.now.trees session.tree) key
-      ≡ update same_key (rows_in (old.now.trees session.tree)) (key_of row) (Some row) key
+      ≡ update same_key (rows_in (old.now.trees session.tree)) (key_of row) (Some (without_plan row)) key
   new_row key =
       ap (option_map (λ r. session_in_columns (columns r))) (found_now key)
       ∙ (shown_if (is_session key put) put (find (is_session key) (old.now.trees session.tree))
       (ap (λ r. session_in_columns (columns r)) put_is ∙ read_back row
       (Int (next_rowid (old.now.trees session.tree))) framed)
-      ∙ ap (λ b. cond b (Some row) (rows_in (old.now.trees session.tree) key)) (put_key key))
+      ∙ ap (λ b. cond b (Some (without_plan row)) (rows_in (old.now.trees session.tree) key)) (put_key key))

@@ -14,6 +14,7 @@ use Rattle.sqlite_tied.specs.Compute.{everything}
 use Rattle.sqlite.specs.Listing.{understood}
 use Rattle.sqlite.proofs.Callers.{IsPlain, command_of}
 use Rattle.acct_sql.specs.Tables.{book_schema, meta, price_plan, account, voucher, session}
+use Rattle.acct_sql.specs.Tables.{plan_count, session_plan}
 use Rattle.acct_sql.specs.declared.statements.TheConstants as texts
 
 abbrev pub is_equal : ℕ → ℕ → Term
@@ -375,7 +376,7 @@ plan_rows = record {
 }
 
 abbrev pub number_terms : List Term
-number_terms = lit Null ∷ lit (Text (codes "schema")) ∷ lit (Int (pos 1)) ∷ []
+number_terms = lit Null ∷ lit (Text (codes "schema")) ∷ lit (Int (pos 3)) ∷ []
 
 pub number_is : command_of (understood book_schema texts.NEW_SCHEMA_NUMBER.now)
     ≡ Insert 0 (Values number_terms 3)
@@ -397,3 +398,84 @@ new_plan_is = refl
 pub new_plan_plain : IsPlain (understood book_schema texts.NEW_PLAN.now)
 unfolding understood everything
 new_plan_plain = (refl, refl)
+
+-- ---- plan_count
+
+abbrev pub count_shown : List Term
+count_shown = col 1 1 ∷ col 1 2 ∷ []
+
+pub count_rows : IsQuery texts.PLAN_COUNTS.now plan_count.tree [] count_shown [] all_rows
+unfolding understood everything
+count_rows = record {
+  names = codes "class" ∷ codes "mode" ∷ [];
+  is = refl;
+  unlisted = refl;
+  plain = (refl, refl);
+  bare = λ db. refl;
+}
+
+abbrev pub count_terms : List Term
+count_terms = lit Null ∷ col 0 0 ∷ col 0 1 ∷ []
+
+pub new_count_is : command_of (understood book_schema texts.NEW_PLAN_COUNT.now)
+    ≡ Insert 5 (Values count_terms 3)
+unfolding understood everything
+new_count_is = refl
+
+pub new_count_plain : IsPlain (understood book_schema texts.NEW_PLAN_COUNT.now)
+unfolding understood everything
+new_count_plain = (refl, refl)
+
+-- ---- session_plan
+
+abbrev pub plan_project : List Term
+plan_project = col 1 0 ∷ col 1 0 ∷ col 1 1 ∷ col 1 2 ∷ col 0 2 ∷ []
+
+pub set_session_plan_is : command_of (understood book_schema texts.SET_SESSION_PLAN.now)
+    ≡ Update 6 (record {
+      lets = [];
+      body = over_table session_plan.tree session_filter plan_project [] all_rows;
+    })
+unfolding understood everything
+set_session_plan_is = refl
+
+pub set_session_plan_plain : IsPlain (understood book_schema texts.SET_SESSION_PLAN.now)
+unfolding understood everything
+set_session_plan_plain = (refl, refl)
+
+abbrev pub session_plan_terms : List Term
+session_plan_terms = lit Null ∷ col 0 0 ∷ col 0 1 ∷ col 0 2 ∷ []
+
+pub new_session_plan_is : command_of (understood book_schema texts.NEW_SESSION_PLAN.now)
+    ≡ Insert 6 (Values session_plan_terms 4)
+unfolding understood everything
+new_session_plan_is = refl
+
+pub new_session_plan_plain : IsPlain (understood book_schema texts.NEW_SESSION_PLAN.now)
+unfolding understood everything
+new_session_plan_plain = (refl, refl)
+
+abbrev pub plan_class_shown : List Term
+plan_class_shown = col 1 3 ∷ []
+
+pub plan_of_session : IsQuery texts.PLAN_OF_SESSION.now session_plan.tree session_filter
+    plan_class_shown [] all_rows
+unfolding understood everything
+plan_of_session = record {
+  names = codes "plan_class" ∷ [];
+  is = refl;
+  unlisted = refl;
+  plain = (refl, refl);
+  bare = λ db. refl;
+}
+
+pub session_plan_rowids : IsQuery texts.SESSION_PLAN_ROWIDS.now session_plan.tree [] ids_shown
+    by_rowid all_rows
+unfolding understood everything
+session_plan_rowids = record {
+  names = codes "rowid" ∷ [];
+  is = refl;
+  unlisted = refl;
+  plain = (refl, refl);
+  bare = λ db. refl;
+}

@@ -34,9 +34,10 @@ use Rattle.acct_book.specs.Walk.{IsPast, IsNext, IsNextRow, IsNextBalance, IsNex
 use Rattle.acct_sql.specs.Tables.{account, voucher, session}
 use Rattle.acct_sql.specs.Columns.{session_in_columns, topup_in_columns, columns, int_in}
 use Rattle.acct_sql.specs.Content.{is_session, is_account, is_voucher, content_in_tables}
+use Rattle.acct_sql.specs.Content.{content_without_plans}
 use Rattle.acct_sql.specs.Book.{IsBook, content_at}
 use Rattle.acct_sql.specs.inner.Columns.{account_in_columns}
-use Rattle.acct_sql.specs.inner.AtRest.{HasFirst, row_found}
+use Rattle.acct_sql.specs.inner.AtRest.{HasFirst, row_found, bare_at}
 use Rattle.acct_sql.specs.inner.Next.{IsLeast, IsWithin, IsBeyond}
 use Rattle.acct_sql.specs.declared.statements.TheConstants as texts
 use Rattle.acct_sql.proofs.TextLemmas as t
@@ -197,7 +198,7 @@ module _ (db : Database) (book : IsBook db) (filter : List Term) (order : List (
     (params ∷ s ∷ [])) ≡ key_cmp j k) where
   session_least : (rows : List Row) → IsAnswerAs Null (over_table session.tree filter session_shown
       order one_row) db.trees params rows
-      → IsLeast key_cmp (content_in_tables db.trees).rows ahead
+      → IsLeast key_cmp (content_without_plans db.trees).rows ahead
       (option_map keyed_row (row_found (λ r. session_in_columns (column r)) rows))
   session_least [] a = none_next key_cmp is_session (λ r. session_in_columns
       (columns r)) session.tree filter session_shown order db.trees params ahead (keyed_session db
@@ -215,7 +216,7 @@ module _ (db : Database) (book : IsBook db) (filter : List Term) (order : List (
             (columns it.1),
       ) = ap (λ r. keyed_row (session_in_columns (column r))) it.4
       ∙ ap (λ n. (n, session_in_columns (columns it.1))) own in
-      subst (λ o. IsLeast key_cmp (content_in_tables db.trees).rows ahead (Some o)) (sym shown) it.5
+      subst (λ o. IsLeast key_cmp (content_without_plans db.trees).rows ahead (Some o)) (sym shown) it.5
 
 by_both : (j k : Key) (r s : Row) → is_session j r ≡ true → is_session k s ≡ true
     → ordering_then (value_cmp (column r 1) (column s 1))
@@ -286,16 +287,16 @@ module _ (old new : State) (rows : List Row) (book : IsBook old.now) where
   shown_row = option_map keyed_row (row_found (λ r. session_in_columns (column r)) rows)
 
   pub first_session : Shown texts.FIRST_SESSION.now [] old new rows
-      → IsNext key_cmp (content_in_tables old.now.trees).rows None shown_row
+      → IsNext key_cmp (content_without_plans old.now.trees).rows None shown_row
   first_session h =
-      next_is key_cmp (content_in_tables old.now.trees).rows None shown_row
+      next_is key_cmp (content_without_plans old.now.trees).rows None shown_row
       (session_least old.now book [] by_key [] (λ k. Unit {0}) (λ k r mine met. tt)
       (λ k r mine far. refl) (λ j k r s mine yours near far. by_both j k r s mine yours)
       rows (answer_of t.first_session [] old new rows book.schema h))
 
   pub session_within : (after : Key) → Shown texts.LATER_SESSION_OF_CLIENT.now
       (Text after.client ∷ Blob after.session ∷ []) old new rows
-      → IsLeast key_cmp (content_in_tables old.now.trees).rows (IsWithin after) shown_row
+      → IsLeast key_cmp (content_without_plans old.now.trees).rows (IsWithin after) shown_row
   session_within after h =
       let params = Text after.client ∷ Blob after.session ∷ [] in
       session_least old.now book within_filter by_id params (IsWithin after)
@@ -317,7 +318,7 @@ module _ (old new : State) (rows : List Row) (book : IsBook old.now) where
       rows (answer_of t.later_session_of_client params old new rows book.schema h)
 
   pub session_beyond : (after : List ℕ) → Shown texts.SESSION_OF_LATER_CLIENT.now (Text after ∷ [])
-      old new rows → IsLeast key_cmp (content_in_tables old.now.trees).rows
+      old new rows → IsLeast key_cmp (content_without_plans old.now.trees).rows
       (IsBeyond after) shown_row
   session_beyond after h =
       let params = Text after ∷ [] in
@@ -417,22 +418,22 @@ module _ {S : Type 0} (g : Ghosts S) (old : Held S) (book : IsBook (state g old)
 
   pub is_first_session : (row : Option RowFacts) (after : Option Key) → after ≡ None
       → HasFirst g old texts.FIRST_SESSION.now [] (λ r. session_in_columns (column r)) row
-      → IsNextRow (content_at g old) after row
+      → IsNextRow (bare_at g old) after row
   is_first_session row after none h =
-      subst (λ r. IsNextRow (content_at g old) after r) h.2
-      (subst (λ a. IsNextRow (content_at g old) a (row_found (λ r. session_in_columns
+      subst (λ r. IsNextRow (bare_at g old) after r) h.2
+      (subst (λ a. IsNextRow (bare_at g old) a (row_found (λ r. session_in_columns
       (column r)) h.0)) (sym none) (first_session begun (state g h.1.0) h.0 book h.1.1))
 
   pub is_within : (row : Option RowFacts) (after : Key)
       → HasFirst g old texts.LATER_SESSION_OF_CLIENT.now (Text after.client ∷ Blob after.session ∷
-      []) (λ r. session_in_columns (column r)) row → IsLeast key_cmp (content_at g old).rows
+      []) (λ r. session_in_columns (column r)) row → IsLeast key_cmp (bare_at g old).rows
       (IsWithin after) (option_map keyed_row row)
-  is_within row after h = subst (λ r. IsLeast key_cmp (content_at g old).rows (IsWithin after)
+  is_within row after h = subst (λ r. IsLeast key_cmp (bare_at g old).rows (IsWithin after)
       (option_map keyed_row r)) h.2 (session_within begun (state g h.1.0) h.0 book after h.1.1)
 
   pub is_beyond : (row : Option RowFacts) (after : List ℕ)
       → HasFirst g old texts.SESSION_OF_LATER_CLIENT.now (Text after ∷ []) (λ r. session_in_columns
-      (column r)) row → IsLeast key_cmp (content_at g old).rows (IsBeyond after)
+      (column r)) row → IsLeast key_cmp (bare_at g old).rows (IsBeyond after)
       (option_map keyed_row row)
-  is_beyond row after h = subst (λ r. IsLeast key_cmp (content_at g old).rows (IsBeyond after)
+  is_beyond row after h = subst (λ r. IsLeast key_cmp (bare_at g old).rows (IsBeyond after)
       (option_map keyed_row r)) h.2 (session_beyond begun (state g h.1.0) h.0 book after h.1.1)

@@ -6,7 +6,7 @@ use Rattle.sqlite.specs.Tree.{Trees}
 use Rattle.sqlite.specs.Effect.{Database, IsDatabase}
 use Rattle.sqlite.specs.State.{State, HasCleanDisk}
 use Rattle.acct_book.specs.Content.{Content}
-use Rattle.acct_sql.specs.Tables.{book_schema, account, voucher, session}
+use Rattle.acct_sql.specs.Tables.{book_schema, account, voucher, session, session_plan}
 use Rattle.acct_sql.specs.Tidy.{IsTidy}
 use Rattle.acct_sql.specs.Content.{content_in_tables}
 
@@ -16,6 +16,7 @@ pub record IsBook (db : Database) : Type 0 where
   pub accounts : IsTidy (db.trees account.tree)
   pub vouchers : IsTidy (db.trees voucher.tree)
   pub sessions : IsTidy (db.trees session.tree)
+  pub plans : IsTidy (db.trees session_plan.tree)
 
 abbrev pub IsTelling : State → Type 0
 IsTelling s = HasCleanDisk s × IsTrue s.is_open

@@ -80,13 +80,14 @@ framed_in [] = None
 framed_in (octet ∷ octets) = Some (octet ∷ octets)
 
 -- a session by its columns: client, id, account, class, input, output, seconds, first_seen,
--- last_seen, state, cause, calling, framed
+-- last_seen, state, cause, calling, framed; its plan stands in a table of its own
 abbrev pub session_in_columns : (ℕ → Value) → RowFacts
 session_in_columns at = record {
   client = bytes (at 0);
   session = bytes (at 1);
   account = bytes (at 2);
   class = bytes (at 3);
+  plan = [];
   input = count_in (at 4);
   output = count_in (at 5);
   seconds = count_in (at 6);
@@ -128,6 +129,10 @@ session_columns row =
     Int (pos row.output) ∷ Int (pos row.seconds) ∷ Int (pos row.first) ∷ Int (pos row.last)
     ∷ Int (pos (code_of row.state)) ∷ Int (pos row.cause) ∷ Blob row.calling ∷ Blob
     (framed_octets row.framed) ∷ []
+
+-- the columns of the table `session_plan`: client, id, plan_class
+abbrev pub session_plan_columns : RowFacts → Row
+session_plan_columns row = Text row.client ∷ Blob row.session ∷ Blob row.plan ∷ []
 
 abbrev pub topup_columns : TopUpFacts → Row
 topup_columns topup = Text topup.voucher ∷ Blob topup.account ∷ Int (pos topup.sum) ∷ Int

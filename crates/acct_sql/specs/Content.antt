@@ -1,10 +1,12 @@
 -- The content of a book, as its tables hold it.
-use Rattle.std.specs.Prelude.{ℕ, ◌&&◌, Bool, List, find, option_map}
+use Rattle.std.specs.Prelude.{ℕ, ◌+◌, ◌^◌, ◌&&◌, Bool, List, Option, Some, None, find, option_map}
 use Rattle.sqlite.specs.Order.{Row, column}
 use Rattle.sqlite.specs.Tree.{Trees}
+use Rattle.sqlite_value.specs.Order.{bytes}
 use Rattle.acct_book.specs.declared.key.Key.{Key}
+use Rattle.acct_book.specs.Row.{RowFacts}
 use Rattle.acct_book.specs.Content.{Content}
-use Rattle.acct_sql.specs.Tables.{account, voucher, session}
+use Rattle.acct_sql.specs.Tables.{account, voucher, session, session_plan}
 use Rattle.acct_sql.specs.Columns.{is_blob, is_text, int_in, session_in_columns, topup_in_columns}
 use Rattle.acct_sql.specs.Columns.{columns}
 
@@ -18,9 +20,14 @@ is_account name row = is_blob name (column row 1)
 abbrev pub is_voucher : List ℕ → Row → Bool
 is_voucher number row = is_text number (column row 1)
 
--- what the tables `session`, `account` and `voucher` hold, column by column
-abbrev pub content_in_tables : Trees → Content
-content_in_tables db = record {
+-- the class of each session's plan, by the table `session_plan`
+abbrev pub plans_in_tables : Trees → Key → Option (List ℕ)
+plans_in_tables db key = option_map (λ row. bytes (column row 3))
+    (find (is_session key) (db session_plan.tree))
+
+-- what the tables `session`, `account` and `voucher` hold, column by column, without the plans
+abbrev pub content_without_plans : Trees → Content
+content_without_plans db = record {
   rows = λ key. option_map (λ row. session_in_columns (columns row))
       (find (is_session key) (db session.tree));
   balances = λ name. option_map (λ row. int_in (column row 2))
@@ -28,3 +35,21 @@ content_in_tables db = record {
   topups = λ number. option_map (λ row. topup_in_columns (columns row))
       (find (is_voucher number) (db voucher.tree));
 }
+
+-- the session with its plan. One whose plan isn't kept counts as one of 2^64 and more seconds, which
+-- no row has: so each call that would show it answers that the book is unavailable.
+abbrev pub with_plan : Option (List ℕ) → RowFacts → RowFacts
+with_plan None row = record row { seconds = 2 ^ 64 + row.seconds }
+with_plan (Some class) row = record row { plan = class }
+
+-- the content with the plans of its sessions
+abbrev pub with_plans : (Key → Option (List ℕ)) → Content → Content
+with_plans plans content = record {
+  rows = λ key. option_map (with_plan (plans key)) (content.rows key);
+  balances = content.balances;
+  topups = content.topups;
+}
+
+-- what the tables of a book hold, column by column
+abbrev pub content_in_tables : Trees → Content
+content_in_tables db = with_plans (plans_in_tables db) (content_without_plans db)

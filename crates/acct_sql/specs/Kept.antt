@@ -8,8 +8,9 @@ use Rattle.sqlite_rules.specs.Lists.{Has}
 use Rattle.acct_model.specs.Vouchers.{TopUpFacts}
 use Rattle.acct_book.specs.Row.{RowFacts}
 use Rattle.acct_book.specs.Content.{key_of}
-use Rattle.acct_sql.specs.Tables.{account, voucher, session}
-use Rattle.acct_sql.specs.Columns.{session_columns, topup_columns, columns}
+use Rattle.acct_sql.specs.Tables.{account, voucher, session, session_plan}
+use Rattle.acct_sql.specs.Columns.{session_columns, session_plan_columns, topup_columns}
+use Rattle.acct_sql.specs.Columns.{columns}
 use Rattle.acct_sql.specs.Content.{is_session, is_account, is_voucher}
 
 -- the columns are these values, from the first on
@@ -17,13 +18,19 @@ abbrev pub AreColumns : Row → (ℕ → Value) → Type 0
 AreColumns [] at = Unit {0}
 AreColumns (value ∷ values) at = (at 0 ≡ value) × AreColumns values (λ i. at (suc i))
 
--- a row of the table `session` has exactly the columns of this session, and no other row its key
+-- a row of the table `session` has exactly the columns of this session, and a row of the table
+-- `session_plan` the class of its plan, and no other row of these tables has its key
 pub record KeepsSession (facts : RowFacts) (db : Trees) : Type 0 where
   pub row : Row
   pub there : Has (db session.tree) row
   pub says : AreColumns (session_columns facts) (columns row)
   pub alone : (other : Row) → Has (db session.tree) other
       → is_session (key_of facts) other ≡ true → other ≡ row
+  pub plan : Row
+  pub plan_there : Has (db session_plan.tree) plan
+  pub plan_says : AreColumns (session_plan_columns facts) (columns plan)
+  pub plan_alone : (other : Row) → Has (db session_plan.tree) other
+      → is_session (key_of facts) other ≡ true → other ≡ plan
 
 -- a row of the table `voucher` has exactly the columns of this top-up, and no other row its number
 pub record KeepsTopUp (facts : TopUpFacts) (db : Trees) : Type 0 where

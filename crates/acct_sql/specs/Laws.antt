@@ -13,7 +13,9 @@ use Rattle.acct_model.specs.Vouchers.{TopUpFacts}
 use Rattle.acct_book.specs.declared.key.Key.{Key}
 use Rattle.acct_book.specs.Content.{Content, HasOwnKeys, key_of}
 use Rattle.acct_sql.specs.Columns.{session_in_columns, topup_in_columns, columns, is_text, is_blob}
-use Rattle.acct_sql.specs.Content.{is_session, is_voucher, content_in_tables}
+use Rattle.acct_book.specs.Row.{RowFacts}
+use Rattle.acct_sql.specs.Content.{is_session, is_voucher, content_in_tables, with_plan}
+use Rattle.acct_sql.specs.Content.{plans_in_tables, content_without_plans}
 use Rattle.sqlite_rules.specs.Lists.{Has}
 use Rattle.acct_sql.specs.Tables.{voucher, session}
 
@@ -54,14 +56,29 @@ was_found : {X Y : Type 0} (f : X → Y) (o : Option X) (y : Y) → option_map f
 was_found f None y h = absurd cc
 was_found f (Some x) y h = let same : f x ≡ y = cc in (x, refl, sym same)
 
+-- a plan leaves a session its key
+pub key_of-with_plan : (plan : Option (List ℕ)) (row : RowFacts) → key_of (with_plan plan row)
+    ≡ key_of row
+key_of-with_plan None row = refl
+key_of-with_plan (Some class) row = refl
+
+-- a row of the table `session` stands under its own key
+pub bare_key : (db : Trees) (key : Key) (row : RowFacts) → (content_without_plans db).rows key
+    ≡ Some row → key_of row ≡ key
+bare_key db key row is =
+    let found = was_found (λ r. session_in_columns (columns r)) (find (is_session key)
+    (db session.tree)) row is in
+    let here = find_has (is_session key) (db session.tree) found.0 found.1 in
+    let k = key_here key found.0 here.1 in
+    ap key_of found.2 ∙ (λ i. record { client = bytes (k.0 i); session = bytes (k.1 i) })
+
 pub own_keys : (db : Trees) → HasOwnKeys (content_in_tables db)
 own_keys db = record {
   rows = λ key row is.
-      let found = was_found (λ r. session_in_columns (columns r)) (find (is_session key)
-      (db session.tree)) row is in
-      let here = find_has (is_session key) (db session.tree) found.0 found.1 in
-      let k = key_here key found.0 here.1 in
-      ap key_of found.2 ∙ (λ i. record { client = bytes (k.0 i); session = bytes (k.1 i) });
+      let bare = was_found (with_plan (plans_in_tables db key)) ((content_without_plans db).rows key)
+      row is in
+      ap key_of bare.2 ∙ (key_of-with_plan (plans_in_tables db key) bare.0
+      ∙ bare_key db key bare.0 bare.1);
   topups = λ number topup is.
       let found = was_found (λ r. topup_in_columns (columns r)) (find (is_voucher number)
       (db voucher.tree)) topup is in

@@ -1,5 +1,5 @@
 -- Looking at a database that may be a book.
-use Rattle.std.specs.Prelude.{◌≡◌, ◌≢◌, ℤ, pos, false, List, IsTrue}
+use Rattle.std.specs.Prelude.{◌≡◌, ◌≢◌, ℤ, false, List, IsTrue}
 use Rattle.sqlite.specs.Tree.{Trees}
 use Rattle.sqlite.specs.Effect.{Database}
 use Rattle.sqlite.specs.State.{State, HasCleanDisk, Survives}
@@ -8,7 +8,7 @@ use Rattle.acct_sql.specs.declared.sql_book_error.SqlBookError.{SqlBookError}
 use Rattle.acct_sql.specs.declared.sql_book_error.SqlBookError.TheVariants.{NotABook, PlansDiffer}
 use Rattle.acct_sql.specs.declared.sql_book_error.SqlBookError.TheVariants.{WrongSchema}
 use Rattle.acct_sql.specs.declared.sql_book_error.SqlBookError.TheVariants.{Unavailable}
-use Rattle.acct_sql.specs.Tables.{book_schema}
+use Rattle.acct_sql.specs.Tables.{book_schema, own_number}
 use Rattle.acct_sql.specs.Make.{HasNumber, KeepsPlans}
 
 -- outside a transaction, with all that it holds committed where it was not shut
@@ -29,11 +29,11 @@ pub record HasNumberAlone (n : ℤ) (db : Trees) : Type 0 where
   pub alone : (m : ℤ) → HasNumber m db → m ≡ n
 
 -- why a database is not the book of these plans: it has no schema number, it has another, or it
--- keeps other plans. Of other tables than a book's it says no more than that the number is not 1.
+-- keeps other plans. Of other tables than a book's it says no more than that the number is not 3.
 abbrev pub IsRefusedAs : List Plan → Database → SqlBookError → Type 0
 IsRefusedAs plans db NotABook = db.schema ≡ book_schema → (n : ℤ) → ¬ (HasNumber n db.trees)
-IsRefusedAs plans db (WrongSchema n) = (n ≢ pos 1)
+IsRefusedAs plans db (WrongSchema n) = (n ≢ own_number)
     × (db.schema ≡ book_schema → HasNumberAlone n db.trees)
-IsRefusedAs plans db PlansDiffer = (db.schema ≡ book_schema) × HasNumberAlone (pos 1) db.trees
+IsRefusedAs plans db PlansDiffer = (db.schema ≡ book_schema) × HasNumberAlone own_number db.trees
     × ¬ (KeepsPlans plans db.trees)
 IsRefusedAs plans db Unavailable = Unit {0}

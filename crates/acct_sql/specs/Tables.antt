@@ -1,6 +1,6 @@
 -- The tables of the book.
 use Rattle.sqlite.specs.Collation.TheVariants.{Binary}
-use Rattle.std.specs.Prelude.{true, false, [], ◌∷◌, None, codes, List, ℕ, Bool}
+use Rattle.std.specs.Prelude.{true, false, [], ◌∷◌, None, codes, List, ℕ, ℤ, pos, Bool, take}
 use Rattle.sqlite.specs.declared.types.Value.TheVariants.{Null}
 use Rattle.sqlite.specs.Table.{Table}
 use Rattle.sqlite.specs.Schema.{Schema}
@@ -72,16 +72,40 @@ session = table_of (codes "session") 8 (column_of (codes "client") Text ∷ colu
     (codes "cause") Integer ∷ column_of (codes "calling") Blob
     ∷ column_of (codes "framed") Blob ∷ []) (1 ∷ 2 ∷ [])
 
+-- what each plan counts, by its class: 0 both directions, 1 the input, 2 the output
+abbrev pub plan_count : Table
+plan_count = table_of (codes "plan_count") 12 (column_of (codes "class") Blob ∷ column_of
+    (codes "mode") Integer ∷ []) (1 ∷ [])
+
+-- the class of each session's plan
+abbrev pub session_plan : Table
+session_plan = table_of (codes "session_plan") 14 (column_of (codes "client") Text ∷ column_of
+    (codes "id") Blob ∷ column_of (codes "plan_class") Blob ∷ []) (1 ∷ 2 ∷ [])
+
+-- the schema number of a book with these tables
+abbrev pub own_number : ℤ
+own_number = pos 3
+
 abbrev pub book_schema : Schema
 book_schema = record {
-  tables = meta ∷ price_plan ∷ account ∷ voucher ∷ session ∷ [];
+  tables = meta ∷ price_plan ∷ account ∷ voucher ∷ session ∷ plan_count ∷ session_plan ∷ [];
   indexes = index_of (codes "sqlite_autoindex_meta_1") 1 meta.tree (1 ∷ []) true ∷ index_of
       (codes "sqlite_autoindex_price_plan_1") 3 price_plan.tree (1 ∷ []) true
       ∷ index_of (codes "sqlite_autoindex_account_1") 5 account.tree (1 ∷ []) true ∷ index_of
       (codes "sqlite_autoindex_voucher_1") 7 voucher.tree (1 ∷ []) true
       ∷ index_of (codes "sqlite_autoindex_session_1") 9 session.tree (1 ∷ 2 ∷ []) true
       ∷ index_of (codes "session_account") 10 session.tree (3 ∷ []) false ∷ index_of
-      (codes "voucher_account") 11 voucher.tree (2 ∷ []) false ∷ [];
+      (codes "voucher_account") 11 voucher.tree (2 ∷ []) false ∷ index_of
+      (codes "sqlite_autoindex_plan_count_1") 13 plan_count.tree (1 ∷ []) true ∷ index_of
+      (codes "sqlite_autoindex_session_plan_1") 15 session_plan.tree (1 ∷ 2 ∷ []) true ∷ [];
+  views = [];
+}
+
+-- the tables of a book of schema number 1
+abbrev pub first_schema : Schema
+first_schema = record {
+  tables = take 5 book_schema.tables;
+  indexes = take 7 book_schema.indexes;
   views = [];
 }
 

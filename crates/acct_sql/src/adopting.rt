@@ -10,22 +10,33 @@ ghost use Rattle.sqlite_value.specs.Order.{column};
 ghost use Rattle.sqlite_value.specs.Value.{owned};
 ghost use Rattle.sqlite_value.specs.declared.value.Value.TheVariants.{Int, Blob};
 ghost use Rattle.acct_model.specs.declared.plan.Plan.{Plan};
-ghost use Rattle.acct_sql.specs.Tables.{book_schema};
+ghost use Rattle.acct_sql.specs.Tables.{book_schema, own_number};
 ghost use Rattle.acct_sql.specs.Book.{is_sound_at};
-ghost use Rattle.acct_sql.specs.Make.{KeepsPlans};
+ghost use Rattle.acct_sql.specs.Make.{KeepsPlans, KeepsPrices, KeepsCounts};
 ghost use Rattle.acct_sql.specs.Look.{IsIdle, LooksAtTables, HasNumberAlone, IsRefusedAs};
 ghost use Rattle.acct_sql.specs.inner.Looked.{IsIdleBook, IsBookWith, HasRowsOf, tables_at};
-ghost use Rattle.acct_sql.specs.inner.Looked.{Peeks, Examines, ShowsPlan, IsShownIn, IsPlanIn};
+ghost use Rattle.acct_sql.specs.inner.Looked.{Peeks, Examines, ShowsPlan, ShowsCount, Says};
+ghost use Rattle.acct_sql.specs.inner.Looked.{IsShownIn, IsPlanIn};
 ghost use Rattle.acct_sql.specs.inner.Looked.{AreShown, IsSchemaNumber, IsSchemaNumberFault};
 ghost use Rattle.acct_sql.specs.inner.Looked.{IsPlanFault, is_failure};
 
 use crate::book_schema::is_book_schema;
+use crate::columns::mode_of;
 use crate::rowids::check_rowids;
 use crate::sql_book_error::SqlBookError;
-use crate::statements::{PLANS, SCHEMA_NUMBER};
+use crate::statements::{PLAN_COUNTS, PLANS, SCHEMA_NUMBER};
 use acct_model::{Plan, Plans};
 use sqlite::types::ValueRef;
 use sqlite::{Alter, Connection, Error, ErrorCode};
+
+// A table of plans.
+#[derive(Clone, Copy)]
+enum PlanTable {
+    // Their blocks and units.
+    Prices,
+    // What they count.
+    Counts,
+}
 
 // What a query shows of the tables of a book.
 fn peek<S: Alter>(conn: &mut Connection<S>, sql: &str) -> Result<Vec<sqlite::Row>, SqlBookError>
@@ -92,10 +103,10 @@ fn examine_book<S: Alter>(conn: &mut Connection<S>, plans: &[Plan]) -> Result<()
     check_rowids(conn)
 }
 
-// Refuses another schema number than 1, and tables that have none.
+// Refuses another schema number than 3, and tables that have none.
 fn check_number<S: Alter>(conn: &mut Connection<S>) -> Result<(), SqlBookError>
     requires { IsIdleBook S.Store conn.old }
-    ensures number { Examines S.Store conn.old conn.new (HasNumberAlone (pos 1)) result }
+    ensures number { Examines S.Store conn.old conn.new (HasNumberAlone own_number) result }
     ensures refused { is_sound_at S.Store conn.new → IfErr result
         (λ e. (plans : List Plan) → IsRefusedAs plans (tables_at S.Store conn.old) e) }
 {
@@ -103,16 +114,16 @@ fn check_number<S: Alter>(conn: &mut Connection<S>) -> Result<(), SqlBookError>
     judge_number(&rows)
 }
 
-// Judges the answer of the query for the schema number: one row, which has the number 1.
+// Judges the answer of the query for the schema number: one row, which has the number 3.
 fn judge_number(rows: &[sqlite::Row]) -> Result<(), SqlBookError>
-    ensures ok { OnOk result (IsSchemaNumber (pos 1) rows.now) }
+    ensures ok { OnOk result (IsSchemaNumber own_number rows.now) }
     ensures err { IfErr result (IsSchemaNumberFault rows.now) }
 {
     let [row] = rows else {
         return Err(fault_of_many(rows));
     };
     match id_of(row) {
-        Some(1) => Ok(()),
+        Some(3) => Ok(()),
         Some(number) => Err(SqlBookError::WrongSchema(number)),
         None => Err(SqlBookError::NotABook),
     }
@@ -133,18 +144,42 @@ fn fault_of_many(rows: &[sqlite::Row]) -> SqlBookError
 fn check_plans<S: Alter>(conn: &mut Connection<S>, plans: &[Plan]) -> Result<(), SqlBookError>
     requires { IsIdleBook S.Store conn.old }
     ensures plans { Examines S.Store conn.old conn.new (KeepsPlans plans.now) result }
-    ensures fault { is_sound_at S.Store conn.new
-        → IfErr result (IsPlanFault plans.now (tables_at S.Store conn.old).trees) }
+    ensures fault { is_sound_at S.Store conn.new → IfErr result
+        (IsPlanFault (KeepsPlans plans.now (tables_at S.Store conn.old).trees)) }
+{
+    check_prices(conn, plans)?;
+    check_counts(conn, plans)
+}
+
+fn check_prices<S: Alter>(conn: &mut Connection<S>, plans: &[Plan]) -> Result<(), SqlBookError>
+    requires { IsIdleBook S.Store conn.old }
+    ensures prices { Examines S.Store conn.old conn.new (KeepsPrices plans.now) result }
+    ensures fault { is_sound_at S.Store conn.new → IfErr result
+        (IsPlanFault (KeepsPrices plans.now (tables_at S.Store conn.old).trees)) }
 {
     let rows = peek(conn, PLANS)?;
-    if are_kept(plans, &rows) {
+    if are_kept(PlanTable::Prices, plans, &rows) {
         Ok(())
     } else {
         Err(SqlBookError::PlansDiffer)
     }
 }
 
-// Why a database with other tables is no book: it has another schema number than 1, or it is none.
+fn check_counts<S: Alter>(conn: &mut Connection<S>, plans: &[Plan]) -> Result<(), SqlBookError>
+    requires { IsIdleBook S.Store conn.old }
+    ensures counts { Examines S.Store conn.old conn.new (KeepsCounts plans.now) result }
+    ensures fault { is_sound_at S.Store conn.new → IfErr result
+        (IsPlanFault (KeepsCounts plans.now (tables_at S.Store conn.old).trees)) }
+{
+    let rows = peek(conn, PLAN_COUNTS)?;
+    if are_kept(PlanTable::Counts, plans, &rows) {
+        Ok(())
+    } else {
+        Err(SqlBookError::PlansDiffer)
+    }
+}
+
+// Why a database with other tables is no book: it has another schema number than 3, or it is none.
 fn fault_of_other<S: Alter>(conn: &mut Connection<S>) -> SqlBookError
     requires idle { IsIdle (state S.Store conn.old) }
     requires other { (tables_at S.Store conn.old).schema ≢ book_schema }
@@ -190,29 +225,29 @@ fn is_failure(error: &Error) -> bool
 }
 
 // The rows show these plans and nothing else.
-fn are_kept(plans: &[Plan], rows: &[sqlite::Row]) -> bool
-    ensures { IsTrue result ↔ AreShown plans.now rows.now }
+fn are_kept(table: PlanTable, plans: &[Plan], rows: &[sqlite::Row]) -> bool
+    ensures { IsTrue result ↔ AreShown table plans.now rows.now }
 {
-    are_shown(plans, rows) && are_plans(rows, plans)
+    are_shown(table, plans, rows) && are_plans(table, rows, plans)
 }
 
 // Each plan is shown by a row.
-fn are_shown(plans: &[Plan], rows: &[sqlite::Row]) -> bool
-    ensures { IsTrue result ↔ AllByRecursion (IsShownIn rows.now) plans.now }
+fn are_shown(table: PlanTable, plans: &[Plan], rows: &[sqlite::Row]) -> bool
+    ensures { IsTrue result ↔ AllByRecursion (IsShownIn table rows.now) plans.now }
 {
     for plan in plans {
-        if !is_shown(plan, rows) {
+        if !is_shown(table, plan, rows) {
             return false;
         }
     }
     true
 }
 
-fn is_shown(plan: &Plan, rows: &[sqlite::Row]) -> bool
-    ensures { IsTrue result ↔ IsShownIn rows.now plan.now }
+fn is_shown(table: PlanTable, plan: &Plan, rows: &[sqlite::Row]) -> bool
+    ensures { IsTrue result ↔ IsShownIn table rows.now plan.now }
 {
     for row in rows {
-        if shows_plan(row, plan) {
+        if says(table, row, plan) {
             return true;
         }
     }
@@ -220,26 +255,42 @@ fn is_shown(plan: &Plan, rows: &[sqlite::Row]) -> bool
 }
 
 // Each row shows a plan.
-fn are_plans(rows: &[sqlite::Row], plans: &[Plan]) -> bool
-    ensures { IsTrue result ↔ AllByRecursion (IsPlanIn plans.now) rows.now }
+fn are_plans(table: PlanTable, rows: &[sqlite::Row], plans: &[Plan]) -> bool
+    ensures { IsTrue result ↔ AllByRecursion (IsPlanIn table plans.now) rows.now }
 {
     for row in rows {
-        if !is_plan(row, plans) {
+        if !is_plan(table, row, plans) {
             return false;
         }
     }
     true
 }
 
-fn is_plan(row: &sqlite::Row, plans: &[Plan]) -> bool
-    ensures { IsTrue result ↔ IsPlanIn plans.now row.now }
+fn is_plan(table: PlanTable, row: &sqlite::Row, plans: &[Plan]) -> bool
+    ensures { IsTrue result ↔ IsPlanIn table plans.now row.now }
 {
     for plan in plans {
-        if shows_plan(row, plan) {
+        if says(table, row, plan) {
             return true;
         }
     }
     false
+}
+
+// A row says of the plan what its table says of plans.
+fn says(table: PlanTable, row: &sqlite::Row, plan: &Plan) -> bool
+    ensures { IsTrue result ↔ Says table plan.now row.now }
+{
+    match table {
+        PlanTable::Prices => shows_plan(row, plan),
+        PlanTable::Counts => shows_count(row, plan),
+    }
+}
+
+fn shows_count(row: &sqlite::Row, plan: &Plan) -> bool
+    ensures { IsTrue result ↔ ShowsCount plan.now row.now }
+{
+    has_blob(row, plan.class.as_slice()) && has_count(row, 1, mode_of(plan.count))
 }
 
 fn shows_plan(row: &sqlite::Row, plan: &Plan) -> bool

@@ -2,6 +2,7 @@
 ghost use Rattle.std.specs.Prelude.{◌≡◌, ◌↔◌, None, true, false, [], ◌∷◌, IsTrue, drop};
 ghost use Rattle.sqlite_value.specs.Keys.{plain};
 ghost use Rattle.acct_sql.specs.Tables.{book_schema, meta, price_plan, account, voucher, session};
+ghost use Rattle.acct_sql.specs.Tables.{plan_count, session_plan};
 ghost use Rattle.acct_sql.specs.Tables.{column_of, table_of, index_of};
 
 use sqlite_items::Items;
@@ -22,14 +23,48 @@ fn are_tables(tables: &[Table]) -> bool
     ensures only { IsTrue result → tables.now ≡ book_schema.tables }
     ensures each { tables.now ≡ book_schema.tables → IsTrue result }
 {
-    let [meta, price_plan, account, voucher, session] = tables else {
+    let [meta, price_plan, account, later @ ..] = tables else {
         return false;
     };
-    is_meta(meta)
-        && is_price_plan(price_plan)
-        && is_account(account)
-        && is_voucher(voucher)
+    is_meta(meta) && is_price_plan(price_plan) && is_account(account) && are_later_tables(later)
+}
+
+fn are_later_tables(tables: &[Table]) -> bool
+    ensures only { IsTrue result → tables.now ≡ drop 3 book_schema.tables }
+    ensures each { tables.now ≡ drop 3 book_schema.tables → IsTrue result }
+{
+    let [voucher, session, plan_count, session_plan] = tables else {
+        return false;
+    };
+    is_voucher(voucher)
         && is_session(session)
+        && is_plan_count(plan_count)
+        && is_session_plan(session_plan)
+}
+
+fn is_plan_count(table: &Table) -> bool
+    ensures only { IsTrue result → table.now ≡ plan_count }
+    ensures each { table.now ≡ plan_count → IsTrue result }
+{
+    let [class, mode] = table.columns.as_slice() else {
+        return false;
+    };
+    is_column(class, b"class", Kind::Blob)
+        && is_column(mode, b"mode", Kind::Integer)
+        && is_keyed(table, b"plan_count", 12, &[1])
+}
+
+fn is_session_plan(table: &Table) -> bool
+    ensures only { IsTrue result → table.now ≡ session_plan }
+    ensures each { table.now ≡ session_plan → IsTrue result }
+{
+    let [client, id, plan_class] = table.columns.as_slice() else {
+        return false;
+    };
+    is_column(client, b"client", Kind::Text)
+        && is_column(id, b"id", Kind::Blob)
+        && is_column(plan_class, b"plan_class", Kind::Blob)
+        && is_keyed(table, b"session_plan", 14, &[1, 2])
 }
 
 fn is_meta(table: &Table) -> bool
@@ -254,11 +289,29 @@ fn are_account_indexes(indexes: &[Index]) -> bool
     ensures only { IsTrue result → indexes.now ≡ drop 5 book_schema.indexes }
     ensures each { indexes.now ≡ drop 5 book_schema.indexes → IsTrue result }
 {
-    let [session_account, voucher_account] = indexes else {
+    let [session_account, voucher_account, later @ ..] = indexes else {
         return false;
     };
     is_search_index(session_account, b"session_account", 10, 8, &[3])
         && is_search_index(voucher_account, b"voucher_account", 11, 6, &[2])
+        && are_plan_indexes(later)
+}
+
+fn are_plan_indexes(indexes: &[Index]) -> bool
+    ensures only { IsTrue result → indexes.now ≡ drop 7 book_schema.indexes }
+    ensures each { indexes.now ≡ drop 7 book_schema.indexes → IsTrue result }
+{
+    let [plan_count, session_plan] = indexes else {
+        return false;
+    };
+    is_key_index(plan_count, b"sqlite_autoindex_plan_count_1", 13, 12, &[1])
+        && is_key_index(
+            session_plan,
+            b"sqlite_autoindex_session_plan_1",
+            15,
+            14,
+            &[1, 2],
+        )
 }
 
 // The index of a PRIMARY KEY, in which no two rows are alike.

@@ -2,14 +2,16 @@
 ghost use Rattle.std.specs.Prelude.{◌≡◌, ◌+◌, ◌<◌, ◌^◌, pos, Some, IfOk};
 ghost use Rattle.sqlite.specs.Values.{bound};
 ghost use Rattle.sqlite_value.specs.Order.{column, bytes};
-ghost use Rattle.acct_sql.specs.Columns.{session_columns, topup_columns, framed_octets, framed_in};
+ghost use Rattle.acct_sql.specs.Columns.{session_columns, session_plan_columns, topup_columns};
+ghost use Rattle.acct_sql.specs.Columns.{framed_octets, framed_in};
 ghost use Rattle.acct_sql.specs.Columns.{code_of, count_in, int_in, state_in, cause_in};
 ghost use Rattle.acct_sql.specs.Columns.{session_in_columns, topup_in_columns};
-ghost use Rattle.acct_sql.specs.inner.Columns.{account_in_columns, plan_columns};
+ghost use Rattle.acct_sql.specs.inner.Columns.{account_in_columns, plan_columns, count_columns};
+ghost use Rattle.acct_sql.specs.Make.{mode_of};
 
 use crate::refused::Refused;
 use acct_book::{Row, SessionState};
-use acct_model::{Octets, Plan, Text, TopUp};
+use acct_model::{Count, Octets, Plan, Text, TopUp};
 use sqlite::types::ValueRef;
 use std::alloc::Global;
 
@@ -65,6 +67,17 @@ pub(crate) fn session_values(row: &Row) -> [ValueRef<'_>; 13]
     ]
 }
 
+/// The columns of the class of a session's plan: client, id, plan_class.
+pub(crate) fn session_plan_values(row: &Row) -> [ValueRef<'_>; 3]
+    ensures { bound result ≡ session_plan_columns row.now }
+{
+    [
+        ValueRef::Text(row.client.as_str().as_bytes()),
+        ValueRef::Blob(row.session.as_slice()),
+        ValueRef::Blob(row.plan.as_slice()),
+    ]
+}
+
 /// The columns of a top-up: number, account, amount, moment.
 pub(crate) fn topup_values(topup: &TopUp) -> [ValueRef<'_>; 4]
     ensures { bound result ≡ topup_columns topup.now }
@@ -87,6 +100,28 @@ pub(crate) fn plan_values(plan: &Plan) -> [ValueRef<'_>; 3]
         ValueRef::Blob(plan.class.as_slice()),
         ValueRef::Int(plan.block as i64),
         ValueRef::Int(plan.unit as i64),
+    ]
+}
+
+/// The number by which a row says what a plan counts.
+pub(crate) fn mode_of(count: Count) -> u64
+    ensures value { result ≡ mode_of count }
+    ensures fits { result < 2 ^ 63 }
+{
+    match count {
+        Count::Both => 0,
+        Count::Input => 1,
+        Count::Output => 2,
+    }
+}
+
+/// The columns of what a plan counts: class, mode.
+pub(crate) fn count_values(plan: &Plan) -> [ValueRef<'_>; 2]
+    ensures { bound result ≡ count_columns plan.now }
+{
+    [
+        ValueRef::Blob(plan.class.as_slice()),
+        ValueRef::Int(mode_of(plan.count) as i64),
     ]
 }
 
@@ -173,8 +208,9 @@ fn counters_at(columns: &sqlite::Row) -> Result<(u64, u64), Refused>
     }
 }
 
-/// The session of a row of the table, where it keeps the bounds.
-pub(crate) fn session_at(columns: &sqlite::Row) -> Result<Row, Refused>
+/// The session of a row of the table, where it keeps the bounds. Its plan, which stands in another
+/// table, is left empty.
+pub(crate) fn session_at(alloc: Global, columns: &sqlite::Row) -> Result<Row, Refused>
     ensures { IfOk result (λ row. row ≡ session_in_columns (column columns.now)) }
 {
     // The numbers come first, so that no text is held where one of them is refused.
@@ -189,6 +225,9 @@ pub(crate) fn session_at(columns: &sqlite::Row) -> Result<Row, Refused>
         session: octets_at(columns, 1)?,
         account: octets_at(columns, 2)?,
         class: octets_at(columns, 3)?,
+        plan: Octets {
+            octets: Vec::new(alloc),
+        },
         input,
         output,
         seconds,
@@ -210,6 +249,13 @@ pub(crate) fn topup_at(alloc: Global, columns: &sqlite::Row) -> Result<TopUp, Re
     let sum = count_at(columns, 2)?;
     let when = moment_at(columns, 3)?;
     Ok(TopUp::new(alloc, number.as_str(), account.as_slice(), sum, when)?)
+}
+
+/// The class of a plan of a row that has it alone.
+pub(crate) fn plan_class_at(columns: &sqlite::Row) -> Result<Octets, Refused>
+    ensures { IfOk result (λ class. class ≡ bytes (column columns.now 0)) }
+{
+    octets_at(columns, 0)
 }
 
 /// The balance of a row that has it alone.

@@ -18,8 +18,9 @@ pub fn books_are_their_tables<S: Alter>(book: &SqlBook<S>)
         ⟦<SqlBook<S> as Book>⟧.is_open ⟦<SqlBook<S> as Book>⟧.left book.now }
 {}
 
-/// A session that a book contains stands in its table by exactly the columns that are written for
-/// it, the state by 0, 1 or 2: so after a call that set a row, the table has its columns.
+/// A session that a book contains stands in its two tables by exactly the columns that are written
+/// for it, the state by 0, 1 or 2 and the plan by its class: so after a call that set a row, the
+/// tables have its columns.
 pub fn sessions_are_their_columns<S: Alter>(book: &SqlBook<S>, row: &Row)
     ensures { ⟦<SqlBook<S> as Book>⟧.is_open book.now
         → (⟦<SqlBook<S> as Book>⟧.content book.now).rows (key_of row.now) ≡ Some row.now

@@ -1,5 +1,5 @@
 //! The lists of an account, each in the order of its keys.
-ghost use Rattle.std.specs.Prelude.{◌≡◌, ℕ, List, IsTrue, IfOk, map};
+ghost use Rattle.std.specs.Prelude.{◌≡◌, ℕ, List, IsTrue, IfOk, OnOk, map};
 ghost use Rattle.std.specs.declared.cmp.Ordering.TheVariants.{Less};
 ghost use Rattle.std.specs.List.Sorted.{IsStrictlySortedBy};
 ghost use Rattle.sqlite_value.specs.Order.{column};
@@ -8,11 +8,12 @@ ghost use Rattle.acct_book.specs.Content.{key_of};
 ghost use Rattle.acct_book.specs.Maps.{octets_cmp, key_cmp};
 ghost use Rattle.acct_book.specs.Walk.{AreRowsOf, AreTopUpsOf};
 ghost use Rattle.acct_sql.specs.Columns.{session_in_columns, topup_in_columns};
-ghost use Rattle.acct_sql.specs.Book.{content_at, is_open_at};
-ghost use Rattle.acct_sql.specs.inner.AtRest.{IsAtRest, ReadsAtRest};
+ghost use Rattle.acct_sql.specs.Book.{content_at, is_sound_at, is_open_at};
+ghost use Rattle.acct_sql.specs.inner.AtRest.{IsAtRest, ReadsAtRest, StaysAtRest, planned};
+ghost use Rattle.acct_sql.specs.inner.AtRest.{plans_at};
 
-use crate::columns::{session_at, topup_at};
-use crate::reading::ask;
+use crate::columns::topup_at;
+use crate::reading::{ask, session_with_plan};
 use crate::refused::Refused;
 use crate::statements::{SESSIONS_OF_ACCOUNT, TOPUPS_OF_ACCOUNT};
 use acct_book::Row;
@@ -33,7 +34,7 @@ pub(crate) fn read_sessions<S: Alter>(
         (λ rows. AreRowsOf (content_at S.Store conn.old) account.now rows.items) }
 {
     let shown = ask(conn, SESSIONS_OF_ACCOUNT, params![account])?;
-    let rows = sessions_in(alloc, &shown)?;
+    let rows = sessions_in(alloc, conn, &shown)?;
     if sessions_ascend(&rows) {
         Ok(rows)
     } else {
@@ -62,13 +63,22 @@ pub(crate) fn read_topups<S: Alter>(
     }
 }
 
-fn sessions_in(alloc: Global, shown: &[sqlite::Row]) -> Result<Vec<Row>, Refused>
-    ensures { IfOk result (λ rows. rows.items
-        ≡ map (λ r. session_in_columns (column r)) shown.now) }
+fn sessions_in<S: Alter>(
+    alloc: Global,
+    conn: &mut Connection<S>,
+    shown: &[sqlite::Row],
+) -> Result<Vec<Row>, Refused>
+    requires { IsAtRest S.Store conn.old }
+    ensures stays { StaysAtRest S.Store conn.old conn.new }
+    ensures stays_open { is_sound_at S.Store conn.new → is_open_at S.Store conn.old
+        → OnOk result (is_open_at S.Store conn.new) }
+    ensures found { is_open_at S.Store conn.new → IfOk result
+        (λ rows. rows.items ≡ map (λ r. planned (plans_at S.Store conn.old)
+        (session_in_columns (column r))) shown.now) }
 {
     let mut rows = Vec::new(alloc);
     for columns in shown {
-        rows.push(session_at(columns)?)?;
+        rows.push(session_with_plan(alloc, conn, columns)?)?;
     }
     Ok(rows)
 }

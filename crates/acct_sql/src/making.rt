@@ -5,18 +5,20 @@ ghost use Rattle.sqlite.specs.State.{Survives};
 ghost use Rattle.sqlite.specs.Held.{state};
 ghost use Rattle.sqlite.specs.Effect.{Database};
 ghost use Rattle.acct_model.specs.declared.plan.Plan.{Plan};
-ghost use Rattle.acct_sql.specs.Tables.{no_schema};
+ghost use Rattle.acct_sql.specs.Tables.{no_schema, first_schema};
 ghost use Rattle.acct_sql.specs.Book.{is_sound_at};
 ghost use Rattle.acct_sql.specs.Make.{IsNew};
 ghost use Rattle.acct_sql.specs.inner.Inside.{RunsInside};
-ghost use Rattle.acct_sql.specs.inner.NewBook.{HasRun, HasTables, HasPlans, IsNewBook};
+ghost use Rattle.acct_sql.specs.inner.NewBook.{HasRun, HasFirstTables, HasPlanTables, HasTables};
+ghost use Rattle.acct_sql.specs.inner.NewBook.{HasPlans, HasPlansSoFar, IsNewBook};
 ghost use Rattle.acct_sql.specs.inner.Looked.{tables_at};
 
-use crate::columns::plan_values;
+use crate::columns::{count_values, plan_values};
 use crate::refused::Refused;
 use crate::statements::{
-    ACCOUNT_TABLE, META_TABLE, NEW_PLAN, NEW_SCHEMA_NUMBER, PLAN_TABLE, SESSION_ACCOUNT_INDEX,
-    SESSION_TABLE, VOUCHER_ACCOUNT_INDEX, VOUCHER_TABLE,
+    ACCOUNT_TABLE, META_TABLE, NEW_PLAN, NEW_PLAN_COUNT, NEW_SCHEMA_NUMBER, PLAN_COUNT_TABLE,
+    PLAN_TABLE, SESSION_ACCOUNT_INDEX, SESSION_PLAN_TABLE, SESSION_TABLE, VOUCHER_ACCOUNT_INDEX,
+    VOUCHER_TABLE,
 };
 use crate::writing::finish;
 use acct_model::{Plan, Plans};
@@ -64,6 +66,16 @@ fn define_tables<S: Alter>(tx: &mut Transaction<'_, S>) -> Result<(), Refused>
     ensures { RunsInside S.Store tx.old.conn tx.new.conn
         (λ old new. HasTables old.committed new) result }
 {
+    define_first_tables(tx)?;
+    define_plan_tables(tx)
+}
+
+// The tables of a book of schema number 1.
+fn define_first_tables<S: Alter>(tx: &mut Transaction<'_, S>) -> Result<(), Refused>
+    requires { (tables_at S.Store tx.old.conn.now).schema ≡ no_schema }
+    ensures { RunsInside S.Store tx.old.conn tx.new.conn
+        (λ old new. HasFirstTables old.committed new) result }
+{
     define(tx, META_TABLE)?;
     define(tx, PLAN_TABLE)?;
     define(tx, ACCOUNT_TABLE)?;
@@ -71,6 +83,15 @@ fn define_tables<S: Alter>(tx: &mut Transaction<'_, S>) -> Result<(), Refused>
     define(tx, SESSION_TABLE)?;
     define(tx, SESSION_ACCOUNT_INDEX)?;
     define(tx, VOUCHER_ACCOUNT_INDEX)
+}
+
+// The two tables of plans that the schema number 3 has besides. They come last.
+fn define_plan_tables<S: Alter>(tx: &mut Transaction<'_, S>) -> Result<(), Refused>
+    ensures { RunsInside S.Store tx.old.conn tx.new.conn
+        (λ old new. old.now.schema ≡ first_schema → HasPlanTables old new) result }
+{
+    define(tx, PLAN_COUNT_TABLE)?;
+    define(tx, SESSION_PLAN_TABLE)
 }
 
 fn define<S: Alter>(tx: &mut Transaction<'_, S>, text: &str) -> Result<(), Refused>
@@ -102,6 +123,27 @@ fn add_plan<S: Alter>(tx: &mut Transaction<'_, S>, plan: &Plan) -> Result<(), Re
     ensures { RunsInside S.Store tx.old.conn tx.new.conn
         (λ old new. (c : Database) (plans : List Plan) → HasPlans c plans old
         → HasPlans c (plans ++ plan.now ∷ []) new) result }
+{
+    add_price(tx, plan)?;
+    add_count(tx, plan)
+}
+
+fn add_count<S: Alter>(tx: &mut Transaction<'_, S>, plan: &Plan) -> Result<(), Refused>
+    ensures { RunsInside S.Store tx.old.conn tx.new.conn
+        (λ old new. (c : Database) (prices counts : List Plan)
+        → HasPlansSoFar c prices counts old
+        → HasPlansSoFar c prices (counts ++ plan.now ∷ []) new) result }
+{
+    let values = count_values(plan);
+    tx.execute(NEW_PLAN_COUNT, &values)?;
+    Ok(())
+}
+
+fn add_price<S: Alter>(tx: &mut Transaction<'_, S>, plan: &Plan) -> Result<(), Refused>
+    ensures { RunsInside S.Store tx.old.conn tx.new.conn
+        (λ old new. (c : Database) (prices counts : List Plan)
+        → HasPlansSoFar c prices counts old
+        → HasPlansSoFar c (prices ++ plan.now ∷ []) counts new) result }
 {
     if plan.block >= 1 << 63 || plan.unit >= 1 << 63 {
         return Err(Refused);

@@ -7,7 +7,7 @@ ghost use Rattle.sqlite.specs.Held.{state};
 ghost use Rattle.sqlite.specs.Given.{IsPlain};
 ghost use Rattle.sqlite.specs.Listing.{understood};
 ghost use Rattle.sqlite.specs.Values.{bound};
-ghost use Rattle.acct_book.specs.Content.{kept_balance};
+ghost use Rattle.acct_book.specs.Content.{key_of, kept_balance};
 ghost use Rattle.acct_book.specs.Walk.{IsNextRow, IsNextBalance, IsNextTopUp};
 ghost use Rattle.acct_sql.specs.Tables.{book_schema};
 ghost use Rattle.acct_sql.specs.Columns.{session_in_columns, topup_in_columns};
@@ -15,15 +15,17 @@ ghost use Rattle.acct_sql.specs.Book.{content_at, is_sound_at, is_open_at};
 ghost use Rattle.acct_sql.specs.inner.Columns.{account_in_columns};
 ghost use Rattle.acct_sql.specs.inner.Inside.{HoldsBook, HasMade, RunsInside, HasFinished};
 ghost use Rattle.acct_sql.specs.inner.AtRest.{IsAtRest, ReadsAtRest, HasShown, HasFirst};
+ghost use Rattle.acct_sql.specs.inner.AtRest.{HasFirstSession, HasPlan, plans_at};
 
-use crate::columns::{account_at, balance_at, session_at, topup_at};
+use crate::columns::{account_at, balance_at, plan_class_at, session_at, topup_at};
 use crate::refused::Refused;
 use crate::statements::{
     ACCOUNT_AFTER, BALANCE_OF_ACCOUNT, FIRST_ACCOUNT, FIRST_SESSION, FIRST_TOPUP,
-    LATER_SESSION_OF_CLIENT, SESSION_OF_KEY, SESSION_OF_LATER_CLIENT, TOPUP_AFTER, TOPUP_OF_NUMBER,
+    LATER_SESSION_OF_CLIENT, PLAN_OF_SESSION, SESSION_OF_KEY, SESSION_OF_LATER_CLIENT, TOPUP_AFTER,
+    TOPUP_OF_NUMBER,
 };
 use acct_book::{Key, Row};
-use acct_model::TopUp;
+use acct_model::{Octets, TopUp};
 use sqlite::types::ValueRef;
 use sqlite::{Alter, Connection, Transaction, params};
 use std::alloc::Global;
@@ -37,6 +39,8 @@ fn look<S: Alter>(
     requires inside { IsTrue (state S.Store tx.old.conn.now).in_transaction }
     requires plain { IsPlain (understood book_schema sql.now) }
     ensures looks { RunsInside S.Store tx.old.conn tx.new.conn (HasMade (λ c. c)) result }
+    ensures stays { is_sound_at S.Store tx.new.conn.now → OnOk result
+        ((state S.Store tx.new.conn.now).now ≡ (state S.Store tx.old.conn.now).now) }
     ensures shown { is_sound_at S.Store tx.new.conn.now
         → IfOk result (λ rows. Shown sql.now (bound params.now) (state S.Store tx.old.conn.now)
         (state S.Store tx.new.conn.now) rows.items) }
@@ -78,8 +82,44 @@ pub(crate) fn ask<S: Alter>(
     finish_rows(tx, rows)
 }
 
+// The class of the plan of a session that the table `session` shows. Where none is kept, the
+// session is refused.
+fn plan_of_session<S: Alter>(conn: &mut Connection<S>, row: &Row) -> Result<Octets, Refused>
+    requires { IsAtRest S.Store conn.old }
+    ensures read { ReadsAtRest S.Store conn.old conn.new result }
+    ensures found { is_open_at S.Store conn.new → IfOk result
+        (λ class. plans_at S.Store conn.old (key_of row.now) ≡ Some class) }
+{
+    let rows = ask(
+        conn,
+        PLAN_OF_SESSION,
+        params![row.client.as_str(), row.session.as_slice()],
+    )?;
+    match rows.first() {
+        None => Err(Refused),
+        Some(columns) => plan_class_at(columns),
+    }
+}
+
+/// The session of a row of the table, with its plan.
+pub(crate) fn session_with_plan<S: Alter>(
+    alloc: Global,
+    conn: &mut Connection<S>,
+    columns: &sqlite::Row,
+) -> Result<Row, Refused>
+    requires { IsAtRest S.Store conn.old }
+    ensures read { ReadsAtRest S.Store conn.old conn.new result }
+    ensures found { is_open_at S.Store conn.new → IfOk result
+        (HasPlan (plans_at S.Store conn.old) (session_in_columns (column columns.now))) }
+{
+    let mut row = session_at(alloc, columns)?;
+    row.plan = plan_of_session(conn, &row)?;
+    Ok(row)
+}
+
 // The session of the first row that a query shows.
 fn first_session<S: Alter>(
+    alloc: Global,
     conn: &mut Connection<S>,
     sql: &str,
     params: &[ValueRef<'_>],
@@ -87,14 +127,13 @@ fn first_session<S: Alter>(
     requires resting { IsAtRest S.Store conn.old }
     requires plain { IsPlain (understood book_schema sql.now) }
     ensures read { ReadsAtRest S.Store conn.old conn.new result }
-    ensures first { is_sound_at S.Store conn.new
-        → IfOk result (HasFirst S.Store conn.old sql.now (bound params.now)
-        (λ r. session_in_columns (column r))) }
+    ensures first { is_open_at S.Store conn.new
+        → IfOk result (HasFirstSession S.Store conn.old sql.now (bound params.now)) }
 {
     let rows = ask(conn, sql, params)?;
     match rows.first() {
         None => Ok(None),
-        Some(row) => Ok(Some(session_at(row)?)),
+        Some(columns) => Ok(Some(session_with_plan(alloc, conn, columns)?)),
     }
 }
 
@@ -141,6 +180,7 @@ fn first_account<S: Alter>(
 
 /// The row of a session.
 pub(crate) fn read_session<S: Alter>(
+    alloc: Global,
     conn: &mut Connection<S>,
     key: &Key,
 ) -> Result<Option<Row>, Refused>
@@ -150,6 +190,7 @@ pub(crate) fn read_session<S: Alter>(
         (λ row. row ≡ (content_at S.Store conn.old).rows key.now) }
 {
     first_session(
+        alloc,
         conn,
         SESSION_OF_KEY,
         params![key.client.as_str(), key.session.as_slice()],
@@ -189,6 +230,7 @@ pub(crate) fn read_voucher<S: Alter>(
 
 /// The row at the least key after the given one, or at the least of all.
 pub(crate) fn read_next_session<S: Alter>(
+    alloc: Global,
     conn: &mut Connection<S>,
     after: Option<&Key>,
 ) -> Result<Option<Row>, Refused>
@@ -198,13 +240,17 @@ pub(crate) fn read_next_session<S: Alter>(
         (IsNextRow (content_at S.Store conn.old) (option_copied after.entry)) }
 {
     match after {
-        None => first_session(conn, FIRST_SESSION, &[]),
-        Some(key) => session_after(conn, key),
+        None => first_session(alloc, conn, FIRST_SESSION, &[]),
+        Some(key) => session_after(alloc, conn, key),
     }
 }
 
 // The same client's later sessions come first, and then those of later clients.
-fn session_after<S: Alter>(conn: &mut Connection<S>, key: &Key) -> Result<Option<Row>, Refused>
+fn session_after<S: Alter>(
+    alloc: Global,
+    conn: &mut Connection<S>,
+    key: &Key,
+) -> Result<Option<Row>, Refused>
     requires { IsAtRest S.Store conn.old }
     ensures read { ReadsAtRest S.Store conn.old conn.new result }
     ensures found { is_open_at S.Store conn.new → IfOk result
@@ -212,13 +258,14 @@ fn session_after<S: Alter>(conn: &mut Connection<S>, key: &Key) -> Result<Option
 {
     let client = key.client.as_str();
     let row = first_session(
+        alloc,
         conn,
         LATER_SESSION_OF_CLIENT,
         params![client, key.session.as_slice()],
     )?;
     match row {
         Some(row) => Ok(Some(row)),
-        None => first_session(conn, SESSION_OF_LATER_CLIENT, params![client]),
+        None => first_session(alloc, conn, SESSION_OF_LATER_CLIENT, params![client]),
     }
 }
 

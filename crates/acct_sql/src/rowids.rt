@@ -4,7 +4,7 @@ ghost use Rattle.sqlite.specs.Given.{IsPlain};
 ghost use Rattle.sqlite.specs.Listing.{understood};
 ghost use Rattle.sqlite_value.specs.Order.{column};
 ghost use Rattle.sqlite_value.specs.declared.value.Value.TheVariants.{Int};
-ghost use Rattle.acct_sql.specs.Tables.{book_schema, account, voucher, session};
+ghost use Rattle.acct_sql.specs.Tables.{book_schema, account, voucher, session, session_plan};
 ghost use Rattle.acct_sql.specs.Tidy.{IsTidy};
 ghost use Rattle.acct_sql.specs.Book.{is_sound_at};
 ghost use Rattle.acct_sql.specs.inner.Looked.{IsIdleBook, Peeks, Examines, AreTidy};
@@ -13,7 +13,7 @@ ghost use Rattle.acct_sql.specs.inner.Rising.{IsAbove, ShowsRising};
 use crate::adopting::id_of;
 use crate::refused::Refused;
 use crate::sql_book_error::SqlBookError;
-use crate::statements::{ACCOUNT_ROWIDS, SESSION_ROWIDS, VOUCHER_ROWIDS};
+use crate::statements::{ACCOUNT_ROWIDS, SESSION_PLAN_ROWIDS, SESSION_ROWIDS, VOUCHER_ROWIDS};
 use sqlite::{Alter, Connection};
 
 /// Refuses tables in which two rows have one rowid. It reads each rowid once, and keeps one.
@@ -24,7 +24,8 @@ pub(crate) fn check_rowids<S: Alter>(conn: &mut Connection<S>) -> Result<(), Sql
 {
     check_accounts(conn)?;
     check_vouchers(conn)?;
-    check_sessions(conn)
+    check_sessions(conn)?;
+    check_session_plans(conn)
 }
 
 fn check_accounts<S: Alter>(conn: &mut Connection<S>) -> Result<(), SqlBookError>
@@ -55,6 +56,17 @@ fn check_sessions<S: Alter>(conn: &mut Connection<S>) -> Result<(), SqlBookError
     ensures fault { IfErr result (λ e. e ≡ SqlBookError.Unavailable) }
 {
     match check_ids(conn, SESSION_ROWIDS) {
+        Ok(()) => Ok(()),
+        Err(_) => Err(SqlBookError::Unavailable),
+    }
+}
+
+fn check_session_plans<S: Alter>(conn: &mut Connection<S>) -> Result<(), SqlBookError>
+    requires { IsIdleBook S.Store conn.old }
+    ensures tidy { Examines S.Store conn.old conn.new (λ db. IsTidy (db session_plan.tree)) result }
+    ensures fault { IfErr result (λ e. e ≡ SqlBookError.Unavailable) }
+{
+    match check_ids(conn, SESSION_PLAN_ROWIDS) {
         Ok(()) => Ok(()),
         Err(_) => Err(SqlBookError::Unavailable),
     }

@@ -42,16 +42,16 @@ impl<S: Alter> Model for SqlBook<S> {
 }
 
 impl<S: Alter> SqlBook<S> {
-    ghost use Rattle.std.specs.Prelude.{◌≡◌, ◌↔◌, ◌≢◌, ◌⊎◌, pos, false, IsTrue, IfOk, IfErr};
+    ghost use Rattle.std.specs.Prelude.{◌≡◌, ◌↔◌, ◌≢◌, ◌⊎◌, false, IsTrue, IfOk, IfErr};
     ghost use Rattle.std.specs.Prelude.{IsErrAnd};
     ghost use Rattle.sqlite.specs.State.{HasCleanDisk, Survives};
-    ghost use Rattle.acct_sql.specs.Tables.{no_schema};
+    ghost use Rattle.acct_sql.specs.Tables.{no_schema, own_number};
     ghost use Rattle.acct_sql.specs.Make.{IsNew, KeepsPlans};
     ghost use Rattle.acct_sql.specs.Look.{LooksAtTables, HasNumberAlone, IsRefusedAs};
     ghost use Rattle.acct_sql.specs.Book.{IsOpenBook, IsResting, IsBookOver};
 
-    /// Makes an empty database an empty book that is kept by these plans: the five tables, their
-    /// two indices, the schema number 1 and a row for each plan, in one transaction. It is handed
+    /// Makes an empty database an empty book that is kept by these plans: the seven tables, their
+    /// two indices, the schema number 3 and a row for each plan, in one transaction. It is handed
     /// back on an error, as it was.
     ///
     /// # Errors
@@ -92,11 +92,11 @@ impl<S: Alter> SqlBook<S> {
     }
 
     /// Takes a database as the book that it is. It changes nothing, and hands the database back on
-    /// an error. It reads each rowid of the accounts, top-ups and sessions once.
+    /// an error. It reads each rowid of the accounts, top-ups, sessions and their plans once.
     ///
     /// # Errors
     ///
-    /// `WrongSchema` where a schema number is read that is not 1, `NotABook` where none is or the
+    /// `WrongSchema` where a schema number is read that is not 3, `NotABook` where none is or the
     /// tables and indices are not exactly those of a book, in the order in which `create` makes
     /// them, and `PlansDiffer` where the book was made with other plans, in this order.
     /// `Unavailable` where the store or memory refused, or where two rows of a book have one rowid
@@ -110,7 +110,7 @@ impl<S: Alter> SqlBook<S> {
         ensures adopted { IfOk result (λ book. HasCleanDisk (state S.Store book)
             → IsOpenBook (state S.Store book)) }
         ensures number { IfOk result (λ book. HasCleanDisk (state S.Store book)
-            → HasNumberAlone (pos 1) (state S.Store book).now.trees) }
+            → HasNumberAlone own_number (state S.Store book).now.trees) }
         ensures plans { IfOk result (λ book. HasCleanDisk (state S.Store book)
             → KeepsPlans plans.now (state S.Store book).now.trees) }
         ensures tables { IfOk result (IsBookOver S.Store ⟦<SqlBook<S> as Book>⟧.content
@@ -163,7 +163,7 @@ impl<S: Alter> Book for SqlBook<S> {
     ghost left = { left_at S.Store };
 
     fn session(&mut self, key: &Key) -> Result<Option<Row>, Unavailable> {
-        let row = match read_session(&mut self.conn, key) {
+        let row = match read_session(self.alloc, &mut self.conn, key) {
             Ok(row) => row,
             Err(_) => return Err(Unavailable),
         };
@@ -227,7 +227,7 @@ impl<S: Alter> Book for SqlBook<S> {
     }
 
     fn next_session(&mut self, after: Option<&Key>) -> Result<Option<Row>, Unavailable> {
-        let row = match read_next_session(&mut self.conn, after) {
+        let row = match read_next_session(self.alloc, &mut self.conn, after) {
             Ok(row) => row,
             Err(_) => return Err(Unavailable),
         };

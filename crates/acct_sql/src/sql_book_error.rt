@@ -10,7 +10,7 @@ pub enum SqlBookError {
     /// The book was made with other plans.
     #[error("the book was made with other plans")]
     PlansDiffer,
-    /// The book has another schema number than 1.
+    /// The book has another schema number than 3.
     #[error("the book has the schema number {0}")]
     WrongSchema(i64),
     /// The store or memory refused.

@@ -35,7 +35,7 @@ macro_rules! with_session_columns {
 pub(crate) const META_TABLE: &str = "\
     CREATE TABLE meta (name TEXT NOT NULL PRIMARY KEY, value INTEGER NOT NULL) STRICT";
 
-pub(crate) const NEW_SCHEMA_NUMBER: &str = "INSERT INTO meta (name, value) VALUES ('schema', 1)";
+pub(crate) const NEW_SCHEMA_NUMBER: &str = "INSERT INTO meta (name, value) VALUES ('schema', 3)";
 
 pub(crate) const SCHEMA_NUMBER: &str = "SELECT value FROM meta WHERE name = 'schema'";
 
@@ -51,6 +51,13 @@ pub(crate) const NEW_PLAN: &str = with_plan_columns!(
 );
 
 pub(crate) const PLANS: &str = with_plan_columns!("SELECT ", " FROM price_plan");
+
+pub(crate) const PLAN_COUNT_TABLE: &str = "\
+    CREATE TABLE plan_count (class BLOB NOT NULL PRIMARY KEY, mode INTEGER NOT NULL) STRICT";
+
+pub(crate) const NEW_PLAN_COUNT: &str = "INSERT INTO plan_count (class, mode) VALUES (?1, ?2)";
+
+pub(crate) const PLAN_COUNTS: &str = "SELECT class, mode FROM plan_count";
 
 // ---- the accounts
 
@@ -166,3 +173,20 @@ pub(crate) const SESSION_OF_LATER_CLIENT: &str = with_session_columns!(
 );
 
 pub(crate) const SESSION_ROWIDS: &str = "SELECT rowid FROM session ORDER BY rowid";
+
+// ---- the plans of the sessions
+
+pub(crate) const SESSION_PLAN_TABLE: &str = "\
+    CREATE TABLE session_plan (client TEXT NOT NULL, id BLOB NOT NULL, plan_class BLOB NOT NULL, \
+    PRIMARY KEY (client, id)) STRICT";
+
+pub(crate) const SET_SESSION_PLAN: &str = "\
+    UPDATE session_plan SET plan_class = ?3 WHERE client = ?1 AND id = ?2";
+
+pub(crate) const NEW_SESSION_PLAN: &str = "\
+    INSERT INTO session_plan (client, id, plan_class) VALUES (?1, ?2, ?3)";
+
+pub(crate) const PLAN_OF_SESSION: &str = "\
+    SELECT plan_class FROM session_plan WHERE client = ?1 AND id = ?2";
+
+pub(crate) const SESSION_PLAN_ROWIDS: &str = "SELECT rowid FROM session_plan ORDER BY rowid";

@@ -1,16 +1,17 @@
 //! The statements that write, each in a transaction.
 ghost use Rattle.sqlite.specs.Held.{state};
 ghost use Rattle.sqlite.specs.Values.{bound};
-ghost use Rattle.acct_book.specs.Content.{with_session, with_topup, with_closed};
+ghost use Rattle.acct_book.specs.Content.{key_of, with_session, with_topup, with_closed};
 ghost use Rattle.acct_sql.specs.inner.Inside.{HoldsBook, HasMade, HasPut, RunsInside, HasFinished};
-ghost use Rattle.acct_sql.specs.inner.Inside.{with_row, with_balance, with_voucher};
+ghost use Rattle.acct_sql.specs.inner.Inside.{with_row, with_balance, with_voucher, without_plan};
+ghost use Rattle.acct_sql.specs.inner.Inside.{HasMadeBare, HasSetPlan};
 ghost use Rattle.acct_sql.specs.inner.AtRest.{IsAtRest, WritesAtRest};
 
-use crate::columns::{session_values, topup_values};
+use crate::columns::{session_plan_values, session_values, topup_values};
 use crate::refused::Refused;
 use crate::statements::{
-    CLOSE_SESSIONS_OF_CLIENT, NEW_BALANCE, NEW_SESSION, NEW_TOPUP, SET_BALANCE, SET_SESSION,
-    SET_TOPUP,
+    CLOSE_SESSIONS_OF_CLIENT, NEW_BALANCE, NEW_SESSION, NEW_SESSION_PLAN, NEW_TOPUP, SET_BALANCE,
+    SET_SESSION, SET_SESSION_PLAN, SET_TOPUP,
 };
 use acct_book::Row;
 use acct_model::TopUp;
@@ -34,12 +35,36 @@ fn put<S: Alter>(
     Ok(())
 }
 
+// Sets the columns of a session, but for its plan.
+fn set_columns<S: Alter>(tx: &mut Transaction<'_, S>, row: &Row) -> Result<(), Refused>
+    requires { HoldsBook S.Store tx.old.conn.now }
+    ensures { RunsInside S.Store tx.old.conn tx.new.conn
+        (HasMadeBare (λ c. with_row c (without_plan row.now))) result }
+{
+    put(tx, SET_SESSION, NEW_SESSION, &session_values(row))
+}
+
+// Sets the plan of a session.
+fn set_plan<S: Alter>(tx: &mut Transaction<'_, S>, row: &Row) -> Result<(), Refused>
+    requires { HoldsBook S.Store tx.old.conn.now }
+    ensures { RunsInside S.Store tx.old.conn tx.new.conn
+        (HasSetPlan (key_of row.now) row.now.plan) result }
+{
+    put(
+        tx,
+        SET_SESSION_PLAN,
+        NEW_SESSION_PLAN,
+        &session_plan_values(row),
+    )
+}
+
 fn set_row<S: Alter>(tx: &mut Transaction<'_, S>, row: &Row) -> Result<(), Refused>
     requires { HoldsBook S.Store tx.old.conn.now }
     ensures { RunsInside S.Store tx.old.conn tx.new.conn
         (HasMade (λ c. with_row c row.now)) result }
 {
-    put(tx, SET_SESSION, NEW_SESSION, &session_values(row))
+    set_columns(tx, row)?;
+    set_plan(tx, row)
 }
 
 fn set_balance<S: Alter>(

@@ -44,7 +44,7 @@ static TOP_UPS: [Credit; 3] = [
 ];
 
 // What a row says, in two parts since a comparison takes twelve values at most.
-type Names<'r> = (&'r str, &'r [u8], &'r [u8], &'r [u8], &'r [u8]);
+type Names<'r> = (&'r str, &'r [u8], &'r [u8], &'r [u8], &'r [u8], &'r [u8]);
 
 type Numbers = (u64, u64, u32, u64, u64, SessionState, u32, Option<[u8; 4]>);
 
@@ -54,6 +54,7 @@ fn names(row: &Row) -> Names<'_> {
         row.session.as_slice(),
         row.account.as_slice(),
         row.class.as_slice(),
+        row.plan.as_slice(),
         row.calling.as_slice(),
     )
 }

@@ -60,11 +60,11 @@ fn a_book_is_made_or_refused(rt: HostRuntime) -> Result<(), Fail> {
     Ok(())
 }
 
-// The balance of the account, and how much came in by its session.
+// The balance of the account, and how much came in by its session, which is kept with its plan.
 fn told_session<B: Book>(alloc: Global, book: &mut B) -> Result<(i64, u64), Fail> {
     let input = match book.session(&key(alloc, &S1)?)? {
-        Some(row) => row.input,
-        None => 0,
+        Some(row) if row.plan.as_slice() == b"default".as_slice() => row.input,
+        _ => 0,
     };
     Ok((book.balance(b"al")?, input))
 }

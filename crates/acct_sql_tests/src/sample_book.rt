@@ -16,6 +16,7 @@ pub(crate) const S1: Name<'static> = ("ap1", b"s1");
 // What a row says beside its names: octets as (input, output), times as (seconds, first, last).
 #[derive(Clone, Copy)]
 pub(crate) struct Usage {
+    plan: &'static [u8],
     octets: (u64, u64),
     times: (u32, u64, u64),
     state: SessionState,
@@ -26,6 +27,7 @@ pub(crate) struct Usage {
 
 // No two fields are alike, and none is 0.
 pub(crate) const STOPPED: Usage = Usage {
+    plan: b"default",
     octets: (101, 202),
     times: (303, 404, 505),
     state: SessionState::Stopped,
@@ -34,8 +36,9 @@ pub(crate) const STOPPED: Usage = Usage {
     framed: Some([10, 9, 8, 7]),
 };
 
-// Live, with the greatest counters and moments, and without an address.
+// Live, by another plan, with the greatest counters and moments, and without an address.
 pub(crate) const LATER: Usage = Usage {
+    plan: b"gold",
     octets: ((1 << 62) + 1, (1 << 62) - 2),
     times: (u32::MAX, (1 << 53) - 2, (1 << 53) - 1),
     state: SessionState::Live,
@@ -76,6 +79,7 @@ pub(crate) fn row(
         session: Octets::from_slice(alloc, name.1)?,
         account: Octets::from_slice(alloc, account)?,
         class: Octets::from_slice(alloc, b"gold")?,
+        plan: Octets::from_slice(alloc, usage.plan)?,
         input,
         output,
         seconds,

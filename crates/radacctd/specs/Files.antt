@@ -1,5 +1,5 @@
 -- What the files of a book held as they were opened, and what they hold afterwards.
-use Rattle.std.specs.Prelude.{◌≡◌, ◌≢◌, ◌⊎◌, List, pos, IsTrue}
+use Rattle.std.specs.Prelude.{◌≡◌, ◌≢◌, ◌⊎◌, List, IsTrue}
 use Rattle.sqlite_disk.specs.declared.Disk.{Ghosts}
 use Rattle.sqlite_disk.specs.declared.Files.{Files}
 use Rattle.sqlite_wal.specs.Recovery.{Image}
@@ -15,6 +15,7 @@ use Rattle.acct_model.specs.declared.plan.Plan.{Plan}
 use Rattle.acct_sql.specs.declared.sql_book_error.SqlBookError.{SqlBookError}
 use Rattle.acct_sql.specs.Book.{IsOpenBook}
 use Rattle.acct_sql.specs.Look.{HasNumberAlone, IsRefusedAs}
+use Rattle.acct_sql.specs.Tables.{own_number}
 use Rattle.acct_sql.specs.Make.{IsNew, KeepsPlans}
 use Rattle.acct_sql.specs.Tables.{no_schema}
 use Rattle.acct_commands.specs.declared.fault.Fault.{Fault}
@@ -44,7 +45,7 @@ module _ {D : Type 0} {g : Ghosts D} where
     where
       pub settled : IsOpenBook (file_state book)
       pub held : AreHeldIn image (file_state book).now.trees
-      pub number : HasNumberAlone (pos 1) (file_state book).now.trees
+      pub number : HasNumberAlone own_number (file_state book).now.trees
       pub plans_kept : KeepsPlans plans (file_state book).now.trees
 
   -- an empty book of these plans, where the files held no table, index or view

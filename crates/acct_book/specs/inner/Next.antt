@@ -8,8 +8,9 @@ use Rattle.acct_model.specs.Report.{ReportFacts}
 use Rattle.acct_book.specs.declared.key.Key.{Key}
 use Rattle.acct_book.specs.declared.row.SessionState.{SessionState}
 use Rattle.acct_book.specs.declared.row.SessionState.TheVariants.{Live, Closed, Stopped}
+use Rattle.acct_model.specs.Plans.{plan_for}
 use Rattle.acct_book.specs.Row.{RowFacts}
-use Rattle.acct_book.specs.Charge.{plan_of_row, charge_of_row}
+use Rattle.acct_book.specs.Charge.{class_of_plan, plan_of_row, charge_of_row}
 use Rattle.acct_book.specs.Rows.{higher, counters}
 
 -- the key of a report's session
@@ -35,13 +36,14 @@ abbrev pub or_octets : List ℕ → List ℕ → List ℕ
 or_octets [] others = others
 or_octets (octet ∷ octets) others = octet ∷ octets
 
--- the row of a session's first report
-abbrev pub first_row : ReportFacts → RowFacts
-first_row r = record {
+-- the row of a session's first report, by this plan
+abbrev pub first_row : Option Plan → ReportFacts → RowFacts
+first_row plan r = record {
   client = r.client;
   session = r.session;
   account = r.user;
   class = r.class;
+  plan = class_of_plan plan;
   input = r.input;
   output = r.output;
   seconds = r.seconds;
@@ -57,7 +59,7 @@ first_row r = record {
 abbrev pub raised_counters : Option Plan → RowFacts → ReportFacts → ℕ × ℕ
 raised_counters plan row r = higher plan (counters r) (row.input, row.output)
 
--- the row after a later report: client, session, account and class stay the first report's
+-- the row after a later report: client, session, account, class and plan stay the first report's
 abbrev pub raised_row : Option Plan → RowFacts → ReportFacts → RowFacts
 raised_row plan row r = record row {
   input = (raised_counters plan row r).0;
@@ -73,17 +75,17 @@ raised_row plan row r = record row {
 
 -- the row after a report of a session with this plan
 abbrev pub next_row_by : Option Plan → Option RowFacts → ReportFacts → RowFacts
-next_row_by plan None r = first_row r
+next_row_by plan None r = first_row plan r
 next_row_by plan (Some row) r = raised_row plan row r
 
--- the plan of the row that was found
-abbrev pub plan_found : List Plan → Option RowFacts → Option Plan
-plan_found plans None = None
-plan_found plans (Some row) = plan_of_row plans row
+-- the plan of the row that was found, or the one that the first report finds
+abbrev pub plan_found : List Plan → ReportFacts → Option RowFacts → Option Plan
+plan_found plans r None = plan_for plans r.class
+plan_found plans r (Some row) = plan_of_row plans row
 
 -- the row after a report
 abbrev pub next_row : List Plan → Option RowFacts → ReportFacts → RowFacts
-next_row plans found r = next_row_by (plan_found plans found) found r
+next_row plans found r = next_row_by (plan_found plans r found) found r
 
 -- what a session cost before, which is nothing where it has no row
 abbrev pub charge_before : List Plan → Option RowFacts → ℕ

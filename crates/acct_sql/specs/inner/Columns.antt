@@ -6,6 +6,7 @@ use Rattle.sqlite.specs.Order.{Row}
 use Rattle.sqlite_value.specs.Order.{bytes}
 use Rattle.acct_model.specs.declared.plan.Plan.{Plan}
 use Rattle.acct_sql.specs.Columns.{int_in}
+use Rattle.acct_sql.specs.Make.{mode_of}
 
 -- an account and its balance by their columns
 abbrev pub account_in_columns : (ℕ → Value) → List ℕ × ℤ
@@ -14,3 +15,7 @@ account_in_columns at = (bytes (at 0), int_in (at 1))
 -- the columns that are written for a plan: class, block, unit
 abbrev pub plan_columns : Plan → Row
 plan_columns plan = Blob plan.class ∷ Int (pos plan.block) ∷ Int (pos plan.unit) ∷ []
+
+-- the columns that are written for what it counts: class, mode
+abbrev pub count_columns : Plan → Row
+count_columns plan = Blob plan.class ∷ Int (pos (mode_of plan.count)) ∷ []

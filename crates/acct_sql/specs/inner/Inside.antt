@@ -1,5 +1,5 @@
 -- What a call does inside a transaction, and what the end of the transaction makes of it.
-use Rattle.std.specs.Prelude.{◌≡◌, ◌≢◌, ◌⊎◌, ℕ, ℤ, List, false, true, bytes_eq, Some, Ok}
+use Rattle.std.specs.Prelude.{◌≡◌, ◌≢◌, ◌⊎◌, ℕ, ℤ, List, [], false, true, bytes_eq, Some, Ok}
 use Rattle.std.specs.Prelude.{Result, IsTrue, IsOk, OnOk, OnErr}
 use Rattle.std.specs.Borrow.{MutBor}
 use Rattle.std.specs.Map.{update}
@@ -9,9 +9,11 @@ use Rattle.sqlite.specs.Order.{Row}
 use Rattle.sqlite.specs.State.{State, HasCleanDisk, Shows, KeepsCommit, IsRolledBack, Survives}
 use Rattle.sqlite.specs.State.{ExecutesInside}
 use Rattle.acct_model.specs.Vouchers.{TopUpFacts}
+use Rattle.acct_book.specs.declared.key.Key.{Key}
 use Rattle.acct_book.specs.Row.{RowFacts}
 use Rattle.acct_book.specs.Content.{Content, same_key, key_of}
-use Rattle.acct_sql.specs.Content.{content_in_tables}
+use Rattle.acct_sql.specs.Content.{content_in_tables, content_without_plans}
+use Rattle.acct_sql.specs.Content.{plans_in_tables}
 use Rattle.acct_sql.specs.Book.{IsBook}
 
 -- ---- the parts of a write
@@ -23,6 +25,10 @@ with_row content row = record {
   balances = content.balances;
   topups = content.topups;
 }
+
+-- the session, of whose plan nothing is said
+abbrev pub without_plan : RowFacts → RowFacts
+without_plan row = record row { plan = [] }
 
 -- with this balance of an account
 abbrev pub with_balance : Content → List ℕ → ℤ → Content
@@ -52,6 +58,21 @@ pub record HasMade (change : Content → Content) (old new : State) : Type 0 whe
   pub shows : Shows old new new.now old.committed true
   pub book : IsBook new.now
   pub content : content_in_tables new.now.trees ≡ change (content_in_tables old.now.trees)
+
+-- The content was changed but for the plans of its sessions, and nothing was committed.
+pub record HasMadeBare (change : Content → Content) (old new : State) : Type 0 where
+  pub shows : Shows old new new.now old.committed true
+  pub book : IsBook new.now
+  pub content : content_without_plans new.now.trees ≡ change (content_without_plans old.now.trees)
+  pub plans : plans_in_tables new.now.trees ≡ plans_in_tables old.now.trees
+
+-- the plan of a session was set, nothing else was changed, and nothing was committed
+pub record HasSetPlan (key : Key) (class : List ℕ) (old new : State) : Type 0 where
+  pub shows : Shows old new new.now old.committed true
+  pub book : IsBook new.now
+  pub content : content_without_plans new.now.trees ≡ content_without_plans old.now.trees
+  pub plans : plans_in_tables new.now.trees
+      ≡ update same_key (plans_in_tables old.now.trees) key (Some class)
 
 -- an UPDATE met a row, or it met none and an INSERT followed
 abbrev pub HasPut : {S : Type 0} → Ghosts S → List ℕ → List ℕ → Row → State → State → Type 0

@@ -19,31 +19,35 @@ use Rattle.acct_sql.specs.declared.sql_book_error.SqlBookError.TheVariants.{NotA
 use Rattle.acct_sql.specs.declared.sql_book_error.SqlBookError.TheVariants.{WrongSchema}
 use Rattle.acct_sql.specs.declared.sql_book_error.SqlBookError.TheVariants.{Unavailable}
 use Rattle.acct_sql.specs.Tables.{book_schema, account, voucher, session}
+use Rattle.acct_sql.specs.Tables.{session_plan, own_number}
 use Rattle.acct_sql.specs.Tidy.{IsTidy}
 use Rattle.acct_sql.specs.Book.{IsBook}
-use Rattle.acct_sql.specs.Make.{KeepsPlans}
+use Rattle.acct_sql.specs.declared.adopting.PlanTable.{PlanTable}
+use Rattle.acct_sql.specs.declared.adopting.PlanTable.TheVariants.{Prices, Counts}
+use Rattle.acct_sql.specs.Make.{KeepsPlans, mode_of}
 use Rattle.acct_sql.specs.Look.{IsIdle, LooksAtTables, HasNumberAlone}
 
 -- it has the tables of a book
 abbrev pub HasSchema : State → Type 0
 HasSchema s = HasCleanDisk s → s.now.schema ≡ book_schema
 
--- the rowids of its accounts, vouchers and sessions tell their rows apart
+-- the rowids of its accounts, vouchers, sessions and their plans tell their rows apart
 pub record AreTidy (db : Trees) : Type 0 where
   pub accounts : IsTidy (db account.tree)
   pub vouchers : IsTidy (db voucher.tree)
   pub sessions : IsTidy (db session.tree)
+  pub plans : IsTidy (db session_plan.tree)
 
 -- its rows are those of a book of these plans
 pub record HasRowsOf (plans : List Plan) (db : Trees) : Type 0 where
-  pub number : HasNumberAlone (pos 1) db
+  pub number : HasNumberAlone own_number db
   pub plans_kept : KeepsPlans plans db
   pub tidy : AreTidy db
 
 -- it is the book of these plans
 pub record IsBookWith (plans : List Plan) (db : Database) : Type 0 where
   pub book : IsBook db
-  pub number : HasNumberAlone (pos 1) db.trees
+  pub number : HasNumberAlone own_number db.trees
   pub plans_kept : KeepsPlans plans db.trees
 
 -- ---- the calls
@@ -78,17 +82,28 @@ pub record ShowsPlan (plan : Plan) (row : Row) : Type 0 where
   pub block : column row 1 ≡ Int (pos plan.block)
   pub unit : column row 2 ≡ Int (pos plan.unit)
 
--- a row of the answer says the plan
-abbrev pub IsShownIn : List Row → Plan → Type 0
-IsShownIn rows plan = (row : Row) × Has rows row × ShowsPlan plan row
+-- a row of an answer says what this plan counts: class, mode
+pub record ShowsCount (plan : Plan) (row : Row) : Type 0 where
+  pub class : column row 0 ≡ Blob plan.class
+  pub mode : column row 1 ≡ Int (pos (mode_of plan.count))
 
--- the row says one of the plans
-abbrev pub IsPlanIn : List Plan → Row → Type 0
-IsPlanIn plans row = (plan : Plan) × Has plans plan × ShowsPlan plan row
+-- a row of an answer says of the plan what its table says of plans
+abbrev pub Says : PlanTable → Plan → Row → Type 0
+Says Prices plan row = ShowsPlan plan row
+Says Counts plan row = ShowsCount plan row
 
--- the answer says these plans and nothing else
-abbrev pub AreShown : List Plan → List Row → Type 0
-AreShown plans rows = AllByRecursion (IsShownIn rows) plans × AllByRecursion (IsPlanIn plans) rows
+-- a row of the answer says it of the plan
+abbrev pub IsShownIn : PlanTable → List Row → Plan → Type 0
+IsShownIn table rows plan = (row : Row) × Has rows row × Says table plan row
+
+-- the row says it of one of the plans
+abbrev pub IsPlanIn : PlanTable → List Plan → Row → Type 0
+IsPlanIn table plans row = (plan : Plan) × Has plans plan × Says table plan row
+
+-- the answer says it of these plans and nothing else
+abbrev pub AreShown : PlanTable → List Plan → List Row → Type 0
+AreShown table plans rows = AllByRecursion (IsShownIn table rows) plans
+    × AllByRecursion (IsPlanIn table plans) rows
 
 -- the answer is one number
 abbrev pub IsSchemaNumber : ℤ → List Row → Type 0
@@ -98,10 +113,10 @@ IsSchemaNumber n rows = (row : Row) × (rows ≡ row ∷ []) × (column row 0 �
 abbrev pub HasNone : List Row → Type 0
 HasNone rows = (row : Row) (n : ℤ) → Has rows row → column row 0 ≢ Int n
 
--- what the answer is instead of the number 1
+-- what the answer is instead of the number of a book
 abbrev pub IsSchemaNumberFault : List Row → SqlBookError → Type 0
 IsSchemaNumberFault rows NotABook = HasNone rows
-IsSchemaNumberFault rows (WrongSchema n) = IsSchemaNumber n rows × (n ≢ pos 1)
+IsSchemaNumberFault rows (WrongSchema n) = IsSchemaNumber n rows × (n ≢ own_number)
 IsSchemaNumberFault rows PlansDiffer = ⊥
 IsSchemaNumberFault rows Unavailable = Unit {0}
 
@@ -116,9 +131,9 @@ is_failure (SqliteFailure code.TooBig) = true
 is_failure (SqliteFailure code.OperationInterrupted) = true
 is_failure _ = false
 
--- the kept plans are not these
-abbrev pub IsPlanFault : List Plan → Trees → SqlBookError → Type 0
-IsPlanFault plans db NotABook = ⊥
-IsPlanFault plans db (WrongSchema n) = ⊥
-IsPlanFault plans db PlansDiffer = ¬ (KeepsPlans plans db)
-IsPlanFault plans db Unavailable = Unit {0}
+-- the kept plans are not these, which is all that a table of plans is refused for
+abbrev pub IsPlanFault : Type 0 → SqlBookError → Type 0
+IsPlanFault Kept NotABook = ⊥
+IsPlanFault Kept (WrongSchema n) = ⊥
+IsPlanFault Kept PlansDiffer = ¬ Kept
+IsPlanFault Kept Unavailable = Unit {0}

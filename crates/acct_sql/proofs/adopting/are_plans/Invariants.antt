@@ -4,4 +4,4 @@ use Rattle.acct_sql.specs.inner.Looked.{IsPlanIn}
 use Rattle.acct_sql.proofs.adopting.are_plans.Given as goal
 
 abbrev pub invariant-loop-row : goal.invariant-loop-row
-invariant-loop-row l = AllByRecursion (IsPlanIn l.plans) (take l.row-index l.rows)
+invariant-loop-row l = AllByRecursion (IsPlanIn l.table l.plans) (take l.row-index l.rows)

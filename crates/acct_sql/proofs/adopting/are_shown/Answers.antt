@@ -13,7 +13,7 @@ returns-then-not-is_shown c = (
       let no : c.is_shown.result ≡ false = search rules in
       let there = has_at c.args.plans.now c.loop-plan.plan-index c.plan-item.result
       c.loop-plan-test.true c.plan-item.is in
-      let yes = c.is_shown.ensures.1 (all_has (IsShownIn c.args.rows.now) c.args.plans.now
+      let yes = c.is_shown.ensures.1 (all_has (IsShownIn c.args.table c.args.rows.now) c.args.plans.now
       c.plan-item.result all there) in
       absurd (true≢false (sym yes ∙ no)),
 )
@@ -21,13 +21,13 @@ returns-then-not-is_shown c = (
 pub loop-plan-preserved : goal.loop-plan-preserved
 loop-plan-preserved c =
     let yes : IsTrue c.is_shown.result = search rules in
-    all_more (IsShownIn c.args.rows.now) c.args.plans.now c.loop-plan.plan-index
+    all_more (IsShownIn c.args.table c.args.rows.now) c.args.plans.now c.loop-plan.plan-index
     c.plan-item.result c.loop-plan-test.true c.plan-item.is c.loop-plan.invariant
     (c.is_shown.ensures.0 yes)
 
 pub returns : goal.returns
 returns c = (
-  λ _. subst (AllByRecursion (IsShownIn c.args.rows.now))
+  λ _. subst (AllByRecursion (IsShownIn c.args.table c.args.rows.now))
       (take_all c.loop-plan.plan-index c.args.plans.now (omega (arith, c.loop-plan-test.false)))
       c.loop-plan.invariant,
   λ _. search rules,

@@ -4,4 +4,4 @@ use Rattle.acct_sql.specs.inner.Looked.{IsShownIn}
 use Rattle.acct_sql.proofs.adopting.are_shown.Given as goal
 
 abbrev pub invariant-loop-plan : goal.invariant-loop-plan
-invariant-loop-plan l = AllByRecursion (IsShownIn l.rows) (take l.plan-index l.plans)
+invariant-loop-plan l = AllByRecursion (IsShownIn l.table l.rows) (take l.plan-index l.plans)

@@ -1,6 +1,7 @@
-use Rattle.std.proofs.Common.{rules, arith, subst, pos}
+use Rattle.std.proofs.Common.{rules, arith, subst}
 use Rattle.sqlite.specs.State.{HasCleanDisk}
 use Rattle.sqlite.specs.Held.{state}
+use Rattle.acct_sql.specs.Tables.{own_number}
 use Rattle.acct_sql.specs.inner.Looked.{IsSchemaNumber, IsSchemaNumberFault}
 use Rattle.acct_sql.proofs.ReadLemmas.{answered}
 use Rattle.acct_sql.proofs.LookLemmas.{blamed}
@@ -21,7 +22,7 @@ returns-clause-number g c = record {
       let told = number_told (state g.S.Store c.args.conn.now) _ c.in_ok-rows.rows.items
       (c.requires.has early) (c.in_ok-rows.ensures.shown clean) in
       answered c.judge_number.result
-      (λ n. told.one (pos 1) (subst (IsSchemaNumber (pos 1)) c.deref.ensures.value n))
+      (λ n. told.one own_number (subst (IsSchemaNumber own_number) c.deref.ensures.value n))
       c.judge_number.ensures.ok;
 }
 

@@ -1,25 +1,24 @@
-use Rattle.std.proofs.Common.{◌≡◌, ℕ, ◌+◌, ◌<◌, length, slice_index_or, List, [], ◌∷◌, ◌++◌, map}
-use Rattle.std.proofs.Common.{take, sym, ap, ◌∙◌}
-use Rattle.std.proofs.lemmas.List.{map_more}
-use Rattle.sqlite_value.specs.Order.{Row, column}
-use Rattle.acct_book.specs.Row.{RowFacts}
+use Rattle.std.proofs.Common.{rules, ap}
+use Rattle.sqlite.specs.Effect.{Database}
+use Rattle.sqlite_value.specs.Order.{column}
 use Rattle.acct_sql.specs.Columns.{session_in_columns}
+use Rattle.acct_sql.specs.Content.{plans_in_tables}
+use Rattle.acct_sql.specs.inner.AtRest.{plans_at}
+use Rattle.acct_sql.proofs.ReadLemmas.{stays_first, stays_more}
+use Rattle.acct_sql.proofs.PlanReadLemmas.{one_planned}
 use Rattle.acct_sql.proofs.listing.sessions_in.Goals as goal
 
--- one more row, whatever is made of it
-one_more : (f : Row → RowFacts) (rows : List Row) (at : ℕ) (row : Row) → at < length rows
-    → row ≡ slice_index_or rows at row → (made : List RowFacts) → made ≡ map f (take at rows)
-    → (facts : RowFacts) → facts ≡ f row → (new : List RowFacts) → new ≡ made ++ facts ∷ []
-    → new ≡ map f (take (at + 1) rows)
-one_more f rows at row lt is made before facts told new pushed =
-    pushed
-    ∙ (ap (λ m. m ++ facts ∷ []) before
-    ∙ (ap (λ y. map f (take at rows) ++ y ∷ []) (told ∙ ap f is)
-    ∙ sym (map_more f rows at row lt)))
-
 pub loop-columns-preserved : goal.loop-columns-preserved
-loop-columns-preserved c =
-    one_more (λ r. session_in_columns (column r)) c.args.shown.now c.loop-columns.columns-index
-    c.columns-item.result c.loop-columns-test.true c.columns-item.is c.loop-columns.rows.items
-    c.loop-columns.invariant c.in_ok-session_at.field-0 c.in_ok-session_at.ensures
-    c.push.new.self.items c.in_ok-push.ensures.items
+loop-columns-preserved g c =
+    let before = c.loop-columns.invariant in
+    let read = c.session_with_plan.ensures.read in (
+      stays_more g.S.Store c.args.conn.now _ _ c.session_with_plan.result before.0 read,
+      λ s was. c.in_ok-session_with_plan.ensures.read.read.answers s,
+      λ o. one_planned (plans_at g.S.Store c.args.conn.now) _
+          (ap (λ (d : Database). plans_in_tables d.trees) (before.0.tables (read.read.was_open o)))
+          (λ r. session_in_columns (column r)) c.args.shown.now c.loop-columns.columns-index
+          c.columns-item.result c.loop-columns-test.true c.columns-item.is
+          c.loop-columns.rows.items (before.2 (read.read.was_open o))
+          c.in_ok-session_with_plan.field-0 (c.in_ok-session_with_plan.ensures.found o)
+          c.push.new.self.items c.in_ok-push.ensures.items,
+    )

@@ -1,16 +1,16 @@
+use Rattle.std.proofs.Common.{arith, ◌++◌, ◌∷◌, []}
+use Rattle.sqlite.specs.State.{HasCleanDisk}
 use Rattle.sqlite.specs.Held.{state}
-use Rattle.acct_sql.proofs.StepLemmas.{is_inside, execute_quiet}
-use Rattle.acct_sql.proofs.CreateLemmas.{plan_added}
+use Rattle.acct_sql.proofs.ReadLemmas.{answered}
+use Rattle.acct_sql.proofs.StepLemmas.{quiet_then}
 use Rattle.acct_sql.proofs.making.add_plan.Goals as goal
 
 pub returns : goal.returns
 returns g c = record {
-  quiet = execute_quiet g.S.Store _ _ _ _ _ c.execute.ensures.same_reference
-      (λ off. (c.execute.ensures.ended off).1) c.execute.ensures.runs c.execute.ensures.survives;
-  done = λ clean d plans t.
-      let inside = is_inside _ c.in_ok-execute.field-0 _ _ c.in_ok-execute.was
-      (λ off. (c.execute.ensures.ended off).0) in
-      let ran = rw c.plan_values-values.ensures at (c.in_ok-execute.ensures.runs clean inside) in
-      plan_added d plans c.args.plan.now (state g.S.Store c.args.tx.now.conn.now) _
-      c.in_ok-execute.field-0 ran t;
+  quiet = quiet_then g.S.Store _ _ _ c.add_price.ensures.quiet c.add_count.ensures.quiet;
+  done = λ clean.
+      let one : HasCleanDisk (state g.S.Store c.add_price.new.tx.conn.now) = omega
+      (arith, c.add_count.ensures.quiet.survives.clean, clean) in
+      answered c.add_count.result (λ last d plans t. last d (plans ++ c.args.plan.now ∷ []) plans
+      (c.in_ok-add_price.ensures.done one d plans plans t)) (c.add_count.ensures.done clean);
 }

@@ -1,7 +1,7 @@
 use Rattle.std.proofs.Common.{rules, arith}
 use Rattle.sqlite.specs.State.{HasCleanDisk}
 use Rattle.sqlite.specs.Held.{state}
-use Rattle.acct_sql.proofs.ReadLemmas.{look_made, look_kept}
+use Rattle.acct_sql.proofs.ReadLemmas.{look_made, look_same, look_kept}
 use Rattle.acct_sql.proofs.reading.look.Goals as goal
 
 pub returns-in_err-query_all-clause-looks : goal.returns-in_err-query_all-clause-looks
@@ -29,3 +29,10 @@ returns-clause-looks g c = record {
       look_made _ _ _ _ _ (c.requires.book early) c.requires.plain c.requires.inside
       (c.in_ok-query_all.ensures.ok clean);
 }
+
+pub returns-clause-stays : goal.returns-clause-stays
+returns-clause-stays g c clean =
+    let early : HasCleanDisk (state g.S.Store c.args.tx.now.conn.now) = omega
+    (arith, c.query_all.ensures.survives.clean, clean) in
+    look_same _ _ _ _ _ (c.requires.book early) c.requires.plain
+    (c.in_ok-query_all.ensures.ok clean)

@@ -1,5 +1,11 @@
+use Rattle.std.proofs.Common.{Some, option_map, ap, sym, ◌∙◌}
 use Rattle.std.proofs.lemmas.Result.{IfOk-weaker}
+use Rattle.sqlite.specs.Held.{state}
+use Rattle.acct_sql.specs.Content.{with_plan}
+use Rattle.acct_sql.specs.Laws.{bare_key}
+use Rattle.acct_sql.specs.inner.AtRest.{plans_at}
 use Rattle.acct_sql.proofs.ReadLemmas.{session_first}
+use Rattle.acct_sql.proofs.PlanReadLemmas.{row_planned}
 use Rattle.acct_sql.proofs.TextLemmas as t
 use Rattle.acct_sql.proofs.reading.read_session.Goals as goal
 
@@ -9,11 +15,16 @@ first_session-requires-clause-plain g c = t.session_of_key.plain
 pub returns-clause-found : goal.returns-clause-found
 returns-clause-found g c o =
     let early = c.first_session.ensures.read.read.was_open o in
+    let key = c.args.key.now in
     let shown = rw (
       c.params-to_sql.ensures,
       c.params-to_sql-2.ensures,
       c.as_str.ensures,
       c.as_slice.ensures,
-    ) at (c.first_session.ensures.first o.0.0) in
-    IfOk-weaker c.first_session.result _ _ (λ row h. session_first g.S.Store c.args.conn.now
-    c.args.key.now row (c.requires.book early.0.0 early.0.1) h) shown
+    ) at (c.first_session.ensures.first o) in
+    IfOk-weaker c.first_session.result _ _ (λ row h.
+    let bare = session_first g.S.Store c.args.conn.now key h.0
+    (c.requires.book early.0.0 early.0.1) h.1 in
+    h.2 ∙ (row_planned (plans_at g.S.Store c.args.conn.now) key h.0
+    (λ one is. bare_key (state g.S.Store c.args.conn.now).now.trees key one (sym bare ∙ is))
+    ∙ ap (option_map (with_plan (plans_at g.S.Store c.args.conn.now key))) bare)) shown

@@ -1,11 +1,13 @@
-use Rattle.std.proofs.Common.{option_map, subst}
+use Rattle.std.proofs.Common.{option_map, subst, sym}
 use Rattle.std.proofs.lemmas.Result.{IfOk-weaker}
 use Rattle.acct_book.specs.Content.{Content}
 use Rattle.acct_book.specs.Maps.{key_cmp}
 use Rattle.acct_sql.specs.Book.{content_at}
+use Rattle.acct_sql.specs.inner.AtRest.{plans_at, bare_at}
 use Rattle.acct_sql.specs.inner.Next.{IsLeast, IsWithin, IsBeyond}
 use Rattle.acct_sql.proofs.WalkLemmas.{is_within, is_beyond}
 use Rattle.acct_sql.proofs.WalkLemmas.{within_next, beyond_next, keyed_row}
+use Rattle.acct_sql.proofs.PlanReadLemmas.{least_planned}
 use Rattle.acct_sql.proofs.TextLemmas as t
 use Rattle.acct_sql.proofs.reading.session_after.Goals as goal
 
@@ -23,9 +25,13 @@ returns-in-Some-clause-found g c o =
       c.params-to_sql-2.ensures,
       c.as_str-client.ensures,
       c.as_slice.ensures,
-    ) at (c.in_ok-row.ensures.first o.0.0) in
-    let near = is_within g.S.Store c.args.conn.now (c.requires.book early.0.0 early.0.1)
-    c.in_ok-row.row c.args.key.now shown in
+    ) at (c.in_ok-row.ensures.first o) in
+    let bare = is_within g.S.Store c.args.conn.now (c.requires.book early.0.0 early.0.1)
+    shown.0 c.args.key.now shown.1 in
+    let near = subst (λ r. IsLeast key_cmp (content_at g.S.Store c.args.conn.now).rows
+    (IsWithin c.args.key.now) (option_map keyed_row r)) (sym shown.2)
+    (least_planned (plans_at g.S.Store c.args.conn.now)
+    (bare_at g.S.Store c.args.conn.now).rows (IsWithin c.args.key.now) shown.0 bare) in
     within_next (content_at g.S.Store c.args.conn.now).rows c.args.key.now _ c.in-Some.row
     (subst (λ r. IsLeast key_cmp (content_at g.S.Store c.args.conn.now).rows
     (IsWithin c.args.key.now) (option_map keyed_row r)) c.in-Some.is near)
@@ -40,16 +46,25 @@ returns-in-None-clause-found g c o =
       c.params-to_sql-2.ensures,
       c.as_str-client.ensures,
       c.as_slice.ensures,
-    ) at (c.in_ok-row.ensures.first mid.0.0) in
-    let near = is_within g.S.Store c.args.conn.now (c.requires.book early.0.0 early.0.1)
-    c.in_ok-row.row c.args.key.now first in
+    ) at (c.in_ok-row.ensures.first mid) in
+    let bare = is_within g.S.Store c.args.conn.now (c.requires.book early.0.0 early.0.1)
+    first.0 c.args.key.now first.1 in
+    let near = subst (λ r. IsLeast key_cmp (content_at g.S.Store c.args.conn.now).rows
+    (IsWithin c.args.key.now) (option_map keyed_row r)) (sym first.2)
+    (least_planned (plans_at g.S.Store c.args.conn.now)
+    (bare_at g.S.Store c.args.conn.now).rows (IsWithin c.args.key.now) first.0 bare) in
     let none = subst (λ r. IsLeast key_cmp (content_at g.S.Store c.args.conn.now).rows
     (IsWithin c.args.key.now) (option_map keyed_row r)) c.in-None.is near in
     let second = rw (c.params-to_sql-in-None.ensures, c.as_str-client.ensures) at
-    (c.first_session-in-None.ensures.first o.0.0) in
+    (c.first_session-in-None.ensures.first o) in
+    let now = c.first_session.new.conn in
     IfOk-weaker c.first_session-in-None.result _ _ (λ row h.
     beyond_next (content_at g.S.Store c.args.conn.now).rows c.args.key.now
     (option_map keyed_row row) none
     (subst (λ (content : Content). IsLeast key_cmp content.rows (IsBeyond c.args.key.now.client)
-    (option_map keyed_row row)) same (is_beyond g.S.Store c.first_session.new.conn
-    (c.in_ok-row.ensures.read.resting.book mid.0.0 mid.0.1) row c.args.key.now.client h))) second
+    (option_map keyed_row row)) same (subst (λ r. IsLeast key_cmp (content_at g.S.Store now).rows
+    (IsBeyond c.args.key.now.client) (option_map keyed_row r)) (sym h.2)
+    (least_planned (plans_at g.S.Store now)
+    (bare_at g.S.Store now).rows (IsBeyond c.args.key.now.client) h.0
+    (is_beyond g.S.Store now (c.in_ok-row.ensures.read.resting.book mid.0.0 mid.0.1) h.0
+    c.args.key.now.client h.1))))) second

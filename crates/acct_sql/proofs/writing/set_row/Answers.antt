@@ -2,16 +2,20 @@ use Rattle.std.proofs.Common.{arith}
 use Rattle.sqlite.specs.State.{HasCleanDisk}
 use Rattle.sqlite.specs.Held.{state}
 use Rattle.acct_sql.proofs.ReadLemmas.{answered}
-use Rattle.acct_sql.proofs.MadeLemmas.{put_row}
+use Rattle.acct_sql.proofs.StepLemmas.{quiet_then}
+use Rattle.acct_sql.proofs.MadeLemmas.{made_with_plan}
 use Rattle.acct_sql.proofs.writing.set_row.Goals as goal
+
+pub set_plan-requires : goal.set_plan-requires
+set_plan-requires g c = λ clean o. (c.in_ok-set_columns.ensures.done clean).book
 
 pub returns : goal.returns
 returns g c = record {
-  quiet = c.put.ensures.quiet;
+  quiet = quiet_then g.S.Store _ _ _ c.set_columns.ensures.quiet c.set_plan.ensures.quiet;
   done = λ clean.
-      let early : HasCleanDisk (state g.S.Store c.args.tx.now.conn.now) = omega
-      (arith, c.put.ensures.quiet.survives.clean, clean) in
-      answered c.put.result (put_row g.S.Store c.args.row.now c.session_values.ensures.back
-      (state g.S.Store c.args.tx.now.conn.now) _ (c.requires early))
-      (rw c.session_values.ensures.value at (c.put.ensures.done clean));
+      let one : HasCleanDisk (state g.S.Store c.set_columns.new.tx.conn.now) = omega
+      (arith, c.set_plan.ensures.quiet.survives.clean, clean) in
+      answered c.set_plan.result (made_with_plan c.args.row.now
+      (state g.S.Store c.args.tx.now.conn.now) _ (state g.S.Store c.set_plan.new.tx.conn.now)
+      (c.in_ok-set_columns.ensures.done one)) (c.set_plan.ensures.done clean);
 }

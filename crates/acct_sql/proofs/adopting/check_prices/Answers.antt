@@ -2,15 +2,16 @@ use Rattle.std.proofs.Common.{rules, arith, subst, sym, ◌∙◌, true≢false}
 use Rattle.sqlite.specs.State.{HasCleanDisk}
 use Rattle.sqlite.specs.Held.{state}
 use Rattle.acct_sql.specs.inner.Looked.{AreShown}
+use Rattle.acct_sql.specs.declared.adopting.PlanTable.TheVariants.{Prices}
 use Rattle.acct_sql.proofs.PlanLemmas.{plans_shown, shown_plans}
 use Rattle.acct_sql.proofs.TextLemmas as t
-use Rattle.acct_sql.proofs.adopting.check_plans.Goals as goal
+use Rattle.acct_sql.proofs.adopting.check_prices.Goals as goal
 
 pub peek-requires-clause-plain : goal.peek-requires-clause-plain
 peek-requires-clause-plain g c = t.plan_rows.plain
 
-pub returns-then-are_kept-clause-plans : goal.returns-then-are_kept-clause-plans
-returns-then-are_kept-clause-plans g c = record {
+pub returns-then-are_kept-clause-prices : goal.returns-then-are_kept-clause-prices
+returns-then-are_kept-clause-prices g c = record {
   looks = c.in_ok-rows.ensures.looks.looks;
   stays_open = search rules;
   holds = λ clean.
@@ -18,7 +19,7 @@ returns-then-are_kept-clause-plans g c = record {
       (arith, c.in_ok-rows.ensures.looks.looks.survives.clean, clean) in
       plans_shown (state g.S.Store c.args.conn.now) _ c.in_ok-rows.rows.items c.args.plans.now
       (c.requires.has early) (c.in_ok-rows.ensures.shown clean)
-      (subst (AreShown c.args.plans.now) c.deref.ensures.value
+      (subst (AreShown Prices c.args.plans.now) c.deref.ensures.value
       (c.are_kept.ensures.0 c.if-are_kept.true));
 }
 
@@ -28,5 +29,5 @@ returns-clause-fault g c clean = λ kept.
     (arith, c.in_ok-rows.ensures.looks.looks.survives.clean, clean) in
     let shown = shown_plans (state g.S.Store c.args.conn.now) _ c.in_ok-rows.rows.items
     c.args.plans.now (c.requires.has early) (c.in_ok-rows.ensures.shown clean) kept in
-    true≢false (sym (c.are_kept.ensures.1 (subst (AreShown c.args.plans.now)
+    true≢false (sym (c.are_kept.ensures.1 (subst (AreShown Prices c.args.plans.now)
     (sym c.deref.ensures.value) shown)) ∙ c.if-are_kept.false)

@@ -1,0 +1,17 @@
+use Rattle.std.proofs.Common.{arith}
+use Rattle.sqlite.specs.State.{HasCleanDisk}
+use Rattle.sqlite.specs.Held.{state}
+use Rattle.acct_sql.proofs.ReadLemmas.{answered}
+use Rattle.acct_sql.proofs.MadeLemmas.{put_plan}
+use Rattle.acct_sql.proofs.writing.set_plan.Goals as goal
+
+pub returns : goal.returns
+returns g c = record {
+  quiet = c.put.ensures.quiet;
+  done = λ clean.
+      let early : HasCleanDisk (state g.S.Store c.args.tx.now.conn.now) = omega
+      (arith, c.put.ensures.quiet.survives.clean, clean) in
+      answered c.put.result (put_plan g.S.Store c.args.row.now
+      (state g.S.Store c.args.tx.now.conn.now) _ (c.requires early))
+      (rw c.session_plan_values.ensures at (c.put.ensures.done clean));
+}
