@@ -4,7 +4,8 @@ use Rattle.std.specs.Prelude.{length, Option, option_and_then, codes}
 use Rattle.std.specs.List.{list_any}
 use Rattle.toml.specs.Data.{Data, Members}
 use Rattle.acct_model.specs.declared.plan.Plan.{Plan}
-use Rattle.acct_model.specs.declared.plan.Count.TheVariants.{Both}
+use Rattle.acct_model.specs.declared.plan.Count.{Count}
+use Rattle.acct_model.specs.declared.plan.Count.TheVariants.{Both, Input, Output}
 use Rattle.acct_model.specs.declared.plans.PlanError.{PlanError}
 use Rattle.acct_model.specs.declared.plans.PlanError.TheVariants.{BadBlock, BadUnit}
 use Rattle.acct_model.specs.declared.plans.PlanError.TheVariants as fault
@@ -16,21 +17,29 @@ use Rattle.acct_files.specs.declared.config_error.ConfigKind.TheVariants.{TwiceP
 use Rattle.acct_files.specs.declared.config_error.ConfigKind.TheVariants.{Memory}
 use Rattle.acct_files.specs.declared.config_error.ConfigTable.TheVariants as place
 use Rattle.acct_files.specs.declared.config_error.ConfigError.{ConfigError}
-use Rattle.acct_files.specs.Tables.{table_shown, text_at, integer_at, three, top_error}
+use Rattle.acct_files.specs.Tables.{table_shown, text_at, integer_at, text_or, four}
+use Rattle.acct_files.specs.Tables.{top_error}
 use Rattle.acct_files.specs.Entries as entries
 
 -- the names of a plan's table
 abbrev pub plan_names : List (List ℕ)
-plan_names = codes "class" ∷ codes "block" ∷ codes "unit" ∷ []
+plan_names = codes "class" ∷ codes "block" ∷ codes "unit" ∷ codes "count" ∷ []
 
--- the class, the block and the unit of a plan's table
+-- what a plan counts is told by these names
+abbrev pub count_name : Count → List ℕ
+count_name Both = codes "both"
+count_name Input = codes "in"
+count_name Output = codes "out"
+
+-- the class, the block, the unit and the count of a plan's table
 abbrev pub PlanValues : Type 0
-PlanValues = List ℕ × ℤ × ℤ
+PlanValues = List ℕ × ℤ × ℤ × List ℕ
 
+-- a table without a count has that of a plan which counts both together
 abbrev pub plan_values_in : Members → Option PlanValues
 plan_values_in members =
-    three (text_at (codes "class") members) (integer_at (codes "block") members)
-    (integer_at (codes "unit") members)
+    four (text_at (codes "class") members) (integer_at (codes "block") members)
+    (integer_at (codes "unit") members) (text_or (count_name Both) (codes "count") members)
 
 abbrev pub plan_values : Data → Option PlanValues
 plan_values value = option_and_then plan_values_in (table_shown plan_names value)
@@ -39,12 +48,12 @@ plan_values value = option_and_then plan_values_in (table_shown plan_names value
 abbrev pub is_class : List ℕ → Bool
 is_class class = nat_le 1 (length class) && nat_le (length class) 253
 
--- the values are those of this plan, which counts both, with a class within its rule
+-- the values are those of this plan, with a class within its rule
 pub record SaysPlan (values : PlanValues) (plan : Plan) : Type 0 where
   pub class_is : values.0 ≡ plan.class
   pub block_is : values.1 ≡ pos plan.block
   pub unit_is : values.2 ≡ pos plan.unit
-  pub count_is : plan.count ≡ Both
+  pub count_is : values.3 ≡ count_name plan.count
   pub class_fits : is_class plan.class ≡ true
 
 -- the tables spell these plans, each within its bounds, of which no two share a class

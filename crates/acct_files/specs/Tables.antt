@@ -1,8 +1,8 @@
 -- What stands at the names of a document's tables.
 use Rattle.std.specs.Prelude.{ℕ, ℤ, Bool, List, [], ◌∷◌, length, nat_le, if◌then◌else◌}
-use Rattle.std.specs.Prelude.{Option, Some, None, option_and_then, bytes_eq}
+use Rattle.std.specs.Prelude.{Option, Some, None, option_and_then, unwrap_or, bytes_eq}
 use Rattle.std.specs.List.{list_all, list_any}
-use Rattle.toml.specs.Data.{Data, array, Items, no_items, item, Members, no_members, member}
+use Rattle.toml.specs.Data.{Data, string, array, Items, no_items, item, Members, no_members, member}
 use Rattle.toml.specs.Data.{get_member, as_str, as_integer, as_table}
 use Rattle.acct_files.specs.declared.config_error.ConfigKind.{ConfigKind}
 use Rattle.acct_files.specs.declared.config_error.ConfigTable.TheVariants.{Top}
@@ -41,6 +41,10 @@ text_at name table = option_and_then as_str (get_member name table)
 abbrev pub integer_at : List ℕ → Members → Option ℤ
 integer_at name table = option_and_then as_integer (get_member name table)
 
+-- the text that stands at a name, or a default where nothing stands there
+abbrev pub text_or : List ℕ → List ℕ → Members → Option (List ℕ)
+text_or default name table = as_str (unwrap_or (get_member name table) (string default))
+
 -- the elements of an array
 abbrev pub elements : Items → List Data
 elements no_items = []
@@ -60,6 +64,15 @@ list_at_most limit (Some list) = if nat_le (length list) limit then Some list el
 -- the elements of the array at a name, of which there are no more than this
 abbrev pub array_at : List ℕ → ℕ → Members → Option (List Data)
 array_at name limit top = list_at_most limit (elements_at (get_member name top))
+
+module _ {A B C D : Type 0} where
+  -- four values, if each is there
+  abbrev pub four : Option A → Option B → Option C → Option D → Option (A × B × C × D)
+  four (Some a) (Some b) (Some c) (Some d) = Some (a, b, c, d)
+  four None _ _ _ = None
+  four (Some a) None _ _ = None
+  four (Some a) (Some b) None _ = None
+  four (Some a) (Some b) (Some c) None = None
 
 module _ {A B C : Type 0} where
   -- three values, if each is there

@@ -18,7 +18,7 @@ pub enum ConfigKind {
     BadClient = 3,
     /// An earlier client has the name or the address.
     TwiceClient = 4,
-    /// A plan's class, block or unit is out of its rule.
+    /// A plan's class, block, unit or count is out of its rule.
     BadPlan = 5,
     /// An earlier plan has the class.
     TwicePlanned = 6,

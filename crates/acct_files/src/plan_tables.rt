@@ -2,13 +2,14 @@
 ghost use Rattle.std.specs.Prelude.{◌≡◌, ◌≢◌, ◌⊎◌, ℕ, pos, true, IfOk, IfErr, map, MatchOption};
 ghost use Rattle.std.specs.Prelude.{option_map};
 ghost use Rattle.toml.specs.View.{view};
+ghost use Rattle.acct_model.specs.declared.plan.Count.{Count};
 ghost use Rattle.acct_files.specs.PlanTables as spec;
 ghost use Rattle.acct_files.specs.inner.PlanTables as inner;
 ghost use Rattle.acct_files.specs.declared.config_error.ConfigKind.TheVariants as kind;
 
 use crate::config_error::{ConfigError, ConfigKind, ConfigTable};
 use crate::entries::{Entries, entries_of};
-use crate::tables::{integer_at, table_of, text_at};
+use crate::tables::{integer_at, table_of, text_at, text_or};
 use acct_model::{Count, Octets, Plan, PlanError, PlanList, Plans};
 use std::alloc::Global;
 use toml::Value;
@@ -60,7 +61,7 @@ fn plan_of(alloc: Global, table: &Value) -> Result<Plan, ConfigKind>
     ensures spelled { IfOk result (inner.SpellsPlan (view table.now)) }
     ensures refused { IfErr result (inner.IsNoPlan (view table.now)) }
 {
-    let Some((class, block, unit)) = values_of(table) else {
+    let Some((class, block, unit, count)) = values_of(table) else {
         return Err(ConfigKind::BadShape);
     };
     if !is_class(class) {
@@ -72,8 +73,10 @@ fn plan_of(alloc: Global, table: &Value) -> Result<Plan, ConfigKind>
     let Some(unit) = natural(unit) else {
         return Err(ConfigKind::BadPlan);
     };
+    let Some(count) = count_named(count) else {
+        return Err(ConfigKind::BadPlan);
+    };
     let class = Octets::from_slice(alloc, class.as_bytes())?;
-    let count = Count::Both;
     Ok(Plan {
         class,
         block,
@@ -82,21 +85,37 @@ fn plan_of(alloc: Global, table: &Value) -> Result<Plan, ConfigKind>
     })
 }
 
-// The class, the block and the unit of a plan's table.
-fn values_of(value: &Value) -> Option<(&str, i64, i64)>
-    ensures { option_map (λ t. (t.0.now, t.1, t.2)) result ≡ spec.plan_values (view value.now) }
+// The class, the block, the unit and the count of a plan's table.
+fn values_of(value: &Value) -> Option<(&str, i64, i64, &str)>
+    ensures { option_map (λ t. (t.0.now, t.1, t.2, t.3.now)) result
+        ≡ spec.plan_values (view value.now) }
 {
-    let table = table_of(value, &["class", "block", "unit"])?;
+    let table = table_of(value, &["class", "block", "unit", "count"])?;
     let class = text_at(table, "class")?;
     let block = integer_at(table, "block")?;
     let unit = integer_at(table, "unit")?;
-    Some((class, block, unit))
+    let count = text_or(table, "count", "both")?;
+    Some((class, block, unit, count))
 }
 
 fn is_class(text: &str) -> bool
     ensures { result ≡ spec.is_class text.now }
 {
     !text.is_empty() && text.len() <= LONGEST_CLASS
+}
+
+// What a plan counts that has this name at `count`.
+fn count_named(name: &str) -> Option<Count>
+    ensures { MatchOption result
+        ((count : Count) → name.now ≢ spec.count_name count)
+        (λ count. name.now ≡ spec.count_name count) }
+{
+    match name {
+        "both" => Some(Count::Both),
+        "in" => Some(Count::Input),
+        "out" => Some(Count::Output),
+        _ => None,
+    }
 }
 
 // The number itself, if it is not below 0.

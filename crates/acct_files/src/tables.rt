@@ -62,6 +62,16 @@ pub(crate) fn integer_at(table: &Table, name: &str) -> Option<i64>
     }
 }
 
+// The text at a name, or a default where nothing stands there. It is none where no text does.
+pub(crate) fn text_or<'t>(table: &'t Table, name: &str, default: &'t str) -> Option<&'t str>
+    ensures { option_copied result ≡ spec.text_or default.now name.now (table_view table.now) }
+{
+    match table.get(name) {
+        Some(value) => value.as_str(),
+        None => Some(default),
+    }
+}
+
 // The elements of the array at a name, if there are no more than a limit. An absent one is empty.
 pub(crate) fn array_at<'t>(table: &'t Table, name: &str, limit: usize) -> Option<&'t [Value]>
     ensures { option_map (λ values. map view values.now) result
