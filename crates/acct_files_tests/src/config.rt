@@ -1,7 +1,7 @@
 //! Configurations that are read, and the first faults of others.
 use acct_desk::{DeskKey, Role};
 use acct_files::{Config, config_of};
-use acct_model::Plan;
+use acct_model::{Count, Plan};
 use acct_wire::Client;
 use std::alloc::Global;
 use std::test::Fail;
@@ -9,7 +9,7 @@ use std::test::Fail;
 // A text and what its first fault is shown as.
 type Refused = (&'static str, &'static str);
 
-static REFUSED: [Refused; 39] = [
+static REFUSED: [Refused; 50] = [
     ("client = [", "NotToml in Top 0"),
     // TOML is tested before its names.
     ("nas = 1\nclient = [", "NotToml in Top 0"),
@@ -17,6 +17,7 @@ static REFUSED: [Refused; 39] = [
     ("plan = [{block = 9223372036854775808}]", "NotToml in Top 0"),
     ("plan = []\nplan = []", "NotToml in Top 0"),
     ("nas = []", "BadShape in Top 0"),
+    ("count = 'in'", "BadShape in Top 0"),
     ("client = {}", "BadShape in Top 0"),
     ("plan = 1", "BadShape in Top 0"),
     // The top level is tested before any table.
@@ -34,6 +35,10 @@ static REFUSED: [Refused; 39] = [
     // An unknown name is tested before the rules.
     (
         "client = [{name='', address='1.2.3.4', secret='s', port=1}]",
+        "BadShape in Client 0",
+    ),
+    (
+        "client = [{name='a', address='1.2.3.4', secret='s', count='in'}]",
         "BadShape in Client 0",
     ),
     (
@@ -106,6 +111,23 @@ static REFUSED: [Refused; 39] = [
         "plan = [{class='a', block=1, unit='1'}]",
         "BadShape in Plan 0",
     ),
+    // What a plan counts is a text, and stands for none of the other names.
+    (
+        "plan = [{class='a', block=1, unit=1, count=1}]",
+        "BadShape in Plan 0",
+    ),
+    (
+        "plan = [{class='a', block=1, unit=1, count=['in']}]",
+        "BadShape in Plan 0",
+    ),
+    (
+        "plan = [{class='', block=0, unit=-1, count=true}]",
+        "BadShape in Plan 0",
+    ),
+    (
+        "plan = [{class='a', block=1, count='in'}]",
+        "BadShape in Plan 0",
+    ),
     ("plan = [{class='', block=1, unit=1}]", "BadPlan in Plan 0"),
     ("plan = [{class='a', block=0, unit=1}]", "BadPlan in Plan 0"),
     (
@@ -120,7 +142,23 @@ static REFUSED: [Refused; 39] = [
         "plan = [{class='a', block=1, unit=-1}]",
         "BadPlan in Plan 0",
     ),
+    (
+        "plan = [{class='a', block=1, unit=1, count=''}]",
+        "BadPlan in Plan 0",
+    ),
+    (
+        "plan = [{class='a', block=1, unit=1, count='In'}]",
+        "BadPlan in Plan 0",
+    ),
+    (
+        "plan = [{class='a', block=1, unit=1, count='input'}]",
+        "BadPlan in Plan 0",
+    ),
     // The rules are tested before earlier plans.
+    (
+        "plan = [{class='a', block=1, unit=0}, {class='a', block=1, unit=0, count='all'}, 3]",
+        "BadPlan in Plan 1",
+    ),
     (
         "plan = [{class='a', block=1, unit=0}, {class='a', block=1, unit=1000000001}, 3]",
         "BadPlan in Plan 1",
@@ -135,6 +173,11 @@ static REFUSED: [Refused; 39] = [
 {class='a', block=1, unit=0}]",
         "TwicePlanned in Plan 2",
     ),
+    (
+        "plan = [{class='a', block=1, unit=0, count='in'},
+{class='a', block=1, unit=0, count='out'}]",
+        "TwicePlanned in Plan 1",
+    ),
     // That none is `default` is told before any key.
     (
         "key = [{token='', account='al'}]\nplan = [{class='Default', block=1, unit=0}]",
@@ -143,7 +186,7 @@ static REFUSED: [Refused; 39] = [
 ];
 
 // Texts that come after a plan `default`.
-static REFUSED_KEYS: [Refused; 16] = [
+static REFUSED_KEYS: [Refused; 17] = [
     ("key = [true]", "BadShape in Key 0"),
     ("key = [{token='al-key-0000000001'}]", "BadShape in Key 0"),
     (
@@ -159,6 +202,10 @@ static REFUSED_KEYS: [Refused; 16] = [
     ("key = [{token=1, account='al'}]", "BadShape in Key 0"),
     (
         "key = [{token='', account='al', role='user'}]",
+        "BadShape in Key 0",
+    ),
+    (
+        "key = [{token='', account='al', count='in'}]",
         "BadShape in Key 0",
     ),
     (
@@ -340,8 +387,10 @@ fn is_client(client: &Client, name: &str, address: [u8; 4], secret: &[u8]) -> bo
     client.name.as_str() == name && client.address == address && client.secret.as_slice() == secret
 }
 
+// Whether a plan has these members, and counts both directions.
 fn is_plan(plan: &Plan, class: &[u8], block: u64, unit: u64) -> bool {
-    plan.class.as_slice() == class && (plan.block, plan.unit) == (block, unit)
+    plan.class.as_slice() == class
+        && (plan.block, plan.unit, plan.count) == (block, unit, Count::Both)
 }
 
 // Whether a key has a token and is that of an account, or of the cashier where there is none.
@@ -419,5 +468,26 @@ fn are_greatest(config: &Config) -> bool {
 #[test]
 fn limits_are_taken(rt: HostRuntime) -> Result<(), Fail> {
     assert!(rt; are_greatest(&config_of(rt.alloc(), GREATEST)?));
+    Ok(())
+}
+
+// The names of what a plan counts, and none.
+const COUNTED: &str = "plan = [{class='default', block=1, unit=0},
+{class='a', block=1, unit=0, count='both'}, {class='b', block=1, unit=0, count='in'},
+{count='out', class='c', block=1, unit=0}]";
+
+fn are_counted(config: &Config) -> bool {
+    match config.plans.list() {
+        [other, a, b, c] => {
+            (other.count, a.count) == (Count::Both, Count::Both)
+                && (b.count, c.count) == (Count::Input, Count::Output)
+        }
+        _ => false,
+    }
+}
+
+#[test]
+fn plans_say_what_they_count(rt: HostRuntime) -> Result<(), Fail> {
+    assert!(rt; are_counted(&config_of(rt.alloc(), COUNTED)?));
     Ok(())
 }
