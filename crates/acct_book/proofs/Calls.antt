@@ -3,11 +3,10 @@ use Rattle.std.proofs.Common.{◌≡◌, ◌≢◌, ℕ, List, sym, ap, ◌∙�
 use Rattle.std.specs.Prelude.{ℤ, pos, ◌+ℤ◌, ◌-ℤ◌, Option, Some, None}
 use Rattle.std.proofs.lemmas.Int.{ints}
 use Rattle.acct_model.specs.declared.plan.Plan.{Plan}
-use Rattle.acct_model.specs.declared.entry.Entry.{Entry}
 use Rattle.acct_model.specs.declared.entry.Entry.TheVariants as entry
 use Rattle.acct_model.specs.Report.{ReportFacts}
 use Rattle.acct_model.specs.Vouchers.{TopUpFacts}
-use Rattle.acct_model.specs.History.{InRange}
+use Rattle.acct_model.specs.History.{History, InRange}
 use Rattle.acct_book.specs.declared.key.Key.{Key}
 use Rattle.acct_book.specs.Row.{RowFacts}
 use Rattle.acct_book.specs.Content.{Content, kept_balance, with_session, with_topup}
@@ -52,7 +51,7 @@ read_moved plans c r row before after balance read =
     ∙ ap (charge_of_row plans) read.row_is in
     λ i. (b i +ℤ pos (read.before_is i)) -ℤ pos (a i)
 
-pub read_new : (plans : List Plan) (c : Content) (history : List Entry) (r : ReportFacts)
+pub read_new : (plans : List Plan) (c : Content) (history : History) (r : ReportFacts)
     (row : RowFacts) (before after : ℕ) (balance : ℤ) (m : ℤ) (new : Content)
     → ReportRead plans c r row before after balance → Stands plans c history
     → m ≡ (balance +ℤ pos before) -ℤ pos after → InRange m → new ≡ with_session c row m
@@ -65,7 +64,7 @@ read_new plans c history r row before after balance m new read st is fits put =
     subst (IsNew plans history (entry.Report r)) (sym put')
     (report_new plans c history r st (subst InRange is' fits))
 
-pub read_over : (plans : List Plan) (c : Content) (history : List Entry) (r : ReportFacts)
+pub read_over : (plans : List Plan) (c : Content) (history : History) (r : ReportFacts)
     (row : RowFacts) (before after : ℕ) (balance : ℤ)
     → ReportRead plans c r row before after balance → Stands plans c history
     → (InRange ((balance +ℤ pos before) -ℤ pos after) → ⊥)
@@ -81,7 +80,7 @@ read_over plans c history r row before after balance read st over =
 less_none : (z : ℤ) (n : ℕ) → (z +ℤ pos n) -ℤ pos 0 ≡ z +ℤ pos n
 less_none z n = omega (arith, ints)
 
-pub topup_read_new : (plans : List Plan) (c : Content) (history : List Entry) (t : TopUpFacts)
+pub topup_read_new : (plans : List Plan) (c : Content) (history : History) (t : TopUpFacts)
     (balance m : ℤ) (new : Content)
     → Stands plans c history → c.topups t.voucher ≡ None → balance ≡ kept_balance c t.account
     → m ≡ (balance +ℤ pos t.sum) -ℤ pos 0 → InRange m → new ≡ with_topup c t m
@@ -92,7 +91,7 @@ topup_read_new plans c history t balance m new st none b is fits put =
     subst (IsNew plans history (entry.TopUp t)) (sym (put ∙ ap (with_topup c t) is'))
     (topup_new plans c history t st none (subst InRange is' fits))
 
-pub topup_read_over : (plans : List Plan) (c : Content) (history : List Entry) (t : TopUpFacts)
+pub topup_read_over : (plans : List Plan) (c : Content) (history : History) (t : TopUpFacts)
     (balance : ℤ)
     → Stands plans c history → c.topups t.voucher ≡ None → balance ≡ kept_balance c t.account
     → (InRange ((balance +ℤ pos t.sum) -ℤ pos 0) → ⊥) → IsOverLimit plans history
@@ -102,12 +101,12 @@ topup_read_over plans c history t balance st none b over =
     (topup_over plans c history t st none (λ fits. over (subst InRange
     (sym (less_none balance t.sum ∙ ap (λ z. z +ℤ pos t.sum) b)) fits)))
 
-pub topup_repeated : (plans : List Plan) (c : Content) (history : List Entry) (t kept : TopUpFacts)
+pub topup_repeated : (plans : List Plan) (c : Content) (history : History) (t kept : TopUpFacts)
     → Stands plans c history → Some kept ≡ c.topups t.voucher → kept.account ≡ t.account
     → kept.sum ≡ t.sum → IsRepeated history (entry.TopUp t)
 topup_repeated plans c history t kept st found a s = (kept, sym (found ∙ st.topups t.voucher), a, s)
 
-pub topup_differs : (plans : List Plan) (c : Content) (history : List Entry) (t kept : TopUpFacts)
+pub topup_differs : (plans : List Plan) (c : Content) (history : History) (t kept : TopUpFacts)
     → Stands plans c history → Some kept ≡ c.topups t.voucher
     → (kept.account ≡ t.account → kept.sum ≢ t.sum) → Differs history (entry.TopUp t) kept
 topup_differs plans c history t kept st found d = (sym (found ∙ st.topups t.voucher), d)

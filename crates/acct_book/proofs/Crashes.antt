@@ -2,6 +2,7 @@
 use Rattle.std.proofs.Common.{◌≡◌, ◌⊎◌, inl, inr, List, refl, sym, ap, subst}
 use Rattle.acct_model.specs.declared.plan.Plan.{Plan}
 use Rattle.acct_model.specs.declared.entry.Entry.{Entry}
+use Rattle.acct_model.specs.History.{History}
 use Rattle.acct_book.specs.declared.book.Book.{Ghosts}
 use Rattle.acct_book.specs.Content.{Content}
 use Rattle.acct_book.specs.Effect.{Effect, after_effect, IsTold, added, repeated, differs, limited}
@@ -11,7 +12,7 @@ use Rattle.acct_book.specs.Step.{MayAdd, StoodFor, Does}
 
 -- A content that a crash may leave stands for the history after the call, or a crash could leave it
 -- before one that left the history, or it has the entry of a call that failed.
-abbrev pub Leaves : {B : Type 0} → Ghosts B → List Plan → B → B → List Entry → Effect → Type 0
+abbrev pub Leaves : {B : Type 0} → Ghosts B → List Plan → B → B → History → Effect → Type 0
 Leaves b plans old new history effect =
     (c : Content) → b.left new c
     → Stands plans c (after_effect history effect)
@@ -20,14 +21,14 @@ Leaves b plans old new history effect =
 
 module _ {B : Type 0} (b : Ghosts B) (plans : List Plan) (old new : B) where
   told_left : (effect : Effect) → Does b plans old new effect → b.is_sound new
-      → (history : List Entry) → StoodFor b plans old history → IsTold effect
+      → (history : History) → StoodFor b plans old history → IsTold effect
       → Leaves b plans old new history effect
   told_left effect d sound history stood told c may =
       inl (subst (λ x. Stands plans x (after_effect history effect))
       (sym (d.settled sound told c may)) (d.stands sound history stood (d.answers sound told)))
 
   pub left_by : (effect : Effect) → Does b plans old new effect → b.is_sound new
-      → (history : List Entry) → StoodFor b plans old history
+      → (history : History) → StoodFor b plans old history
       → Leaves b plans old new history effect
   left_by (added next) d sound history stood c may =
       told_left (added next) d sound history stood tt c may

@@ -13,8 +13,9 @@ use Rattle.acct_model.specs.declared.entry.Restart.{Restart}
 use Rattle.acct_model.specs.declared.entry.Entry.{Entry}
 use Rattle.acct_model.specs.declared.entry.Entry.TheVariants as entry
 use Rattle.acct_model.specs.Report.{ReportFacts}
-use Rattle.acct_model.specs.History.{session_of, same_session, all_reports, reports, first_of}
-use Rattle.acct_model.specs.History.{plan_of}
+use Rattle.acct_model.specs.Plans.{plans_before}
+use Rattle.acct_model.specs.History.{Member, Accepted, PlansAdded, History, session_of}
+use Rattle.acct_model.specs.History.{same_session, all_reports, reports, first_of, plan_of}
 use Rattle.acct_model.proofs.Lists.{here, nowhere, all_listed, from_filter, to_filter}
 use Rattle.acct_model.proofs.Balances.{first_of-none}
 use Rattle.acct_model.proofs.Same.{Decides-bytes_eq, Decides-same_session}
@@ -33,13 +34,14 @@ use Rattle.acct_book.specs.Charge.{plan_of_row}
 use Rattle.acct_book.specs.Laws.{RowsHaveTheirKeys, RowsAreOfSessions, IsFirstWith, IsFirstSaid}
 use Rattle.acct_book.specs.Laws.{RowsAreCharged, IsStopped, IsRestarted, IsStateOf, IsCauseOf}
 use Rattle.acct_book.specs.Laws.{RowsSayTheirEnds, StaysEnded, EndedStaysEnded}
+use Rattle.acct_book.specs.Laws.{RowsKeepTheirPlans}
 use Rattle.acct_book.proofs.Keys.{key_is}
-use Rattle.acct_book.proofs.Rows.{row_of-report, row_of-other, row_of-restart}
+use Rattle.acct_book.proofs.Rows.{row-plan, row_of-report, row_of-other, row_of-restart}
 use Rattle.acct_book.proofs.Steps.{charge-row}
 
 -- ---- which rows there are
 
-abbrev all_of : List Entry → Key → List ReportFacts
+abbrev all_of : History → Key → List ReportFacts
 all_of history key = reports history (name_of key)
 
 some_of : {A B : Type 0} (f : A → B) (o : Option A) (y : B) → option_map f o ≡ Some y
@@ -48,7 +50,7 @@ some_of f None y is = cc
 some_of f (Some x) y is = (x, refl, cc)
 
 -- a row is made of all reports of its session and the first of them
-pub row_made : (plans : List Plan) (history : List Entry) (key : Key) (row : RowFacts)
+pub row_made : (plans : List Plan) (history : History) (key : Key) (row : RowFacts)
     → row_of plans history key ≡ Some row
     → (first : ReportFacts) × (first_of (all_of history key) ≡ Some first)
     × (row_from (plan_of plans history (name_of key)) key (is_restarted history key)
@@ -65,6 +67,11 @@ pub rows_are_charged : RowsAreCharged
 rows_are_charged plans history key row is =
     let made = row_made plans history key row is in
     ap (charge_before plans) (sym is) ∙ charge-row plans history key made.0 made.1
+
+pub rows_keep_plans : RowsKeepTheirPlans
+rows_keep_plans plans history key row is =
+    let made = row_made plans history key row is in
+    row-plan plans history key made.0 made.1 row (ap (λ (r : RowFacts). r.plan) (sym made.2))
 
 first_listed : {X : Type 0} (xs : List X) (x : X) → first_of xs ≡ Some x → Contains xs x
 first_listed [] x is = cc
@@ -226,17 +233,17 @@ some_listed (x ∷ xs) e = (x, here x xs)
 listed_some : {X : Type 0} (xs : List X) (x : X) → Contains xs x → is_some (first_of xs) ≡ true
 listed_some xs x there = ap is_some (to_first xs x there).1
 
-one_later : (next : Entry) (history : List Entry) (key : Key) → IsRestarted history key
+one_later : (next : Member) (history : History) (key : Key) → IsRestarted history key
     → IsRestarted (next ∷ history) key
 one_later next history key (later, restart, earlier, is, client, said) =
     (next ∷ later, restart, earlier, ap (λ h. next ∷ h) is, client, said)
 
-restart_found : (history : List Entry) (key : Key) → is_restarted history key ≡ true
+restart_found : (history : History) (key : Key) → is_restarted history key ≡ true
     → IsRestarted history key
 restart_found [] key e = absurd (true≢false (sym e))
-restart_found (entry.Report report ∷ older) key e =
-    one_later (entry.Report report) older key (restart_found older key e)
-restart_found (entry.Restart restart ∷ older) key e =
+restart_found (Accepted (entry.Report report) ∷ older) key e =
+    one_later (Accepted (entry.Report report)) older key (restart_found older key e)
+restart_found (Accepted (entry.Restart restart) ∷ older) key e =
     elim (or_true (bytes_eq restart.client key.client && is_some (first_of (all_of older key)))
     (is_restarted older key) e) [
       | inl now ↦ let both = and_true (bytes_eq restart.client key.client)
@@ -248,28 +255,33 @@ restart_found (entry.Restart restart ∷ older) key e =
             (Decides-bytes_eq restart.client key.client).0 both.0,
             some_listed (all_of older key) both.1,
           )
-      | inr before ↦ one_later (entry.Restart restart) older key (restart_found older key before)
+      | inr before ↦
+          one_later (Accepted (entry.Restart restart)) older key (restart_found older key before)
     ]
-restart_found (entry.TopUp topup ∷ older) key e =
-    one_later (entry.TopUp topup) older key (restart_found older key e)
+restart_found (Accepted (entry.TopUp topup) ∷ older) key e =
+    one_later (Accepted (entry.TopUp topup)) older key (restart_found older key e)
+restart_found (PlansAdded plans ∷ older) key e =
+    one_later (PlansAdded plans) older key (restart_found older key e)
 
-restart_seen : (later : List Entry) (restart : Restart) (earlier : List Entry) (key : Key)
+restart_seen : (later : History) (restart : Restart) (earlier : History) (key : Key)
     → restart.client ≡ key.client
     → (report : ReportFacts) × Contains (all_of earlier key) report
-    → is_restarted (later ++ entry.Restart restart ∷ earlier) key ≡ true
+    → is_restarted (later ++ Accepted (entry.Restart restart) ∷ earlier) key ≡ true
 restart_seen [] restart earlier key client (report, there) =
     left_or _ (is_restarted earlier key) (both_true _ _
     ((Decides-bytes_eq restart.client key.client).1 client)
     (listed_some (all_of earlier key) report there))
-restart_seen (entry.Report other ∷ later) restart earlier key client said =
+restart_seen (Accepted (entry.Report other) ∷ later) restart earlier key client said =
     restart_seen later restart earlier key client said
-restart_seen (entry.Restart other ∷ later) restart earlier key client said =
-    right_or _ (is_restarted (later ++ entry.Restart restart ∷ earlier) key)
+restart_seen (Accepted (entry.Restart other) ∷ later) restart earlier key client said =
+    right_or _ (is_restarted (later ++ Accepted (entry.Restart restart) ∷ earlier) key)
     (restart_seen later restart earlier key client said)
-restart_seen (entry.TopUp other ∷ later) restart earlier key client said =
+restart_seen (Accepted (entry.TopUp other) ∷ later) restart earlier key client said =
+    restart_seen later restart earlier key client said
+restart_seen (PlansAdded plans ∷ later) restart earlier key client said =
     restart_seen later restart earlier key client said
 
-not_restarted : (history : List Entry) (key : Key) → is_restarted history key ≡ false
+not_restarted : (history : History) (key : Key) → is_restarted history key ≡ false
     → IsRestarted history key → ⊥
 not_restarted history key e (later, restart, earlier, is, client, said) =
     true≢false (sym (restart_seen later restart earlier key client said)
@@ -288,18 +300,18 @@ stop_test report = is_stop report.kind
 abbrev Stops : ReportFacts → Type 0
 Stops report = report.kind ≡ Stop
 
-was_stopped : (history : List Entry) (key : Key) (stop : ReportFacts)
+was_stopped : (history : History) (key : Key) (stop : ReportFacts)
     → first_stop (all_of history key) ≡ Some stop → IsStopped history key
 was_stopped history key stop is =
     let found = first_there stop_test Stops (λ r. stops r.kind) (all_of history key) stop is in
     (stop, found.0, found.1)
 
-not_stopped : (history : List Entry) (key : Key) → first_stop (all_of history key) ≡ None
+not_stopped : (history : History) (key : Key) → first_stop (all_of history key) ≡ None
     → IsStopped history key → ⊥
 not_stopped history key is (stop, there, kind) =
     none_with stop_test Stops (λ r. stops r.kind) (all_of history key) is stop there kind
 
-state_says : (history : List Entry) (key : Key) (o : Option ReportFacts) (b : Bool)
+state_says : (history : History) (key : Key) (o : Option ReportFacts) (b : Bool)
     → first_stop (all_of history key) ≡ o → is_restarted history key ≡ b
     → IsStateOf history key (state_of o b)
 state_says history key (Some stop) b is r =
@@ -410,18 +422,18 @@ closed_stays client row = elim (bytes_eq client row.client) as (λ b.
     ]
 
 -- the row of a session after some entries more
-abbrev Goes : List Plan → List Entry → Key → RowFacts → Type 0
+abbrev Goes : List Plan → History → Key → RowFacts → Type 0
 Goes plans history key row =
     (after : RowFacts) × (row_of plans history key ≡ Some after) × StaysEnded row after
 
-report_goes : (plans : List Plan) (report : ReportFacts) (history : List Entry) (key : Key)
+report_goes : (plans : List Plan) (report : ReportFacts) (history : History) (key : Key)
     (row : RowFacts) (b : Bool)
     → same_key (report_key report) key ≡ b → row_of plans history key ≡ Some row
-    → Goes plans (entry.Report report ∷ history) key row
+    → Goes plans (Accepted (entry.Report report) ∷ history) key row
 report_goes plans report history key row true same is =
     let own : report_key report ≡ key = key_is (report_key report) key same in (
       raised_row (plan_of_row plans row) row report,
-      ap (row_of plans (entry.Report report ∷ history)) (sym own)
+      ap (row_of plans (Accepted (entry.Report report) ∷ history)) (sym own)
           ∙ row_of-report plans report history
           ∙ ap (λ o. Some (next_row plans o report)) (ap (row_of plans history) own ∙ is),
       raised_stays (plan_of_row plans row) row report,
@@ -429,8 +441,8 @@ report_goes plans report history key row true same is =
 report_goes plans report history key row false same is =
     (row, row_of-other plans report history key same ∙ is, stays_itself row)
 
-one_goes : (plans : List Plan) (next : Entry) (history : List Entry) (key : Key) (row : RowFacts)
-    → row_of plans history key ≡ Some row → Goes plans (next ∷ history) key row
+one_goes : (plans : List Plan) (next : Entry) (history : History) (key : Key) (row : RowFacts)
+    → row_of plans history key ≡ Some row → Goes plans (Accepted next ∷ history) key row
 one_goes plans (entry.Report report) history key row is =
     report_goes plans report history key row (same_key (report_key report) key) refl is
 one_goes plans (entry.Restart restart) history key row is = (
@@ -442,7 +454,9 @@ one_goes plans (entry.TopUp topup) history key row is = (row, is, stays_itself r
 
 pub ended_stays : EndedStaysEnded
 ended_stays plans [] history key row is = (row, is, stays_itself row)
-ended_stays plans (next ∷ later) history key row is =
+ended_stays plans (Accepted next ∷ later) history key row is =
     let before = ended_stays plans later history key row is in
     let now = one_goes plans next (later ++ history) key before.0 before.1 in
     (now.0, now.1, stays_on row before.0 now.0 before.2 now.2)
+ended_stays plans (PlansAdded added ∷ later) history key row is =
+    ended_stays (plans_before added plans) later history key row is

@@ -5,6 +5,7 @@ use Rattle.acct_model.specs.declared.plan.Plan.{Plan}
 use Rattle.acct_model.specs.declared.entry.Entry.{Entry}
 use Rattle.acct_model.specs.declared.entry.Entry.TheVariants as entry
 use Rattle.acct_model.specs.Vouchers.{TopUpFacts}
+use Rattle.acct_model.specs.History.{Accepted, History}
 use Rattle.acct_book.specs.declared.book.Book.{Ghosts}
 use Rattle.acct_book.specs.declared.recording.Recorded.{Recorded}
 use Rattle.acct_book.specs.declared.recording.Recorded.TheVariants.{New, Repeat}
@@ -39,14 +40,14 @@ reads_none b book error = record {
 }
 
 -- a refusal adds nothing
-stays : (history : List Entry) (next : Entry) (e : RecordError)
+stays : (history : History) (next : Entry) (e : RecordError)
     → after_effect history (effect_of next (Err e)) ≡ history
 stays history next (VoucherDiffers kept) = refl
 stays history next (BalanceLimit balance) = refl
 stays history next Unavailable = refl
 
 told_refusal : (plans : List Plan) (next : Entry) (c : Content) (e : RecordError) (now : Type 0)
-    → (e ≢ Unavailable → now) → (now → RefusesToAdd plans next c e) → (history : List Entry)
+    → (e ≢ Unavailable → now) → (now → RefusesToAdd plans next c e) → (history : History)
     → (now → Stands plans c history) → Holds plans history (effect_of next (Err e))
 told_refusal plans next c Unavailable now answers refuses history stood = tt
 told_refusal plans next c (VoucherDiffers kept) now answers refuses history stood = let still
@@ -107,9 +108,10 @@ passed_on b plans next old new r e result is passes own reads answers refuses se
 -- The whole effect was written, or nothing where the write failed: a crash may leave either.
 module _ {B T E F G : Type 0} (b : Ghosts B) (plans : List Plan) (next : Entry) (old mid new : B)
     (r : Result T E) (w : Result F G) (done : Content) (reads : Looks b old mid r)
-    (writes : Puts b mid new done w) (adds : b.is_open mid → AddsEntry plans next (b.content old) done)
+    (writes : Puts b mid new done w)
+    (adds : b.is_open mid → AddsEntry plans next (b.content old) done)
     (settled : Settles b) where
-  leaves : b.is_sound new → (history : List Entry) → StoodFor b plans old history
+  leaves : b.is_sound new → (history : History) → StoodFor b plans old history
       → (c : Content) → b.left new c
       → b.left old c ⊎ (b.is_open old × MayAdd plans history next c)
   leaves sound history stood c may =
@@ -117,7 +119,7 @@ module _ {B T E F G : Type 0} (b : Ghosts B) (plans : List Plan) (next : Entry) 
       (λ (still, is).
       let was = reads.was_open still in
       let told = adds still history (stood was) in
-      inr (was, (told.0, subst (λ x. Stands plans x (next ∷ history)) (sym is) told.2)))
+      inr (was, (told.0, subst (λ x. Stands plans x (Accepted next ∷ history)) (sym is) told.2)))
       (writes.adds_written sound c may)
 
   pub now_added : (b.is_sound new → b.is_open new) → (b.is_open new → b.content new ≡ done)
@@ -136,7 +138,7 @@ module _ {B T E F G : Type 0} (b : Ghosts B) (plans : List Plan) (next : Entry) 
         let told = adds was history (stood (reads.was_open was)) in (told.0, told.1);
     stands = λ sound history stood still.
         let was = writes.was_open still in
-        subst (λ c. Stands plans c (next ∷ history)) (sym (put still))
+        subst (λ c. Stands plans c (Accepted next ∷ history)) (sym (put still))
         (adds was history (stood (reads.was_open was))).2;
     leaves = λ sound history stood c may.
         ⊎_elim inl (λ (was, adds_it). inr (was, (next, refl, adds_it)))

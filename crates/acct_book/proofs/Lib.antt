@@ -32,3 +32,5 @@ pub mod WalkLaws
 pub mod Fixed
 -- why the entries of others leave an account's part as it is
 pub mod Parts
+-- why a content stands for a history after plans were added to it
+pub mod Additions

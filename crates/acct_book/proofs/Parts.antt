@@ -5,11 +5,10 @@ use Rattle.std.specs.Prelude.{Option, Some, None, bytes_eq, option_map}
 use Rattle.std.specs.List.{filter}
 use Rattle.std.specs.Option.{option_or}
 use Rattle.acct_model.specs.declared.plan.Plan.{Plan}
-use Rattle.acct_model.specs.declared.entry.Entry.{Entry}
 use Rattle.acct_model.specs.declared.entry.Entry.TheVariants as entry
 use Rattle.acct_model.specs.Report.{ReportFacts}
 use Rattle.acct_model.specs.Vouchers.{TopUpFacts}
-use Rattle.acct_model.specs.History.{first_of, all_topups, topup_of}
+use Rattle.acct_model.specs.History.{Accepted, History, first_of, all_topups, topup_of}
 use Rattle.acct_model.proofs.Same.{Decides-bytes_eq, Decides-false}
 use Rattle.acct_model.proofs.Balances.{reports-own, balance-topup-other}
 use Rattle.acct_book.specs.declared.key.Key.{Key}
@@ -32,13 +31,14 @@ own_before : (plans : List Plan) (a : List ℕ) (o : Option RowFacts) (r : Repor
 own_before plans a None r e = refl
 own_before plans a (Some row) r e = ap (λ b. cond b (Some row) None) e
 
-rows_stay : (plans : List Plan) (a : List ℕ) (history : List Entry) (r : ReportFacts) (k : Key)
+rows_stay : (plans : List Plan) (a : List ℕ) (history : History) (r : ReportFacts) (k : Key)
     (b : Bool)
     → same_key (report_key r) k ≡ b → bytes_eq a (row_after plans r history).account ≡ false
-    → own_row a (row_of plans (entry.Report r ∷ history) k) ≡ own_row a (row_of plans history k)
+    → own_row a (row_of plans (Accepted (entry.Report r) ∷ history) k)
+    ≡ own_row a (row_of plans history k)
 rows_stay plans a history r k true e other =
     let at : k ≡ report_key r = sym (key_is (report_key r) k e) in
-    ap (λ x. own_row a (row_of plans (entry.Report r ∷ history) x)) at
+    ap (λ x. own_row a (row_of plans (Accepted (entry.Report r) ∷ history) x)) at
     ∙ ap (own_row a) (row_of-report plans r history)
     ∙ ap (λ b. cond b (Some (row_after plans r history)) None) other
     ∙ sym (own_before plans a (row_of plans history (report_key r)) r other)
@@ -59,7 +59,7 @@ topups_stay a ts t false e = refl
 some_is : {A : Type 0} (x y : A) → Some x ≡ Some y → x ≡ y
 some_is x y e = cc
 
-pub other_parts_stay : (plans : List Plan) (history : List Entry) (account : List ℕ)
+pub other_parts_stay : (plans : List Plan) (history : History) (account : List ℕ)
     → OtherPartsStay plans history account
 other_parts_stay plans history a = record {
   reports = λ r not_mine.

@@ -2,25 +2,26 @@
 use Rattle.std.proofs.Common.{◌≡◌, ◌≢◌, ℕ, ◌+◌, Bool, true, false, ◌&&◌, ◌||◌, cond, List, []}
 use Rattle.std.proofs.Common.{◌∷◌, map, max, refl, sym, ap, ◌∙◌, true≢false, arith}
 use Rattle.std.specs.Prelude.{Option, Some, None, bytes_eq, is_some, option_map}
-use Rattle.std.specs.List.{filter}
+use Rattle.std.specs.List.{filter, find}
 use Rattle.std.specs.Option.{option_or, option_and_then, option_map_or}
 use Rattle.std.proofs.lemmas.Bool.Decides.{nat_tests}
+use Rattle.std.proofs.lemmas.Slice.Eq.{bytes_eq-Decides}
 use Rattle.acct_model.specs.declared.report.ReportKind.{ReportKind}
 use Rattle.acct_model.specs.declared.report.ReportKind.TheVariants.{Start, Stop, Interim}
 use Rattle.acct_model.specs.declared.entry.Restart.{Restart}
-use Rattle.acct_model.specs.declared.entry.Entry.{Entry}
 use Rattle.acct_model.specs.declared.entry.Entry.TheVariants as entry
 use Rattle.acct_model.specs.declared.plan.Plan.{Plan}
 use Rattle.acct_model.specs.declared.plan.Count.{Count}
 use Rattle.acct_model.specs.declared.plan.Count.TheVariants.{Both, Input, Output}
 use Rattle.acct_model.specs.Report.{ReportFacts}
-use Rattle.std.proofs.lemmas.Slice.Eq.{bytes_eq-Decides}
-use Rattle.std.specs.List.{find}
 use Rattle.acct_model.specs.Plans.{counted_by, counted_under, has_class, default_class, plan_for}
-use Rattle.acct_model.specs.History.{session_of, same_session, reports, first_of, largest, plan_by}
-use Rattle.acct_model.specs.History.{plan_of, greatest_counted}
+use Rattle.acct_model.specs.History.{Accepted, PlansAdded, History, Opening, opening_of}
+use Rattle.acct_model.specs.History.{class_opened, session_of, same_session, reports, first_of}
+use Rattle.acct_model.specs.History.{largest, plan_of, greatest_counted}
+use Rattle.acct_model.proofs.Lists.{find-some}
 use Rattle.acct_model.proofs.Balances.{reports-own, reports-other, first_of-more, plan-later}
-use Rattle.acct_model.proofs.Balances.{plan-first, plan-other}
+use Rattle.acct_model.proofs.Balances.{plan-first, plan-other, opening-first}
+use Rattle.acct_model.proofs.Kept.{plan-kept}
 use Rattle.acct_book.specs.Charge.{class_of_plan, plan_of_row}
 use Rattle.acct_book.specs.declared.key.Key.{Key}
 use Rattle.acct_book.specs.declared.row.SessionState.{SessionState}
@@ -299,29 +300,22 @@ off_at true b e = e
 off_at false b e = e
 
 -- a session without a report isn't restarted
-pub none-restarted : (history : List Entry) (key : Key) → first_of
+pub none-restarted : (history : History) (key : Key) → first_of
     (reports history (name_of key)) ≡ None → is_restarted history key ≡ false
 none-restarted [] key e = refl
-none-restarted (entry.Report r ∷ older) key e = none-restarted older key
+none-restarted (Accepted (entry.Report r) ∷ older) key e = none-restarted older key
     (older_none r (reports older (name_of key)) (same_session (name_of key) (session_of r)) e)
-none-restarted (entry.Restart x ∷ older) key e =
+none-restarted (Accepted (entry.Restart x) ∷ older) key e =
     ap (λ o. (bytes_eq x.client key.client && is_some o) || is_restarted older key) e
     ∙ off_at (bytes_eq x.client key.client) (is_restarted older key) (none-restarted older key e)
-none-restarted (entry.TopUp t ∷ older) key e = none-restarted older key e
+none-restarted (Accepted (entry.TopUp t) ∷ older) key e = none-restarted older key e
+none-restarted (PlansAdded plans ∷ older) key e = none-restarted older key e
 
 -- a plan that was found has the class
 found_class : (class : List ℕ) (plans : List Plan) (plan : Plan)
     → find (has_class class) plans ≡ Some plan → class ≡ plan.class
-found_class class [] plan h = absurd cc
-found_class class (p ∷ plans) plan h = go (has_class class p) refl h
-    (found_class class plans plan)
-  where
-    go : (b : Bool) → has_class class p ≡ b → cond b (Some p) (find (has_class class) plans)
-        ≡ Some plan → (find (has_class class) plans ≡ Some plan → class ≡ plan.class)
-        → class ≡ plan.class
-    go true is h later = let same : p ≡ plan = cc in (bytes_eq-Decides class p.class).0 is
-        ∙ ap (λ (q : Plan). q.class) same
-    go false is h later = later h
+found_class class plans plan h =
+    (bytes_eq-Decides class plan.class).0 (find-some (has_class class) plans plan h).1
 
 kept_at : (plans : List Plan) (class : List ℕ) (own : Option Plan)
     → find (has_class class) plans ≡ own → (other : Option Plan)
@@ -340,22 +334,32 @@ kept_for : (plans : List Plan) (class : List ℕ)
     → plan_for plans (class_of_plan (plan_for plans class)) ≡ plan_for plans class
 kept_for plans class = kept_at plans class _ refl _ refl
 
+-- the plan of a session that was opened is found by its own class
+named_at : (plans : List Plan) (plan : Option Plan) (o : Option Opening) (first : ReportFacts)
+    → option_map (λ opening. opening.first) o ≡ Some first
+    → plan ≡ option_and_then (plan_for plans) (option_map class_opened o)
+    → plan_for plans (class_of_plan plan) ≡ plan
+named_at plans plan None first is named = absurd cc
+named_at plans plan (Some opening) first is named =
+    ap (λ p. plan_for plans (class_of_plan p)) named
+    ∙ (kept_for plans (class_opened opening) ∙ sym named)
+
 -- the row of a session has the session's plan
-pub row-plan : (plans : List Plan) (history : List Entry) (key : Key) (first : ReportFacts)
+pub row-plan : (plans : List Plan) (history : History) (key : Key) (first : ReportFacts)
     → first_of (reports history (name_of key)) ≡ Some first → (row : RowFacts)
     → row.plan ≡ class_of_plan (plan_of plans history (name_of key))
     → plan_of_row plans row ≡ plan_of plans history (name_of key)
 row-plan plans history key first is row kept =
-    let by : plan_of plans history (name_of key) ≡ plan_for plans first.class =
-    ap (plan_by plans) is in
-    ap (plan_for plans) kept ∙ (ap (λ p. plan_for plans (class_of_plan p)) by
-    ∙ (kept_for plans first.class ∙ sym by))
+    let name = name_of key in
+    ap (plan_for plans) kept
+    ∙ named_at plans (plan_of plans history name) (opening_of plans history name) first
+    (opening-first plans history name ∙ is) (plan-kept plans history name)
 
 -- the plan that a report finds is that of its session with it
-found-plan : (plans : List Plan) (r : ReportFacts) (history : List Entry) (o : Option ReportFacts)
+found-plan : (plans : List Plan) (r : ReportFacts) (history : History) (o : Option ReportFacts)
     → first_of (reports history (session_of r)) ≡ o
     → plan_found plans r (row_of plans history (report_key r))
-    ≡ plan_of plans (entry.Report r ∷ history) (session_of r)
+    ≡ plan_of plans (Accepted (entry.Report r) ∷ history) (session_of r)
 found-plan plans r history None is =
     let key = report_key r in
     let old = plan_of plans history (session_of r) in
@@ -370,18 +374,18 @@ found-plan plans r history (Some x) is =
     ∙ sym (plan-later plans history r x is))
 
 -- the row of the report's session, by the plan from before
-grown_at : (plans : List Plan) (r : ReportFacts) (history : List Entry) (o : Option ReportFacts)
+grown_at : (plans : List Plan) (r : ReportFacts) (history : History) (o : Option ReportFacts)
     → first_of (reports history (session_of r)) ≡ o
-    → row_of_reports (plan_of plans (entry.Report r ∷ history) (session_of r)) (report_key r)
-    (is_restarted history (report_key r)) (r ∷ reports history (session_of r))
-    ≡ Some (next_row_by (plan_of plans (entry.Report r ∷ history) (session_of r))
+    → row_of_reports (plan_of plans (Accepted (entry.Report r) ∷ history) (session_of r))
+    (report_key r) (is_restarted history (report_key r)) (r ∷ reports history (session_of r))
+    ≡ Some (next_row_by (plan_of plans (Accepted (entry.Report r) ∷ history) (session_of r))
     (row_of plans history (report_key r)) r)
 grown_at plans r history None is =
     let key = report_key r in
     let b = is_restarted history key in
     let rs = reports history (session_of r) in
     let old = plan_of plans history (session_of r) in
-    let new = plan_of plans (entry.Report r ∷ history) (session_of r) in
+    let new = plan_of plans (Accepted (entry.Report r) ∷ history) (session_of r) in
     row_from-report new r b rs (none-restarted history key)
     ∙ ap (λ o. Some (next_row_by new (option_map (row_from new key b rs) o) r)) is
     ∙ sym (ap (λ o. Some (next_row_by new (option_map (row_from old key b rs) o) r)) is)
@@ -395,20 +399,20 @@ grown_at plans r history (Some x) is =
     (sym (plan-later plans history r x is))
 
 -- the row of the report's session
-pub row_of-report : (plans : List Plan) (r : ReportFacts) (history : List Entry)
-    → row_of plans (entry.Report r ∷ history) (report_key r) ≡ Some
+pub row_of-report : (plans : List Plan) (r : ReportFacts) (history : History)
+    → row_of plans (Accepted (entry.Report r) ∷ history) (report_key r) ≡ Some
     (next_row plans (row_of plans history (report_key r)) r)
 row_of-report plans r history =
     let key = report_key r in
-    ap (row_of_reports (plan_of plans (entry.Report r ∷ history) (session_of r)) key
+    ap (row_of_reports (plan_of plans (Accepted (entry.Report r) ∷ history) (session_of r)) key
     (is_restarted history key)) (reports-own history r)
     ∙ grown_at plans r history (first_of (reports history (session_of r))) refl
     ∙ ap (λ p. Some (next_row_by p (row_of plans history key) r))
     (sym (found-plan plans r history (first_of (reports history (session_of r))) refl))
 
 -- the other rows stay
-pub row_of-other : (plans : List Plan) (r : ReportFacts) (history : List Entry) (key : Key)
-    → same_key (report_key r) key ≡ false → row_of plans (entry.Report r ∷ history) key
+pub row_of-other : (plans : List Plan) (r : ReportFacts) (history : History) (key : Key)
+    → same_key (report_key r) key ≡ false → row_of plans (Accepted (entry.Report r) ∷ history) key
     ≡ row_of plans history key
 row_of-other plans r history key e =
     let other : name_of key ≢ session_of r =
@@ -465,8 +469,8 @@ closed_at plan key client b all (Some x) = ap Some (closed_with plan key client 
     (bytes_eq client key.client) (first_stop all) b refl)
 
 -- a restart closes the live session of its client
-pub row_of-restart : (plans : List Plan) (x : Restart) (history : List Entry) (key : Key)
-    → row_of plans (entry.Restart x ∷ history) key
+pub row_of-restart : (plans : List Plan) (x : Restart) (history : History) (key : Key)
+    → row_of plans (Accepted (entry.Restart x) ∷ history) key
     ≡ option_map (closed_by x.client) (row_of plans history key)
 row_of-restart plans x history key =
     closed_at (plan_of plans history (name_of key)) key x.client (is_restarted history key)

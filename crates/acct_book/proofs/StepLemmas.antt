@@ -4,6 +4,7 @@ use Rattle.std.proofs.Common.{◌≡◌, List, refl, sym, subst, inl}
 use Rattle.std.specs.Prelude.{Result}
 use Rattle.acct_model.specs.declared.plan.Plan.{Plan}
 use Rattle.acct_model.specs.declared.entry.Entry.{Entry}
+use Rattle.acct_model.specs.History.{History}
 use Rattle.acct_book.specs.declared.book.Book.{Ghosts}
 use Rattle.acct_book.specs.Book.{Only}
 use Rattle.acct_book.specs.Content.{Content}
@@ -56,9 +57,9 @@ pub only_looked_by : {B : Type 0} (b : Ghosts B) (plans : List Plan) (old new : 
     → (b.is_steady old → b.is_steady new) → (b.is_open new → b.content new ≡ b.content old)
     → (b.is_sound new → (c : Content) → b.left new c → b.left old c)
     → IsOwn effect → (IsUnasked effect → ⊥)
-    → ((history : List Entry) → after_effect history effect ≡ history)
+    → ((history : History) → after_effect history effect ≡ history)
     → (b.is_sound new → IsTold effect → b.is_open new)
-    → (b.is_sound new → (history : List Entry) → StoodFor b plans old history
+    → (b.is_sound new → (history : History) → StoodFor b plans old history
     → Holds plans history effect)
     → Settles b
     → Does b plans old new effect
@@ -84,9 +85,9 @@ only_looked_by b plans old new effect was_sound was_open keeps_steady same adds_
 pub looked_by : {B T E : Type 0} (b : Ghosts B) (plans : List Plan) (old new : B) (effect : Effect)
     (r : Result T E)
     → Looks b old new r → IsOwn effect → (IsUnasked effect → ⊥)
-    → ((history : List Entry) → after_effect history effect ≡ history)
+    → ((history : History) → after_effect history effect ≡ history)
     → (b.is_sound new → IsTold effect → b.is_open new)
-    → (b.is_sound new → (history : List Entry) → StoodFor b plans old history
+    → (b.is_sound new → (history : History) → StoodFor b plans old history
     → Holds plans history effect)
     → Settles b
     → Does b plans old new effect

@@ -9,7 +9,7 @@ abbrev pub class_of_plan : Option Plan → List ℕ
 class_of_plan None = default_class
 class_of_plan (Some plan) = plan.class
 
--- the plan of a row: the one that it keeps
+-- the plan of a row: the one in force that has the class that the row keeps
 abbrev pub plan_of_row : List Plan → RowFacts → Option Plan
 plan_of_row plans row = plan_for plans row.plan
 

@@ -4,7 +4,7 @@ use Rattle.acct_model.specs.declared.plan.Plan.{Plan}
 use Rattle.acct_model.specs.declared.entry.Entry.{Entry}
 use Rattle.acct_model.specs.declared.entry.Entry.TheVariants as entry
 use Rattle.acct_model.specs.Vouchers.{TopUpFacts}
-use Rattle.acct_model.specs.History.{Admissible}
+use Rattle.acct_model.specs.History.{Accepted, History, Admissible}
 use Rattle.acct_book.specs.declared.recording.Recorded.{Recorded}
 use Rattle.acct_book.specs.declared.recording.Recorded.TheVariants.{New, Repeat}
 use Rattle.acct_book.specs.declared.recording.RecordError.{RecordError}
@@ -31,12 +31,12 @@ pub data Effect : Type 0 where
   unasked : Effect
 
 -- the history after it
-abbrev pub after_effect : List Entry → Effect → List Entry
-after_effect history (added asked) = asked ∷ history
+abbrev pub after_effect : History → Effect → History
+after_effect history (added asked) = Accepted asked ∷ history
 after_effect history effect = history
 
 -- what it says of the history before
-abbrev pub Holds : List Plan → List Entry → Effect → Type 0
+abbrev pub Holds : List Plan → History → Effect → Type 0
 Holds plans history (added asked) = Admissible plans history asked × IsFresh history asked
 Holds plans history (repeated asked) = IsRepeated history asked
 Holds plans history (differs asked kept) = Differs history asked kept

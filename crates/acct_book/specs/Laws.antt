@@ -3,30 +3,33 @@ use Rattle.std.specs.Prelude.{◌≡◌, ◌≢◌, ◌↔◌, ◌⊎◌, ℕ, �
 use Rattle.std.specs.Prelude.{Some, None, Contains}
 use Rattle.std.specs.List.{All}
 use Rattle.acct_model.specs.declared.plan.Plan.{Plan}
-use Rattle.acct_model.specs.declared.entry.Entry.{Entry}
 use Rattle.acct_model.specs.declared.entry.Entry.TheVariants as entry
 use Rattle.acct_model.specs.declared.entry.Restart.{Restart}
 use Rattle.acct_model.specs.declared.report.ReportKind.TheVariants.{Stop}
 use Rattle.acct_model.specs.Report.{ReportFacts}
+use Rattle.acct_model.specs.Plans.{Extends, plans_added}
+use Rattle.acct_model.specs.PlanFaults.{plans_fault}
+use Rattle.acct_model.specs.History.{Accepted, PlansAdded, History, plans_then}
 use Rattle.acct_model.specs.History.{sessions, reports, first_of, plan_of, charge_of}
 use Rattle.acct_book.specs.declared.key.Key.{Key}
 use Rattle.acct_book.specs.declared.row.SessionState.{SessionState}
 use Rattle.acct_book.specs.declared.row.SessionState.TheVariants.{Live, Closed, Stopped}
 use Rattle.acct_book.specs.Row.{RowFacts}
-use Rattle.acct_book.specs.Content.{key_of}
-use Rattle.acct_book.specs.Charge.{class_of_plan, charge_of_row}
+use Rattle.acct_book.specs.Content.{Content, key_of}
+use Rattle.acct_book.specs.Stands.{Stands}
+use Rattle.acct_book.specs.Charge.{class_of_plan, plan_of_row, charge_of_row}
 use Rattle.acct_book.specs.Rows.{name_of, counters, Rank, rank_of, row_of}
 
 -- ---- which rows there are
 
 -- the row of a session stands under the session's key
 abbrev pub RowsHaveTheirKeys : Type 0
-RowsHaveTheirKeys = (plans : List Plan) (history : List Entry) (key : Key) (row : RowFacts)
+RowsHaveTheirKeys = (plans : List Plan) (history : History) (key : Key) (row : RowFacts)
     → row_of plans history key ≡ Some row → key_of row ≡ key
 
 -- there is a row exactly for each session of the history
 abbrev pub RowsAreOfSessions : Type 0
-RowsAreOfSessions = (plans : List Plan) (history : List Entry) (key : Key)
+RowsAreOfSessions = (plans : List Plan) (history : History) (key : Key)
     → ((row : RowFacts) × (row_of plans history key ≡ Some row))
     ↔ Contains (sessions history) (name_of key)
 
@@ -84,32 +87,33 @@ pub record IsRowOf (its_plan : Option Plan) (all : List ReportFacts) (row : RowF
 
 -- a row says of its session's reports what each field is named for
 abbrev pub RowsAreOfReports : Type 0
-RowsAreOfReports = (plans : List Plan) (history : List Entry) (key : Key) (row : RowFacts)
+RowsAreOfReports = (plans : List Plan) (history : History) (key : Key) (row : RowFacts)
     → row_of plans history key ≡ Some row
     → IsRowOf (plan_of plans history (name_of key)) (reports history (name_of key)) row
 
 -- the row of a session says what the session costs
 abbrev pub RowsAreCharged : Type 0
-RowsAreCharged = (plans : List Plan) (history : List Entry) (key : Key) (row : RowFacts)
+RowsAreCharged = (plans : List Plan) (history : History) (key : Key) (row : RowFacts)
     → row_of plans history key ≡ Some row
     → charge_of_row plans row ≡ charge_of plans history (name_of key)
 
 -- ---- how a session ends
 
 -- a Stop of the session was accepted
-abbrev pub IsStopped : List Entry → Key → Type 0
+abbrev pub IsStopped : History → Key → Type 0
 IsStopped history key = (stop : ReportFacts) × Contains (reports history (name_of key)) stop
     × (stop.kind ≡ Stop)
 
 -- a restart of the session's client was accepted after some report of the session
-abbrev pub IsRestarted : List Entry → Key → Type 0
+abbrev pub IsRestarted : History → Key → Type 0
 IsRestarted history key =
-    (later : List Entry) × (restart : Restart) × (earlier : List Entry)
-    × (history ≡ later ++ entry.Restart restart ∷ earlier) × (restart.client ≡ key.client)
+    (later : History) × (restart : Restart) × (earlier : History)
+    × (history ≡ later ++ Accepted (entry.Restart restart) ∷ earlier)
+    × (restart.client ≡ key.client)
     × ((report : ReportFacts) × Contains (reports earlier (name_of key)) report)
 
 -- Stopped where a Stop was accepted, else Closed after a restart of the client, else Live
-pub record IsStateOf (history : List Entry) (key : Key) (state : SessionState) : Type 0 where
+pub record IsStateOf (history : History) (key : Key) (state : SessionState) : Type 0 where
   pub stopped : (state ≡ Stopped) ↔ IsStopped history key
   pub closed : (state ≡ Closed) ↔ ((IsStopped history key → ⊥) × IsRestarted history key)
   pub live : (state ≡ Live) ↔ ((IsStopped history key → ⊥) × (IsRestarted history key → ⊥))
@@ -125,7 +129,7 @@ pub record IsCauseOf (all : List ReportFacts) (state : SessionState) (cause : �
 
 -- a row says whether and how its session has ended
 abbrev pub RowsSayTheirEnds : Type 0
-RowsSayTheirEnds = (plans : List Plan) (history : List Entry) (key : Key) (row : RowFacts)
+RowsSayTheirEnds = (plans : List Plan) (history : History) (key : Key) (row : RowFacts)
     → row_of plans history key ≡ Some row
     → IsStateOf history key row.state
     × IsCauseOf (reports history (name_of key)) row.state row.cause
@@ -136,8 +140,25 @@ pub record StaysEnded (before after : RowFacts) : Type 0 where
   pub stopped : before.state ≡ Stopped
       → (after.state ≡ Stopped) × (after.cause ≡ before.cause)
 
--- whatever is accepted later, a session keeps its row, and an ended one never opens again
+-- whatever is accepted later, and whatever plans are added, a session keeps its row, and an ended
+-- one never opens again
 abbrev pub EndedStaysEnded : Type 0
-EndedStaysEnded = (plans : List Plan) (later history : List Entry) (key : Key) (row : RowFacts)
-    → row_of plans history key ≡ Some row
+EndedStaysEnded = (plans : List Plan) (later history : History) (key : Key) (row : RowFacts)
+    → row_of (plans_then plans later) history key ≡ Some row
     → (after : RowFacts) × (row_of plans (later ++ history) key ≡ Some after) × StaysEnded row after
+
+-- ---- plans
+
+-- the plan of a row, which is the one in force that has the class that the row keeps, is the plan
+-- of its session
+abbrev pub RowsKeepTheirPlans : Type 0
+RowsKeepTheirPlans = (plans : List Plan) (history : History) (key : Key) (row : RowFacts)
+    → row_of plans history key ≡ Some row
+    → plan_of_row plans row ≡ plan_of plans history (name_of key)
+
+-- After plans were added that extend the old ones, a content stands for the history with the
+-- addition, if it stood for the history by the old ones.
+abbrev pub AdditionsStand : Type 0
+AdditionsStand = (old new : List Plan) (content : Content) (history : History)
+    → plans_fault old ≡ None → plans_fault new ≡ None → Extends new old
+    → Stands old content history → Stands new content (PlansAdded (plans_added old new) ∷ history)

@@ -2,11 +2,10 @@
 use Rattle.std.specs.Prelude.{◌≡◌, ◌≢◌, ℕ, ℤ, bytes_eq, true, List, ◌∷◌, Option, Some, None}
 use Rattle.std.specs.Prelude.{if◌then◌else◌}
 use Rattle.acct_model.specs.declared.plan.Plan.{Plan}
-use Rattle.acct_model.specs.declared.entry.Entry.{Entry}
 use Rattle.acct_model.specs.declared.entry.Entry.TheVariants as entry
 use Rattle.acct_model.specs.Report.{ReportFacts}
 use Rattle.acct_model.specs.Vouchers.{TopUpFacts}
-use Rattle.acct_model.specs.History.{topup_of, balance_of}
+use Rattle.acct_model.specs.History.{Accepted, History, topup_of, balance_of}
 use Rattle.acct_book.specs.declared.key.Key.{Key}
 use Rattle.acct_book.specs.Row.{RowFacts}
 use Rattle.acct_book.specs.Rows.{row_of}
@@ -33,7 +32,7 @@ own_topup account (Some topup) = if bytes_eq account topup.account then Some top
 
 -- the part of an account: its balance, the rows of the sessions that it owns, the first top-up of
 -- each of its numbers
-abbrev pub part_of : List Plan → List Entry → List ℕ → Part
+abbrev pub part_of : List Plan → History → List ℕ → Part
 part_of plans history account = record {
   balance = balance_of plans history account;
   rows = λ key. own_row account (row_of plans history key);
@@ -51,9 +50,11 @@ AreTopUpsIn part topups = AreMembers octets_cmp (λ topup. topup.voucher) part.t
 
 -- A report of a session that another account owns with it, and a top-up to another account, leave
 -- the part of an account as it is.
-pub record OtherPartsStay (plans : List Plan) (history : List Entry)
+pub record OtherPartsStay (plans : List Plan) (history : History)
     (account : List ℕ) : Type 0 where
   pub reports : (report : ReportFacts) → account_of history (entry.Report report) ≢ Some account
-      → part_of plans (entry.Report report ∷ history) account ≡ part_of plans history account
+      → part_of plans (Accepted (entry.Report report) ∷ history) account
+      ≡ part_of plans history account
   pub topups : (topup : TopUpFacts) → topup.account ≢ account
-      → part_of plans (entry.TopUp topup ∷ history) account ≡ part_of plans history account
+      → part_of plans (Accepted (entry.TopUp topup) ∷ history) account
+      ≡ part_of plans history account

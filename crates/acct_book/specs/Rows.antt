@@ -8,11 +8,11 @@ use Rattle.std.specs.List.{filter}
 use Rattle.std.specs.Option.{option_and_then, option_map_or}
 use Rattle.acct_model.specs.declared.report.ReportKind.{ReportKind}
 use Rattle.acct_model.specs.declared.report.ReportKind.TheVariants.{Start, Stop, Interim}
-use Rattle.acct_model.specs.declared.entry.Entry.{Entry}
 use Rattle.acct_model.specs.declared.entry.Entry.TheVariants as entry
 use Rattle.acct_model.specs.declared.plan.Plan.{Plan}
 use Rattle.acct_model.specs.Report.{ReportFacts}
 use Rattle.acct_model.specs.Plans.{counted_under}
+use Rattle.acct_model.specs.History.{Accepted, PlansAdded, History}
 use Rattle.acct_model.specs.History.{SessionName, reports, first_of, largest, plan_of}
 use Rattle.acct_book.specs.declared.key.Key.{Key}
 use Rattle.acct_book.specs.declared.row.SessionState.{SessionState}
@@ -103,13 +103,14 @@ framed_of reports = option_and_then (λ report. report.framed)
 -- ---- whether a session has ended
 
 -- some restart of the session's client was accepted after some report of the session
-abbrev pub is_restarted : List Entry → Key → Bool
+abbrev pub is_restarted : History → Key → Bool
 is_restarted [] key = false
-is_restarted (entry.Report report ∷ older) key = is_restarted older key
-is_restarted (entry.Restart restart ∷ older) key =
+is_restarted (Accepted (entry.Report report) ∷ older) key = is_restarted older key
+is_restarted (Accepted (entry.Restart restart) ∷ older) key =
     (bytes_eq restart.client key.client && is_some (first_of (reports older (name_of key))))
     || is_restarted older key
-is_restarted (entry.TopUp topup ∷ older) key = is_restarted older key
+is_restarted (Accepted (entry.TopUp topup) ∷ older) key = is_restarted older key
+is_restarted (PlansAdded plans ∷ older) key = is_restarted older key
 
 -- what the first Stop and a restart make of a session
 abbrev pub state_of : Option ReportFacts → Bool → SessionState
@@ -149,6 +150,6 @@ abbrev pub row_of_reports : Option Plan → Key → Bool → List ReportFacts �
 row_of_reports plan key restarted all = option_map (row_from plan key restarted all) (first_of all)
 
 -- the row of a session, if a report of it was accepted
-abbrev pub row_of : List Plan → List Entry → Key → Option RowFacts
+abbrev pub row_of : List Plan → History → Key → Option RowFacts
 row_of plans history key = row_of_reports (plan_of plans history (name_of key)) key
     (is_restarted history key) (reports history (name_of key))

@@ -2,7 +2,7 @@
 use Rattle.std.specs.Prelude.{◌≡◌, ◌⊎◌, List, ◌∷◌, Result}
 use Rattle.acct_model.specs.declared.plan.Plan.{Plan}
 use Rattle.acct_model.specs.declared.entry.Entry.{Entry}
-use Rattle.acct_model.specs.History.{Admissible}
+use Rattle.acct_model.specs.History.{Accepted, History, Admissible}
 use Rattle.acct_book.specs.declared.book.Book.{Ghosts}
 use Rattle.acct_book.specs.Book.{Only, Reads}
 use Rattle.acct_book.specs.Content.{Content}
@@ -16,12 +16,12 @@ Looks b old new result =
     Reads b.content b.is_sound b.is_open b.is_steady b.left old new result
 
 -- the entry may be accepted, and the content stands for the history with it
-abbrev pub MayAdd : List Plan → List Entry → Entry → Content → Type 0
+abbrev pub MayAdd : List Plan → History → Entry → Content → Type 0
 MayAdd plans history next content =
-    Admissible plans history next × Stands plans content (next ∷ history)
+    Admissible plans history next × Stands plans content (Accepted next ∷ history)
 
 -- The content stands for the history, unless the book was shut and tells none.
-abbrev pub StoodFor : {B : Type 0} → Ghosts B → List Plan → B → List Entry → Type 0
+abbrev pub StoodFor : {B : Type 0} → Ghosts B → List Plan → B → History → Type 0
 StoodFor b plans book history = b.is_open book → Stands plans (b.content book) history
 
 -- A call over a book with this effect, from whatever history the content stood for.
@@ -37,12 +37,12 @@ pub record Does {B : Type 0} (b : Ghosts B) (plans : List Plan) (old new : B) (e
   pub settled : b.is_sound new → IsTold effect → Only (b.content new) (b.left new)
   pub unchanged : b.is_open new → IsNotAdded effect → b.content new ≡ b.content old
   -- the effect is true of the history, and the content stands for the history after it
-  pub holds : b.is_sound new → (history : List Entry) → StoodFor b plans old history
+  pub holds : b.is_sound new → (history : History) → StoodFor b plans old history
       → Holds plans history effect
-  pub stands : b.is_sound new → (history : List Entry) → StoodFor b plans old history
+  pub stands : b.is_sound new → (history : History) → StoodFor b plans old history
       → StoodFor b plans new (after_effect history effect)
   -- a crash leaves what it could before, or that with the whole entry that was added or failed
-  pub leaves : b.is_sound new → (history : List Entry) → StoodFor b plans old history
+  pub leaves : b.is_sound new → (history : History) → StoodFor b plans old history
       → (c : Content) → b.left new c
       → b.left old c
       ⊎ (b.is_open old × ((asked : Entry) × Tries effect asked × MayAdd plans history asked c))

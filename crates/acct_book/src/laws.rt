@@ -1,11 +1,12 @@
 //! Laws of books, as functions without effect.
 ghost use Rattle.std.specs.Prelude.{ℕ, ◌≡◌, ◌↔◌, List, []};
 ghost use Rattle.acct_model.specs.declared.plan.Plan.{Plan};
+ghost use Rattle.acct_model.specs.History.{History};
 ghost use Rattle.acct_model.specs.Agreement.{BalancesAgree};
 ghost use Rattle.acct_book.specs.Content.{Content, empty_content};
-ghost use Rattle.acct_model.specs.declared.entry.Entry.{Entry};
 ghost use Rattle.acct_book.specs.Laws.{RowsHaveTheirKeys, RowsAreOfSessions, RowsAreOfReports};
 ghost use Rattle.acct_book.specs.Laws.{RowsAreCharged, RowsSayTheirEnds, EndedStaysEnded};
+ghost use Rattle.acct_book.specs.Laws.{RowsKeepTheirPlans, AdditionsStand};
 ghost use Rattle.acct_book.specs.Part.{OtherPartsStay};
 ghost use Rattle.acct_book.specs.Stands.{Stands};
 ghost use Rattle.acct_book.specs.Walk.{WalksMeetAll, ListsAreFixed};
@@ -64,7 +65,7 @@ pub fn rows_are_of_reports()
 {}
 
 /// The row of a session says what the session costs: `charge` of it is the price of the greatest
-/// number that the plan of its first report's class counts.
+/// number that the session's plan counts.
 pub fn rows_are_charged()
     ensures { RowsAreCharged }
 {}
@@ -76,8 +77,8 @@ pub fn rows_say_their_ends()
     ensures { RowsSayTheirEnds }
 {}
 
-/// An ended session never opens again, whatever is accepted later, and a stopped one keeps its
-/// cause.
+/// An ended session never opens again, whatever is accepted later and whatever plans are added, and
+/// a stopped one keeps its cause.
 pub fn ended_stays_ended()
     ensures { EndedStaysEnded }
 {}
@@ -94,8 +95,9 @@ pub fn lists_are_fixed()
 {}
 
 /// Order and repetition: the same claims, in whatever order, with whatever repeats, delays and
-/// restarts between them, give the same balances. A claim is what an entry says that a balance
-/// depends on: a report's session, user, class and octets, a top-up's number, account and sum.
+/// restarts between them, give the same balances, where plans were added only for classes that no
+/// report accepted before bears. A claim is what an entry says that a balance depends on: a
+/// report's session, user, class and octets, a top-up's number, account and sum.
 pub fn balances_agree()
     ensures { BalancesAgree }
 {}
@@ -103,6 +105,18 @@ pub fn balances_agree()
 /// An accepted report of a session that another account owns, and an accepted top-up to another
 /// account, leave the part of an account as it is: its balance, its rows and its top-ups.
 pub fn part_stays()
-    ensures { (plans : List Plan) (history : List Entry) (account : List ℕ)
+    ensures { (plans : List Plan) (history : History) (account : List ℕ)
         → OtherPartsStay plans history account }
+{}
+
+/// The plan of a row, which is the one in force that has the class that the row keeps, is the plan
+/// of its session: the one that the session's first report found.
+pub fn rows_keep_their_plans()
+    ensures { RowsKeepTheirPlans }
+{}
+
+/// A content that stood for a history stands for it with an addition of plans, where the new plans
+/// extend the old ones: no row, no balance and no voucher changes.
+pub fn additions_stand()
+    ensures { AdditionsStand }
 {}

@@ -7,8 +7,8 @@
 //!    refused call changes nothing, in a book that goes on answering.
 //! 3. In an open book each row stands under its own key and each top-up under its own number.
 //! 4. A content stands for a history where its rows, its top-ups and its balances are the ones that
-//!    the accepted entries alone determine, and every balance is in range (`specs/Stands.antt`,
-//!    `specs/Rows.antt`).
+//!    the history alone determines, and every balance is in range (`specs/Stands.antt`,
+//!    `specs/Rows.antt`). It goes on to stand where plans are added to those of the site.
 //! 5. `record` takes a content that stands for a history to one that stands for that history with
 //!    the entry, or leaves it as it is and says why (`specs/Effect.antt`, `specs/Step.antt`).
 //! 6. What a crash at a moment may leave of a book is a set of contents: a reading call adds none

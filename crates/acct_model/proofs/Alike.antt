@@ -5,17 +5,17 @@ use Rattle.std.specs.Prelude.{Contains, bytes_eq, Option, Some, max}
 use Rattle.std.specs.List.{filter, sum_by}
 use Rattle.std.specs.Option.{option_or}
 use Rattle.acct_model.specs.declared.plan.Plan.{Plan}
-use Rattle.acct_model.specs.declared.entry.Entry.{Entry}
 use Rattle.acct_model.specs.Report.{ReportFacts}
 use Rattle.acct_model.specs.Vouchers.{TopUpFacts}
 use Rattle.acct_model.specs.Plans.{plan_for, price_under}
-use Rattle.acct_model.specs.History.{SessionName, session_of, same_session, all_reports, reports}
-use Rattle.acct_model.specs.History.{sessions, first_of, plan_by, counted_of, greatest_counted}
-use Rattle.acct_model.specs.History.{cost_of, share, charged}
-use Rattle.acct_model.specs.History.{all_topups, topups, Voucher, voucher_of, same_voucher}
-use Rattle.acct_model.specs.History.{credited}
+use Rattle.acct_model.specs.History.{History, SessionName, session_of, same_session, all_reports}
+use Rattle.acct_model.specs.History.{reports, sessions, first_of, counted_of, greatest_counted}
+use Rattle.acct_model.specs.History.{cost_of, share, charged, all_topups, topups, Voucher}
+use Rattle.acct_model.specs.History.{voucher_of, same_voucher, credited}
 use Rattle.acct_model.proofs.Same.{Decides-same_session, Decides-same_voucher}
+use Rattle.acct_model.specs.Agreement.{AddsForNone}
 use Rattle.acct_model.proofs.Members.{greatest_reached}
+use Rattle.acct_model.proofs.Kept.{plan_by, plan-frozen}
 use Rattle.acct_model.proofs.Lists.{here, deeper, nowhere, from_map, to_map, from_filter, to_filter}
 use Rattle.acct_model.proofs.Sums.{sum_of_same}
 
@@ -180,22 +180,35 @@ sessions_among plans these those covers name h =
     let q = covers r.0 r.1 in
     subst (λ v. Contains (map session_of those) v) (q.2 ∙ r.2) (to_map session_of those q.0 q.1)
 
+-- where plans were added only for classes that no report bears, a session costs what its reports
+-- cost by the plan that the class of the first names among those in force at the end
+pub charged-frozen : (plans : List Plan) (history : History) (account : List ℕ)
+    → AddsForNone history
+    → charged plans history account
+    ≡ sum_by (λ name. cost_to plans account (reports history name)) (sessions history)
+charged-frozen plans history account fresh = λ i. sum_by (λ name. share account
+    (first_of (reports history name))
+    (cost_of (plan-frozen plans history name fresh i) (reports history name))) (sessions history)
+
 -- Reports that are alike cost each account the same.
-pub charged-alike : (plans : List Plan) (these those : List Entry) (account : List ℕ)
+pub charged-alike : (plans : List Plan) (these those : History) (account : List ℕ)
+    → AddsForNone these → AddsForNone those
     → AreAlike plans (all_reports these) (all_reports those)
     → charged plans these account ≡ charged plans those account
-charged-alike plans these those account same =
+charged-alike plans these those account fresh new same =
     let shares : (name : SessionName)
     → cost_to plans account (reports these name) ≡ cost_to plans account (reports those name) =
     λ name. cost_in plans account name (all_reports these) (all_reports those) same in
-    let as_those : charged plans these account
+    let as_those : sum_by (λ name. cost_to plans account (reports these name)) (sessions these)
     ≡ sum_by (λ name. cost_to plans account (reports those name)) (sessions these) =
     λ i. sum_by (λ name. shares name i) (sessions these) in
-    as_those ∙ sum_of_same same_session Decides-same_session
+    charged-frozen plans these account fresh ∙ as_those
+    ∙ sum_of_same same_session Decides-same_session
     (λ name. cost_to plans account (reports those name))
     (map session_of (all_reports these)) (map session_of (all_reports those))
     (sessions_among plans (all_reports these) (all_reports those) same.up)
     (sessions_among plans (all_reports those) (all_reports these) same.down)
+    ∙ sym (charged-frozen plans those account new)
 
 -- ---- vouchers
 
@@ -220,7 +233,7 @@ vouchers_among these those account among voucher h =
     (to_filter (λ t. bytes_eq account t.account) those u.0 u.1 own))
 
 -- Top-ups that are among one another give each account the same.
-pub credited-among : (these those : List Entry) (account : List ℕ)
+pub credited-among : (these those : History) (account : List ℕ)
     → AreAmong (all_topups these) (all_topups those)
     → AreAmong (all_topups those) (all_topups these)
     → credited these account ≡ credited those account

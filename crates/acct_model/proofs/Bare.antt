@@ -10,14 +10,16 @@ use Rattle.acct_model.specs.declared.entry.Entry.TheVariants as entry
 use Rattle.acct_model.specs.Report.{ReportFacts}
 use Rattle.acct_model.specs.Vouchers.{TopUpFacts}
 use Rattle.acct_model.specs.Plans.{price_under}
+use Rattle.acct_model.specs.History.{Member, Accepted, PlansAdded, History}
 use Rattle.acct_model.specs.History.{SessionName, session_of, same_session, all_reports, reports}
-use Rattle.acct_model.specs.History.{distinct, first_of, plan_by, counted_of, greatest_counted}
+use Rattle.acct_model.specs.History.{distinct, sessions, first_of, counted_of, greatest_counted}
 use Rattle.acct_model.specs.History.{cost_of, share, charged, all_topups, voucher_of}
 use Rattle.acct_model.specs.History.{same_voucher, credited, balance_of}
 use Rattle.acct_model.specs.Claims.{ReportClaim, TopUpClaim, Claim, OfReport, OfTopUp, report_claim}
 use Rattle.acct_model.specs.Claims.{topup_claim, claims}
-use Rattle.acct_model.specs.Agreement.{BalancesAreEqual}
-use Rattle.acct_model.proofs.Alike.{cost_to}
+use Rattle.acct_model.specs.Agreement.{BalancesAreEqual, AddsForNone}
+use Rattle.acct_model.proofs.Kept.{plan_by}
+use Rattle.acct_model.proofs.Alike.{cost_to, charged-frozen}
 
 -- the report and the top-up that say a claim and nothing else
 report_by : ReportClaim → ReportFacts
@@ -51,22 +53,27 @@ bare_report r = report_by (report_claim r)
 bare_topup : TopUpFacts → TopUpFacts
 bare_topup t = topup_by (topup_claim t)
 
-bare : List Entry → List Entry
-bare es = map entry_by (claims es)
+member_by : Claim → Member
+member_by c = Accepted (entry_by c)
 
-reports_bare : (es : List Entry) → all_reports (bare es) ≡ map bare_report (all_reports es)
-unfolding bare entry_by bare_report
+bare : History → History
+bare es = map member_by (claims es)
+
+reports_bare : (es : History) → all_reports (bare es) ≡ map bare_report (all_reports es)
+unfolding bare member_by entry_by bare_report
 reports_bare [] = refl
-reports_bare (entry.Report r ∷ es) = ap (λ rs. bare_report r ∷ rs) (reports_bare es)
-reports_bare (entry.Restart r ∷ es) = reports_bare es
-reports_bare (entry.TopUp t ∷ es) = reports_bare es
+reports_bare (Accepted (entry.Report r) ∷ es) = ap (λ rs. bare_report r ∷ rs) (reports_bare es)
+reports_bare (Accepted (entry.Restart r) ∷ es) = reports_bare es
+reports_bare (PlansAdded plans ∷ es) = reports_bare es
+reports_bare (Accepted (entry.TopUp t) ∷ es) = reports_bare es
 
-topups_bare : (es : List Entry) → all_topups (bare es) ≡ map bare_topup (all_topups es)
-unfolding bare entry_by bare_topup
+topups_bare : (es : History) → all_topups (bare es) ≡ map bare_topup (all_topups es)
+unfolding bare member_by entry_by bare_topup
 topups_bare [] = refl
-topups_bare (entry.Report r ∷ es) = topups_bare es
-topups_bare (entry.Restart r ∷ es) = topups_bare es
-topups_bare (entry.TopUp t ∷ es) = ap (λ ts. bare_topup t ∷ ts) (topups_bare es)
+topups_bare (Accepted (entry.Report r) ∷ es) = topups_bare es
+topups_bare (Accepted (entry.Restart r) ∷ es) = topups_bare es
+topups_bare (PlansAdded plans ∷ es) = topups_bare es
+topups_bare (Accepted (entry.TopUp t) ∷ es) = ap (λ ts. bare_topup t ∷ ts) (topups_bare es)
 
 -- ---- reports
 
@@ -126,9 +133,16 @@ cost_bare plans account rs =
     ∙ ap (λ n. share account (first_of rs) (price_under (plan_by plans (first_of rs)) n))
     (greatest_bare (plan_by plans (first_of rs)) rs)
 
-charged_bare : (plans : List Plan) (es : List Entry) (account : List ℕ)
+-- no plan is added among them
+added_bare : (cs : List Claim) → AddsForNone (map member_by cs)
+unfolding member_by
+added_bare [] = tt
+added_bare (c ∷ cs) = added_bare cs
+
+charged_bare : (plans : List Plan) (es : History) (account : List ℕ) → AddsForNone es
     → charged plans (bare es) account ≡ charged plans es account
-charged_bare plans es account =
+unfolding bare
+charged_bare plans es account fresh =
     let shares : (name : SessionName)
     → cost_to plans account (reports (bare es) name) ≡ cost_to plans account (reports es name) =
     λ name. ap (λ rs. cost_to plans account
@@ -137,7 +151,11 @@ charged_bare plans es account =
     ∙ cost_bare plans account (reports es name) in
     let names : map session_of (all_reports (bare es)) ≡ map session_of (all_reports es) =
     ap (map session_of) (reports_bare es) ∙ named_bare (all_reports es) in
-    λ i. sum_by (λ name. shares name i) (distinct same_session (names i))
+    let costs : sum_by (λ name. cost_to plans account (reports (bare es) name)) (sessions (bare es))
+    ≡ sum_by (λ name. cost_to plans account (reports es name)) (sessions es) =
+    λ i. sum_by (λ name. shares name i) (distinct same_session (names i)) in
+    charged-frozen plans (bare es) account (added_bare (claims es)) ∙ costs
+    ∙ sym (charged-frozen plans es account fresh)
 
 -- ---- top-ups
 
@@ -157,7 +175,7 @@ vouchers_bare account (t ∷ ts) =
       | false ↦ vouchers_bare account ts
     ]
 
-credited_bare : (es : List Entry) (account : List ℕ)
+credited_bare : (es : History) (account : List ℕ)
     → credited (bare es) account ≡ credited es account
 credited_bare es account =
     ap (λ ts. sum_by (λ v. v.1)
@@ -166,16 +184,17 @@ credited_bare es account =
     ∙ ap (λ vs. sum_by (λ v. v.1) (distinct same_voucher vs))
     (vouchers_bare account (all_topups es))
 
-balance_bare : (plans : List Plan) (es : List Entry) (account : List ℕ)
+balance_bare : (plans : List Plan) (es : History) (account : List ℕ) → AddsForNone es
     → balance_of plans (bare es) account ≡ balance_of plans es account
-balance_bare plans es account =
-    λ i. pos (credited_bare es account i) -ℤ pos (charged_bare plans es account i)
+balance_bare plans es account fresh =
+    λ i. pos (credited_bare es account i) -ℤ pos (charged_bare plans es account fresh i)
 
 -- Lists with the same claims in the same order have the same balances.
-pub balance-claims : (plans : List Plan) (these those : List Entry) → claims these ≡ claims those
+pub balance-claims : (plans : List Plan) (these those : History)
+    → AddsForNone these → AddsForNone those → claims these ≡ claims those
     → BalancesAreEqual plans these those
 unfolding bare
-balance-claims plans these those same account =
-    sym (balance_bare plans these account)
-    ∙ ap (λ cs. balance_of plans (map entry_by cs) account) same
-    ∙ balance_bare plans those account
+balance-claims plans these those fresh new same account =
+    sym (balance_bare plans these account fresh)
+    ∙ ap (λ cs. balance_of plans (map member_by cs) account) same
+    ∙ balance_bare plans those account new

@@ -6,19 +6,18 @@ use Rattle.std.proofs.lemmas.Bool.Decides.{nat_tests}
 use Rattle.std.specs.Prelude.{pos, ◌-ℤ◌, bytes_eq, nat_lt}
 use Rattle.std.specs.List.{list_any, sum_by, filter}
 use Rattle.acct_model.specs.declared.plan.Plan.{Plan}
-use Rattle.acct_model.specs.declared.entry.Entry.{Entry}
 use Rattle.acct_model.specs.declared.entry.Entry.TheVariants as entry
 use Rattle.acct_model.specs.Report.{ReportFacts}
 use Rattle.acct_model.specs.Vouchers.{TopUpFacts}
-use Rattle.acct_model.specs.History.{SessionName, session_of, same_session, all_reports, reports}
-use Rattle.acct_model.specs.History.{distinct, sessions, first_of, is_owner, charge_of, share}
-use Rattle.acct_model.specs.History.{owned, all_topups, voucher_of, same_voucher, balance_of}
-use Rattle.acct_model.specs.History.{is_known}
+use Rattle.acct_model.specs.History.{Accepted, History, SessionName, session_of, same_session}
+use Rattle.acct_model.specs.History.{all_reports, reports, distinct, sessions, first_of, is_owner}
+use Rattle.acct_model.specs.History.{charge_of, share, owned, all_topups, voucher_of, same_voucher}
+use Rattle.acct_model.specs.History.{balance_of, is_known}
 use Rattle.acct_model.proofs.Same.{Decides-same_session}
 use Rattle.acct_model.proofs.Distinct.{le-sum_by-distinct}
 use Rattle.acct_model.proofs.Balances.{owned-report, share-other}
 
-abbrev pub owns : List Entry → List ℕ → SessionName → Bool
+abbrev pub owns : History → List ℕ → SessionName → Bool
 owns history account name = is_owner account (first_of (reports history name))
 
 abbrev one : SessionName → ℕ
@@ -69,7 +68,7 @@ no_reports weight account name (r ∷ rs) e =
     ] e
 
 -- what a session weighs is a part of what its owner's sessions weigh
-pub share-le_owned : (weight : SessionName → ℕ) (history : List Entry) (name : SessionName)
+pub share-le_owned : (weight : SessionName → ℕ) (history : History) (name : SessionName)
     (account : List ℕ)
     → share account (first_of (reports history name)) (weight name) ≤ owned weight history account
 share-le_owned weight history name account =
@@ -82,17 +81,18 @@ share-le_owned weight history name account =
     ] refl
 
 -- A report makes its session's owner known.
-owns-report : (history : List Entry) (report : ReportFacts) (account : List ℕ)
-    → list_any (owns (entry.Report report ∷ history) account)
-    (sessions (entry.Report report ∷ history))
+owns-report : (history : History) (report : ReportFacts) (account : List ℕ)
+    → list_any (owns (Accepted (entry.Report report) ∷ history) account)
+    (sessions (Accepted (entry.Report report) ∷ history))
     ≡ (is_owner account (first_of (report ∷ reports history (session_of report)))
     || list_any (owns history account) (sessions history))
 owns-report history report account =
     let rs = reports history (session_of report) in
     let mine = is_owner account (first_of (report ∷ rs)) in
-    sym (sum_any (owns (entry.Report report ∷ history) account)
-    (sessions (entry.Report report ∷ history)))
-    ∙ known_if_above (owned one (entry.Report report ∷ history) account) (owned one history account)
+    sym (sum_any (owns (Accepted (entry.Report report) ∷ history) account)
+    (sessions (Accepted (entry.Report report) ∷ history)))
+    ∙ known_if_above (owned one (Accepted (entry.Report report) ∷ history) account)
+    (owned one history account)
     (share account (first_of rs) 1) (share account (first_of (report ∷ rs)) 1) mine
     (owned-report one one history report account (λ name other. refl)) refl
     (share-le_owned one history (session_of report) account)
@@ -109,8 +109,8 @@ or_swap true true c = refl
 or_swap true false c = refl
 or_swap false b c = refl
 
-pub is_known-report : (history : List Entry) (report : ReportFacts) (account : List ℕ)
-    → is_known (entry.Report report ∷ history) account
+pub is_known-report : (history : History) (report : ReportFacts) (account : List ℕ)
+    → is_known (Accepted (entry.Report report) ∷ history) account
     ≡ (is_owner account (first_of (report ∷ reports history (session_of report)))
     || is_known history account)
 is_known-report history report account =
@@ -120,8 +120,8 @@ is_known-report history report account =
     (list_any (owns history account) (sessions history)) topped
 
 -- A top-up makes its account known.
-pub is_known-topup : (history : List Entry) (topup : TopUpFacts) (account : List ℕ)
-    → is_known (entry.TopUp topup ∷ history) account
+pub is_known-topup : (history : History) (topup : TopUpFacts) (account : List ℕ)
+    → is_known (Accepted (entry.TopUp topup) ∷ history) account
     ≡ (bytes_eq account topup.account || is_known history account)
 is_known-topup history topup account =
     or_swap (list_any (owns history account) (sessions history)) (bytes_eq account topup.account)
@@ -155,7 +155,7 @@ or_false true b h = absurd (true≢false h)
 or_false false b h = (refl, h)
 
 -- an account that owns neither session nor voucher has balance 0
-pub balance-unknown : (plans : List Plan) (history : List Entry) (account : List ℕ)
+pub balance-unknown : (plans : List Plan) (history : History) (account : List ℕ)
     → is_known history account ≡ false → balance_of plans history account ≡ pos 0
 balance-unknown plans history account unknown =
     let both = or_false (list_any (owns history account) (sessions history))

@@ -44,3 +44,9 @@ pub mod Agree
 pub mod Repeats
 -- the law `BalancesAgree`
 pub mod Agreement
+-- a session keeps its plan
+pub mod Kept
+-- what sessions cost does not depend on the order of the plans
+pub mod SamePlans
+-- the laws of plans that are added later
+pub mod KeptLaws

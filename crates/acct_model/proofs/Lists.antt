@@ -1,10 +1,12 @@
 -- Which elements lists have: mapped, filtered and tested lists.
 use Rattle.std.proofs.Common.{◌≡◌, ◌<◌, ◌⊎◌, inl, inr, Bool, true, false, cond, ◌||◌, List, [], ◌∷◌}
-use Rattle.std.proofs.Common.{map, refl, sym, ◌∙◌, ap, subst, arith, true≢false}
+use Rattle.std.proofs.Common.{map, refl, sym, ◌∙◌, ap, subst, arith, true≢false, take, get_or}
+use Rattle.std.proofs.Common.{ℕ, ◌+◌, length}
 use Rattle.std.proofs.lemmas.List.Elements.{Contains-append_left, Contains-append_right}
 use Rattle.std.proofs.lemmas.List.Elements.{Contains-append_cases, Contains-push_cases, All-weaker}
-use Rattle.std.proofs.lemmas.List.Elements.{All-contains_itself}
-use Rattle.std.specs.Prelude.{Contains, All, None, Some}
+use Rattle.std.proofs.lemmas.List.Elements.{All-contains_itself, All-push}
+use Rattle.std.proofs.lemmas.List.{take_more}
+use Rattle.std.specs.Prelude.{Contains, All, None, Some, is_some}
 use Rattle.std.specs.List.{list_any, filter, find, Any}
 
 pub here : {X : Type 0} (x : X) (xs : List X) → Contains (x ∷ xs) x
@@ -118,6 +120,13 @@ pub all_listed : {X : Type 0} (P : X → Type 0) (xs : List X) → ((x : X) → 
     → All P xs
 all_listed P xs each = All-weaker (Contains xs) P each xs (All-contains_itself xs)
 
+-- what holds of the elements before a place and of the one there, holds of all up to it
+pub all_more : {X : Type 0} (P : X → Type 0) (xs : List X) (at : ℕ) (x : X) → at < length xs
+    → x ≡ get_or xs at x → All P (take at xs) → P x → All P (take (at + 1) xs)
+all_more P xs at x within is all holds =
+    subst (All P) (sym (take_more xs at x within))
+    (All-push P (take at xs) (get_or xs at x) all (subst P is holds))
+
 pub any_listed : {X : Type 0} (P : X → Type 0) (xs : List X) (x : X) → Contains xs x → P x
     → Any P xs
 any_listed P xs x there holds = (there.0, x, there.1, there.2, holds)
@@ -127,6 +136,14 @@ pub listed_any : {X : Type 0} (P : X → Type 0) (xs : List X) → Any P xs → 
 listed_any P xs (k, x, within, is, holds) = (x, (k, within, is), holds)
 
 -- ---- what `find` finds
+
+pub is_some-find : {X : Type 0} (p : X → Bool) (xs : List X) → is_some (find p xs) ≡ list_any p xs
+is_some-find p [] = refl
+is_some-find p (x ∷ xs) =
+    elim (p x) as (λ b. is_some (cond b (Some x) (find p xs)) ≡ (b || list_any p xs)) [
+      | true ↦ refl
+      | false ↦ is_some-find p xs
+    ]
 
 pub find-none : {X : Type 0} (p : X → Bool) (xs : List X) → find p xs ≡ None → list_any p xs ≡ false
 find-none p [] e = refl

@@ -7,13 +7,12 @@ use Rattle.std.proofs.lemmas.Bool.{cases_lt}
 use Rattle.std.specs.Bool.{Decides}
 use Rattle.std.specs.List.{list_any, IsDistinct, AllByRecursion}
 use Rattle.std.specs.Option.{option_or}
-use Rattle.acct_model.specs.declared.entry.Entry.{Entry}
 use Rattle.acct_model.specs.declared.plan.Plan.{Plan}
 use Rattle.acct_model.specs.Report.{ReportFacts}
-use Rattle.acct_model.specs.History.{SessionName, session_of, same_session, all_reports, reports}
-use Rattle.acct_model.specs.History.{distinct, sessions, first_of, is_owner, counted_of}
-use Rattle.acct_model.specs.History.{greatest_counted}
-use Rattle.acct_model.specs.History.{all_topups, topups, voucher_of, same_voucher, is_known}
+use Rattle.acct_model.specs.History.{History, SessionName, session_of, same_session, all_reports}
+use Rattle.acct_model.specs.History.{reports, distinct, sessions, first_of, is_owner, counted_of}
+use Rattle.acct_model.specs.History.{greatest_counted, all_topups, topups, voucher_of, same_voucher}
+use Rattle.acct_model.specs.History.{is_known}
 use Rattle.acct_model.specs.Laws.{OwnsSession, OwnsVoucher, GreatestCountIsReached}
 use Rattle.acct_model.specs.Laws.{SessionsAreReported, VouchersAreToppedUp, KnownAccountsOwn}
 use Rattle.acct_model.proofs.Same.{Decides-bytes_eq, Decides-same_session, Decides-same_voucher}
@@ -163,7 +162,7 @@ first_deepest [] report = refl
 first_deepest (r ∷ later) report = ap (λ o. option_or o (Some r)) (first_deepest later report)
 
 -- a session with a first report is listed
-first_listed : (history : List Entry) (name : SessionName) (first : ReportFacts)
+first_listed : (history : History) (name : SessionName) (first : ReportFacts)
     → first_of (reports history name) ≡ Some first → Contains (sessions history) name
 first_listed history name first is =
     let some = first_stands (reports history name) first is in
@@ -205,10 +204,10 @@ which : (a b : Bool) → IsTrue (a || b) → (a ≡ true) ⊎ (b ≡ true)
 which true b h = inl refl
 which false b h = inr h
 
-topped_up : List Entry → List ℕ → Bool
+topped_up : History → List ℕ → Bool
 topped_up history account = list_any (λ topup. bytes_eq account topup.account) (all_topups history)
 
-knows : (history : List Entry) (account : List ℕ) → IsTrue (is_known history account)
+knows : (history : History) (account : List ℕ) → IsTrue (is_known history account)
     → OwnsSession history account ⊎ OwnsVoucher history account
 unfolding topped_up
 knows history account known =
@@ -224,7 +223,7 @@ knows history account known =
           inr (some.0, some.1, sym ((Decides-bytes_eq account some.0.account).0 some.2))
     ]
 
-is_known_by : (history : List Entry) (account : List ℕ) → OwnsSession history account
+is_known_by : (history : History) (account : List ℕ) → OwnsSession history account
     ⊎ OwnsVoucher history account → IsTrue (is_known history account)
 unfolding topped_up
 is_known_by history account own =

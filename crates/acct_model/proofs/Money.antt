@@ -5,21 +5,21 @@ use Rattle.std.proofs.Math.Nat.{mul-le-mul_left}
 use Rattle.std.proofs.lemmas.Int.{ints}
 use Rattle.std.specs.Prelude.{pos, ◌-ℤ◌, ◌≤ℤ◌, bytes_eq, max, Option, Some, None}
 use Rattle.std.specs.List.{find}
-use Rattle.std.specs.Option.{option_or}
+use Rattle.std.specs.Option.{option_or, option_and_then}
 use Rattle.acct_model.specs.declared.plan.Plan.{Plan}
 use Rattle.acct_model.specs.declared.entry.Entry.TheVariants as entry
-use Rattle.acct_model.specs.declared.entry.Entry.{Entry}
 use Rattle.acct_model.specs.Report.{ReportFacts}
 use Rattle.acct_model.specs.Plans.{started_blocks, price_of, price_under, has_class}
-use Rattle.acct_model.specs.Plans.{default_class}
+use Rattle.acct_model.specs.Plans.{default_class, plan_for}
 use Rattle.acct_model.specs.PlanFaults.{plans_fault}
-use Rattle.acct_model.specs.History.{SessionName, session_of, reports, first_of, is_owner, plan_by}
-use Rattle.acct_model.specs.History.{plan_of, counted_of, greatest_counted, cost_of, voucher_of}
-use Rattle.acct_model.specs.History.{charged, credited}
+use Rattle.acct_model.specs.History.{Accepted, History, SessionName, session_of, reports, first_of}
+use Rattle.acct_model.specs.History.{is_owner, plan_of, kept_class, counted_of, greatest_counted}
+use Rattle.acct_model.specs.History.{cost_of, voucher_of, charged, credited}
 use Rattle.acct_model.specs.MoneyLaws.{SessionIsCharged, ReportsAreChargedOnce}
 use Rattle.acct_model.specs.MoneyLaws.{VouchersAreCreditedOnce, MoneyMovesOnce}
 use Rattle.acct_model.proofs.Blocks.{IsLeastBlocks-started}
 use Rattle.acct_model.proofs.PlanFaults.{IsPlan-found}
+use Rattle.acct_model.proofs.Kept.{plan-kept}
 use Rattle.acct_model.proofs.Balances.{reports-own, cost_before, cost_after}
 use Rattle.acct_model.proofs.Balances.{charged-report, before-known, after-known, before-none}
 use Rattle.acct_model.proofs.Balances.{balance-report-other, balance-topup}
@@ -45,14 +45,16 @@ found_block plans class plan good (Some other) is e =
     (IsPlan-found (has_class class) plans plan good (is ∙ e)).block
 
 -- the plan of a session has a block
-plan-block : (plans : List Plan) (history : List Entry) (name : SessionName) (plan : Plan)
+plan-block : (plans : List Plan) (history : History) (name : SessionName) (plan : Plan)
     → plans_fault plans ≡ None → plan_of plans history name ≡ Some plan → 0 < plan.block
-plan-block plans history name plan good is = block_at (first_of (reports history name)) is
+plan-block plans history name plan good is =
+    block_at (kept_class plans history name) (sym (plan-kept plans history name) ∙ is)
   where
-    block_at : (o : Option ReportFacts) → plan_by plans o ≡ Some plan → 0 < plan.block
+    block_at : (o : Option (List ℕ)) → option_and_then (plan_for plans) o ≡ Some plan
+        → 0 < plan.block
     block_at None e = absurd (cc)
-    block_at (Some first) e =
-        found_block plans first.class plan good (find (has_class first.class) plans) refl e
+    block_at (Some class) e =
+        found_block plans class plan good (find (has_class class) plans) refl e
 
 price_under-more : (n m : ℕ) → n ≤ m → (o : Option Plan)
     → ((plan : Plan) → o ≡ Some plan → 0 < plan.block) → price_under o n ≤ price_under o m
@@ -64,7 +66,7 @@ cond-more true n m more = more
 cond-more false n m more = omega arith
 
 -- a session costs no less after one more report
-cost-more : (plans : List Plan) (history : List Entry) (report : ReportFacts) (account : List ℕ)
+cost-more : (plans : List Plan) (history : History) (report : ReportFacts) (account : List ℕ)
     → plans_fault plans ≡ None → (o : Option ReportFacts)
     → first_of (reports history (session_of report)) ≡ o
     → cost_before plans history report account ≤ cost_after plans history report account
@@ -96,7 +98,7 @@ charged_once = record {
       let same = cost-same plans history report one account listed less
       (first_of (reports history (session_of report))) refl in
       let step = charged-report plans history report account in
-      let still : charged plans (entry.Report report ∷ history) account
+      let still : charged plans (Accepted (entry.Report report) ∷ history) account
       ≡ charged plans history account = omega (arith, step, same) in
       ap (λ n. pos (credited history account) -ℤ pos n) still;
   owner = λ plans history report first account is other.
@@ -109,9 +111,10 @@ charged_once = record {
       (first_of (reports history (session_of report))) refl in
       let step = charged-report plans history report account in
       let grown : charged plans history account
-      ≤ charged plans (entry.Report report ∷ history) account = omega (arith, step, more) in
+      ≤ charged plans (Accepted (entry.Report report) ∷ history) account =
+      omega (arith, step, more) in
       lower (credited history account) (charged plans history account)
-      (charged plans (entry.Report report ∷ history) account) grown;
+      (charged plans (Accepted (entry.Report report) ∷ history) account) grown;
 }
 
 pub credited_once : VouchersAreCreditedOnce
@@ -136,11 +139,10 @@ moves_once = record {
 
 -- what a session costs, by its least blocks
 pub session_charged : SessionIsCharged
-session_charged plans history name first plan is planned some =
+session_charged plans history name plan planned some =
     let rs = reports history name in
-    let n = greatest_counted (Some plan) rs in
-    let paid : plan_of plans history name ≡ Some plan = ap (plan_by plans) is ∙ planned in (
+    let n = greatest_counted (Some plan) rs in (
       started_blocks plan.block n,
       IsLeastBlocks-started plan.block n some,
-      ap (λ o. cost_of o rs) paid,
+      ap (λ o. cost_of o rs) planned,
     )

@@ -63,8 +63,8 @@ is_plan earlier plan e =
     }
 
 -- each plan of a site is one
-pub IsPlan-listed : (plans : List Plan) (plan : Plan) → plans_fault plans ≡ None → Contains plans plan
-    → IsPlan plan
+pub IsPlan-listed : (plans : List Plan) (plan : Plan) → plans_fault plans ≡ None
+    → Contains plans plan → IsPlan plan
 IsPlan-listed plans plan faultless there =
     let pass = passed plan_fault [] plans
     (first_none (first_fault plan_fault plans) (default_fault plans) faultless) plan there in

@@ -43,7 +43,7 @@ pairs_nil : AllPairs Differ []
 pairs_nil i j d below within = absurd (omega arith)
 
 -- plans without a fault after earlier ones have classes of their own
-apart : (earlier plans : List Plan) → first_fault_after plan_fault earlier plans ≡ None
+pub apart : (earlier plans : List Plan) → first_fault_after plan_fault earlier plans ≡ None
     → AllPairs Differ plans × AreApart earlier plans
 apart earlier [] e = (pairs_nil, λ one other there none. absurd (nowhere other none))
 apart earlier (plan ∷ plans) e =

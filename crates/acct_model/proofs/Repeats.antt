@@ -8,9 +8,9 @@ use Rattle.acct_model.specs.declared.entry.Entry.TheVariants as entry
 use Rattle.acct_model.specs.Report.{ReportFacts}
 use Rattle.acct_model.specs.Vouchers.{TopUpFacts}
 use Rattle.acct_model.specs.Plans.{price_under}
-use Rattle.acct_model.specs.History.{session_of, all_reports, reports, first_of, plan_of}
-use Rattle.acct_model.specs.History.{counted_of, greatest_counted, charged, all_topups, voucher_of}
-use Rattle.acct_model.specs.History.{credited}
+use Rattle.acct_model.specs.History.{Accepted, History, session_of, all_reports, reports, first_of}
+use Rattle.acct_model.specs.History.{plan_of, counted_of, greatest_counted, charged, all_topups}
+use Rattle.acct_model.specs.History.{voucher_of, credited}
 use Rattle.acct_model.proofs.Balances.{first_of-none, cost_before, cost_after, charged-report}
 use Rattle.acct_model.proofs.Balances.{before-known, after-known}
 use Rattle.acct_model.proofs.Members.{below_greatest}
@@ -23,7 +23,7 @@ use Rattle.acct_model.proofs.Claimed.{report_of_claim, topup_of_claim}
 use Rattle.acct_model.proofs.Agree.{same_names, same_counted}
 
 -- a session costs the same after one more report, where its plan counts no less of another
-pub cost-same : (plans : List Plan) (history : List Entry) (report one : ReportFacts)
+pub cost-same : (plans : List Plan) (history : History) (report one : ReportFacts)
     (account : List ℕ)
     → Contains (reports history (session_of report)) one
     → counted_of (plan_of plans history (session_of report)) report
@@ -45,11 +45,11 @@ cost-same plans history report one account listed less (Some first) is =
     ∙ sym (before-known plans history report first account is)
 
 -- what the plan of its session counts of it is reached already
-charged_repeated : (plans : List Plan) (history : List Entry) (r q : ReportFacts) (account : List ℕ)
+charged_repeated : (plans : List Plan) (history : History) (r q : ReportFacts) (account : List ℕ)
     → Contains (all_reports history) q → session_of q ≡ session_of r
     → counted_of (plan_of plans history (session_of r)) r
     ≤ counted_of (plan_of plans history (session_of r)) q
-    → charged plans (entry.Report r ∷ history) account ≡ charged plans history account
+    → charged plans (Accepted (entry.Report r) ∷ history) account ≡ charged plans history account
 charged_repeated plans history r q account there same le =
     let step = charged-report plans history r account in
     let own = cost-same plans history r q account
@@ -57,11 +57,11 @@ charged_repeated plans history r q account there same le =
     (first_of (reports history (session_of r))) refl in
     omega (arith, step, own)
 
-pub credited_repeated : (history : List Entry) (t u : TopUpFacts) (account : List ℕ)
+pub credited_repeated : (history : History) (t u : TopUpFacts) (account : List ℕ)
     → Contains (all_topups history) u → u.account ≡ t.account → voucher_of u ≡ voucher_of t
-    → credited (entry.TopUp t ∷ history) account ≡ credited history account
+    → credited (Accepted (entry.TopUp t) ∷ history) account ≡ credited history account
 credited_repeated history t u account there owner same =
-    credited-among (entry.TopUp t ∷ history) history account
+    credited-among (Accepted (entry.TopUp t) ∷ history) history account
     (λ x h. elim (front_or_behind t x (all_topups history) h) [
       | inl is ↦ (u, there, owner ∙ ap (λ (y : TopUpFacts). y.account) is, same ∙ ap voucher_of is)
       | inr behind ↦ (x, behind, refl, refl)
@@ -69,9 +69,9 @@ credited_repeated history t u account there owner same =
     (λ x h. (x, deeper t x (all_topups history) h, refl, refl))
 
 -- An entry whose claim the history has already moves no balance.
-pub balance-repeated : (plans : List Plan) (history : List Entry) (next : Entry) (claim : Claim)
+pub balance-repeated : (plans : List Plan) (history : History) (next : Entry) (claim : Claim)
     → claim_of next ≡ Some claim → Contains (claims history) claim
-    → BalancesAreEqual plans (next ∷ history) history
+    → BalancesAreEqual plans (Accepted next ∷ history) history
 balance-repeated plans history (entry.Report r) claim is there account =
     let own : OfReport (report_claim r) ≡ claim = cc in
     let q = report_of_claim history (report_claim r)

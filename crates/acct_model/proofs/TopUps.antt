@@ -5,10 +5,9 @@ use Rattle.std.proofs.lemmas.List.Elements.{All-cons, All-contains}
 use Rattle.std.specs.Prelude.{bytes_eq, Contains}
 use Rattle.std.specs.List.{filter}
 use Rattle.std.specs.Option.{option_or}
-use Rattle.acct_model.specs.declared.entry.Entry.{Entry}
 use Rattle.acct_model.specs.declared.entry.Entry.TheVariants as entry
 use Rattle.acct_model.specs.Vouchers.{TopUpFacts}
-use Rattle.acct_model.specs.History.{first_of, all_topups, topup_of, Agrees}
+use Rattle.acct_model.specs.History.{Accepted, History, first_of, all_topups, topup_of, Agrees}
 use Rattle.acct_model.specs.Laws.{TopUpIsFirst}
 use Rattle.acct_model.proofs.Lists.{here, deeper, nowhere, all_listed, to_filter}
 use Rattle.acct_model.proofs.Balances.{first_of-none}
@@ -105,12 +104,12 @@ abbrev pub Fits : TopUpFacts → TopUpFacts → Type 0
 Fits topup one = one.voucher ≡ topup.voucher → (one.account ≡ topup.account) × (one.sum ≡ topup.sum)
 
 -- one more top-up, with which this one agrees
-pub Agrees-topup : (topup one : TopUpFacts) (older : List Entry) → Fits topup one
-    → Agrees older topup → Agrees (entry.TopUp one ∷ older) topup
+pub Agrees-topup : (topup one : TopUpFacts) (older : History) → Fits topup one
+    → Agrees older topup → Agrees (Accepted (entry.TopUp one) ∷ older) topup
 Agrees-topup topup one older says rest = All-cons (Fits topup) one (all_topups older) says rest
 
 -- a top-up by a number that no other has agrees with all
-pub Agrees-fresh : (history : List Entry) (topup : TopUpFacts)
+pub Agrees-fresh : (history : History) (topup : TopUpFacts)
     → topup_of history topup.voucher ≡ None → Agrees history topup
 Agrees-fresh history topup fresh =
     all_listed (Fits topup) (all_topups history) (λ one h is.

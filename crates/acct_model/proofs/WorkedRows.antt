@@ -1,21 +1,20 @@
 -- The definitions of a history, computed on worked examples.
-use Rattle.std.proofs.Common.{◌≡◌, ℕ, List, [], ◌∷◌, refl}
+use Rattle.std.proofs.Common.{◌≡◌, ℕ, List, [], ◌∷◌, ◌++◌, refl}
 use Rattle.std.specs.Prelude.{ℤ, pos, negsuc, None, codes, true, false}
 use Rattle.acct_model.specs.declared.plan.Plan.{Plan}
 use Rattle.acct_model.specs.declared.plan.Count.{Count}
 use Rattle.acct_model.specs.declared.plan.Count.TheVariants.{Both, Input, Output}
-use Rattle.acct_model.specs.declared.entry.Entry.{Entry}
 use Rattle.acct_model.specs.declared.entry.Entry.TheVariants as entry
 use Rattle.acct_model.specs.declared.report.ReportKind.TheVariants.{Interim}
-use Rattle.acct_model.specs.History.{balance_of, is_known}
+use Rattle.acct_model.specs.History.{Member, Accepted, PlansAdded, History, balance_of, is_known}
 
 abbrev plans : List Plan
 plans = record { class = codes "gold"; block = 1048576; unit = 10; count = Both }
     ∷ record { class = codes "default"; block = 1000000; unit = 5; count = Both } ∷ []
 
 -- an interim update of a session of `al`
-abbrev update : List ℕ → List ℕ → ℕ → Entry
-update session class octets = entry.Report (record {
+abbrev update : List ℕ → List ℕ → ℕ → Member
+update session class octets = Accepted (entry.Report (record {
   client = codes "ap1";
   session = session;
   user = codes "al";
@@ -28,13 +27,18 @@ update session class octets = entry.Report (record {
   cause = 0;
   calling = [];
   framed = None;
-})
+}))
 
-abbrev topup : List ℕ → List ℕ → ℕ → Entry
+abbrev topup : List ℕ → List ℕ → ℕ → Member
 topup voucher account amount =
-    entry.TopUp (record { voucher = voucher; account = account; sum = amount; when = 1000 })
+    Accepted (entry.TopUp (record {
+      voucher = voucher;
+      account = account;
+      sum = amount;
+      when = 1000;
+    }))
 
-abbrev al : List Entry → ℤ
+abbrev al : History → ℤ
 al history = balance_of plans history (codes "al")
 
 -- the newest entry stands first: totals 0, 1, 1,048,576 and 1,048,577 of one session cost 0, 10, 10
@@ -91,8 +95,8 @@ stranger = refl
 abbrev link : Count → List Plan
 link count = record { class = codes "link"; block = 1048576; unit = 10; count = count } ∷ plans
 
-abbrev linked : ℕ → ℕ → Entry
-linked input output = entry.Report (record {
+abbrev linked : ℕ → ℕ → Member
+linked input output = Accepted (entry.Report (record {
   client = codes "ap1";
   session = codes "s5";
   user = codes "al";
@@ -105,9 +109,9 @@ linked input output = entry.Report (record {
   cause = 0;
   calling = [];
   framed = None;
-})
+}))
 
-abbrev owes : Count → List Entry → ℤ
+abbrev owes : Count → History → ℤ
 owes count history = balance_of (link count) history (codes "al")
 
 counts_out_1 : owes Output (linked 5000000 1 ∷ []) ≡ negsuc 9
@@ -136,3 +140,26 @@ counts_both_other = refl
 
 counts_both : owes Both (linked 0 1048577 ∷ linked 5000000 1 ∷ []) ≡ negsuc 49
 counts_both = refl
+
+-- a session of the class `silver` is charged by `default`, and stays so after a plan `silver` was
+-- added; a later session is charged by `silver`
+abbrev silver : List Plan
+silver = record { class = codes "silver"; block = 1000000; unit = 7; count = Both } ∷ []
+
+abbrev later : History → ℤ
+later history = balance_of (plans ++ silver) history (codes "al")
+
+silver_before : al (update (codes "s5") (codes "silver") 3000000 ∷ []) ≡ negsuc 14
+silver_before = refl
+
+silver_added : later (PlansAdded silver ∷ update (codes "s5") (codes "silver") 3000000 ∷ [])
+    ≡ negsuc 14
+silver_added = refl
+
+silver_kept : later (update (codes "s5") (codes "silver") 4000000 ∷ PlansAdded silver
+    ∷ update (codes "s5") (codes "silver") 3000000 ∷ []) ≡ negsuc 19
+silver_kept = refl
+
+silver_new : later (update (codes "s6") (codes "silver") 3000000 ∷ PlansAdded silver ∷ [])
+    ≡ negsuc 20
+silver_new = refl

@@ -1,18 +1,37 @@
 -- What a history says of sessions, vouchers and balances.
 --
--- A history is the list of accepted entries, **the newest first**: a history H with one more entry
--- e is e ∷ H, and what was accepted first stands deepest. It holds no totals and no balances: each
--- is computed from the entries alone.
+-- A history is the list of what was accepted and of the plans that were added, **the newest
+-- first**: with one more entry e a history H is Accepted e ∷ H, and what was accepted first stands
+-- deepest. It holds no totals and no balances: each is computed from its members alone. The plans
+-- beside a history are those in force at its end; before an addition they are these without the
+-- added ones.
 use Rattle.std.specs.Prelude.{◌≡◌, ℕ, ◌^◌, max, Bool, false, ◌&&◌, ◌||◌, Option, None, Some, List}
 use Rattle.std.specs.Prelude.{[], ◌∷◌, if◌then◌else◌, map, ℤ, pos, ◌-ℤ◌, ◌≤ℤ◌, ◌==◌, bytes_eq}
+use Rattle.std.specs.Prelude.{option_map}
 use Rattle.std.specs.List.{All, filter, filter_map, list_any, sum_by}
-use Rattle.std.specs.Option.{option_or}
+use Rattle.std.specs.Option.{option_or, option_and_then}
 use Rattle.acct_model.specs.declared.plan.Plan.{Plan}
 use Rattle.acct_model.specs.declared.entry.Entry.{Entry}
 use Rattle.acct_model.specs.declared.entry.Entry.TheVariants as entry
 use Rattle.acct_model.specs.Report.{ReportFacts}
 use Rattle.acct_model.specs.Vouchers.{TopUpFacts}
-use Rattle.acct_model.specs.Plans.{plan_for, counted_under, price_under}
+use Rattle.acct_model.specs.Plans.{plan_for, plan_class, plans_before, counted_under, price_under}
+
+-- what a history is made of
+pub data Member : Type 0 where
+  -- an entry was accepted
+  Accepted : Entry → Member
+  -- these plans were added
+  PlansAdded : List Plan → Member
+
+abbrev pub History : Type 0
+History = List Member
+
+-- the plans in force before all these later members
+abbrev pub plans_then : List Plan → History → List Plan
+plans_then plans [] = plans
+plans_then plans (Accepted next ∷ later) = plans_then plans later
+plans_then plans (PlansAdded added ∷ later) = plans_then (plans_before added plans) later
 
 -- ---- sessions
 
@@ -30,17 +49,22 @@ abbrev pub same_session : SessionName → SessionName → Bool
 same_session a b = bytes_eq a.client b.client && bytes_eq a.session b.session
 
 -- the report that an entry is, if it is one
-abbrev pub report_in : Entry → Option ReportFacts
-report_in (entry.Report report) = Some report
-report_in (entry.Restart restart) = None
-report_in (entry.TopUp topup) = None
+abbrev pub report_by : Entry → Option ReportFacts
+report_by (entry.Report report) = Some report
+report_by (entry.Restart restart) = None
+report_by (entry.TopUp topup) = None
+
+-- the report that a member is, if it is one
+abbrev pub report_in : Member → Option ReportFacts
+report_in (Accepted next) = report_by next
+report_in (PlansAdded plans) = None
 
 -- all reports of a history
-abbrev pub all_reports : List Entry → List ReportFacts
+abbrev pub all_reports : History → List ReportFacts
 all_reports history = filter_map report_in history
 
 -- the reports of one session
-abbrev pub reports : List Entry → SessionName → List ReportFacts
+abbrev pub reports : History → SessionName → List ReportFacts
 reports history name =
     filter (λ report. same_session name (session_of report)) (all_reports history)
 
@@ -50,7 +74,7 @@ distinct same [] = []
 distinct same (x ∷ xs) = if list_any (same x) xs then distinct same xs else x ∷ distinct same xs
 
 -- the sessions that have a report, each once
-abbrev pub sessions : List Entry → List SessionName
+abbrev pub sessions : History → List SessionName
 sessions history = distinct same_session (map session_of (all_reports history))
 
 -- what was accepted first, which stands deepest
@@ -70,14 +94,41 @@ abbrev pub is_owner : List ℕ → Option ReportFacts → Bool
 is_owner account None = false
 is_owner account (Some first) = bytes_eq account first.user
 
--- the plan that the class of a first report names
-abbrev pub plan_by : List Plan → Option ReportFacts → Option Plan
-plan_by plans None = None
-plan_by plans (Some first) = plan_for plans first.class
+-- a session's first report, and the plans that were in force before it
+pub record Opening : Type 0 where
+  pub first : ReportFacts
+  pub plans : List Plan
 
--- the plan of a session is the one that the class of its first report names
-abbrev pub plan_of : List Plan → List Entry → SessionName → Option Plan
-plan_of plans history name = plan_by plans (first_of (reports history name))
+-- a session opens with this report, if it is one of it
+abbrev pub opened_by : List Plan → SessionName → ReportFacts → Option Opening
+opened_by plans name report =
+    if same_session name (session_of report)
+    then Some (record { first = report; plans = plans }) else None
+
+-- how a session was opened, under the plans in force at the end of the history
+abbrev pub opening_of : List Plan → History → SessionName → Option Opening
+opening_of plans [] name = None
+opening_of plans (Accepted (entry.Report report) ∷ older) name =
+    option_or (opening_of plans older name) (opened_by plans name report)
+opening_of plans (Accepted (entry.Restart restart) ∷ older) name = opening_of plans older name
+opening_of plans (Accepted (entry.TopUp topup) ∷ older) name = opening_of plans older name
+opening_of plans (PlansAdded added ∷ older) name = opening_of (plans_before added plans) older name
+
+-- the plan that the class of a first report names, and the class of that plan
+abbrev pub plan_opened : Opening → Option Plan
+plan_opened opening = plan_for opening.plans opening.first.class
+
+abbrev pub class_opened : Opening → List ℕ
+class_opened opening = plan_class opening.plans opening.first.class
+
+-- the plan of a session is the one that the class of its first report named among the plans in
+-- force before it
+abbrev pub plan_of : List Plan → History → SessionName → Option Plan
+plan_of plans history name = option_and_then plan_opened (opening_of plans history name)
+
+-- the class of that plan
+abbrev pub kept_class : List Plan → History → SessionName → Option (List ℕ)
+kept_class plans history name = option_map class_opened (opening_of plans history name)
 
 -- what a plan counts of a report
 abbrev pub counted_of : Option Plan → ReportFacts → ℕ
@@ -92,7 +143,7 @@ abbrev pub cost_of : Option Plan → List ReportFacts → ℕ
 cost_of plan reports = price_under plan (greatest_counted plan reports)
 
 -- the price of a session
-abbrev pub charge_of : List Plan → List Entry → SessionName → ℕ
+abbrev pub charge_of : List Plan → History → SessionName → ℕ
 charge_of plans history name = cost_of (plan_of plans history name) (reports history name)
 
 -- the weight of a session whose first report this is, if the account owns it
@@ -100,33 +151,38 @@ abbrev pub share : List ℕ → Option ReportFacts → ℕ → ℕ
 share account first weight = if is_owner account first then weight else 0
 
 -- the weights of all sessions that the account owns, added up
-abbrev pub owned : (SessionName → ℕ) → List Entry → List ℕ → ℕ
+abbrev pub owned : (SessionName → ℕ) → History → List ℕ → ℕ
 owned weight history account =
     sum_by (λ name. share account (first_of (reports history name)) (weight name))
     (sessions history)
 
 -- what the sessions of an account cost
-abbrev pub charged : List Plan → List Entry → List ℕ → ℕ
+abbrev pub charged : List Plan → History → List ℕ → ℕ
 charged plans history account = owned (charge_of plans history) history account
 
 -- ---- what vouchers give
 
 -- the top-up that an entry is, if it is one
-abbrev pub topup_in : Entry → Option TopUpFacts
-topup_in (entry.Report report) = None
-topup_in (entry.Restart restart) = None
-topup_in (entry.TopUp topup) = Some topup
+abbrev pub topup_by : Entry → Option TopUpFacts
+topup_by (entry.Report report) = None
+topup_by (entry.Restart restart) = None
+topup_by (entry.TopUp topup) = Some topup
+
+-- the top-up that a member is, if it is one
+abbrev pub topup_in : Member → Option TopUpFacts
+topup_in (Accepted next) = topup_by next
+topup_in (PlansAdded plans) = None
 
 -- all top-ups of a history
-abbrev pub all_topups : List Entry → List TopUpFacts
+abbrev pub all_topups : History → List TopUpFacts
 all_topups history = filter_map topup_in history
 
 -- the top-ups to one account
-abbrev pub topups : List Entry → List ℕ → List TopUpFacts
+abbrev pub topups : History → List ℕ → List TopUpFacts
 topups history account = filter (λ topup. bytes_eq account topup.account) (all_topups history)
 
 -- the first top-up by a number
-abbrev pub topup_of : List Entry → List ℕ → Option TopUpFacts
+abbrev pub topup_of : History → List ℕ → Option TopUpFacts
 topup_of history number =
     first_of (filter (λ topup. bytes_eq number topup.voucher) (all_topups history))
 
@@ -143,18 +199,18 @@ abbrev pub same_voucher : Voucher → Voucher → Bool
 same_voucher a b = bytes_eq a.0 b.0 && a.1 == b.1
 
 -- the vouchers of an account, each once
-abbrev pub vouchers : List Entry → List ℕ → List Voucher
+abbrev pub vouchers : History → List ℕ → List Voucher
 vouchers history account = distinct same_voucher (map voucher_of (topups history account))
 
 -- what the vouchers of an account give
-abbrev pub credited : List Entry → List ℕ → ℕ
+abbrev pub credited : History → List ℕ → ℕ
 credited history account = sum_by (λ voucher. voucher.1) (vouchers history account)
 
 -- ---- balances
 
 -- the balance of an account: what its distinct vouchers give, less the price of the greatest number
 -- that the plan of each of its sessions counts
-abbrev pub balance_of : List Plan → List Entry → List ℕ → ℤ
+abbrev pub balance_of : List Plan → History → List ℕ → ℤ
 balance_of plans history account =
     pos (credited history account) -ℤ pos (charged plans history account)
 
@@ -164,29 +220,29 @@ pub record InRange (balance : ℤ) : Type 0 where
   pub high : balance ≤ℤ pos (2 ^ 62)
 
 -- every balance of a history is in range
-abbrev pub AreInRange : List Plan → List Entry → Type 0
+abbrev pub AreInRange : List Plan → History → Type 0
 AreInRange plans history = (account : List ℕ) → InRange (balance_of plans history account)
 
 -- each top-up by this number is to this account and of this sum
-abbrev pub Agrees : List Entry → TopUpFacts → Type 0
+abbrev pub Agrees : History → TopUpFacts → Type 0
 Agrees history topup =
     All (λ other. other.voucher ≡ topup.voucher
     → (other.account ≡ topup.account) × (other.sum ≡ topup.sum)) (all_topups history)
 
 -- a top-up agrees with all top-ups of the history; other entries always do
-abbrev pub AgreesWithAll : List Entry → Entry → Type 0
+abbrev pub AgreesWithAll : History → Entry → Type 0
 AgreesWithAll history (entry.Report report) = Unit {0}
 AgreesWithAll history (entry.Restart restart) = Unit {0}
 AgreesWithAll history (entry.TopUp topup) = Agrees history topup
 
 -- The entry may be accepted: no voucher comes with another account or sum, and every balance stays
 -- in range.
-pub record Admissible (plans : List Plan) (history : List Entry) (next : Entry) : Type 0 where
+pub record Admissible (plans : List Plan) (history : History) (next : Entry) : Type 0 where
   pub agrees : AgreesWithAll history next
-  pub in_range : AreInRange plans (next ∷ history)
+  pub in_range : AreInRange plans (Accepted next ∷ history)
 
 -- the account owns a session or a voucher
-abbrev pub is_known : List Entry → List ℕ → Bool
+abbrev pub is_known : History → List ℕ → Bool
 is_known history account =
     list_any (λ name. is_owner account (first_of (reports history name))) (sessions history)
     || list_any (λ topup. bytes_eq account topup.account) (all_topups history)

@@ -13,3 +13,4 @@ pub mod Agreement
 pub mod Laws
 pub mod PlanLaws
 pub mod MoneyLaws
+pub mod KeptLaws

@@ -1,7 +1,7 @@
 -- Plans and prices.
-use Rattle.std.specs.Prelude.{ℕ, ◌+◌, ◌-◌, ◌*◌, ◌/◌, ◌≤◌, Bool, Option, None, Some, List, codes}
-use Rattle.std.specs.Prelude.{bytes_eq}
-use Rattle.std.specs.List.{find}
+use Rattle.std.specs.Prelude.{ℕ, ◌+◌, ◌-◌, ◌*◌, ◌/◌, ◌≤◌, Bool, ◌&&◌, not, Option, None, Some}
+use Rattle.std.specs.Prelude.{List, codes, bytes_eq, if◌then◌else◌, All, Contains}
+use Rattle.std.specs.List.{find, filter, list_any}
 use Rattle.std.specs.Option.{option_or}
 use Rattle.acct_model.specs.declared.plan.Plan.{Plan}
 use Rattle.acct_model.specs.declared.plan.Count.{Count}
@@ -47,6 +47,26 @@ plan_for plans class =
 abbrev pub counted_under : Option Plan → ℕ → ℕ → ℕ
 counted_under None input output = input + output
 counted_under (Some plan) input output = counted plan input output
+
+-- the class of the plan of a class: that class where a plan has it, else `default`
+abbrev pub plan_class : List Plan → List ℕ → List ℕ
+plan_class plans class = if list_any (has_class class) plans then class else default_class
+
+-- a class is one of those of added plans; `default` is there from the first
+abbrev pub is_added : List Plan → List ℕ → Bool
+is_added added class = list_any (has_class class) added && not (bytes_eq class default_class)
+
+-- plans without those that were added
+abbrev pub plans_before : List Plan → List Plan → List Plan
+plans_before added plans = filter (λ plan. not (is_added added plan.class)) plans
+
+-- each old plan stands unchanged among the new ones
+abbrev pub Extends : List Plan → List Plan → Type 0
+Extends new old = All (λ plan. Contains new plan) old
+
+-- the plans among the new ones whose classes the old ones do not have
+abbrev pub plans_added : List Plan → List Plan → List Plan
+plans_added old new = filter (λ plan. not (list_any (has_class plan.class) old)) new
 
 -- the price of n octets under a plan, if there is one
 abbrev pub price_under : Option Plan → ℕ → ℕ

@@ -5,6 +5,7 @@ ghost use Rattle.acct_model.specs.Laws.{TopUpIsFirst, KnownAccountsOwn};
 ghost use Rattle.acct_model.specs.PlanLaws.{StartedBlocksAreLeast, FaultlessPlansKeepBounds};
 ghost use Rattle.acct_model.specs.PlanLaws.{EachClassIsPlanned, PlanIsOfItsClass};
 ghost use Rattle.acct_model.specs.MoneyLaws.{SessionIsCharged, MoneyMovesOnce};
+ghost use Rattle.acct_model.specs.KeptLaws.{PlansAreKept};
 
 /// The blocks that a price counts cover the octets, and fewer do not.
 pub fn started_blocks_are_least()
@@ -73,4 +74,10 @@ pub fn session_is_charged()
 /// is always admissible.
 pub fn money_moves_once()
     ensures { MoneyMovesOnce }
+{}
+
+/// A session keeps the plan that its first report found among the plans in force then, whatever
+/// plans are added later, and an addition of plans moves no money.
+pub fn plans_are_kept()
+    ensures { PlansAreKept }
 {}

@@ -4,14 +4,16 @@
 //!    restart of a client (Accounting-On, Accounting-Off) or a top-up by a voucher. `entry_of`
 //!    reads reports and restarts from a packet's attributes.
 //! 2. A session is named by the client that sent it and its Acct-Session-Id. It is charged to the
-//!    User-Name of its first accepted report, by the plan that the Class of that report names.
+//!    User-Name of its first accepted report, by the plan that the Class of that report named among
+//!    the plans in force then. It keeps that plan, whatever plans are added later.
 //! 3. A total is input and output together, gigawords counted (RFC 2869, sections 5.1 and 5.2), at
 //!    most 2^63 - 1 octets.
 //! 4. A plan counts the total, the input or the output. Its price is its unit for each block of
 //!    counted octets that was started. A class without a plan is priced by the plan `default`.
-//! 5. A history is the list of accepted entries, the newest first; `specs/History.antt` says what
-//!    follows from it: the sessions, their owners and charges, the vouchers, and each account's
-//!    balance. The module `laws` says what holds of all histories.
+//! 5. A history is the list of what was accepted and of the plans that were added, the newest
+//!    first; `specs/History.antt` says what follows from it: the sessions, their owners, plans and
+//!    charges, the vouchers, and each account's balance. The module `laws` says what holds of all
+//!    histories.
 #![tactic(auto)]
 
 mod address;

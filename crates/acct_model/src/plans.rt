@@ -1,6 +1,7 @@
 //! The plans of a site.
-ghost use Rattle.std.specs.Prelude.{◌≡◌, ◌^◌, ◌<◌, ◌≤◌, Some, None, IfOk, IfErr, OnOk};
-ghost use Rattle.acct_model.specs.Plans.{plan_for};
+ghost use Rattle.std.specs.Prelude.{◌≡◌, ◌↔◌, ◌^◌, ◌<◌, ◌≤◌, Some, None, IfOk, IfErr, OnOk};
+ghost use Rattle.std.specs.Prelude.{Contains, IsTrue};
+ghost use Rattle.acct_model.specs.Plans.{plan_for, plan_class, Extends};
 
 use crate::plan::Plan;
 use crate::plan_list::{PlanList, find_plan, has_plan};
@@ -93,6 +94,7 @@ impl Plans {
     /// The plan of a class, else the plan `default`: the plans are gone through once for each.
     pub fn plan_of(&self, class: &[u8]) -> &Plan
         ensures found { plan_for self.now class.now ≡ Some result.now }
+        ensures class { result.now.class ≡ plan_class self.now class.now }
         ensures block { 0 < result.now.block }
         ensures unit { result.now.unit ≤ 10 ^ 9 }
     {
@@ -105,10 +107,43 @@ impl Plans {
         }
     }
 
+    /// Whether each of the old plans stands here unchanged. It takes no memory.
+    pub fn extends(&self, old: &Plans) -> bool
+        ensures { IsTrue result ↔ Extends self.now old.now }
+    {
+        for plan in old.plans.iter() {
+            if !has_same(&self.plans, plan) {
+                return false;
+            }
+        }
+        true
+    }
+
     /// The plans in the order in which they were given.
     pub fn list(&self) -> &[Plan]
         ensures { result.now ≡ self.now }
     {
         &self.plans
     }
+}
+
+// Whether a plan is one of these.
+fn has_same(plans: &[Plan], plan: &Plan) -> bool
+    ensures { IsTrue result ↔ Contains plans.now plan.now }
+{
+    for other in plans {
+        if is_same(other, plan) {
+            return true;
+        }
+    }
+    false
+}
+
+fn is_same(one: &Plan, other: &Plan) -> bool
+    ensures { IsTrue result ↔ (one.now ≡ other.now) }
+{
+    one.class == other.class
+        && one.block == other.block
+        && one.unit == other.unit
+        && one.count == other.count
 }

@@ -123,3 +123,36 @@ fn plans_are_pushed_one_by_one(rt: HostRuntime) -> Result<(), Fail> {
     assert!(rt; has_units(&Plans::from_list(list)?));
     Ok(())
 }
+
+// What a plan `gold` may say, and whether plans with it extend those of the sample site.
+const GOLDS: [(u64, u64, Count, bool); 4] = [
+    (1_048_576, 10, Count::Both, true),
+    (1_048_577, 10, Count::Both, false),
+    (1_048_576, 11, Count::Both, false),
+    (1_048_576, 10, Count::Input, false),
+];
+
+// The old plans may stand in another order, with others among them.
+#[test]
+fn plans_extend_what_stands_unchanged(rt: HostRuntime) -> Result<(), Fail> {
+    let old = sample_plans(rt.alloc())?;
+    for (block, unit, count, wanted) in GOLDS {
+        let new = with_silver(rt.alloc(), block, unit, count)?;
+        assert!(rt;
+            new.extends(&old) == wanted && !old.extends(&new),
+            "{block} {unit} {count:?}"
+        );
+    }
+    Ok(())
+}
+
+// The plans `default`, `silver` and a `gold` like this.
+fn with_silver(alloc: Global, block: u64, unit: u64, count: Count) -> Result<Plans, Fail> {
+    let mut gold = plan(alloc, b"gold", block, unit)?;
+    gold.count = count;
+    let mut list = Vec::new(alloc);
+    list.push(plan(alloc, b"default", 1_000_000, 5)?)?;
+    list.push(plan(alloc, b"silver", 1_000_000, 7)?)?;
+    list.push(gold)?;
+    Ok(Plans::new(list)?)
+}

@@ -2,7 +2,7 @@
 use Rattle.std.specs.Prelude.{List, ◌∷◌, Err}
 use Rattle.acct_model.specs.declared.plan.Plan.{Plan}
 use Rattle.acct_model.specs.declared.entry.Entry.{Entry}
-use Rattle.acct_model.specs.History.{Admissible}
+use Rattle.acct_model.specs.History.{Accepted, History, Admissible}
 use Rattle.acct_book.specs.declared.recording.RecordError.{RecordError}
 use Rattle.acct_book.specs.Content.{Content}
 use Rattle.acct_book.specs.Effect.{Holds, effect_of}
@@ -11,17 +11,17 @@ use Rattle.acct_book.specs.Stands.{Stands}
 
 -- with the entry the new content stands for whatever history the old one stood for
 abbrev pub AddsEntry : List Plan → Entry → Content → Content → Type 0
-AddsEntry plans next old new = (history : List Entry) → Stands plans old history
+AddsEntry plans next old new = (history : History) → Stands plans old history
     → Admissible plans history next
     × IsFresh history next
-    × Stands plans new (next ∷ history)
+    × Stands plans new (Accepted next ∷ history)
 
 -- in whatever history the content stands for, the entry is kept already
 abbrev pub Repeats : List Plan → Entry → Content → Type 0
-Repeats plans next content = (history : List Entry) → Stands plans content history
+Repeats plans next content = (history : History) → Stands plans content history
     → IsRepeated history next
 
 -- whatever history the content stands for, the entry is refused so
 abbrev pub RefusesToAdd : List Plan → Entry → Content → RecordError → Type 0
-RefusesToAdd plans next content error = (history : List Entry) → Stands plans content history
+RefusesToAdd plans next content error = (history : History) → Stands plans content history
     → Holds plans history (effect_of next (Err error))
