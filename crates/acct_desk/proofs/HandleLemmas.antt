@@ -9,9 +9,9 @@ use Rattle.serde_json.specs.Data.{Data}
 use Rattle.serde_json.specs.View.{view}
 use Rattle.serde_json.specs.declared.value.Value.{Value}
 use Rattle.acct_model.specs.declared.plan.Plan.{Plan}
-use Rattle.acct_model.specs.declared.entry.Entry.{Entry}
 use Rattle.acct_model.specs.declared.entry.Entry.TheVariants as entry
 use Rattle.acct_model.specs.Vouchers.{TopUpFacts}
+use Rattle.acct_model.specs.History.{History}
 use Rattle.acct_book.specs.declared.book.Book.{Ghosts}
 use Rattle.acct_book.specs.declared.recording.Recorded.{Recorded}
 use Rattle.acct_book.specs.declared.recording.Recorded.TheVariants.{New, Repeat}
@@ -59,7 +59,7 @@ refused_alone refusal (Ok octets) is = (is, refl)
 refused_alone refusal (Err e) is = refl
 
 -- what is not told is told of any history
-not_told : {E : Type 0} (plans : List Plan) (history : List Entry) (ask : Ask) (effect : Effect)
+not_told : {E : Type 0} (plans : List Plan) (history : History) (ask : Ask) (effect : Effect)
     (result : Result (Vec ℕ Global) E) → (effect ≡ looked → ⊥)
     → IfOk result (λ octets. TellsAsk plans history ask octets.items effect)
 not_told plans history ask effect (Ok octets) none = λ is. absurd (none is)
@@ -132,13 +132,13 @@ module _ {B E : Type 0} (b : Ghosts B) (plans : List Plan) (ask : Ask) (old new 
   page_asked page (Err e) none = none
 
   page_stays : (page : Result Value PageError) (result : Result (Vec ℕ Global) E)
-      (history : List Entry) → after_effect history (page_effect page result) ≡ history
+      (history : History) → after_effect history (page_effect page result) ≡ history
   page_stays (Ok body) (Ok octets) history = refl
   page_stays (Err error) (Ok octets) history = refl
   page_stays page (Err e) history = refl
 
   page_holds : (page : Result Value PageError) (result : Result (Vec ℕ Global) E)
-      (history : List Entry) → Holds plans history (page_effect page result)
+      (history : History) → Holds plans history (page_effect page result)
   page_holds (Ok body) (Ok octets) history = tt
   page_holds (Err error) (Ok octets) history = tt
   page_holds page (Err e) history = tt
@@ -162,7 +162,7 @@ module _ {B E : Type 0} (b : Ghosts B) (plans : List Plan) (ask : Ask) (old new 
   page_tells : (page : Result Value PageError) (result : Result (Vec ℕ Global) E)
       → Shows plans ask b old new page
       → IfOk result (λ octets. IsPageResponse page octets.items)
-      → b.is_sound new → (history : List Entry) → StoodFor b plans old history
+      → b.is_sound new → (history : History) → StoodFor b plans old history
       → IfOk result (λ octets. TellsAsk plans history ask octets.items (page_effect page result))
   page_tells (Ok body) (Ok octets) shows is sound history stood =
       let opened = shows.answers sound in
@@ -198,7 +198,7 @@ module _ {B E : Type 0} (b : Ghosts B) (plans : List Plan) (ask : Ask) (old new 
 
 -- ---- a top-up
 
-topup_tells : (plans : List Plan) (history : List Entry) (topup : TopUpFacts)
+topup_tells : (plans : List Plan) (history : History) (topup : TopUpFacts)
     (recorded : Result Recorded RecordError) (octets : List ℕ)
     → TellsAsk plans history (credit topup) octets (effect_of (entry.TopUp topup) recorded)
 topup_tells plans history topup (Ok New) octets e = absurd (cc e)

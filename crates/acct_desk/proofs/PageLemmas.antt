@@ -10,9 +10,8 @@ use Rattle.serde_json.specs.View.{view, items_of}
 use Rattle.serde_json.specs.Written.{has_float, items_have_float}
 use Rattle.serde_json.specs.declared.value.Value.{Value}
 use Rattle.acct_model.specs.declared.plan.Plan.{Plan}
-use Rattle.acct_model.specs.declared.entry.Entry.{Entry}
 use Rattle.acct_model.specs.Vouchers.{TopUpFacts}
-use Rattle.acct_model.specs.History.{topup_of}
+use Rattle.acct_model.specs.History.{History, topup_of}
 use Rattle.acct_book.specs.declared.book.Book.{Ghosts}
 use Rattle.acct_book.specs.Step.{Looks}
 use Rattle.acct_book.specs.inner.Step.{OnlyLooks}
@@ -109,7 +108,7 @@ module _ {B : Type 0} (plans : List Plan) (ask : Ask) (b : Ghosts B) (old new : 
   pub shows_body : (result : Result Value PageError) (body : Data)
       → OnlyLooks b old new → (b.is_sound new → b.is_open new)
       → IfOk result (λ v. view v ≡ body) → has_float body ≡ false
-      → (b.is_open new → (history : List Entry) → Stands plans (b.content old) history
+      → (b.is_open new → (history : History) → Stands plans (b.content old) history
       → IsBody plans history ask body)
       → Shows plans ask b old new result
   shows_body (Ok v) body reads opened is plain told = record {
@@ -122,7 +121,7 @@ module _ {B : Type 0} (plans : List Plan) (ask : Ask) (b : Ghosts B) (old new : 
 
 -- ---- what the book told, in a history that its content stands for
 
-pub balance_told : (plans : List Plan) (c : Content) (history : List Entry) (a : List ℕ) (z : ℤ)
+pub balance_told : (plans : List Plan) (c : Content) (history : History) (a : List ℕ) (z : ℤ)
     → Stands plans c history → z ≡ kept_balance c a
     → balance_body a z ≡ balance_body a (part_of plans history a).balance
 balance_told plans c history a z st is =
@@ -144,7 +143,7 @@ own_row_at a None row e = absurd (cc)
 own_row_at a (Some kept) row e = own_row_by a kept row (bytes_eq a kept.account) refl e
 
 -- the rows that a book gives of an account are those of its part
-pub rows_told : (plans : List Plan) (c : Content) (history : List Entry) (a : List ℕ)
+pub rows_told : (plans : List Plan) (c : Content) (history : History) (a : List ℕ)
     (rows : List RowFacts) → Stands plans c history → AreRowsOf c a rows
     → AreRowsIn (part_of plans history a) rows
 rows_told plans c history a rows st are = record {
@@ -176,7 +175,7 @@ own_topup_at a None t e = absurd (cc)
 own_topup_at a (Some kept) t e = own_topup_by a kept t (bytes_eq a kept.account) refl e
 
 -- the top-ups that a book gives of an account are those of its part
-pub topups_told : (plans : List Plan) (c : Content) (history : List Entry) (a : List ℕ)
+pub topups_told : (plans : List Plan) (c : Content) (history : History) (a : List ℕ)
     (ts : List TopUpFacts) → Stands plans c history → AreTopUpsOf c a ts
     → AreTopUpsIn (part_of plans history a) ts
 topups_told plans c history a ts st are = record {
@@ -195,7 +194,7 @@ topups_told plans c history a ts st are = record {
 -- ---- a walk over the accounts
 
 -- the accounts that a walk to the end met are the known ones
-pub accounts_told : (plans : List Plan) (c : Content) (history : List Entry)
+pub accounts_told : (plans : List Plan) (c : Content) (history : History)
     (es : List (List ℕ × ℤ)) → Stands plans c history → IsWalk octets_cmp c.balances None es
     → AreBalances plans history es
 accounts_told plans c history es st w =

@@ -2,7 +2,7 @@
 use Rattle.std.proofs.Common.{◌≡◌, ◌≢◌, ℕ, List, [], sym, ap, ◌∙◌, subst, inl, inr, true}
 use Rattle.serde_json.specs.Data.{Data}
 use Rattle.acct_model.specs.declared.plan.Plan.{Plan}
-use Rattle.acct_model.specs.declared.entry.Entry.{Entry}
+use Rattle.acct_model.specs.History.{History}
 use Rattle.acct_book.specs.Content.{key_of}
 use Rattle.acct_book.specs.Effect.{Effect}
 use Rattle.acct_book.specs.Maps.{octets_cmp, key_cmp}
@@ -29,7 +29,7 @@ one_body plans part account TopUps x y p q =
     part.topups (λ t. true) p.0 q.0 p.1 q.1) ∙ sym q.2
 
 -- what answers a request for a page
-told_page : (plans : List Plan) (history : List Entry) (ask : Ask) (page : Page)
+told_page : (plans : List Plan) (history : History) (ask : Ask) (page : Page)
     (account octets : List ℕ) (effect : Effect) → ask ≡ me page account
     → AnswersAsk ask octets effect × TellsAsk plans history ask octets effect
     → octets ≢ unavailable_response

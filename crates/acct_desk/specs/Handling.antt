@@ -4,10 +4,9 @@ use Rattle.std.specs.Prelude.{Ok, Err, IfOk, if◌then◌else◌}
 use Rattle.std.specs.Global.{Global}
 use Rattle.serde_json.specs.Data.{Data}
 use Rattle.acct_model.specs.declared.plan.Plan.{Plan}
-use Rattle.acct_model.specs.declared.entry.Entry.{Entry}
 use Rattle.acct_model.specs.declared.entry.Entry.TheVariants as entry
 use Rattle.acct_model.specs.Vouchers.{TopUpFacts}
-use Rattle.acct_model.specs.History.{balance_of, is_known}
+use Rattle.acct_model.specs.History.{History, balance_of, is_known}
 use Rattle.acct_book.specs.declared.book.Book.{Ghosts}
 use Rattle.acct_book.specs.declared.recording.Recorded.{Recorded}
 use Rattle.acct_book.specs.declared.recording.RecordError.{RecordError}
@@ -35,17 +34,17 @@ IsPageBody plans part account TopUps body = (topups : List TopUpFacts) × AreTop
     × (body ≡ topups_body account topups)
 
 -- the balance of an account that owns a session or a voucher
-abbrev pub known_balance : List Plan → List Entry → List ℕ → Option ℤ
+abbrev pub known_balance : List Plan → History → List ℕ → Option ℤ
 known_balance plans history account =
     if is_known history account then Some (balance_of plans history account) else None
 
 -- each known account with its balance, once, in the order of accounts
-abbrev pub AreBalances : List Plan → List Entry → List (List ℕ × ℤ) → Type 0
+abbrev pub AreBalances : List Plan → History → List (List ℕ × ℤ) → Type 0
 AreBalances plans history accounts =
     AreAllPast octets_cmp (known_balance plans history) None accounts
 
 -- the body that is told to who asks this of a history
-abbrev pub IsBody : List Plan → List Entry → Ask → Data → Type 0
+abbrev pub IsBody : List Plan → History → Ask → Data → Type 0
 IsBody plans history (refused refusal) body = ⊥
 IsBody plans history (me page account) body =
     IsPageBody plans (part_of plans history account) account page body
@@ -54,7 +53,7 @@ IsBody plans history overruns body = (accounts : List (List ℕ × ℤ))
 IsBody plans history (credit topup) body = ⊥
 
 -- the response with that body
-abbrev pub IsResponseOf : List Plan → List Entry → Ask → List ℕ → Type 0
+abbrev pub IsResponseOf : List Plan → History → Ask → List ℕ → Type 0
 IsResponseOf plans history ask octets = (body : Data) × IsBody plans history ask body
     × (octets ≡ response_of 200 [] body)
 
@@ -86,7 +85,7 @@ AnswersOrMutes ask (Ok octets) effect = AnswersAsk ask octets.items effect
 AnswersOrMutes ask (Err error) effect = Mutes ask effect
 
 -- what the book told is told: the definition's octets, over the history
-abbrev pub TellsAsk : List Plan → List Entry → Ask → List ℕ → Effect → Type 0
+abbrev pub TellsAsk : List Plan → History → Ask → List ℕ → Effect → Type 0
 TellsAsk plans history ask octets effect = effect ≡ looked → IsResponseOf plans history ask octets
 
 -- it asks for a balance
@@ -104,7 +103,7 @@ pub record Handles {B E : Type 0} (b : Ghosts B) (plans : List Plan) (ask : Ask)
   pub effect : Effect
   pub answers : AnswersOrMutes ask result effect
   pub does : Does b plans old new effect
-  pub tells : b.is_sound new → (history : List Entry) → StoodFor b plans old history
+  pub tells : b.is_sound new → (history : History) → StoodFor b plans old history
       → IfOk result (λ octets. TellsAsk plans history ask octets.items effect)
   -- over a steady book a balance is told
   pub steady : b.is_steady old → IsOfBalance ask

@@ -1,7 +1,7 @@
 -- Laws of the desk.
 use Rattle.std.specs.Prelude.{◌≡◌, ◌≢◌, ℕ, List}
 use Rattle.acct_model.specs.declared.plan.Plan.{Plan}
-use Rattle.acct_model.specs.declared.entry.Entry.{Entry}
+use Rattle.acct_model.specs.History.{History}
 use Rattle.acct_book.specs.Effect.{Effect}
 use Rattle.acct_book.specs.Part.{part_of}
 use Rattle.acct_desk.specs.declared.keys.DeskKey.{DeskKey}
@@ -11,7 +11,7 @@ use Rattle.acct_desk.specs.Handling.{AnswersAsk, TellsAsk}
 use Rattle.acct_desk.specs.Responses.{unavailable_response}
 
 -- the octets answer the request after this history, with this effect
-abbrev pub MayAnswer : List DeskKey → List Plan → List ℕ → ℕ → List Entry → List ℕ → Effect → Type 0
+abbrev pub MayAnswer : List DeskKey → List Plan → List ℕ → ℕ → History → List ℕ → Effect → Type 0
 MayAnswer keys plans request moment history octets effect = (ask : Ask)
     × Asks keys request moment ask × AnswersAsk ask octets effect
     × TellsAsk plans history ask octets effect
@@ -21,11 +21,12 @@ abbrev pub OneThingIsAsked : Type 0
 OneThingIsAsked = (keys : List DeskKey) (request : List ℕ) (moment : ℕ) (one other : Ask)
     → Asks keys request moment one → Asks keys request moment other → one ≡ other
 
--- Over two histories in which an account has the same part, each request for a page of that account
--- by its own key is answered by the same octets, wherever the book answers at all.
+-- Over two histories at whose ends the same plans are in force, and in which an account has the
+-- same part, each request for a page of that account by its own key is answered by the same octets,
+-- wherever the book answers at all.
 abbrev pub MeFromPart : Type 0
 MeFromPart = (keys : List DeskKey) (plans : List Plan) (request : List ℕ) (moment : ℕ) (page : Page)
-    (account : List ℕ) (one other : List Entry) (first second : Effect) (octets others : List ℕ)
+    (account : List ℕ) (one other : History) (first second : Effect) (octets others : List ℕ)
     → Asks keys request moment (me page account)
     → part_of plans one account ≡ part_of plans other account
     → MayAnswer keys plans request moment one octets first

@@ -4,7 +4,7 @@ use Rattle.serde_json.specs.View.{view}
 use Rattle.serde_json.specs.Written.{has_float}
 use Rattle.serde_json.specs.declared.value.Value.{Value}
 use Rattle.acct_model.specs.declared.plan.Plan.{Plan}
-use Rattle.acct_model.specs.declared.entry.Entry.{Entry}
+use Rattle.acct_model.specs.History.{History}
 use Rattle.acct_book.specs.declared.book.Book.{Ghosts}
 use Rattle.acct_book.specs.Stands.{Stands}
 use Rattle.acct_book.specs.inner.Step.{OnlyLooks}
@@ -21,7 +21,7 @@ pub record Shows {B : Type 0} (plans : List Plan) (ask : Ask) (b : Ghosts B) (ol
   pub reads : OnlyLooks b old new
   pub answers : b.is_sound new → OnOk result (b.is_open new)
   pub plain : IfOk result (λ v. has_float (view v) ≡ false)
-  pub told : b.is_open new → (history : List Entry) → Stands plans (b.content old) history
+  pub told : b.is_open new → (history : History) → Stands plans (b.content old) history
       → IfOk result (λ v. IsBody plans history ask (view v))
 
 -- the response with a page
