@@ -4,7 +4,7 @@ use Rattle.std.proofs.Common.{ap, arith, subst}
 use Rattle.std.specs.Prelude.{count_by}
 use Rattle.std.proofs.lemmas.List.Sums.{sum_by-append}
 use Rattle.acct_model.specs.declared.plan.Plan.{Plan}
-use Rattle.acct_model.specs.declared.entry.Entry.{Entry}
+use Rattle.acct_model.specs.History.{History}
 use Rattle.acct_book.specs.Effect.{Effect, after_effect, Holds}
 use Rattle.acct_files.specs.declared.import_report.ImportReport.{ImportReport}
 use Rattle.acct_files.specs.declared.import_report.Outcome.{Outcome}
@@ -53,7 +53,7 @@ counts_more outcomes outcome n old new counts number added repeated refused = re
       ∙ sym (refused_more 2 outcomes n (outcome ∷ []) (omega arith));
 }
 
-pub run_more : (plans : List Plan) (moment : ℕ) (old mid : List Entry) (rows : List Fields)
+pub run_more : (plans : List Plan) (moment : ℕ) (old mid : History) (rows : List Fields)
     (outcomes : List Outcome) (fields : Fields) (outcome : Outcome) (effect : Effect)
     → Imported plans moment old rows outcomes mid
     → Becomes (asked_by moment fields) outcome effect → Holds plans mid effect
@@ -70,7 +70,7 @@ run_more plans moment old mid (x ∷ rows) (y ∷ outcomes) fields outcome effec
 run_more plans moment old mid [] (y ∷ outcomes) fields outcome effect r s holds = absurd r
 run_more plans moment old mid (x ∷ rows) [] fields outcome effect r s holds = absurd r
 
-pub run_length : (plans : List Plan) (moment : ℕ) (old new : List Entry) (rows : List Fields)
+pub run_length : (plans : List Plan) (moment : ℕ) (old new : History) (rows : List Fields)
     (outcomes : List Outcome) → Imported plans moment old rows outcomes new
     → length outcomes ≡ length rows
 run_length plans moment old new [] [] r = refl

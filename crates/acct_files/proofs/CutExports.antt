@@ -14,9 +14,8 @@ use Rattle.csv.specs.Reading.{Reached, default_config}
 use Rattle.csv.specs.declared.parser.State.TheVariants as st
 use Rattle.csv.proofs.RoundTrip.{read-write}
 use Rattle.acct_model.specs.declared.plan.Plan.{Plan}
-use Rattle.acct_model.specs.declared.entry.Entry.{Entry}
 use Rattle.acct_model.specs.declared.entry.Entry.TheVariants as entry
-use Rattle.acct_model.specs.History.{all_topups, first_of, topup_of}
+use Rattle.acct_model.specs.History.{Accepted, History, all_topups, first_of, topup_of}
 use Rattle.acct_model.specs.Vouchers.{TopUpFacts, is_voucher_sum}
 use Rattle.acct_model.proofs.Escapes.{decoded-shown}
 use Rattle.acct_book.specs.Effect.{Effect, after_effect, Holds}
@@ -101,7 +100,7 @@ asks_again topup moment kept =
 -- ---- what an empty book then keeps
 
 -- no top-up of the history has the number of any of these
-AreFresh : List Entry → List TopUpFacts → Type 0
+AreFresh : History → List TopUpFacts → Type 0
 AreFresh history [] = ⊤
 AreFresh history (topup ∷ topups) =
     (topup_of history topup.voucher ≡ None) × AreFresh history topups
@@ -116,9 +115,9 @@ other_number : (b : Bool) (t : TopUpFacts) (xs : List TopUpFacts) → b ≡ fals
 other_number true t xs e none = absurd (cc e)
 other_number false t xs e none = none
 
-fresh_after : (moment : ℕ) (old : List Entry) (t : TopUpFacts) (topups : List TopUpFacts)
+fresh_after : (moment : ℕ) (old : History) (t : TopUpFacts) (topups : List TopUpFacts)
     → HaveOthers t topups → AreFresh old topups
-    → AreFresh (entry.TopUp (moved_to moment t) ∷ old) topups
+    → AreFresh (Accepted (entry.TopUp (moved_to moment t)) ∷ old) topups
 unfolding AreFresh
 fresh_after moment old t [] others fresh = tt
 fresh_after moment old t (u ∷ topups) (other, others) (none, fresh) = (
@@ -128,7 +127,7 @@ fresh_after moment old t (u ∷ topups) (other, others) (none, fresh) = (
       old t topups others fresh,
 )
 
-module _ (plans : List Plan) (moment : ℕ) (old : List Entry) (effect : Effect) (t : TopUpFacts)
+module _ (plans : List Plan) (moment : ℕ) (old : History) (effect : Effect) (t : TopUpFacts)
     (fresh : topup_of old t.voucher ≡ None) (holds : Holds plans old effect) where
   not_repeated : Becomes (Ok (moved_to moment t)) Repeated effect → ⊥
   not_repeated was =
@@ -146,8 +145,8 @@ module _ (plans : List Plan) (moment : ℕ) (old : List Entry) (effect : Effect)
   only_limit BalanceLimit (balance, was) =
       (refl, subst (λ e. after_effect old e ≡ old) (sym was) refl)
 
-credits : (plans : List Plan) (moment : ℕ) (old : List Entry) (topups : List TopUpFacts)
-    (outcomes : List Outcome) (new : List Entry) → AreKept topups → AreFresh old topups
+credits : (plans : List Plan) (moment : ℕ) (old : History) (topups : List TopUpFacts)
+    (outcomes : List Outcome) (new : History) → AreKept topups → AreFresh old topups
     → Imported plans moment old (map cut_fields topups) outcomes new
     → Credits moment old topups outcomes new
 unfolding AreFresh
@@ -157,7 +156,7 @@ credits plans moment old (t ∷ topups) [] new kept fresh run = absurd run
 credits plans moment old (t ∷ topups) (Added ∷ outcomes) new (may, others, kept) (none, fresh)
     (effect, here, holds, rest) =
     let was = subst (λ w. Becomes w Added effect) (asks_again t moment may) here in
-    credits plans moment (entry.TopUp (moved_to moment t) ∷ old) topups outcomes new kept
+    credits plans moment (Accepted (entry.TopUp (moved_to moment t)) ∷ old) topups outcomes new kept
     (fresh_after moment old t topups others fresh)
     (subst (λ e. Imported plans moment (after_effect old e) (map cut_fields topups) outcomes new)
     was rest)

@@ -8,8 +8,8 @@ use Rattle.csv.specs.declared.parser.State.TheVariants as st
 use Rattle.csv.specs.declared.reader.Reader.{Reader}
 use Rattle.csv.proofs.ReadFacts.{rows-end, rows-more}
 use Rattle.acct_model.specs.declared.plan.Plan.{Plan}
-use Rattle.acct_model.specs.declared.entry.Entry.{Entry}
 use Rattle.acct_model.specs.Vouchers.{TopUpFacts}
+use Rattle.acct_model.specs.History.{History}
 use Rattle.acct_book.specs.declared.book.Book.{Ghosts}
 use Rattle.acct_book.specs.Effect.{Effect, after_effect}
 use Rattle.acct_book.specs.Step.{StoodFor, Does}
@@ -37,11 +37,11 @@ always None f = tt
 always (Some x) f = f x
 
 module _ {B R : Type 0} (b : Ghosts B) (remaining : R → Option (List ℕ))
-    (plans : List Plan) (moment : ℕ) (text : Option (List ℕ)) (history : List Entry) where
+    (plans : List Plan) (moment : ℕ) (text : Option (List ℕ)) (history : History) where
   -- the header and the records before the one of this number were taken
   pub record Halfway (reader : Reader R) (number : ℕ) (report : ImportReport) (old new : B) : Type 0
     where
-      pub after : List Entry
+      pub after : History
       pub rows : List Fields
       pub outcomes : List Outcome
       pub run : Imported plans moment history rows outcomes after
@@ -52,7 +52,7 @@ module _ {B R : Type 0} (b : Ghosts B) (remaining : R → Option (List ℕ))
       pub read : HasRead remaining text (header ∷ rows) reader
       pub moves : Moves b plans history after None old new
 
-  moves_then : (mid after : List Entry) (tried : Option TopUpFacts) (old now new : B)
+  moves_then : (mid after : History) (tried : Option TopUpFacts) (old now new : B)
       → Moves b plans history mid None old now
       → Moves b plans mid after tried now new
       → Moves b plans history after tried old new
@@ -285,7 +285,7 @@ module _ {B R : Type 0} (b : Ghosts B) (remaining : R → Option (List ℕ))
 -- the same run, of a report that counts the same
 pub recounted : {B : Type 0} (b : Ghosts B) (plans : List Plan) (moment : ℕ)
     (text text' : Option (List ℕ))
-    (history : List Entry)
+    (history : History)
     (stopped stopped' : Option Stopped) (report report' : ImportReport) (old new : B) → text ≡ text'
     → stopped ≡ stopped'
     → report'.added ≡ report.added → report'.repeated ≡ report.repeated

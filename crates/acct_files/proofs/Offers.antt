@@ -6,6 +6,7 @@ use Rattle.acct_model.specs.declared.plan.Plan.{Plan}
 use Rattle.acct_model.specs.declared.entry.Entry.{Entry}
 use Rattle.acct_model.specs.declared.entry.Entry.TheVariants.{TopUp}
 use Rattle.acct_model.specs.Vouchers.{TopUpFacts}
+use Rattle.acct_model.specs.History.{History}
 use Rattle.acct_book.specs.declared.book.Book.{Ghosts}
 use Rattle.acct_book.specs.declared.recording.Recorded.{Recorded}
 use Rattle.acct_book.specs.declared.recording.Recorded.TheVariants.{New, Repeat}
@@ -53,7 +54,7 @@ never_failed (Err c) (Refused told) asked (same, is) =
     let clash : failed asked ≡ unasked = is in cc
 
 -- a refused record adds nothing
-pub refused_stays : (history : List Entry) (wanted : Result TopUpFacts Cause) (outcome : Outcome)
+pub refused_stays : (history : History) (wanted : Result TopUpFacts Cause) (outcome : Outcome)
     (effect : Effect) → IsTrue (is_refused outcome) → Becomes wanted outcome effect
     → after_effect history effect ≡ history
 refused_stays history (Ok topup) Added effect t is = absurd (cc t)
@@ -105,12 +106,12 @@ module _ {B : Type 0} (b : Ghosts B) (plans : List Plan) where
   -- ---- how the book moves
 
   -- a call that touched nothing
-  pub stayed : (history : List Entry) (book : B) → StoodFor b plans book history
+  pub stayed : (history : History) (book : B) → StoodFor b plans book history
       → Moves b plans history history None book book
   stayed history book stands = record { stands = stands; leaves = λ stood c l. stood c l }
 
   -- an effect whose call didn't fail
-  moved : (history : List Entry) (old new : B) (effect : Effect)
+  moved : (history : History) (old new : B) (effect : Effect)
       → ((asked : Entry) → effect ≡ failed asked → ⊥) → Does b plans old new effect
       → b.is_sound new → StoodFor b plans old history
       → Moves b plans history (after_effect history effect) None old new
@@ -123,7 +124,7 @@ module _ {B : Type 0} (b : Ghosts B) (plans : List Plan) where
     ];
   }
 
-  pub moved_on : (history : List Entry) (old new : B) (moment : ℕ) (fields : Fields)
+  pub moved_on : (history : History) (old new : B) (moment : ℕ) (fields : Fields)
       (outcome : Outcome) (effect : Effect) → Did moment fields (Ok outcome) effect
       → Does b plans old new effect → b.is_sound new → StoodFor b plans old history
       → Moves b plans history (after_effect history effect) None old new
@@ -132,14 +133,14 @@ module _ {B : Type 0} (b : Ghosts B) (plans : List Plan) where
       (λ asked is. never_failed (asked_by moment fields) outcome asked
       (subst (Becomes (asked_by moment fields) outcome) is did)) does sound stood
 
-  pub moved_muted : (history : List Entry) (old new : B) (effect : Effect) → effect ≡ unasked
+  pub moved_muted : (history : History) (old new : B) (effect : Effect) → effect ≡ unasked
       → Does b plans old new effect → b.is_sound new → StoodFor b plans old history
       → Moves b plans history history None old new
   moved_muted history old new effect is does sound stood =
       moved history old new unasked (λ asked e. cc) (subst (Does b plans old new) is does)
       sound stood
 
-  pub moved_failed : (history : List Entry) (old new : B) (topup : TopUpFacts) (effect : Effect)
+  pub moved_failed : (history : History) (old new : B) (topup : TopUpFacts) (effect : Effect)
       → effect ≡ failed (TopUp topup) → Does b plans old new effect → b.is_sound new
       → StoodFor b plans old history
       → Moves b plans history history (Some topup) old new

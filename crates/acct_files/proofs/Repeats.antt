@@ -6,10 +6,10 @@ use Rattle.std.specs.List.{filter}
 use Rattle.std.specs.Option.{option_or}
 use Rattle.percent_encoding.specs.Percent.{percent_decode}
 use Rattle.acct_model.specs.declared.plan.Plan.{Plan}
-use Rattle.acct_model.specs.declared.entry.Entry.{Entry}
 use Rattle.acct_model.specs.declared.entry.Entry.TheVariants as entry
 use Rattle.acct_model.specs.Vouchers.{TopUpFacts, is_voucher_number, is_voucher_account}
 use Rattle.acct_model.specs.Vouchers.{is_voucher_sum}
+use Rattle.acct_model.specs.History.{Member, Accepted, PlansAdded, History}
 use Rattle.acct_model.specs.History.{first_of, all_topups, topup_of}
 use Rattle.acct_model.proofs.Same.{Decides-bytes_eq}
 use Rattle.acct_book.specs.Effect.{Effect, added, repeated, differs, limited, failed, looked}
@@ -26,7 +26,7 @@ use Rattle.acct_files.specs.Laws.{RepeatsLater}
 use Rattle.acct_files.specs.Vouchers.{Fields, three_of, sum_of, asked_by}
 
 -- the history keeps the voucher of a top-up, with its account and sum
-abbrev Keeps : List Entry → TopUpFacts → Type 0
+abbrev Keeps : History → TopUpFacts → Type 0
 Keeps history topup = IsRepeated history (entry.TopUp topup)
 
 -- ---- what is kept stays
@@ -36,27 +36,29 @@ first_kept : (b : Bool) (t : TopUpFacts) (xs : List TopUpFacts) (k : TopUpFacts)
 first_kept true t xs k e = ap (λ o. option_or o (Some t)) e
 first_kept false t xs k e = e
 
-kept_longer : (e : Entry) (history : List Entry) (n : List ℕ) (k : TopUpFacts)
-    → topup_of history n ≡ Some k → topup_of (e ∷ history) n ≡ Some k
-kept_longer (entry.Report r) history n k h = h
-kept_longer (entry.Restart r) history n k h = h
-kept_longer (entry.TopUp t) history n k h =
+kept_longer : (next : Member) (history : History) (n : List ℕ) (k : TopUpFacts)
+    → topup_of history n ≡ Some k → topup_of (next ∷ history) n ≡ Some k
+kept_longer (Accepted (entry.Report r)) history n k h = h
+kept_longer (Accepted (entry.Restart r)) history n k h = h
+kept_longer (Accepted (entry.TopUp t)) history n k h =
     first_kept (bytes_eq n t.voucher) t (filter (λ x. bytes_eq n x.voucher) (all_topups history)) k
     h
+kept_longer (PlansAdded plans) history n k h = h
 
-keeps_longer : (e : Entry) (history : List Entry) (t : TopUpFacts) → Keeps history t
-    → Keeps (e ∷ history) t
-keeps_longer e history t (k, is, account, amount) =
-    (k, kept_longer e history t.voucher k is, account, amount)
+keeps_longer : (next : Member) (history : History) (t : TopUpFacts) → Keeps history t
+    → Keeps (next ∷ history) t
+keeps_longer next history t (k, is, account, amount) =
+    (k, kept_longer next history t.voucher k is, account, amount)
 
-keeps_behind : (es history : List Entry) (t : TopUpFacts) → Keeps history t
-    → Keeps (es ++ history) t
+keeps_behind : (later history : History) (t : TopUpFacts) → Keeps history t
+    → Keeps (later ++ history) t
 keeps_behind [] history t h = h
-keeps_behind (e ∷ es) history t h = keeps_longer e (es ++ history) t (keeps_behind es history t h)
+keeps_behind (next ∷ later) history t h =
+    keeps_longer next (later ++ history) t (keeps_behind later history t h)
 
-effect_keeps : (old : List Entry) (effect : Effect) (t : TopUpFacts) → Keeps old t
+effect_keeps : (old : History) (effect : Effect) (t : TopUpFacts) → Keeps old t
     → Keeps (after_effect old effect) t
-effect_keeps old (added e) t h = keeps_longer e old t h
+effect_keeps old (added e) t h = keeps_longer (Accepted e) old t h
 effect_keeps old (repeated e) t h = h
 effect_keeps old (differs e kept) t h = h
 effect_keeps old (limited e balance) t h = h
@@ -65,7 +67,7 @@ effect_keeps old looked t h = h
 effect_keeps old passed t h = h
 effect_keeps old unasked t h = h
 
-run_keeps : (plans : List Plan) (moment : ℕ) (old new : List Entry) (rows : List Fields)
+run_keeps : (plans : List Plan) (moment : ℕ) (old new : History) (rows : List Fields)
     (outcomes : List Outcome) (t : TopUpFacts) → Keeps old t
     → Imported plans moment old rows outcomes new → Keeps new t
 run_keeps plans moment old new [] [] t h run = subst (λ x. Keeps x t) (sym run) h
@@ -83,7 +85,7 @@ newest : (b : Bool) (t : TopUpFacts) (xs : List TopUpFacts) → b ≡ true → f
 newest true t xs e none = ap (λ o. option_or o (Some t)) none
 newest false t xs e none = absurd (cc e)
 
-taken_keeps : (plans : List Plan) (old : List Entry) (wanted : Result TopUpFacts Cause)
+taken_keeps : (plans : List Plan) (old : History) (wanted : Result TopUpFacts Cause)
     (outcome : Outcome) (effect : Effect) → is_refused outcome ≡ false
     → Becomes wanted outcome effect → Holds plans old effect
     → (t : TopUpFacts) × (wanted ≡ Ok t) × Keeps (after_effect old effect) t
@@ -106,7 +108,7 @@ taken_keeps plans old (Err cause) Added effect r is holds = absurd is
 taken_keeps plans old (Err cause) Repeated effect r is holds = absurd is
 taken_keeps plans old (Err cause) (Refused told) effect r is holds = absurd (cc r)
 
-taken_at : (plans : List Plan) (moment : ℕ) (old new : List Entry) (rows : List Fields)
+taken_at : (plans : List Plan) (moment : ℕ) (old new : History) (rows : List Fields)
     (outcomes : List Outcome) (i : ℕ) (line : Fields) (outcome : Outcome)
     → Imported plans moment old rows outcomes new → slice_get rows i ≡ Some line
     → slice_get outcomes i ≡ Some outcome → is_refused outcome ≡ false
@@ -133,7 +135,7 @@ taken_at plans moment old new (x ∷ rows) (o ∷ outcomes) (suc i) line outcome
 moved_to : TopUpFacts → ℕ → TopUpFacts
 moved_to t when = record { voucher = t.voucher; account = t.account; sum = t.sum; when = when }
 
-told_again : (plans : List Plan) (old : List Entry) (t s : TopUpFacts) (told : Outcome)
+told_again : (plans : List Plan) (old : History) (t s : TopUpFacts) (told : Outcome)
     (effect : Effect)
     → s.voucher ≡ t.voucher → s.account ≡ t.account → s.sum ≡ t.sum → Keeps old t
     → Becomes (Ok s) told effect → Holds plans old effect → told ≡ Repeated
@@ -194,7 +196,7 @@ asked_later (Some f) line when later t three e =
     (is_voucher_sum (sum_of f.2)) f.0 (percent_decode f.1) (sum_of f.2) when later t
     (rw three at e))
 
-told_at : (plans : List Plan) (moment : ℕ) (old new : List Entry) (rows : List Fields)
+told_at : (plans : List Plan) (moment : ℕ) (old new : History) (rows : List Fields)
     (outcomes : List Outcome) (j : ℕ) (line : Fields) (told : Outcome) (t s : TopUpFacts)
     → Imported plans moment old rows outcomes new → slice_get rows j ≡ Some line
     → slice_get outcomes j ≡ Some told

@@ -9,9 +9,9 @@ use Rattle.csv.specs.Reading.{AreRecords, Reached, default_config, strip_bom}
 use Rattle.csv.specs.declared.parser.State.{State}
 use Rattle.csv.specs.declared.parser.State.TheVariants as st
 use Rattle.acct_model.specs.declared.plan.Plan.{Plan}
-use Rattle.acct_model.specs.declared.entry.Entry.{Entry}
 use Rattle.acct_model.specs.declared.entry.Entry.TheVariants.{TopUp}
 use Rattle.acct_model.specs.Vouchers.{TopUpFacts}
+use Rattle.acct_model.specs.History.{History}
 use Rattle.acct_book.specs.Content.{Content}
 use Rattle.acct_book.specs.declared.book.Book.{Ghosts}
 use Rattle.acct_book.specs.Effect.{Effect, added, repeated, differs, limited}
@@ -47,7 +47,7 @@ Becomes (Err cause) (outcome.Refused told) effect = (told ≡ cause) × (effect 
 -- ---- record after record
 
 -- each record in its turn: an effect that is true of the history that the one before it left
-abbrev pub Imported : List Plan → ℕ → List Entry → List Fields → List Outcome → List Entry → Type 0
+abbrev pub Imported : List Plan → ℕ → History → List Fields → List Outcome → History → Type 0
 Imported plans moment old [] [] new = new ≡ old
 Imported plans moment old (fields ∷ rows) (outcome ∷ outcomes) new =
     (effect : Effect) × Becomes (asked_by moment fields) outcome effect × Holds plans old effect
@@ -125,7 +125,7 @@ MayHaveTried stopped (Some topup) = stopped ≡ Some stop.Unavailable
 -- ---- the book
 
 -- the content stands for the history, or for it with the top-up whose call failed
-abbrev pub ImportLeaves : List Plan → List Entry → Option TopUpFacts → Content → Type 0
+abbrev pub ImportLeaves : List Plan → History → Option TopUpFacts → Content → Type 0
 ImportLeaves plans history None content = Stands plans content history
 ImportLeaves plans history (Some topup) content =
     Stands plans content history ⊎ MayAdd plans history (TopUp topup) content
@@ -134,7 +134,7 @@ module _ {B : Type 0} (b : Ghosts B) where
   -- From a history to the one after it: the book stands for that while it is open, and a crash
   -- leaves what stands for it, or for it with the top-up whose call failed, if before it left
   -- nothing but what stood for the history.
-  pub record Moves (plans : List Plan) (history after : List Entry) (tried : Option TopUpFacts)
+  pub record Moves (plans : List Plan) (history after : History) (tried : Option TopUpFacts)
       (old new : B) : Type 0 where
     pub stands : StoodFor b plans new after
     pub leaves : ((c : Content) → b.left old c → Stands plans c history) → (c : Content)
@@ -143,9 +143,9 @@ module _ {B : Type 0} (b : Ghosts B) where
 
   -- a run over a text, from a history to the one after it
   pub record Imports (plans : List Plan) (moment : ℕ) (text : Option (List ℕ))
-      (history : List Entry) (stopped : Option Stopped) (report : ImportReport) (old new : B) : Type
+      (history : History) (stopped : Option Stopped) (report : ImportReport) (old new : B) : Type
       0 where
-    pub after : List Entry
+    pub after : History
     pub tried : Option TopUpFacts
     pub rows : List Fields
     pub outcomes : List Outcome

@@ -2,9 +2,9 @@
 use Rattle.std.specs.Prelude.{◌≡◌, ◌<◌, ⊤, ℕ, false, List, [], ◌∷◌, ◌++◌, take, map, All, Some, Ok}
 use Rattle.std.specs.Prelude.{slice_get, bytes_eq}
 use Rattle.acct_model.specs.declared.plan.Plan.{Plan}
-use Rattle.acct_model.specs.declared.entry.Entry.{Entry}
 use Rattle.acct_model.specs.declared.entry.Entry.TheVariants as entry
 use Rattle.acct_model.specs.Vouchers.{TopUpFacts, IsTopUp}
+use Rattle.acct_model.specs.History.{Accepted, History}
 use Rattle.acct_files.specs.declared.import_report.Cause.TheVariants.{BalanceLimit}
 use Rattle.acct_files.specs.declared.import_report.Outcome.{Outcome}
 use Rattle.acct_files.specs.declared.import_report.Outcome.TheVariants.{Added, Repeated, Refused}
@@ -13,10 +13,10 @@ use Rattle.acct_files.specs.Exporting.{export_text, line, topup_fields, topup_he
 use Rattle.acct_files.specs.Vouchers.{Fields, asked_by}
 
 -- A line that one import added or repeated is a repeat in each later one that gets to it, whatever
--- was accepted between the two.
+-- was accepted between the two, and whichever plans were added.
 abbrev pub RepeatsLater : Type 0
 RepeatsLater =
-    (plans later_plans : List Plan) (moment later : ℕ) (old mid between new : List Entry)
+    (plans later_plans : List Plan) (moment later : ℕ) (old mid between new : History)
     (rows later_rows : List Fields) (outcomes later_outcomes : List Outcome)
     → Imported plans moment old rows outcomes mid
     → Imported later_plans later (between ++ mid) later_rows later_outcomes new
@@ -60,12 +60,12 @@ moved_to moment topup = record topup { when = moment }
 
 -- from a history to the one after it: each top-up is added, at a moment, or refused because its
 -- account's balance would leave its range
-abbrev pub Credits : ℕ → List Entry → List TopUpFacts → List Outcome → List Entry → Type 0
+abbrev pub Credits : ℕ → History → List TopUpFacts → List Outcome → History → Type 0
 Credits moment old [] [] new = new ≡ old
 Credits moment old [] (outcome ∷ outcomes) new = ⊥
 Credits moment old (topup ∷ topups) [] new = ⊥
 Credits moment old (topup ∷ topups) (Added ∷ outcomes) new =
-    Credits moment (entry.TopUp (moved_to moment topup) ∷ old) topups outcomes new
+    Credits moment (Accepted (entry.TopUp (moved_to moment topup)) ∷ old) topups outcomes new
 Credits moment old (topup ∷ topups) (Repeated ∷ outcomes) new = ⊥
 Credits moment old (topup ∷ topups) (Refused cause ∷ outcomes) new =
     (cause ≡ BalanceLimit) × Credits moment old topups outcomes new
@@ -78,6 +78,6 @@ pub record CutExportIsTaken : Type 0 where
   pub asks : (topup : TopUpFacts) (moment : ℕ) → MayBeKept topup
       → asked_by moment (cut_fields topup) ≡ Ok (moved_to moment topup)
   pub adds : (plans : List Plan) (moment : ℕ) (topups : List TopUpFacts) (outcomes : List Outcome)
-      (new : List Entry) → AreKept topups
+      (new : History) → AreKept topups
       → Imported plans moment [] (map cut_fields topups) outcomes new
       → Credits moment [] topups outcomes new

@@ -4,7 +4,7 @@ ghost use Rattle.std.specs.Prelude.{IfErr, OnOk, option_map, Result, Ok, Err};
 ghost use Rattle.csv.specs.Reading.{ReadRecord, source_of, strip_bom, reader_state, reader_source};
 ghost use Rattle.csv.specs.Records.{fields_of};
 ghost use Rattle.csv.specs.declared.parser.State.TheVariants as st;
-ghost use Rattle.acct_model.specs.declared.entry.Entry.{Entry};
+ghost use Rattle.acct_model.specs.History.{History};
 ghost use Rattle.acct_book.specs.Effect.{Effect};
 ghost use Rattle.acct_book.specs.Step.{StoodFor, Does};
 ghost use Rattle.acct_files.specs.Importing.{KeepsOpen, Imports, CountsLines};
@@ -42,7 +42,7 @@ pub fn import<R: Read + Drop, B: Book>(
     requires { moment < 2 ^ 53 }
     ensures keeps { KeepsOpen B.Book result.stopped result.added
         book.old book.new }
-    ensures imports { B.is_sound book.new → (history : List Entry)
+    ensures imports { B.is_sound book.new → (history : History)
         → StoodFor B.Book plans.now book.old history
         → Imports B.Book plans.now moment
         (option_map strip_bom (R.remaining reader)) history result.stopped result book.old
@@ -87,7 +87,7 @@ fn import_rows<R: Read, B: Book>(
     requires report { CountsLines [] report.old }
     ensures keeps { KeepsOpen B.Book (stop_of result)
         report.new.added book.old book.new }
-    ensures imports { B.is_sound book.new → (history : List Entry)
+    ensures imports { B.is_sound book.new → (history : History)
         → StoodFor B.Book plans.now book.old history
         → Imports B.Book plans.now moment (source_of R.remaining rows.old)
         history (stop_of result) report.new book.old book.new }

@@ -1,6 +1,6 @@
 use Rattle.std.proofs.Common.{◌≤◌, ◌+◌, List, None}
 use Rattle.csv.specs.Reading.{source_of}
-use Rattle.acct_model.specs.declared.entry.Entry.{Entry}
+use Rattle.acct_model.specs.History.{History}
 use Rattle.acct_book.specs.Step.{StoodFor}
 use Rattle.acct_files.specs.Importing.{KeepsOpen}
 use Rattle.acct_files.specs.inner.Reading.{IsAtRecord}
@@ -15,7 +15,7 @@ invariant-loop-number g l = record {
   number : l.number ≤ 1000002;
   keeps : KeepsOpen g.B.Book None
       l.report.added l.fn.book l.book;
-  halfway : g.B.Book.is_sound l.book → (history : List Entry)
+  halfway : g.B.Book.is_sound l.book → (history : History)
       → StoodFor g.B.Book l.plans l.fn.book history
       → Halfway g.B.Book g.R.Read.remaining l.plans l.moment
       (source_of g.R.Read.remaining l.fn.rows) history l.rows l.number l.report l.fn.book l.book;
