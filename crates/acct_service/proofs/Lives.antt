@@ -9,57 +9,65 @@ use Rattle.acct_model.specs.declared.entry.Entry.{Entry}
 use Rattle.acct_model.specs.declared.entry.Entry.TheVariants as entry
 use Rattle.acct_model.specs.Vouchers.{TopUpFacts}
 use Rattle.acct_model.specs.Plans.{plan_for}
-use Rattle.acct_model.specs.History.{counted_of, all_topups, first_of, topup_of}
+use Rattle.acct_model.specs.History.{Member, Accepted, PlansAdded, History, counted_of}
+use Rattle.acct_model.specs.History.{all_topups, first_of, topup_of}
 use Rattle.acct_model.specs.Claims.{Claim, OfReport, OfTopUp, report_claim, topup_claim, claim_of}
 use Rattle.acct_model.specs.Claims.{claims, ClaimsNoMore}
-use Rattle.acct_model.specs.Agreement.{BalancesAreEqual}
+use Rattle.acct_model.specs.Agreement.{AddsForNone, BalancesAreEqual}
 use Rattle.acct_model.proofs.Agree.{counted-claimed, balances-covered}
 use Rattle.acct_model.proofs.Claimed.{claim_of_topup}
 use Rattle.acct_model.proofs.Lists.{here, deeper, nowhere, front_or_behind, from_filter}
 use Rattle.acct_model.proofs.Same.{Decides-bytes_eq}
-use Rattle.acct_service.specs.Settling.{IsDelivered, IsKept}
+use Rattle.acct_service.specs.Settling.{IsDelivered, IsKept, history_of}
 
 -- ---- claims
 
 -- the claim of the first entry, or one of the others'
-claimed_by : (e : Entry) (one : Claim) (es : List Entry) (claim : Claim) → claim_of e ≡ Some one
+claimed_by : (e : Entry) (one : Claim) (es : History) (claim : Claim) → claim_of e ≡ Some one
     → Contains (one ∷ claims es) claim
-    → ((claim_of e ≡ Some claim) → Contains (e ∷ es) e → (x : Entry) × Contains (e ∷ es) x
-    × (claim_of x ≡ Some claim))
-    → (Contains (claims es) claim → (x : Entry) × Contains (e ∷ es) x × (claim_of x ≡ Some claim))
-    → (x : Entry) × Contains (e ∷ es) x × (claim_of x ≡ Some claim)
+    → ((claim_of e ≡ Some claim) → Contains (Accepted e ∷ es) (Accepted e)
+    → (x : Entry) × Contains (Accepted e ∷ es) (Accepted x) × (claim_of x ≡ Some claim))
+    → (Contains (claims es) claim
+    → (x : Entry) × Contains (Accepted e ∷ es) (Accepted x) × (claim_of x ≡ Some claim))
+    → (x : Entry) × Contains (Accepted e ∷ es) (Accepted x) × (claim_of x ≡ Some claim)
 claimed_by e one es claim is h first rest =
     elim (front_or_behind one claim (claims es) h) [
-      | inl same ↦ first (is ∙ ap Some same) (here e es)
+      | inl same ↦ first (is ∙ ap Some same) (here (Accepted e) es)
       | inr behind ↦ rest behind
     ]
 
--- each claim of a list is that of an entry in it
-pub from_claims : (es : List Entry) (claim : Claim) → Contains (claims es) claim
-    → (e : Entry) × Contains es e × (claim_of e ≡ Some claim)
+-- each claim of a history is that of an entry that was accepted in it
+pub from_claims : (es : History) (claim : Claim) → Contains (claims es) claim
+    → (e : Entry) × Contains es (Accepted e) × (claim_of e ≡ Some claim)
 from_claims [] claim h = absurd (nowhere claim h)
-from_claims (entry.Report r ∷ es) claim h =
+from_claims (Accepted (entry.Report r) ∷ es) claim h =
     claimed_by (entry.Report r) (OfReport (report_claim r)) es claim refl h
     (λ is at. (entry.Report r, at, is))
     (λ behind. let (e, at, is) = from_claims es claim behind in
-    (e, deeper (entry.Report r) e es at, is))
-from_claims (entry.Restart r ∷ es) claim h =
-    let (e, at, is) = from_claims es claim h in (e, deeper (entry.Restart r) e es at, is)
-from_claims (entry.TopUp t ∷ es) claim h =
+    (e, deeper (Accepted (entry.Report r)) (Accepted e) es at, is))
+from_claims (Accepted (entry.Restart r) ∷ es) claim h =
+    let (e, at, is) = from_claims es claim h in
+    (e, deeper (Accepted (entry.Restart r)) (Accepted e) es at, is)
+from_claims (Accepted (entry.TopUp t) ∷ es) claim h =
     claimed_by (entry.TopUp t) (OfTopUp (topup_claim t)) es claim refl h
     (λ is at. (entry.TopUp t, at, is))
     (λ behind. let (e, at, is) = from_claims es claim behind in
-    (e, deeper (entry.TopUp t) e es at, is))
+    (e, deeper (Accepted (entry.TopUp t)) (Accepted e) es at, is))
+from_claims (PlansAdded plans ∷ es) claim h =
+    let (e, at, is) = from_claims es claim h in
+    (e, deeper (PlansAdded plans) (Accepted e) es at, is)
 
-claimed_after : (e : Entry) (es : List Entry) (claim : Claim) → Contains (claims es) claim
-    → Contains (claims (e ∷ es)) claim
-claimed_after (entry.Report r) es claim h =
+claimed_after : (next : Member) (es : History) (claim : Claim) → Contains (claims es) claim
+    → Contains (claims (next ∷ es)) claim
+claimed_after (Accepted (entry.Report r)) es claim h =
     deeper (OfReport (report_claim r)) claim (claims es) h
-claimed_after (entry.Restart r) es claim h = h
-claimed_after (entry.TopUp t) es claim h = deeper (OfTopUp (topup_claim t)) claim (claims es) h
+claimed_after (Accepted (entry.Restart r)) es claim h = h
+claimed_after (Accepted (entry.TopUp t)) es claim h =
+    deeper (OfTopUp (topup_claim t)) claim (claims es) h
+claimed_after (PlansAdded plans) es claim h = h
 
-claimed_first : (e : Entry) (es : List Entry) (claim : Claim) → claim_of e ≡ Some claim
-    → Contains (claims (e ∷ es)) claim
+claimed_first : (e : Entry) (es : History) (claim : Claim) → claim_of e ≡ Some claim
+    → Contains (claims (Accepted e ∷ es)) claim
 claimed_first (entry.Report r) es claim is =
     let same : OfReport (report_claim r) ≡ claim = cc in
     subst (λ c. Contains (OfReport (report_claim r) ∷ claims es) c) same
@@ -70,19 +78,20 @@ claimed_first (entry.TopUp t) es claim is =
     subst (λ c. Contains (OfTopUp (topup_claim t) ∷ claims es) c) same
     (here (OfTopUp (topup_claim t)) (claims es))
 
--- the claim of an entry of a list is one of the list's
-pub to_claims : (es : List Entry) (e : Entry) (claim : Claim) → Contains es e
+-- the claim of an accepted entry is one of the history's
+pub to_claims : (es : History) (e : Entry) (claim : Claim) → Contains es (Accepted e)
     → claim_of e ≡ Some claim → Contains (claims es) claim
-to_claims [] e claim h is = absurd (nowhere e h)
+to_claims [] e claim h is = absurd (nowhere (Accepted e) h)
 to_claims (x ∷ es) e claim h is =
-    elim (front_or_behind x e es h) [
-      | inl same ↦ claimed_first x es claim (ap claim_of same ∙ is)
+    elim (front_or_behind x (Accepted e) es h) [
+      | inl same ↦ subst (λ m. Contains (claims (m ∷ es)) claim) (sym same)
+          (claimed_first e es claim is)
       | inr behind ↦ claimed_after x es claim (to_claims es e claim behind is)
     ]
 
--- what is kept of a list has the list's claims
-pub kept_claims : (these those : List Entry)
-    → ((e : Entry) → Contains these e → IsKept those e) → ClaimsNoMore these those
+-- where each entry that was accepted in one history is kept in another, no claim is more
+pub kept_claims : (these those : History)
+    → ((e : Entry) → Contains these (Accepted e) → IsKept those e) → ClaimsNoMore these those
 kept_claims these those kept claim h =
     let (e, at, is) = from_claims these claim h in
     elim (kept e at) [
@@ -97,15 +106,16 @@ kept_claims these those kept claim h =
 
 -- A history whose claims are sent ones and which has each acknowledged claim has the balances of
 -- what was sent.
-pub settles : (plans : List Plan) (sent told last : List Entry) → ClaimsNoMore told last
+pub settles : (plans : List Plan) (sent : History) (told : List Entry) (last : History)
+    → AddsForNone last → AddsForNone sent → ClaimsNoMore (history_of told) last
     → IsDelivered plans sent told last → BalancesAreEqual plans last sent
-settles plans sent told last kept (no_other, by) =
-    balances-covered plans last sent by.consistent no_other
+settles plans sent told last fresh new kept (no_other, by) =
+    balances-covered plans last sent fresh new by.consistent no_other
     (λ t h. kept (OfTopUp (topup_claim t)) (by.topups t h))
     (λ r h.
     let plan = plan_for plans r.class in
     let s = by.reports r h in
-    let q = counted-claimed plan told last kept s.0 s.1 in
+    let q = counted-claimed plan (history_of told) last kept s.0 s.1 in
     let sent_counts = counted_of plan r in
     let told_counts = counted_of plan s.0 in
     let last_counts = counted_of plan q.0 in
@@ -128,7 +138,7 @@ first_stands kept (t ∷ ts) e =
     ] refl e
 
 -- a repeated top-up's claim stands already
-pub repeated_claimed : (old : List Entry) (t kept : TopUpFacts) → topup_of old t.voucher ≡ Some kept
+pub repeated_claimed : (old : History) (t kept : TopUpFacts) → topup_of old t.voucher ≡ Some kept
     → kept.account ≡ t.account → kept.sum ≡ t.sum
     → Contains (claims old) (OfTopUp (topup_claim t))
 repeated_claimed old t kept first account amount =

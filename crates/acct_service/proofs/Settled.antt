@@ -1,13 +1,16 @@
 -- A life in which all is acknowledged is possible; and the law.
-use Rattle.std.proofs.Common.{◌⊎◌, inl, inr, true, List, [], ◌∷◌, ◌++◌, refl, sym, ap}
+use Rattle.std.proofs.Common.{◌≡◌, ◌⊎◌, inl, inr, true, List, [], ◌∷◌, ◌++◌, refl, sym, ap}
 use Rattle.std.proofs.Common.{subst, None}
 use Rattle.std.proofs.lemmas.Grind.{flat_map-append}
 use Rattle.std.proofs.lemmas.List.Elements.{Contains-append_left, Contains-append_right}
 use Rattle.std.specs.Prelude.{Contains}
+use Rattle.acct_model.specs.declared.plan.Plan.{Plan}
 use Rattle.acct_model.specs.declared.entry.Entry.{Entry}
 use Rattle.acct_model.specs.declared.entry.Entry.TheVariants as entry
+use Rattle.acct_model.specs.Plans.{plans_added}
+use Rattle.acct_model.specs.History.{Accepted, PlansAdded, History}
 use Rattle.acct_model.specs.Claims.{OfTopUp, topup_claim, IsConsistent, ClaimsNoMore}
-use Rattle.acct_model.proofs.Lists.{here, nowhere, front_or_behind}
+use Rattle.acct_model.proofs.Lists.{here, nowhere, front_or_behind, from_map, to_map}
 use Rattle.acct_model.proofs.Claimed.{claim_of_topup}
 use Rattle.acct_model.proofs.Agree.{covers-claimed}
 use Rattle.acct_book.specs.Effect.{added, Holds}
@@ -15,21 +18,26 @@ use Rattle.acct_site.specs.declared.config.Config.{Config}
 use Rattle.acct_files.specs.declared.import_report.Outcome.TheVariants as outcome
 use Rattle.acct_files.specs.Importing.{Becomes}
 use Rattle.acct_service.specs.Machine.{Visit, replied}
-use Rattle.acct_service.specs.Life.{Span, served, imported, LivesOn, Chain, Life, listed}
+use Rattle.acct_service.specs.Life.{Span, served, imported, extended, Past, made_with, MayExtend}
+use Rattle.acct_service.specs.Life.{LivesOn, Chain, Life, listed}
 use Rattle.acct_service.specs.Life.{acknowledged_line, acknowledged_in, acknowledged}
 use Rattle.acct_service.specs.Settling.{IsDelivered, CanBeServed, CanBeImported, CanBeSent}
-use Rattle.acct_service.specs.Settling.{LifeSettles}
+use Rattle.acct_service.specs.Settling.{LifeSettles, IsKept, history_of}
 use Rattle.acct_service.proofs.Kept.{life_has_kept}
 use Rattle.acct_service.proofs.Lives.{settles, kept_claims}
 use Rattle.acct_service.proofs.Resent.{comes_again, life_orderly}
 
+-- a history under the plans of a configuration
+abbrev past : Config → History → Past
+past config history = record { plans = config.plans; history = history }
+
 -- a span in which the entry is added and acknowledged
-record AddsIn (config : Config) (older : List Entry) (e : Entry) : Type 0 where
+record AddsIn (config : Config) (older : History) (e : Entry) : Type 0 where
   span : Span
-  lives : LivesOn config.plans older span (e ∷ older)
+  lives : LivesOn (past config older) span (past config (Accepted e ∷ older))
   acknowledges : Contains (acknowledged_in span) e
 
-served_in : (config : Config) (older : List Entry) (e : Entry)
+served_in : (config : Config) (older : History) (e : Entry)
     → Holds config.plans older (added e) → CanBeServed config e → AddsIn config older e
 served_in config older e holds (event, octets, answers) =
     let visit : Visit =
@@ -37,26 +45,27 @@ served_in config older e holds (event, octets, answers) =
     record {
       span = served config (visit ∷ []);
       lives = (
-        e ∷ older,
+        Accepted e ∷ older,
         (
           λ class. refl,
           (
-            e ∷ older,
+            Accepted e ∷ older,
             record { answers = answers; holds = holds; tells = λ is. cc; leads = refl },
             refl,
           ),
         ),
+        refl,
         inl refl,
       );
       acknowledges = here e [];
     }
 
-imported_in : (config : Config) (older : List Entry) (e : Entry)
+imported_in : (config : Config) (older : History) (e : Entry)
     → Holds config.plans older (added e) → CanBeImported e → AddsIn config older e
 imported_in config older e holds (moment, fields, topup, asks, is) = record {
   span = imported config moment (fields ∷ []) (outcome.Added ∷ []) None;
   lives = (
-    e ∷ older,
+    Accepted e ∷ older,
     (
       λ class. refl,
       (
@@ -66,6 +75,7 @@ imported_in config older e holds (moment, fields, topup, asks, is) = record {
         refl,
       ),
     ),
+    refl,
     inl refl,
   );
   acknowledges =
@@ -74,7 +84,7 @@ imported_in config older e holds (moment, fields, topup, asks, is) = record {
       (here (entry.TopUp topup) []));
 }
 
-added_in : (config : Config) (older : List Entry) (e : Entry)
+added_in : (config : Config) (older : History) (e : Entry)
     → Holds config.plans older (added e) → CanBeServed config e ⊎ CanBeImported e
     → AddsIn config older e
 added_in config older e holds way =
@@ -84,30 +94,33 @@ added_in config older e holds way =
     ]
 
 -- a chain goes on by one step
-chain_more : {S : Type 0} (Step : List Entry → S → List Entry → Type 0)
-    (old mid new : List Entry) (steps : List S) (step : S) → Chain Step old steps mid
+chain_more : {X S : Type 0} (Step : X → S → X → Type 0) (old mid new : X)
+    (steps : List S) (step : S) → Chain Step old steps mid
     → Step mid step new → Chain Step old (steps ++ step ∷ []) new
 chain_more Step old mid new [] step is last =
-    (new, subst (λ es. Step es step new) is last, refl)
+    (new, subst (λ x. Step x step new) is last, refl)
 chain_more Step old mid new (first ∷ steps) step (next, one, rest) last =
     (next, one, chain_more Step next mid new steps step rest last)
 
 -- a life that ends with what was sent, all of which it acknowledges
-record Delivers (config : Config) (sent : List Entry) : Type 0 where
+record Delivers (config : Config) (sent : History) : Type 0 where
+  plans : List Plan
   spans : List Span
-  life : Life config.plans [] spans sent
-  all : (e : Entry) → Contains sent e → Contains (acknowledged spans) e
+  life : Life (made_with plans) spans (past config sent)
+  all : (e : Entry) → Contains sent (Accepted e) → Contains (acknowledged spans) e
 
-delivers_more : (config : Config) (older : List Entry) (e : Entry) → Delivers config older
-    → AddsIn config older e → Delivers config (e ∷ older)
+delivers_more : (config : Config) (older : History) (e : Entry) → Delivers config older
+    → AddsIn config older e → Delivers config (Accepted e ∷ older)
 delivers_more config older e before adds = record {
+  plans = before.plans;
   spans = before.spans ++ adds.span ∷ [];
-  life = chain_more (LivesOn config.plans) [] older (e ∷ older) before.spans adds.span before.life
-      adds.lives;
+  life = chain_more LivesOn (made_with before.plans) (past config older)
+      (past config (Accepted e ∷ older)) before.spans adds.span before.life adds.lives;
   all = λ x at. subst (λ es. Contains es x)
       (sym (flat_map-append acknowledged_in before.spans (adds.span ∷ [])))
-      (elim (front_or_behind e x older at) [
-        | inl is ↦ Contains-append_right (acknowledged before.spans)
+      (elim (front_or_behind (Accepted e) (Accepted x) older at) [
+        | inl same ↦ let is : e ≡ x = cc in
+            Contains-append_right (acknowledged before.spans)
             (acknowledged_in adds.span ++ []) x
             (Contains-append_left (acknowledged_in adds.span) [] x
             (subst (λ v. Contains (acknowledged_in adds.span) v) is adds.acknowledges))
@@ -116,23 +129,55 @@ delivers_more config older e before adds = record {
       ]);
 }
 
-delivers : (config : Config) (sent : List Entry) → CanBeSent config sent → Delivers config sent
+-- the same after an addition of plans
+delivers_under : (config : Config) (older : History) (plans more : List Plan)
+    → MayExtend plans config.plans → more ≡ plans_added plans config.plans
+    → Delivers (record config { plans = plans }) older
+    → Delivers config (PlansAdded more ∷ older)
+delivers_under config older plans more may is before = record {
+  plans = before.plans;
+  spans = before.spans ++ extended config.plans ∷ [];
+  life = chain_more LivesOn (made_with before.plans)
+      (record { plans = plans; history = older }) (past config (PlansAdded more ∷ older))
+      before.spans (extended config.plans) before.life (
+        PlansAdded more ∷ older,
+        (may, ap (λ added. PlansAdded added ∷ older) is),
+        refl,
+        inl refl,
+      );
+  all = λ x at. subst (λ es. Contains es x)
+      (sym (flat_map-append acknowledged_in before.spans (extended config.plans ∷ [])))
+      (elim (front_or_behind (PlansAdded more) (Accepted x) older at) [
+        | inl same ↦ absurd (cc same)
+        | inr behind ↦ Contains-append_left (acknowledged before.spans) [] x
+            (before.all x behind)
+      ]);
+}
+
+delivers : (config : Config) (sent : History) → CanBeSent config sent → Delivers config sent
 delivers config [] fine = record {
+  plans = config.plans;
   spans = [];
   life = refl;
-  all = λ e none. absurd (nowhere e none);
+  all = λ e none. absurd (nowhere (Accepted e) none);
 }
-delivers config (e ∷ older) (holds, way, before) =
+delivers config (Accepted e ∷ older) (holds, way, before) =
     delivers_more config older e (delivers config older before)
     (added_in config older e holds way)
+delivers config (PlansAdded more ∷ older) (plans, may, is, before) =
+    delivers_under config older plans more may is
+    (delivers (record config { plans = plans }) older before)
 
-possible : (config : Config) (sent : List Entry) → IsConsistent sent → CanBeSent config sent
-    → (spans : List Span) × Life config.plans [] spans sent
+possible : (config : Config) (sent : History) → IsConsistent sent → CanBeSent config sent
+    → (plans : List Plan) × (spans : List Span)
+    × Life (made_with plans) spans (past config sent)
     × IsDelivered config.plans sent (acknowledged spans) sent
 possible config sent consistent fine =
     let d = delivers config sent fine in
-    let told : ClaimsNoMore sent (acknowledged d.spans) =
-    kept_claims sent (acknowledged d.spans) (λ e at. inl (d.all e at)) in (
+    let told : ClaimsNoMore sent (history_of (acknowledged d.spans)) =
+    kept_claims sent (history_of (acknowledged d.spans))
+    (λ e at. inl (to_map Accepted (acknowledged d.spans) e (d.all e at))) in (
+      d.plans,
       d.spans,
       d.life,
       (
@@ -140,18 +185,27 @@ possible config sent consistent fine =
         record {
           consistent = consistent;
           topups = λ t h. told (OfTopUp (topup_claim t)) (claim_of_topup sent t h);
-          reports = covers-claimed config.plans sent (acknowledged d.spans) told;
+          reports = covers-claimed config.plans sent (history_of (acknowledged d.spans)) told;
         },
       ),
     )
 
+-- each claim of acknowledged entries that are kept stands
+acknowledged_claims : (told : List Entry) (last : History)
+    → ((e : Entry) → Contains told e → IsKept last e) → ClaimsNoMore (history_of told) last
+acknowledged_claims told last kept = kept_claims (history_of told) last (λ e at.
+    let (x, there, same) = from_map Accepted told (Accepted e) at in
+    let is : x ≡ e = cc in
+    subst (IsKept last) is (kept x there))
+
 pub life_settled : LifeSettles
 life_settled = record {
   kept = life_has_kept;
-  settled = λ plans sent last spans life delivered.
-      settles plans sent (acknowledged spans) last
-      (kept_claims (acknowledged spans) last (life_has_kept plans [] last spans life).acknowledged)
-      delivered;
-  resent = λ plans last spans life. comes_again plans last (life_orderly plans last spans life);
+  settled = λ plans sent last spans life fresh new delivered.
+      settles last.plans sent (acknowledged spans) last.history fresh new
+      (acknowledged_claims (acknowledged spans) last.history
+      (life_has_kept (made_with plans) last spans life).acknowledged) delivered;
+  resent = λ plans last spans life.
+      comes_again last.plans last.history (life_orderly plans last spans life);
   possible = possible;
 }

@@ -12,6 +12,7 @@ use Rattle.std.proofs.lemmas.List.Sums.{sum_by-append}
 use Rattle.std.proofs.lemmas.Grind.{flat_map-append}
 use Rattle.acct_model.specs.declared.plan.Plan.{Plan}
 use Rattle.acct_model.specs.declared.entry.Entry.{Entry}
+use Rattle.acct_model.specs.History.{History}
 use Rattle.acct_book.specs.declared.book.Book.{Ghosts}
 use Rattle.acct_book.specs.Content.{Content}
 use Rattle.acct_book.specs.Effect.{after_effect, failed}
@@ -31,7 +32,7 @@ use Rattle.acct_service.specs.Serving.{Counts, CountsMore, HasFailed, MayLeave, 
 use Rattle.acct_service.specs.Serving.{TakesTurn, TakesTurns, Serves, Keeps, AtMost}
 
 -- two runs are one
-run_join : (config : Config) (history mid after : List Entry) (visits more : List Visit)
+run_join : (config : Config) (history mid after : History) (visits more : List Visit)
     → Run config history visits mid → Run config mid more after
     → Run config history (visits ++ more) after
 run_join config history mid after [] more is run =
@@ -114,7 +115,7 @@ failed_after visits more asked has =
     (Contains-append_right (map (λ (v : Visit). v.effect) visits)
     (map (λ (v : Visit). v.effect) more) (failed asked) has)
 
-may_leave : (plans : List Plan) (history : List Entry) (tried all : Entry → Type 0) (c : Content)
+may_leave : (plans : List Plan) (history : History) (tried all : Entry → Type 0) (c : Content)
     → ((asked : Entry) → tried asked → all asked) → MayLeave plans history tried c
     → MayLeave plans history all c
 may_leave plans history tried all c each may =
@@ -186,7 +187,7 @@ module _ {B : Type 0} (b : Ghosts B) (config : Config) where
   }
 
   -- what a crash leaves after one visit
-  left_by_one : (old new : B) (history : List Entry) (visit : Visit)
+  left_by_one : (old new : B) (history : History) (visit : Visit)
       → Leaves b config.plans old new history visit.effect → (c : Content) → b.left new c
       → MayLeave config.plans (after_effect history visit.effect) (HasFailed (visit ∷ [])) c
       ⊎ ((after_effect history visit.effect ≡ history) × b.left old c)
@@ -248,7 +249,7 @@ module _ {B : Type 0} (b : Ghosts B) (config : Config) where
         told = subst (λ cs. Grows old_told cs new_told) (sym (append-nil (calls_of visit))) grows;
       }
 
-  leads_join : (visits more : List Visit) (old mid new : B) (history : List Entry)
+  leads_join : (visits more : List Visit) (old mid new : B) (history : History)
       (first : Leads b config visits old mid history)
       → Leads b config more mid new first.after
       → Leads b config (visits ++ more) old new history

@@ -1,13 +1,15 @@
--- The life of a book: spans of serving and of imports, and after each a stop.
+-- The life of a book: spans of serving, of imports and of additions of plans, and after each a
+-- stop.
 use Rattle.std.specs.Prelude.{◌≡◌, ◌⊎◌, ℕ, Bool, true, Option, None, Some, List, [], ◌∷◌}
 use Rattle.std.specs.Prelude.{◌++◌, Result, Ok, Err}
 use Rattle.std.specs.List.{flat_map}
 use Rattle.acct_model.specs.declared.plan.Plan.{Plan}
 use Rattle.acct_model.specs.declared.entry.Entry.{Entry}
 use Rattle.acct_model.specs.declared.entry.Entry.TheVariants.{TopUp}
-use Rattle.acct_model.specs.Plans.{plan_for}
+use Rattle.acct_model.specs.PlanFaults.{plans_fault}
+use Rattle.acct_model.specs.Plans.{plan_for, Extends, plans_added}
 use Rattle.acct_model.specs.Vouchers.{TopUpFacts}
-use Rattle.acct_model.specs.History.{Admissible}
+use Rattle.acct_model.specs.History.{Accepted, PlansAdded, History, Admissible}
 use Rattle.acct_book.specs.Effect.{Effect, added, repeated}
 use Rattle.acct_site.specs.declared.config.Config.{Config}
 use Rattle.acct_files.specs.declared.import_report.Cause.{Cause}
@@ -26,17 +28,43 @@ pub data Span : Type 0 where
   -- an import under a configuration at this moment, as far as it came: its records, what became of
   -- each, and the voucher whose call was answered Unavailable, if it stopped for one
   imported : Config → ℕ → List Fields → List Outcome → Option TopUpFacts → Span
+  -- plans were added to those in force, so that these are
+  extended : List Plan → Span
+
+-- the history of a book, and the plans in force at its end
+pub record Past : Type 0 where
+  pub plans : List Plan
+  pub history : History
+
+-- the past of a book that was made with these plans
+abbrev pub made_with : List Plan → Past
+made_with plans = record { plans = plans; history = [] }
 
 -- Each class is priced alike: the same plans, in whatever order a configuration has them.
 abbrev pub PriceAlike : List Plan → List Plan → Type 0
 PriceAlike these those = (class : List ℕ) → plan_for these class ≡ plan_for those class
 
--- from a history to the one after it, with no stop yet
-abbrev pub Goes : List Plan → List Entry → Span → List Entry → Type 0
+-- New plans may take the place of old ones: neither have a fault, and each of the old ones stands
+-- unchanged among the new ones.
+pub record MayExtend (old new : List Plan) : Type 0 where
+  pub old_are_good : plans_fault old ≡ None
+  pub new_are_good : plans_fault new ≡ None
+  pub extends : Extends new old
+
+-- the plans in force after a span, by those before it
+abbrev pub plans_after : List Plan → Span → List Plan
+plans_after plans (served config visits) = plans
+plans_after plans (imported config moment rows outcomes tried) = plans
+plans_after plans (extended new) = new
+
+-- from a history to the one after it, with no stop yet, by the plans in force before the span
+abbrev pub Goes : List Plan → History → Span → History → Type 0
 Goes plans old (served config visits) new =
     PriceAlike config.plans plans × Run config old visits new
 Goes plans old (imported config moment rows outcomes tried) new =
     PriceAlike config.plans plans × Imported config.plans moment old rows outcomes new
+Goes plans old (extended more) new =
+    MayExtend plans more × (new ≡ PlansAdded (plans_added plans more) ∷ old)
 
 -- The entry's call was answered Unavailable in the span. The call in which the stop falls counts as
 -- one that was.
@@ -44,29 +72,29 @@ abbrev pub HasTried : Span → Entry → Type 0
 HasTried (served config visits) asked = HasFailed visits asked
 HasTried (imported config moment rows outcomes tried) asked =
     (topup : TopUpFacts) × (tried ≡ Some topup) × (asked ≡ TopUp topup)
+HasTried (extended plans) asked = ⊥
 
 -- a stop leaves the history, or that with one entry whose call failed
-abbrev pub StopLeaves : List Plan → Span → List Entry → List Entry → Type 0
+abbrev pub StopLeaves : List Plan → Span → History → History → Type 0
 StopLeaves plans span history left =
     (left ≡ history)
     ⊎ ((asked : Entry) × HasTried span asked × Admissible plans history asked
-    × (left ≡ asked ∷ history))
+    × (left ≡ Accepted asked ∷ history))
 
 -- a span and the stop after it
-abbrev pub LivesOn : List Plan → List Entry → Span → List Entry → Type 0
-LivesOn plans old span new =
-    (end : List Entry) × Goes plans old span end × StopLeaves plans span end new
+abbrev pub LivesOn : Past → Span → Past → Type 0
+LivesOn old span new =
+    (end : History) × Goes old.plans old.history span end × (new.plans ≡ plans_after old.plans span)
+    × StopLeaves new.plans span end new.history
 
--- steps in their order, each from the history that the one before it left
-abbrev pub Chain : {S : Type 0} → (List Entry → S → List Entry → Type 0) → List Entry → List S
-    → List Entry → Type 0
+-- steps in their order, each from what the one before it left
+abbrev pub Chain : {X S : Type 0} → (X → S → X → Type 0) → X → List S → X → Type 0
 Chain Step old [] new = new ≡ old
-Chain Step old (step ∷ steps) new =
-    (mid : List Entry) × Step old step mid × Chain Step mid steps new
+Chain Step old (step ∷ steps) new = (mid : _) × Step old step mid × Chain Step mid steps new
 
--- span after span, each from the history that the stop before it left
-abbrev pub Life : List Plan → List Entry → List Span → List Entry → Type 0
-Life plans old spans new = Chain (LivesOn plans) old spans new
+-- span after span, each from what the stop before it left
+abbrev pub Life : Past → List Span → Past → Type 0
+Life old spans new = Chain LivesOn old spans new
 
 -- ---- what was acknowledged
 
@@ -102,6 +130,7 @@ abbrev pub acknowledged_in : Span → List Entry
 acknowledged_in (served config visits) = flat_map acknowledged_at visits
 acknowledged_in (imported config moment rows outcomes tried) =
     acknowledged_lines moment rows outcomes
+acknowledged_in (extended plans) = []
 
 -- in all spans
 abbrev pub acknowledged : List Span → List Entry

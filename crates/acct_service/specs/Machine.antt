@@ -1,7 +1,8 @@
--- The machine: what an event may be answered, and what becomes of the history. A history is the
--- list of accepted entries, the newest first; lists of events and visits have the oldest first.
+-- The machine: what an event may be answered, and what becomes of the history. A history has the
+-- newest first; lists of events and visits have the oldest first. The plans of a configuration are
+-- those in force at the end of the history: while events come none are added.
 use Rattle.std.specs.Prelude.{◌≡◌, ◌≢◌, ℕ, Bool, List, [], ◌∷◌}
-use Rattle.acct_model.specs.declared.entry.Entry.{Entry}
+use Rattle.acct_model.specs.History.{History}
 use Rattle.acct_book.specs.declared.book.Book.{Ghosts}
 use Rattle.acct_book.specs.Effect.{Effect, looked, after_effect, Holds}
 use Rattle.acct_book.specs.Step.{StoodFor, Does}
@@ -64,7 +65,7 @@ AsksBalance config moment (Desk bytes) =
     (ask : Ask) × Asks config.keys bytes moment ask × IsOfBalance ask
 
 -- the response with what the desk is asked to tell, over this history
-abbrev pub IsPage : Config → List Entry → ℕ → What → Answer → Type 0
+abbrev pub IsPage : Config → History → ℕ → What → Answer → Type 0
 IsPage config history moment (Desk bytes) (replied octets) =
     (ask : Ask) × Asks config.keys bytes moment ask × IsResponseOf config.plans history ask octets
 IsPage config history moment what answer = ⊥
@@ -80,7 +81,7 @@ pub record Visit : Type 0 where
 
 -- One step, from a history to the next: the event is answered so, what that does is true of the
 -- history, what was looked up is told of it, and the effect says which history comes after.
-pub record Step (config : Config) (history : List Entry) (visit : Visit) (after : List Entry)
+pub record Step (config : Config) (history : History) (visit : Visit) (after : History)
     : Type 0 where
   pub answers : AnswersEvent config visit.event.moment visit.event.what visit.answer visit.effect
   pub holds : Holds config.plans history visit.effect
@@ -89,10 +90,10 @@ pub record Step (config : Config) (history : List Entry) (visit : Visit) (after 
   pub leads : after ≡ after_effect history visit.effect
 
 -- step after step, each from the history that the one before it left
-abbrev pub Run : Config → List Entry → List Visit → List Entry → Type 0
+abbrev pub Run : Config → History → List Visit → History → Type 0
 Run config history [] after = after ≡ history
 Run config history (visit ∷ visits) after =
-    (next : List Entry) × Step config history visit next × Run config next visits after
+    (next : History) × Step config history visit next × Run config next visits after
 
 -- ---- a step over a book
 
@@ -103,7 +104,7 @@ pub record TakesStep {B : Type 0} (b : Ghosts B) (config : Config) (moment : ℕ
   pub effect : Effect
   pub answers : AnswersEvent config moment what answer effect
   pub does : Does b config.plans old new effect
-  pub tells : b.is_sound new → (history : List Entry) → StoodFor b config.plans old history
+  pub tells : b.is_sound new → (history : History) → StoodFor b config.plans old history
       → effect ≡ looked → IsPage config history moment what answer
   -- over a steady book nobody is told that his balance is unavailable
   pub steady : b.is_steady old → AsksBalance config moment what

@@ -5,6 +5,7 @@ use Rattle.std.specs.Prelude.{◌∷◌, Option, map, length, count_by, slice_in
 use Rattle.std.specs.List.{flat_map}
 use Rattle.acct_model.specs.declared.plan.Plan.{Plan}
 use Rattle.acct_model.specs.declared.entry.Entry.{Entry}
+use Rattle.acct_model.specs.History.{History}
 use Rattle.acct_book.specs.declared.book.Book.{Ghosts}
 use Rattle.acct_book.specs.Content.{Content}
 use Rattle.acct_book.specs.Effect.{failed}
@@ -100,7 +101,7 @@ abbrev pub HasFailed : List Visit → Entry → Type 0
 HasFailed visits asked = Contains (map (λ visit. visit.effect) visits) (failed asked)
 
 -- the content stands for the history, or for it with one of these entries, which may be accepted
-abbrev pub MayLeave : List Plan → List Entry → (Entry → Type 0) → Content → Type 0
+abbrev pub MayLeave : List Plan → History → (Entry → Type 0) → Content → Type 0
 MayLeave plans history Tried content =
     Stands plans content history
     ⊎ ((asked : Entry) × Tried asked × MayAdd plans history asked content)
@@ -115,8 +116,8 @@ pub record Keeps {B : Type 0} (b : Ghosts B) (old new : B) : Type 0 where
 
 -- What the visits made of a history, over a book whose content stood for it.
 pub record Leads {B : Type 0} (b : Ghosts B) (config : Config) (visits : List Visit) (old new : B)
-    (history : List Entry) : Type 0 where
-  pub after : List Entry
+    (history : History) : Type 0 where
+  pub after : History
   -- they are a run of the machine, from this history to the one after it
   pub run : Run config history visits after
   -- the book's content stands for the history after the run, while it tells one
@@ -134,7 +135,7 @@ pub record Attends {B : Type 0} (b : Ghosts B) (config : Config) (visits : List 
   pub answered : (visit : Visit) → Contains visits visit
       → AnswersEvent config visit.event.moment visit.event.what visit.answer visit.effect
   -- from each history for which the content stood
-  pub leads : b.is_sound new → (history : List Entry) → StoodFor b config.plans old history
+  pub leads : b.is_sound new → (history : History) → StoodFor b config.plans old history
       → Leads b config visits old new history
   pub keeps : Keeps b old new
   -- over a steady book nobody is told that his balance is unavailable

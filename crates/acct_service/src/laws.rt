@@ -12,14 +12,14 @@ use acct_book::Book;
 /// Disturbed delivery. What was accepted or acknowledged is never lost. Where the entries that were
 /// sent are consistent, nothing else was accepted, each top-up was acknowledged and each report is
 /// covered by an acknowledged one, the balances are those of what was sent, however often the
-/// server stopped and the network lost, repeated or reordered. What was never answered may come
-/// again.
+/// server stopped and the network lost, repeated or reordered. Plans may be added meanwhile, each
+/// for a class that no report accepted before bears. What was never answered may come again.
 pub fn life_settles()
     ensures { LifeSettles }
 {}
 
-/// What a crash leaves of a book that was served or imported into is a history from which
-/// `life_settles` goes on: this span of a life, and a stop.
+/// What a crash leaves of a book that was served or imported into, or to whose plans others were
+/// added, is a history from which `life_settles` goes on: this span of a life, and a stop.
 pub fn stops_are_lived<B: Book>()
     ensures { StopsAreLived B.Book }
 {}
