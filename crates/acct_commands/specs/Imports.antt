@@ -4,7 +4,7 @@ use Rattle.std.specs.Prelude.{length}
 use Rattle.std.specs.Prelude.{flat_map, Result, IfOk, IfErr}
 use Rattle.std.specs.Io.KnownBytes.{Appends}
 use Rattle.acct_model.specs.declared.plan.Plan.{Plan}
-use Rattle.acct_model.specs.declared.entry.Entry.{Entry}
+use Rattle.acct_model.specs.History.{History}
 use Rattle.acct_book.specs.declared.book.Book.{Ghosts}
 use Rattle.acct_book.specs.Step.{StoodFor}
 use Rattle.acct_files.specs.Importing.{Imports, KeepsOpen, unmarked}
@@ -62,7 +62,7 @@ module _ {B : Type 0} (b : Ghosts B) where
       (before after : Option (List ℕ)) (ended : Result Status Fault) : Type 0 where
     pub report : ImportReport
     pub keeps : KeepsOpen b report.stopped report.added old new
-    pub imports : b.is_sound new → (history : List Entry)
+    pub imports : b.is_sound new → (history : History)
         → StoodFor b plans old history
         → Imports b plans moment (unmarked text) history
         report.stopped report old new
