@@ -3,6 +3,7 @@ mod Visits
 mod WorkedCalls
 mod Lives
 mod Kept
+mod InForce
 mod Resent
 mod Settled
 mod Stops

@@ -23,6 +23,7 @@ use Rattle.acct_service.specs.Life.{LivesOn, Chain, Life, listed}
 use Rattle.acct_service.specs.Life.{acknowledged_line, acknowledged_in, acknowledged}
 use Rattle.acct_service.specs.Settling.{IsDelivered, CanBeServed, CanBeImported, CanBeSent}
 use Rattle.acct_service.specs.Settling.{LifeSettles, IsKept, history_of}
+use Rattle.acct_service.proofs.InForce.{plans_are_told}
 use Rattle.acct_service.proofs.Kept.{life_has_kept}
 use Rattle.acct_service.proofs.Lives.{settles, kept_claims}
 use Rattle.acct_service.proofs.Resent.{comes_again, life_orderly}
@@ -201,6 +202,7 @@ acknowledged_claims told last kept = kept_claims (history_of told) last (λ e at
 pub life_settled : LifeSettles
 life_settled = record {
   kept = life_has_kept;
+  in_force = plans_are_told;
   settled = λ plans sent last spans life fresh new delivered.
       settles last.plans sent (acknowledged spans) last.history fresh new
       (acknowledged_claims (acknowledged spans) last.history

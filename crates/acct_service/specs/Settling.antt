@@ -9,8 +9,8 @@ use Rattle.acct_model.specs.declared.entry.Entry.TheVariants as entry
 use Rattle.acct_model.specs.Report.{ReportFacts}
 use Rattle.acct_model.specs.Vouchers.{TopUpFacts}
 use Rattle.acct_model.specs.Plans.{plan_for, plans_added}
-use Rattle.acct_model.specs.History.{Accepted, PlansAdded, History, session_of, all_reports}
-use Rattle.acct_model.specs.History.{counted_of, all_topups, Admissible}
+use Rattle.acct_model.specs.History.{Accepted, PlansAdded, History, plans_then, session_of}
+use Rattle.acct_model.specs.History.{all_reports, counted_of, all_topups, Admissible}
 use Rattle.acct_model.specs.Claims.{OfReport, OfTopUp, report_claim, topup_claim, claims}
 use Rattle.acct_model.specs.Claims.{IsConsistent, ClaimsNoMore}
 use Rattle.acct_model.specs.Agreement.{AddsForNone, BalancesAreEqual}
@@ -20,7 +20,8 @@ use Rattle.acct_site.specs.declared.config.Config.{Config}
 use Rattle.acct_files.specs.Vouchers.{Fields, asked_by}
 use Rattle.acct_service.specs.declared.event.Event.{Event}
 use Rattle.acct_service.specs.Machine.{replied, AnswersEvent}
-use Rattle.acct_service.specs.Life.{Span, Past, made_with, MayExtend, Life, acknowledged}
+use Rattle.acct_service.specs.Life.{Span, Past, made_with, PriceAlike, MayExtend, Life}
+use Rattle.acct_service.specs.Life.{acknowledged}
 
 -- ---- what stays
 
@@ -36,6 +37,12 @@ IsKept history asked =
 pub record HasKept (old : History) (confirmed : List Entry) (last : History) : Type 0 where
   pub accepted : (newer : History) × (last ≡ newer ++ old)
   pub acknowledged : (asked : Entry) → Contains confirmed asked → IsKept last asked
+
+-- Of a life from the old past to the last: the plans in force before are those at the end without
+-- the ones that the history says were added since.
+abbrev pub PlansAreTold : Past → Past → Type 0
+PlansAreTold old last = (newer : History) × (last.history ≡ newer ++ old.history)
+    × PriceAlike (plans_then last.plans newer) old.plans
 
 -- ---- what was to be delivered
 
@@ -106,6 +113,9 @@ pub record LifeSettles : Type 0 where
   -- what was accepted or acknowledged stays
   pub kept : (old last : Past) (spans : List Span)
       → Life old spans last → HasKept old.history (acknowledged spans) last.history
+  -- the history says which plans are in force
+  pub in_force : (old last : Past) (spans : List Span) → Life old spans last
+      → PlansAreTold old last
   -- What was sent in the end counts as if nothing had been lost, repeated or reordered, and as if
   -- the server had never stopped, by the plans in force at the end. Each addition was of plans for
   -- classes that no report accepted before bears.
