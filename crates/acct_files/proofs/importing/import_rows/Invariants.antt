@@ -1,4 +1,4 @@
-use Rattle.std.proofs.Common.{◌≤◌, ◌+◌, List, None}
+use Rattle.std.proofs.Common.{◌≤◌, ◌+◌, None}
 use Rattle.csv.specs.Reading.{source_of}
 use Rattle.acct_model.specs.History.{History}
 use Rattle.acct_book.specs.Step.{StoodFor}
