@@ -1,21 +1,22 @@
 -- A transaction as a call that writes: all of its change, or nothing.
 use Rattle.std.proofs.Common.{◌≡◌, ◌⊎◌, inl, inr, true, false, Bool, Ok, Err, Result, IsTrue, IsOk}
-use Rattle.std.proofs.Common.{OnOk, OnErr, sym, ap, subst, ◌∙◌, arith}
+use Rattle.std.proofs.Common.{OnOk, OnErr, refl, sym, ap, subst, ◌∙◌, arith}
 use Rattle.sqlite.specs.Store.{Ghosts}
 use Rattle.sqlite.specs.Tree.{Trees}
 use Rattle.sqlite.specs.Effect.{Database}
 use Rattle.sqlite.specs.State.{State, HasCleanDisk, Survives, KeepsCommit, IsRolledBack, Shows}
 use Rattle.sqlite.specs.Held.{Held, state}
-use Rattle.sqlite.proofs.StateLemmas.{survives_then}
+use Rattle.sqlite.proofs.StateLemmas.{survives_then, survives_weaker}
 use Rattle.sqlite.proofs.Callers.{survives_begin}
 use Rattle.acct_book.specs.Content.{Content}
 use Rattle.acct_book.specs.Book.{Writes}
 use Rattle.acct_book.specs.declared.book.Unavailable.{Unavailable}
 use Rattle.acct_sql.specs.Content.{content_in_tables}
 use Rattle.acct_sql.specs.Book.{IsBook, IsResting, IsOpenBook, content_at, is_sound_at, is_open_at}
-use Rattle.acct_sql.specs.Book.{is_steady_at, left_at}
+use Rattle.acct_sql.specs.Book.{is_steady_at, left_at, HasSamePlans, LeavesPlans}
 use Rattle.acct_sql.specs.inner.Inside.{HasMade, HasFinished}
-use Rattle.acct_sql.specs.inner.AtRest.{Wrote}
+use Rattle.acct_sql.specs.Book.{Wrote}
+use Rattle.acct_sql.specs.inner.AtRest.{WritesAtRest}
 
 -- what holds of a value that is there
 pub of_ok : {T E : Type 0} {P : Type 0} (r : Result T E) → IsOk r → OnOk r P → P
@@ -121,15 +122,26 @@ module _ {S T E F : Type 0} (g : Ghosts S) (old end : Held S) (mid : State)
     tables_stay looked o = stay_by o.0.0 o.0.1 looked result (finished.ok o.0.0)
         (finished.err o.0.0)
 
-    pub rests : IsResting last
+    rests : IsResting last
     rests = record {
       autocommit = finished.ended;
       settled = λ clean o. settled_by clean o result (finished.ok clean) (finished.err clean);
       book = λ clean o. book_by clean o result (finished.ok clean) (finished.err clean);
     }
 
+    plans_by : HasCleanDisk last → IsTrue last.is_open → (r : Result T E)
+        → OnOk r (IsOk done × Shows mid last mid.now mid.now false)
+        → OnErr r (IsRolledBack mid last ⊎ (IsOk done × (mid.in_transaction ≡ false)))
+        → HasSamePlans (state g old).now.trees last.now.trees
+    plans_by clean o (Ok x) ok err = subst (λ (d : Database). HasSamePlans (state g old).now.trees
+        d.trees) (sym ok.1.now_is) (has_made clean ok.0).same_plans
+    plans_by clean o (Err e) ok err = subst (λ (d : Database). HasSamePlans (state g old).now.trees
+        d.trees) (sym (undone clean (rolled clean err) o))
+        (record { number = refl; prices = refl; counts = refl })
+
     abbrev Whole : Trees → Type 0
     Whole db = IsOpenBook (state g old) × (content_in_tables db ≡ change (content_at g old))
+        × HasSamePlans (state g old).now.trees db
 
     crash : Survives (state g old) last Whole
     crash = survives_begin g old last Whole (survives_then begun mid last (λ _. ⊥)
@@ -140,10 +152,11 @@ module _ {S T E F : Type 0} (g : Ghosts S) (old end : Held S) (mid : State)
             resting.settled (old_clean clean) m.shows.was_open,
           ),
           ap content_in_tables is.1 ∙ m.content,
+          subst (HasSamePlans (state g old).now.trees) (sym is.1) m.same_plans,
         ))
         inside finished.survives)
 
-    pub wrote : Wrote g old end change result
+    wrote : Wrote g old end change result
     wrote = record {
       was_sound = old_clean;
       was_open = λ o. let early = was_open o.0.0 result (finished.ok o.0.0) (finished.err o.0.0)
@@ -157,6 +170,17 @@ module _ {S T E F : Type 0} (g : Ghosts S) (old end : Held S) (mid : State)
         | inr whole ↦ inr (whole.0, left.2 ∙ whole.1)
       ];
     }
+
+    leaves_plans : LeavesPlans (state g old) last
+    leaves_plans = record {
+      shows = λ o. plans_by o.0.0 o.0.1 result (finished.ok o.0.0) (finished.err o.0.0);
+      survives = survives_weaker (state g old) last Whole
+          (λ db. IsOpenBook (state g old) × HasSamePlans (state g old).now.trees db)
+          (λ clean db whole. (whole.0, whole.2)) crash;
+    }
+
+    pub writes_at_rest : WritesAtRest g old end change result
+    writes_at_rest = record { resting = rests; wrote = wrote; plans = leaves_plans }
 
 -- ---- the same write, told by the book's error
 

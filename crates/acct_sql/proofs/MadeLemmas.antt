@@ -1,7 +1,8 @@
 -- What the statements inside a transaction make of the content of a book.
 use Rattle.std.proofs.Common.{◌≡◌, ◌≢◌, ℕ, ℤ, List, [], ◌∷◌, drop, cond, Ok, IsTrue, Option, Some}
 use Rattle.std.proofs.Common.{inl, inr, option_map, refl, sym, ap, subst, ◌∙◌, arith, bytes_eq}
-use Rattle.std.proofs.Common.{Bool, true, false, None}
+use Rattle.std.proofs.Common.{Bool, true, false, None, ◌≤◌}
+use Rattle.std.specs.List.{AllByRecursion}
 use Rattle.std.specs.Map.{update}
 use Rattle.sqlite.specs.declared.types.Value.TheVariants.{Null, Int, Text, Blob}
 use Rattle.sqlite.specs.Order.{Row, column}
@@ -19,7 +20,7 @@ use Rattle.acct_sql.specs.Columns.{session_columns, session_plan_columns, topup_
 use Rattle.acct_sql.specs.Columns.{framed_in, framed_octets}
 use Rattle.acct_sql.specs.Content.{content_in_tables, content_without_plans, plans_in_tables}
 use Rattle.acct_sql.specs.Content.{with_plan, with_plans}
-use Rattle.acct_sql.specs.Book.{IsBook}
+use Rattle.acct_sql.specs.Book.{IsBook, HasSamePlans}
 use Rattle.acct_sql.specs.inner.Inside.{HasPut, with_row, with_balance, with_voucher, HasMade}
 use Rattle.acct_sql.specs.inner.Inside.{HasMadeBare, HasSetPlan, without_plan}
 use Rattle.acct_sql.proofs.QueryLemmas.{over_table, all_rows}
@@ -101,6 +102,23 @@ after_plan old new book schema sound tidy accounts vouchers sessions =
       plans = tidy;
     }
 
+-- a statement that writes another table leaves the plans and the number
+same_plans : (tree : ℕ) (old new : Trees) → 4 ≤ tree → tree ≢ 12 → AllByRecursion
+    (λ t. t.tree ≢ tree → new t.tree ≡ old t.tree) book_schema.tables → HasSamePlans old new
+same_plans tree old new high other tables = record {
+  number = tables.0 (λ e. absurd (omega (arith, high, e)));
+  prices = tables.1.0 (λ e. absurd (omega (arith, high, e)));
+  counts = tables.1.1.1.1.1.0 (λ e. other (sym e));
+}
+
+pub same_plans_then : (old mid new : Trees) → HasSamePlans old mid → HasSamePlans mid new
+    → HasSamePlans old new
+same_plans_then old mid new first second = record {
+  number = second.number ∙ first.number;
+  prices = second.prices ∙ first.prices;
+  counts = second.counts ∙ first.counts;
+}
+
 -- the content with other rows, other balances, other top-ups
 rows_changed : (old new : Trees) (f : Key → Option RowFacts)
     → ((key : Key) → s.rows_in (new session.tree) key ≡ f key) → new account.tree ≡ old account.tree
@@ -160,6 +178,8 @@ made_then old mid new f g first second = record {
   };
   book = second.book;
   content = second.content ∙ ap g first.content;
+  same_plans = same_plans_then old.now.trees mid.now.trees new.now.trees first.same_plans
+      second.same_plans;
 }
 
 -- ---- session
@@ -214,6 +234,8 @@ made_row row old new count books framed some h =
           (Some (without_plan row)))
           (s.set_row row old new count book framed done some) kept.0 kept.1;
       plans = ap p.plans_in kept.2;
+      same_plans = same_plans 8 old.now.trees new.now.trees (omega arith)
+          (λ e. absurd (omega (arith, e))) done.applies.tables;
     }
 
 made_new_row : (row : RowFacts) (old mid new : State) (count more : ℕ) → IsBookIf old
@@ -259,6 +281,11 @@ made_new_row row old mid new count more books framed none first second =
           ∙ ap (λ o. cond (same_key (key_of row) key) (Some (without_plan row)) o) (same key))
           (accounts ∙ kept.0) (vouchers ∙ kept.1);
       plans = ap p.plans_in (plans ∙ kept.2);
+      same_plans = same_plans_then old.now.trees mid.now.trees new.now.trees
+          (same_plans 8 old.now.trees mid.now.trees (omega arith)
+          (λ e. absurd (omega (arith, e))) done.applies.tables)
+          (same_plans 8 mid.now.trees new.now.trees (omega arith)
+          (λ e. absurd (omega (arith, e))) added.applies.tables);
     }
 
 -- closing a session leaves its plan
@@ -319,6 +346,8 @@ made_closed client old new count books h =
           (c.closed_rows client old new count book done) kept.0 kept.1)
           ∙ with_plans_closed client (plans_in_tables old.now.trees)
           (content_without_plans old.now.trees);
+      same_plans = same_plans 8 old.now.trees new.now.trees (omega arith)
+          (λ e. absurd (omega (arith, e))) done.applies.tables;
     }
 
 -- ---- session_plan
@@ -359,6 +388,8 @@ made_plan row old new count books some h =
       book = after_plan old.now new.now book done.schema done.sound tidy accounts vouchers sessions;
       content = bare_same old.now.trees new.now.trees accounts vouchers sessions;
       plans = λ i key. p.set_plan row old new count book done some key i;
+      same_plans = same_plans 14 old.now.trees new.now.trees (omega arith)
+          (λ e. absurd (omega (arith, e))) done.applies.tables;
     }
 
 made_new_plan : (row : RowFacts) (old mid new : State) (count more : ℕ) → IsBookIf old → count ≡ 0
@@ -403,6 +434,11 @@ made_new_plan row old mid new count more books none first second =
           (sessions' ∙ sessions);
       plans = λ i key. (p.new_plan row mid new book' added fresh key
           ∙ ap (λ o. cond (same_key (key_of row) key) (Some row.plan) o) (same key)) i;
+      same_plans = same_plans_then old.now.trees mid.now.trees new.now.trees
+          (same_plans 14 old.now.trees mid.now.trees (omega arith)
+          (λ e. absurd (omega (arith, e))) done.applies.tables)
+          (same_plans 14 mid.now.trees new.now.trees (omega arith)
+          (λ e. absurd (omega (arith, e))) added.applies.tables);
     }
 
 -- a session's columns and its plan are the session
@@ -438,6 +474,8 @@ made_with_plan row old mid new first second = record {
   content = with_both (second.plans ∙ ap (λ plans. update same_key plans (key_of row)
       (Some row.plan)) first.plans) (second.content ∙ first.content)
       ∙ with_plans_row (plans_in_tables old.now.trees) (content_without_plans old.now.trees) row;
+  same_plans = same_plans_then old.now.trees mid.now.trees new.now.trees first.same_plans
+      second.same_plans;
 }
 
 -- ---- account
@@ -468,6 +506,8 @@ made_balance name n old new count books some h =
       content = balances_changed old.now.trees new.now.trees
           (update bytes_eq (a.balances_in (old.now.trees account.tree)) name (Some n))
           (a.set_balance name n old new count book done some) vouchers sessions plans;
+      same_plans = same_plans 4 old.now.trees new.now.trees (omega arith)
+          (λ e. absurd (omega (arith, e))) done.applies.tables;
     }
 
 made_new_balance : (name : List ℕ) (n : ℤ) (old mid new : State) (count more : ℕ) → IsBookIf old
@@ -513,6 +553,11 @@ made_new_balance name n old mid new count more books none first second =
           (λ key. a.new_balance name n mid new book' added fresh key
           ∙ ap (λ o. cond (bytes_eq name key) (Some n) o) (same key)) (vouchers' ∙ vouchers)
           (sessions' ∙ sessions) (plans' ∙ plans);
+      same_plans = same_plans_then old.now.trees mid.now.trees new.now.trees
+          (same_plans 4 old.now.trees mid.now.trees (omega arith)
+          (λ e. absurd (omega (arith, e))) done.applies.tables)
+          (same_plans 4 mid.now.trees new.now.trees (omega arith)
+          (λ e. absurd (omega (arith, e))) added.applies.tables);
     }
 
 -- ---- voucher
@@ -543,6 +588,8 @@ made_topup topup old new count books some h =
       content = topups_changed old.now.trees new.now.trees
           (update bytes_eq (v.topups_in (old.now.trees voucher.tree)) topup.voucher (Some topup))
           (v.set_topup topup old new count book done some) accounts sessions plans;
+      same_plans = same_plans 6 old.now.trees new.now.trees (omega arith)
+          (λ e. absurd (omega (arith, e))) done.applies.tables;
     }
 
 made_new_topup : (topup : TopUpFacts) (old mid new : State) (count more : ℕ) → IsBookIf old
@@ -588,6 +635,11 @@ made_new_topup topup old mid new count more books none first second =
           (λ key. v.new_topup topup mid new book' added fresh key
           ∙ ap (λ o. cond (bytes_eq topup.voucher key) (Some topup) o) (same key))
           (accounts' ∙ accounts) (sessions' ∙ sessions) (plans' ∙ plans);
+      same_plans = same_plans_then old.now.trees mid.now.trees new.now.trees
+          (same_plans 6 old.now.trees mid.now.trees (omega arith)
+          (λ e. absurd (omega (arith, e))) done.applies.tables)
+          (same_plans 6 mid.now.trees new.now.trees (omega arith)
+          (λ e. absurd (omega (arith, e))) added.applies.tables);
     }
 
 -- ---- an UPDATE, and an INSERT where it met no row

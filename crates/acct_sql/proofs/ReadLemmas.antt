@@ -1,7 +1,7 @@
 -- What queries show of a book, and that they change nothing.
 use Rattle.std.proofs.Common.{◌≡◌, inl, inr, ℕ, List, [], ◌∷◌, true, Option, Some, None, Ok, Err}
 use Rattle.std.proofs.Common.{Result, IsTrue, IsOk, OnOk, OnErr, IfOk, IfErr, ◌⊎◌, slice_get}
-use Rattle.std.proofs.Common.{option_map, refl, sym, ap, subst, ◌∙◌}
+use Rattle.std.proofs.Common.{option_map, refl, sym, ap, subst, arith, ◌∙◌}
 use Rattle.std.proofs.lemmas.Bool.{and_parts}
 use Rattle.sqlite.specs.declared.types.Value.TheVariants.{Null, Text, Blob}
 use Rattle.sqlite.specs.declared.error.Error.{Error}
@@ -22,14 +22,17 @@ use Rattle.acct_model.specs.Vouchers.{TopUpFacts}
 use Rattle.acct_book.specs.Book.{Reads}
 use Rattle.acct_book.specs.declared.book.Unavailable.{Unavailable}
 use Rattle.acct_sql.specs.Tables.{book_schema, account, voucher, session}
+use Rattle.acct_sql.specs.Tables.{meta, price_plan, plan_count}
 use Rattle.acct_sql.specs.Columns.{session_in_columns, topup_in_columns, columns, int_in}
 use Rattle.acct_sql.specs.Content.{is_session, is_account, is_voucher, content_in_tables}
 use Rattle.acct_sql.specs.Content.{content_without_plans}
 use Rattle.acct_sql.specs.Book.{IsBook, IsResting, IsOpenBook, content_at, is_sound_at, is_open_at}
-use Rattle.acct_sql.specs.Book.{is_steady_at, left_at}
+use Rattle.acct_sql.specs.Book.{is_steady_at, left_at, LeavesPlans}
+use Rattle.acct_sql.proofs.MadeLemmas.{same_plans_then}
 use Rattle.acct_sql.specs.inner.Inside.{HasMade}
-use Rattle.acct_sql.specs.inner.AtRest.{HasReadBook, HasShown, HasFirst, row_found, Wrote}
-use Rattle.acct_sql.specs.inner.AtRest.{bare_at, IsAtRest, ReadsAtRest, StaysAtRest}
+use Rattle.acct_sql.specs.Book.{HasReadBook, Wrote}
+use Rattle.acct_sql.specs.inner.AtRest.{HasShown, HasFirst, row_found}
+use Rattle.acct_sql.specs.inner.AtRest.{bare_at, IsAtRest, ReadsAtRest, StaysAtRest, WritesAtRest}
 use Rattle.acct_sql.specs.declared.statements.TheConstants as texts
 use Rattle.acct_sql.proofs.CommitLemmas.{of_ok, unavailable}
 use Rattle.acct_sql.proofs.TextLemmas as t
@@ -40,6 +43,7 @@ use Rattle.acct_sql.proofs.ValueLemmas.{equal_blob, blob_equal, equal_text, text
 use Rattle.acct_sql.proofs.ValueLemmas.{is_its_blob, blob_is, text_is}
 use Rattle.acct_sql.proofs.KeyLemmas.{one_session, one_account, one_voucher}
 use Rattle.acct_sql.proofs.SessionLemmas.{key_here}
+use Rattle.sqlite.proofs.StateLemmas.{survives_then}
 use Rattle.acct_sql.proofs.StepLemmas.{rolled_keeps, unchanged_keeps}
 
 -- ---- what is shown
@@ -208,6 +212,11 @@ look_made sql params old new rows books plain on h =
       };
       book = subst IsBook (sym same.0.now_is) book;
       content = ap (λ (d : Database). content_in_tables d.trees) same.0.now_is;
+      same_plans = record {
+        number = ap (λ (d : Database). d.trees meta.tree) same.0.now_is;
+        prices = ap (λ (d : Database). d.trees price_plan.tree) same.0.now_is;
+        counts = ap (λ (d : Database). d.trees plan_count.tree) same.0.now_is;
+      };
     }
 
 pub look_same : (sql : List ℕ) (params : Row) (old new : State) (rows : List Row)
@@ -237,29 +246,29 @@ answered (Err e) f p = tt
 pub read_of : {S T E : Type 0} (g : Ghosts S) (old new : Held S) (result : Result T E)
     → IsResting (state g old) → (IsTrue (state g old).is_open
     → (state g old).may_leave (state g old).committed.trees)
-    → Wrote g old new (λ c. c) result → HasReadBook g old new result
-read_of {T = T} {E = E} g old new result resting stays w = record {
-  was_sound = w.was_sound;
-  was_open = w.was_open;
-  keeps_steady = w.keeps_steady;
-  answers = w.answers;
-  same = λ o. same_by o result (w.ok o) (w.err o);
-  adds_none = λ clean c left. elim (w.adds_written clean c left) [
-    | inl was ↦ was
-    | inr same ↦ (
-      (state g old).committed.trees,
-      stays same.0.0.1,
-      same.1
-          ∙ ap (λ (d : Database). content_in_tables d.trees) same.0.1,
-    )
-  ];
+    → (IsOpenBook (state g new) → (state g new).now ≡ (state g old).now)
+    → WritesAtRest g old new (λ c. c) result → ReadsAtRest g old new result
+read_of {T = T} {E = E} g old new result resting stays tables w = record {
+  resting = w.resting;
+  read = record {
+    was_sound = w.wrote.was_sound;
+    was_open = w.wrote.was_open;
+    keeps_steady = w.wrote.keeps_steady;
+    answers = w.wrote.answers;
+    same = λ o. ap (λ (d : Database). content_in_tables d.trees) (tables o);
+    adds_none = λ clean c left. elim (w.wrote.adds_written clean c left) [
+      | inl was ↦ was
+      | inr same ↦ (
+        (state g old).committed.trees,
+        stays same.0.0.1,
+        same.1
+            ∙ ap (λ (d : Database). content_in_tables d.trees) same.0.1,
+      )
+    ];
+  };
+  tables = tables;
+  plans = w.plans;
 }
-  where
-    same_by : IsOpenBook (state g new) → (r : Result T E)
-        → OnOk r (content_at g new ≡ content_at g old) → OnErr r
-        (content_at g new ≡ content_at g old) → content_at g new ≡ content_at g old
-    same_by o (Ok x) ok err = ok
-    same_by o (Err e) ok err = err
 
 -- what is made of the rows changes nothing either
 pub read_on : {S T U E F : Type 0} (g : Ghosts S) (old new : Held S) (rows : Result T E)
@@ -347,6 +356,24 @@ read_then g old mid new first second a b = record {
   adds_none = λ s c left. a.adds_none (b.was_sound s) c (b.adds_none s c left);
 }
 
+pub plans_then : {S : Type 0} (g : Ghosts S) (old mid new : Held S)
+    → (is_open_at g mid → (state g mid).now ≡ (state g old).now)
+    → (is_open_at g mid → is_open_at g old) → (is_open_at g new → is_open_at g mid)
+    → LeavesPlans (state g old) (state g mid) → LeavesPlans (state g mid) (state g new)
+    → LeavesPlans (state g old) (state g new)
+plans_then g old mid new tables was_open then_open a b = record {
+  shows = λ o. same_plans_then (state g old).now.trees (state g mid).now.trees
+      (state g new).now.trees (a.shows (then_open o)) (b.shows o);
+  survives = survives_then (state g old) (state g mid) (state g new)
+      _ _ _ (λ _ db same. same)
+      (λ _ db same. (
+        was_open same.0,
+        same_plans_then (state g old).now.trees
+            (state g mid).now.trees db (a.shows same.0) same.1,
+      ))
+      a.survives b.survives;
+}
+
 -- ---- reads of a book that is at rest
 
 -- before the first of them
@@ -362,6 +389,17 @@ stays_first g old resting = record {
     adds_none = λ s c left. left;
   };
   tables = λ o. refl;
+  plans = record {
+    shows = λ o. record { number = refl; prices = refl; counts = refl };
+    survives = record {
+      clean = omega arith;
+      shield = λ h. h;
+      counts = omega arith;
+      limit = refl;
+      closes = λ clean o. inl o;
+      crash = λ clean db left. inl left;
+    };
+  };
 }
 
 -- after one more
@@ -378,6 +416,7 @@ stays_more g old mid new more a b = record {
     adds_none = λ s c left. a.read.adds_none (b.read.was_sound s) c (b.read.adds_none s c left);
   };
   tables = λ o. b.tables o ∙ a.tables (b.read.was_open o);
+  plans = plans_then g old mid new a.tables a.read.was_open b.read.was_open a.plans b.plans;
 }
 
 -- they are a read whose answer says that the book is open
@@ -395,4 +434,5 @@ stays_read g old new result a answers = record {
     adds_none = a.read.adds_none;
   };
   tables = a.tables;
+  plans = a.plans;
 }

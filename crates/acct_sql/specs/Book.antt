@@ -1,12 +1,14 @@
 -- The database of a book, and what a crash may leave.
-use Rattle.std.specs.Prelude.{◌≡◌, ◌↔◌, false, IsTrue}
+use Rattle.std.specs.Prelude.{◌≡◌, ◌↔◌, false, Result, IsTrue}
 use Rattle.sqlite.specs.Store.{Ghosts}
 use Rattle.sqlite.specs.Held.{Held, state}
 use Rattle.sqlite.specs.Tree.{Trees}
 use Rattle.sqlite.specs.Effect.{Database, IsDatabase}
-use Rattle.sqlite.specs.State.{State, HasCleanDisk}
+use Rattle.sqlite.specs.State.{State, HasCleanDisk, Survives}
 use Rattle.acct_book.specs.Content.{Content}
+use Rattle.acct_book.specs.Book.{Reads, Writes}
 use Rattle.acct_sql.specs.Tables.{book_schema, account, voucher, session, session_plan}
+use Rattle.acct_sql.specs.Tables.{meta, price_plan, plan_count}
 use Rattle.acct_sql.specs.Tidy.{IsTidy}
 use Rattle.acct_sql.specs.Content.{content_in_tables}
 
@@ -31,6 +33,18 @@ pub record IsResting (s : State) : Type 0 where
   pub settled : HasCleanDisk s → IsTrue s.is_open → s.now ≡ s.committed
   pub book : HasCleanDisk s → IsTrue s.is_open → IsBook s.now
 
+-- the rows of the schema number, of the plans and of what they count are as they were
+pub record HasSamePlans (old new : Trees) : Type 0 where
+  pub number : new meta.tree ≡ old meta.tree
+  pub prices : new price_plan.tree ≡ old price_plan.tree
+  pub counts : new plan_count.tree ≡ old plan_count.tree
+
+-- A call leaves them so: in what the book shows at its end, and in what a crash may leave besides
+-- what it could leave before.
+pub record LeavesPlans (old new : State) : Type 0 where
+  pub shows : IsOpenBook new → HasSamePlans old.now.trees new.now.trees
+  pub survives : Survives old new (λ db. IsOpenBook old × HasSamePlans old.now.trees db)
+
 -- what a crash now may leave
 abbrev pub Left : State → Content → Type 0
 Left s content = (db : Trees) × s.may_leave db × (content ≡ content_in_tables db)
@@ -52,6 +66,16 @@ module _ {S : Type 0} (g : Ghosts S) where
 
   abbrev pub left_at : Held S → Content → Type 0
   left_at conn content = Left (state g conn) content
+
+  -- the content was changed so, or it is as it was
+  abbrev pub Wrote : {T E : Type 0} → Held S → Held S → (Content → Content) → Result T E → Type 0
+  Wrote old new change result = Writes content_at is_sound_at is_open_at is_steady_at left_at old
+      new (change (content_at old)) result
+
+  -- the content is as it was
+  abbrev pub HasReadBook : {T E : Type 0} → Held S → Held S → Result T E → Type 0
+  HasReadBook old new result = Reads content_at is_sound_at is_open_at is_steady_at left_at old new
+      result
 
 -- What it says of itself is told by its tables: the content by their columns, soundness and
 -- openness by the connection, and what a crash may leave by what the store may leave.

@@ -10,7 +10,9 @@
 //! 4. While the book is open, all that it holds is committed, and a crash leaves that alone.
 //! 5. Rowids are integers and tell rows apart (`specs/Tidy.antt`): the rules of a schema don't say
 //!    so, and an UPDATE goes by them. `create` makes it so, `adopt` tests it, each write keeps it.
-//! 6. A row whose columns break a bound of a session counts by its columns, and each call that
+//! 6. No call of a book writes the schema number, the plans, or what they count: in what it shows,
+//!    and in what a crash may leave, they stay (`specs/Book.antt`, `LeavesPlans`).
+//! 7. A row whose columns break a bound of a session counts by its columns, and each call that
 //!    would show it answers `Unavailable`. So does each call that would show a session of which no
 //!    plan is kept.
 #![tactic(auto)]

@@ -147,9 +147,15 @@ impl<S: Alter> SqlBook<S> {
     }
 }
 
+// Each call does what it does for any book, and leaves the schema number and the plans besides.
 impl<S: Alter> Book for SqlBook<S> {
+    ghost use Rattle.std.specs.Prelude.{◌≡◌, IsOk, IfOk, option_map};
+    ghost use Rattle.std.specs.Option.{option_copied};
+    ghost use Rattle.acct_book.specs.Content.{kept_balance, with_session, with_topup, with_closed};
+    ghost use Rattle.acct_book.specs.Walk.{IsNextRow, IsNextBalance, IsNextTopUp, AreRowsOf};
+    ghost use Rattle.acct_book.specs.Walk.{AreTopUpsOf};
     ghost use Rattle.acct_sql.specs.Book.{content_at, is_sound_at, is_open_at, is_steady_at};
-    ghost use Rattle.acct_sql.specs.Book.{left_at};
+    ghost use Rattle.acct_sql.specs.Book.{left_at, Wrote, HasReadBook, LeavesPlans};
     ghost use Rattle.acct_sql.specs.Laws.{own_keys, open_settled};
 
     ghost content = { content_at S.Store };
@@ -162,7 +168,12 @@ impl<S: Alter> Book for SqlBook<S> {
 
     ghost left = { left_at S.Store };
 
-    fn session(&mut self, key: &Key) -> Result<Option<Row>, Unavailable> {
+    fn session(&mut self, key: &Key) -> Result<Option<Row>, Unavailable>
+        ensures found { is_open_at S.Store self.new
+            → IfOk result (λ row. row ≡ (content_at S.Store self.old).rows key.now) }
+        ensures reads { HasReadBook S.Store self.old self.new result }
+        ensures plans { LeavesPlans (state S.Store self.old) (state S.Store self.new) }
+    {
         let row = match read_session(self.alloc, &mut self.conn, key) {
             Ok(row) => row,
             Err(_) => return Err(Unavailable),
@@ -170,7 +181,13 @@ impl<S: Alter> Book for SqlBook<S> {
         Ok(row)
     }
 
-    fn balance(&mut self, account: &[u8]) -> Result<i64, Unavailable> {
+    fn balance(&mut self, account: &[u8]) -> Result<i64, Unavailable>
+        ensures found { is_open_at S.Store self.new → IfOk result
+            (λ balance. balance ≡ kept_balance (content_at S.Store self.old) account.now) }
+        ensures steady { is_steady_at S.Store self.old → IsOk result }
+        ensures reads { HasReadBook S.Store self.old self.new result }
+        ensures plans { LeavesPlans (state S.Store self.old) (state S.Store self.new) }
+    {
         let balance = match read_balance(&mut self.conn, account) {
             Ok(balance) => balance,
             Err(_) => return Err(Unavailable),
@@ -178,7 +195,12 @@ impl<S: Alter> Book for SqlBook<S> {
         Ok(balance)
     }
 
-    fn voucher(&mut self, number: &str) -> Result<Option<TopUp>, Unavailable> {
+    fn voucher(&mut self, number: &str) -> Result<Option<TopUp>, Unavailable>
+        ensures found { is_open_at S.Store self.new
+            → IfOk result (λ topup. topup ≡ (content_at S.Store self.old).topups number.now) }
+        ensures reads { HasReadBook S.Store self.old self.new result }
+        ensures plans { LeavesPlans (state S.Store self.old) (state S.Store self.new) }
+    {
         let topup = match read_voucher(self.alloc, &mut self.conn, number) {
             Ok(topup) => topup,
             Err(_) => return Err(Unavailable),
@@ -186,7 +208,11 @@ impl<S: Alter> Book for SqlBook<S> {
         Ok(topup)
     }
 
-    fn put_session(&mut self, row: &Row, balance: i64) -> Result<(), Unavailable> {
+    fn put_session(&mut self, row: &Row, balance: i64) -> Result<(), Unavailable>
+        ensures writes { Wrote S.Store self.old self.new
+            (λ content. with_session content row.now balance) result }
+        ensures plans { LeavesPlans (state S.Store self.old) (state S.Store self.new) }
+    {
         match write_session(&mut self.conn, row, balance) {
             Ok(()) => {}
             Err(_) => return Err(Unavailable),
@@ -194,7 +220,11 @@ impl<S: Alter> Book for SqlBook<S> {
         Ok(())
     }
 
-    fn put_topup(&mut self, topup: &TopUp, balance: i64) -> Result<(), Unavailable> {
+    fn put_topup(&mut self, topup: &TopUp, balance: i64) -> Result<(), Unavailable>
+        ensures writes { Wrote S.Store self.old self.new
+            (λ content. with_topup content topup.now balance) result }
+        ensures plans { LeavesPlans (state S.Store self.old) (state S.Store self.new) }
+    {
         match write_topup(&mut self.conn, topup, balance) {
             Ok(()) => {}
             Err(_) => return Err(Unavailable),
@@ -202,7 +232,11 @@ impl<S: Alter> Book for SqlBook<S> {
         Ok(())
     }
 
-    fn close_client(&mut self, client: &str) -> Result<(), Unavailable> {
+    fn close_client(&mut self, client: &str) -> Result<(), Unavailable>
+        ensures writes { Wrote S.Store self.old self.new
+            (λ content. with_closed content client.now) result }
+        ensures plans { LeavesPlans (state S.Store self.old) (state S.Store self.new) }
+    {
         match close_sessions(&mut self.conn, client) {
             Ok(()) => {}
             Err(_) => return Err(Unavailable),
@@ -210,7 +244,12 @@ impl<S: Alter> Book for SqlBook<S> {
         Ok(())
     }
 
-    fn sessions_of(&mut self, account: &[u8]) -> Result<Vec<Row>, Unavailable> {
+    fn sessions_of(&mut self, account: &[u8]) -> Result<Vec<Row>, Unavailable>
+        ensures found { is_open_at S.Store self.new → IfOk result
+            (λ rows. AreRowsOf (content_at S.Store self.old) account.now rows.items) }
+        ensures reads { HasReadBook S.Store self.old self.new result }
+        ensures plans { LeavesPlans (state S.Store self.old) (state S.Store self.new) }
+    {
         let rows = match read_sessions(self.alloc, &mut self.conn, account) {
             Ok(rows) => rows,
             Err(_) => return Err(Unavailable),
@@ -218,7 +257,12 @@ impl<S: Alter> Book for SqlBook<S> {
         Ok(rows)
     }
 
-    fn topups_of(&mut self, account: &[u8]) -> Result<Vec<TopUp>, Unavailable> {
+    fn topups_of(&mut self, account: &[u8]) -> Result<Vec<TopUp>, Unavailable>
+        ensures found { is_open_at S.Store self.new → IfOk result
+            (λ topups. AreTopUpsOf (content_at S.Store self.old) account.now topups.items) }
+        ensures reads { HasReadBook S.Store self.old self.new result }
+        ensures plans { LeavesPlans (state S.Store self.old) (state S.Store self.new) }
+    {
         let topups = match read_topups(self.alloc, &mut self.conn, account) {
             Ok(topups) => topups,
             Err(_) => return Err(Unavailable),
@@ -226,7 +270,12 @@ impl<S: Alter> Book for SqlBook<S> {
         Ok(topups)
     }
 
-    fn next_session(&mut self, after: Option<&Key>) -> Result<Option<Row>, Unavailable> {
+    fn next_session(&mut self, after: Option<&Key>) -> Result<Option<Row>, Unavailable>
+        ensures found { is_open_at S.Store self.new → IfOk result
+            (λ row. IsNextRow (content_at S.Store self.old) (option_copied after.entry) row) }
+        ensures reads { HasReadBook S.Store self.old self.new result }
+        ensures plans { LeavesPlans (state S.Store self.old) (state S.Store self.new) }
+    {
         let row = match read_next_session(self.alloc, &mut self.conn, after) {
             Ok(row) => row,
             Err(_) => return Err(Unavailable),
@@ -234,10 +283,13 @@ impl<S: Alter> Book for SqlBook<S> {
         Ok(row)
     }
 
-    fn next_account(
-        &mut self,
-        after: Option<&[u8]>,
-    ) -> Result<Option<(Vec<u8>, i64)>, Unavailable> {
+    fn next_account(&mut self, after: Option<&[u8]>) -> Result<Option<(Vec<u8>, i64)>, Unavailable>
+        ensures found { is_open_at S.Store self.new → IfOk result
+            (λ kept. IsNextBalance (content_at S.Store self.old) (option_copied after.entry)
+            (option_map (λ k. (k.0.items, k.1)) kept)) }
+        ensures reads { HasReadBook S.Store self.old self.new result }
+        ensures plans { LeavesPlans (state S.Store self.old) (state S.Store self.new) }
+    {
         let kept = match read_next_account(&mut self.conn, after) {
             Ok(kept) => kept,
             Err(_) => return Err(Unavailable),
@@ -245,7 +297,13 @@ impl<S: Alter> Book for SqlBook<S> {
         Ok(kept)
     }
 
-    fn next_topup(&mut self, after: Option<&str>) -> Result<Option<TopUp>, Unavailable> {
+    fn next_topup(&mut self, after: Option<&str>) -> Result<Option<TopUp>, Unavailable>
+        ensures found { is_open_at S.Store self.new → IfOk result
+            (λ topup. IsNextTopUp (content_at S.Store self.old) (option_copied after.entry)
+            topup) }
+        ensures reads { HasReadBook S.Store self.old self.new result }
+        ensures plans { LeavesPlans (state S.Store self.old) (state S.Store self.new) }
+    {
         let topup = match read_next_topup(self.alloc, &mut self.conn, after) {
             Ok(topup) => topup,
             Err(_) => return Err(Unavailable),

@@ -9,9 +9,8 @@ use Rattle.sqlite_value.specs.Order.{column}
 use Rattle.acct_book.specs.declared.key.Key.{Key}
 use Rattle.acct_book.specs.Row.{RowFacts}
 use Rattle.acct_book.specs.Content.{Content, key_of}
-use Rattle.acct_book.specs.Book.{Reads, Writes}
 use Rattle.acct_sql.specs.Book.{IsResting, content_at, is_sound_at, is_open_at, is_steady_at}
-use Rattle.acct_sql.specs.Book.{left_at}
+use Rattle.acct_sql.specs.Book.{Wrote, HasReadBook, LeavesPlans}
 use Rattle.acct_sql.specs.Columns.{session_in_columns}
 use Rattle.acct_sql.specs.Content.{content_without_plans, plans_in_tables, with_plan}
 
@@ -27,27 +26,19 @@ module _ {S : Type 0} (g : Ghosts S) where
   abbrev pub plans_at : Held S → Key → Option (List ℕ)
   plans_at conn = plans_in_tables (state g conn).now.trees
 
-  -- the content was changed so, or it is as it was
-  abbrev pub Wrote : {T E : Type 0} → Held S → Held S → (Content → Content) → Result T E → Type 0
-  Wrote old new change result = Writes (content_at g) (is_sound_at g) (is_open_at g)
-      (is_steady_at g) (left_at g) old new (change (content_at g old)) result
-
-  -- the content is as it was
-  abbrev pub HasReadBook : {T E : Type 0} → Held S → Held S → Result T E → Type 0
-  HasReadBook old new result = Reads (content_at g) (is_sound_at g) (is_open_at g)
-      (is_steady_at g) (left_at g) old new result
-
   -- a write of the book, which is at rest again
   pub record WritesAtRest {T E : Type 0} (old new : Held S) (change : Content → Content)
       (result : Result T E) : Type 0 where
     pub resting : IsAtRest new
-    pub wrote : Wrote old new change result
+    pub wrote : Wrote g old new change result
+    pub plans : LeavesPlans (state g old) (state g new)
 
   -- a read of the book, which is at rest again; while it is open it shows the same tables
   pub record ReadsAtRest {T E : Type 0} (old new : Held S) (result : Result T E) : Type 0 where
     pub resting : IsAtRest new
-    pub read : HasReadBook old new result
+    pub read : HasReadBook g old new result
     pub tables : is_open_at g new → (state g new).now ≡ (state g old).now
+    pub plans : LeavesPlans (state g old) (state g new)
 
   -- some reads, whatever came of them: the book is at rest as it was
   abbrev pub StaysAtRest : Held S → Held S → Type 0

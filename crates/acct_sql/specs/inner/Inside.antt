@@ -14,7 +14,7 @@ use Rattle.acct_book.specs.Row.{RowFacts}
 use Rattle.acct_book.specs.Content.{Content, same_key, key_of}
 use Rattle.acct_sql.specs.Content.{content_in_tables, content_without_plans}
 use Rattle.acct_sql.specs.Content.{plans_in_tables}
-use Rattle.acct_sql.specs.Book.{IsBook}
+use Rattle.acct_sql.specs.Book.{IsBook, HasSamePlans}
 
 -- ---- the parts of a write
 
@@ -58,6 +58,7 @@ pub record HasMade (change : Content → Content) (old new : State) : Type 0 whe
   pub shows : Shows old new new.now old.committed true
   pub book : IsBook new.now
   pub content : content_in_tables new.now.trees ≡ change (content_in_tables old.now.trees)
+  pub same_plans : HasSamePlans old.now.trees new.now.trees
 
 -- The content was changed but for the plans of its sessions, and nothing was committed.
 pub record HasMadeBare (change : Content → Content) (old new : State) : Type 0 where
@@ -65,6 +66,7 @@ pub record HasMadeBare (change : Content → Content) (old new : State) : Type 0
   pub book : IsBook new.now
   pub content : content_without_plans new.now.trees ≡ change (content_without_plans old.now.trees)
   pub plans : plans_in_tables new.now.trees ≡ plans_in_tables old.now.trees
+  pub same_plans : HasSamePlans old.now.trees new.now.trees
 
 -- the plan of a session was set, nothing else was changed, and nothing was committed
 pub record HasSetPlan (key : Key) (class : List ℕ) (old new : State) : Type 0 where
@@ -73,6 +75,7 @@ pub record HasSetPlan (key : Key) (class : List ℕ) (old new : State) : Type 0 
   pub content : content_without_plans new.now.trees ≡ content_without_plans old.now.trees
   pub plans : plans_in_tables new.now.trees
       ≡ update same_key (plans_in_tables old.now.trees) key (Some class)
+  pub same_plans : HasSamePlans old.now.trees new.now.trees
 
 -- an UPDATE met a row, or it met none and an INSERT followed
 abbrev pub HasPut : {S : Type 0} → Ghosts S → List ℕ → List ℕ → Row → State → State → Type 0

@@ -22,3 +22,7 @@ loop-columns-preserved g c =
           c.in_ok-session_with_plan.field-0 (c.in_ok-session_with_plan.ensures.found o)
           c.push.new.self.items c.in_ok-push.ensures.items,
     )
+
+pub returns-in_err-push-clause-stays : goal.returns-in_err-push-clause-stays
+returns-in_err-push-clause-stays g c = stays_more g.S.Store c.args.conn.now _ _
+    c.session_with_plan.result c.loop-columns.invariant.0 c.session_with_plan.ensures.read

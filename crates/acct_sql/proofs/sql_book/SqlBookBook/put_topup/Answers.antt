@@ -1,12 +1,12 @@
 use Rattle.std.proofs.Common.{w64}
 use Rattle.std.proofs.lemmas.Int.{to_z-of_z}
 use Rattle.acct_book.specs.Content.{with_topup}
-use Rattle.acct_sql.specs.inner.AtRest.{Wrote}
+use Rattle.acct_sql.specs.Book.{Wrote}
 use Rattle.acct_sql.proofs.CommitLemmas.{wrote_told}
 use Rattle.acct_sql.proofs.sql_book.SqlBookBook.put_topup.Goals as goal
 
-pub returns-in-Err : goal.returns-in-Err
-returns-in-Err g c =
+pub returns-in-Err-clause-writes : goal.returns-in-Err-clause-writes
+returns-in-Err-clause-writes g c =
     let w : Wrote g.S.Store c.self.inside.conn c.write_topup.new.conn
     (λ content. with_topup content c.args.topup.now c.args.balance) c.write_topup.result = rw
     (to_z-of_z w64 c.args.balance c.ranges.balance) at c.write_topup.ensures.wrote in
