@@ -21,13 +21,14 @@ use Rattle.sqlite.specs.Held.{Held, state}
 use Rattle.sqlite.specs.State.{State, IsUnchanged, Shown}
 use Rattle.sqlite_rules.specs.Lists.{Has}
 use Rattle.sqlite_rules.proofs.ListLemmas.{all_has}
-use Rattle.acct_sql.specs.Tables.{book_schema, account, voucher, session, session_plan}
+use Rattle.acct_sql.specs.Tables.{book_schema, meta, account, voucher, session, session_plan}
 use Rattle.acct_sql.specs.Tidy.{IsTidy}
+use Rattle.acct_sql.specs.inner.Looked.{IsKnown}
 use Rattle.acct_sql.specs.inner.Rising.{ShowsRising, shown_id}
 use Rattle.acct_sql.specs.declared.statements.TheConstants as texts
 use Rattle.acct_sql.proofs.QueryLemmas.{over_table, all_rows, has_shown, answer_of}
-use Rattle.acct_sql.proofs.TextLemmas.{ids_shown, by_rowid, account_rowids, voucher_rowids}
-use Rattle.acct_sql.proofs.TextLemmas.{session_rowids, session_plan_rowids}
+use Rattle.acct_sql.proofs.TextLemmas.{ids_shown, by_rowid, session_plan_rowids}
+use Rattle.acct_sql.proofs.OlderLemmas.{account_ids, voucher_ids, session_ids, number_ids}
 
 module _ {X K : Type 0} (e : K → K → Bool) (flips : (x y : K) → e x y ≡ e y x) (key : X → K) where
   apart : (x : X) (xs : List X) (y : X) → AllByRecursion (λ k. e (key x) k ≡ false) (map key xs)
@@ -129,58 +130,70 @@ module _ (t : ℕ) (db : Trees) (rows : List Row) (a : IsAnswerAs Null
         ∙ ap is_eq (tied_itself int_cmp_total (id_in (rowid r))));
   }
 
-module _ (old new : State) (rows : List Row) (has : old.now.schema ≡ book_schema)
+module _ (old new : State) (rows : List Row)
     (ints : AllByRecursion (λ row. column row 0 ≡ Int (shown_id row)) rows)
     (sorted : IsStrictlySortedBy int_cmp (map shown_id rows)) where
-  accounts_tidy : Shown texts.ACCOUNT_ROWIDS.now [] old new rows
-      → IsTidy (old.now.trees account.tree)
-  accounts_tidy h = ids_tidy account.tree old.now.trees rows (answer_of account_rowids [] old new
-      rows has h) ints sorted
+  module _ (known : IsKnown old.now.schema) where
+    accounts_tidy : Shown texts.ACCOUNT_ROWIDS.now [] old new rows
+        → IsTidy (old.now.trees account.tree)
+    accounts_tidy h = ids_tidy account.tree old.now.trees rows (answer_of
+        (account_ids old.now.schema known) [] old new rows refl h) ints sorted
 
-  vouchers_tidy : Shown texts.VOUCHER_ROWIDS.now [] old new rows
-      → IsTidy (old.now.trees voucher.tree)
-  vouchers_tidy h = ids_tidy voucher.tree old.now.trees rows (answer_of voucher_rowids [] old new
-      rows has h) ints sorted
+    vouchers_tidy : Shown texts.VOUCHER_ROWIDS.now [] old new rows
+        → IsTidy (old.now.trees voucher.tree)
+    vouchers_tidy h = ids_tidy voucher.tree old.now.trees rows (answer_of
+        (voucher_ids old.now.schema known) [] old new rows refl h) ints sorted
 
-  sessions_tidy : Shown texts.SESSION_ROWIDS.now [] old new rows
-      → IsTidy (old.now.trees session.tree)
-  sessions_tidy h = ids_tidy session.tree old.now.trees rows (answer_of session_rowids [] old new
-      rows has h) ints sorted
+    sessions_tidy : Shown texts.SESSION_ROWIDS.now [] old new rows
+        → IsTidy (old.now.trees session.tree)
+    sessions_tidy h = ids_tidy session.tree old.now.trees rows (answer_of
+        (session_ids old.now.schema known) [] old new rows refl h) ints sorted
 
-  session_plans_tidy : Shown texts.SESSION_PLAN_ROWIDS.now [] old new rows
+    numbers_tidy : Shown texts.META_ROWIDS.now [] old new rows → IsTidy (old.now.trees meta.tree)
+    numbers_tidy h = ids_tidy meta.tree old.now.trees rows (answer_of
+        (number_ids old.now.schema known) [] old new rows refl h) ints sorted
+
+  session_plans_tidy : old.now.schema ≡ book_schema
+      → Shown texts.SESSION_PLAN_ROWIDS.now [] old new rows
       → IsTidy (old.now.trees session_plan.tree)
-  session_plans_tidy h = ids_tidy session_plan.tree old.now.trees rows (answer_of
+  session_plans_tidy has h = ids_tidy session_plan.tree old.now.trees rows (answer_of
       session_plan_rowids [] old new rows has h) ints sorted
 
 -- ---- rows that are read one at a time
 
-module _ {S : Type 0} (g : Ghosts S) (old new : Held S)
-    (has : (state g old).now.schema ≡ book_schema) where
-  has_then : (mid : Held S) → IsUnchanged (state g old) (state g mid)
-      → (state g mid).now.schema ≡ book_schema
-  has_then mid same = ap (λ (d : Database). d.schema) same.0.now_is ∙ has
+module _ {S : Type 0} (g : Ghosts S) (old new : Held S) where
+  module _ (known : IsKnown (state g old).now.schema) where
+    known_then : (mid : Held S) → IsUnchanged (state g old) (state g mid)
+        → IsKnown (state g mid).now.schema
+    known_then mid same = subst (λ (d : Database). IsKnown d.schema) (sym same.0.now_is) known
 
-  pub accounts_rise : ShowsRising g texts.ACCOUNT_ROWIDS.now old new
-      → IsTidy ((state g old).now.trees account.tree)
-  accounts_rise h = subst (λ (d : Database). IsTidy (d.trees account.tree)) h.same.0.now_is
-      (accounts_tidy (state g h.before) (state g new) h.rows (has_then h.before h.same) h.rising.ids
-      h.rising.sorted h.shown)
+    pub accounts_rise : ShowsRising g texts.ACCOUNT_ROWIDS.now old new
+        → IsTidy ((state g old).now.trees account.tree)
+    accounts_rise h = subst (λ (d : Database). IsTidy (d.trees account.tree)) h.same.0.now_is
+        (accounts_tidy (state g h.before) (state g new) h.rows h.rising.ids h.rising.sorted
+        (known_then h.before h.same) h.shown)
 
-  pub vouchers_rise : ShowsRising g texts.VOUCHER_ROWIDS.now old new
-      → IsTidy ((state g old).now.trees voucher.tree)
-  vouchers_rise h = subst (λ (d : Database). IsTidy (d.trees voucher.tree)) h.same.0.now_is
-      (vouchers_tidy (state g h.before) (state g new) h.rows (has_then h.before h.same) h.rising.ids
-      h.rising.sorted h.shown)
+    pub vouchers_rise : ShowsRising g texts.VOUCHER_ROWIDS.now old new
+        → IsTidy ((state g old).now.trees voucher.tree)
+    vouchers_rise h = subst (λ (d : Database). IsTidy (d.trees voucher.tree)) h.same.0.now_is
+        (vouchers_tidy (state g h.before) (state g new) h.rows h.rising.ids h.rising.sorted
+        (known_then h.before h.same) h.shown)
 
-  pub sessions_rise : ShowsRising g texts.SESSION_ROWIDS.now old new
-      → IsTidy ((state g old).now.trees session.tree)
-  sessions_rise h = subst (λ (d : Database). IsTidy (d.trees session.tree)) h.same.0.now_is
-      (sessions_tidy (state g h.before) (state g new) h.rows (has_then h.before h.same) h.rising.ids
-      h.rising.sorted h.shown)
+    pub sessions_rise : ShowsRising g texts.SESSION_ROWIDS.now old new
+        → IsTidy ((state g old).now.trees session.tree)
+    sessions_rise h = subst (λ (d : Database). IsTidy (d.trees session.tree)) h.same.0.now_is
+        (sessions_tidy (state g h.before) (state g new) h.rows h.rising.ids h.rising.sorted
+        (known_then h.before h.same) h.shown)
 
-  pub session_plans_rise : ShowsRising g texts.SESSION_PLAN_ROWIDS.now old new
+    pub numbers_rise : ShowsRising g texts.META_ROWIDS.now old new
+        → IsTidy ((state g old).now.trees meta.tree)
+    numbers_rise h = subst (λ (d : Database). IsTidy (d.trees meta.tree)) h.same.0.now_is
+        (numbers_tidy (state g h.before) (state g new) h.rows h.rising.ids h.rising.sorted
+        (known_then h.before h.same) h.shown)
+
+  pub session_plans_rise : (state g old).now.schema ≡ book_schema
+      → ShowsRising g texts.SESSION_PLAN_ROWIDS.now old new
       → IsTidy ((state g old).now.trees session_plan.tree)
-  session_plans_rise h = subst (λ (d : Database). IsTidy (d.trees session_plan.tree))
-      h.same.0.now_is
-      (session_plans_tidy (state g h.before) (state g new) h.rows (has_then h.before h.same)
-      h.rising.ids h.rising.sorted h.shown)
+  session_plans_rise has h = subst (λ (d : Database). IsTidy (d.trees session_plan.tree))
+      h.same.0.now_is (session_plans_tidy (state g h.before) (state g new) h.rows h.rising.ids
+      h.rising.sorted (ap (λ (d : Database). d.schema) h.same.0.now_is ∙ has) h.shown)

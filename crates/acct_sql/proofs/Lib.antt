@@ -4,6 +4,7 @@ pub mod FindLemmas
 pub mod WriteLemmas
 pub mod StatementLemmas
 pub mod TextLemmas
+mod OlderLemmas
 pub mod KeyLemmas
 pub mod SessionLemmas
 pub mod SessionPlanLemmas

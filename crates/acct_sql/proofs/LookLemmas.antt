@@ -11,9 +11,10 @@ use Rattle.sqlite.proofs.Callers.{IsPlain, never_commits}
 use Rattle.sqlite.proofs.StateLemmas.{survives_then, survives_weaker}
 use Rattle.sqlite_schema.specs.declared.command.Returning.{Returning}
 use Rattle.sqlite_resolve.specs.declared.compiled.Compiled.{Compiled}
-use Rattle.acct_sql.specs.Tables.{book_schema}
+use Rattle.sqlite.specs.Store.{Ghosts}
+use Rattle.sqlite.specs.Held.{Held, state}
 use Rattle.acct_sql.specs.Look.{IsIdle, LooksAtTables}
-use Rattle.acct_sql.specs.inner.Looked.{HasSchema}
+use Rattle.acct_sql.specs.inner.Looked.{HasSchema, IsKnown, IsIdleBook, IsIdleKnown}
 use Rattle.acct_sql.proofs.ReadLemmas.{shown_same}
 
 runs_quiet : (old new : State) (sql : List ℕ) (c : Compiled) (params : Row) (e : Error)
@@ -66,20 +67,19 @@ module _ (old new : State) (idle : IsIdle old)
   }
 
 -- a query with no RETURNING commits nothing
-module _ (sql : List ℕ) (params : Row) (old new : State) (has : HasSchema old)
-    (plain : IsPlain (understood book_schema sql))
+module _ (sql : List ℕ) (params : Row) (old new : State)
+    (plain : HasCleanDisk old → IsPlain (understood old.now.schema sql))
     (survives : Survives old new (CommitsShowing sql params old)) where
   pub plain_here : HasCleanDisk new → IsPlain (understood old.now.schema sql)
-  plain_here clean = subst (λ schema. IsPlain (understood schema sql))
-      (sym (has (omega (arith, survives.clean, clean)))) plain
+  plain_here clean = plain (omega (arith, survives.clean, clean))
 
   pub commits_nothing : Survives old new (λ _. ⊥)
   commits_nothing = survives_weaker old new (CommitsShowing sql params old) (λ _. ⊥)
       (λ clean db commits. never_commits sql params old db (plain_here clean) commits) survives
 
 module _ (sql : List ℕ) (params : Row) (old new : State) {V : Type 0} (items : V → List Row)
-    (r : Result V Error) (idle : IsIdle old) (has : HasSchema old)
-    (plain : IsPlain (understood book_schema sql))
+    (r : Result V Error) (idle : IsIdle old)
+    (plain : HasCleanDisk old → IsPlain (understood old.now.schema sql))
     (ok : HasCleanDisk new → IfOk r (λ rows. Shown sql params old new (items rows)))
     (err : HasCleanDisk new → IfErr r (FailsToQuery sql params old new))
     (mode : old.in_transaction ≡ false → new.in_transaction ≡ false)
@@ -88,17 +88,17 @@ module _ (sql : List ℕ) (params : Row) (old new : State) {V : Type 0} (items :
       (λ rows. Shown sql params old new (items rows)) → IfErr q (FailsToQuery sql params old new)
       → IsUnchanged old new ⊎ IsRolledBack old new
   quiet_by clean (Ok rows) shown failed = inl (shown_same sql params old new (items rows)
-      (plain_here sql params old new has plain survives clean) shown)
+      (plain_here sql params old new plain survives clean) shown)
   quiet_by clean (Err e) shown failed = query_quiet sql params old new e failed
 
   pub peeked : LooksAtTables old new
   peeked = looks old new idle (λ clean. quiet_by clean r (ok clean) (err clean)) mode
-      (commits_nothing sql params old new has plain survives)
+      (commits_nothing sql params old new plain survives)
 
   open_by : HasCleanDisk new → (q : Result V Error) → IfOk q
       (λ rows. Shown sql params old new (items rows)) → OnOk q (IsTrue new.is_open)
   open_by clean (Ok rows) shown = (shown_same sql params old new (items rows)
-      (plain_here sql params old new has plain survives clean) shown).0.is_open
+      (plain_here sql params old new plain survives clean) shown).0.is_open
   open_by clean (Err e) shown = tt
 
   pub peeked_open : HasCleanDisk new → OnOk r (IsTrue new.is_open)
@@ -121,6 +121,16 @@ pub has_after : (a b : State) → LooksAtTables a b → HasSchema a → (HasClea
     → IsTrue b.is_open) → HasSchema b
 has_after a b look has o clean = ap (λ (d : Database). d.schema) (look.same clean (o clean))
     ∙ has (omega (arith, look.survives.clean, clean))
+
+pub known_after : (a b : State) → LooksAtTables a b → (HasCleanDisk a → IsKnown a.now.schema)
+    → (HasCleanDisk b → IsTrue b.is_open) → HasCleanDisk b → IsKnown b.now.schema
+known_after a b look has o clean = subst (λ (d : Database). IsKnown d.schema)
+    (sym (look.same clean (o clean))) (has (omega (arith, look.survives.clean, clean)))
+
+-- a book's tables are among those that are known
+pub known_book : {S : Type 0} (g : Ghosts S) (conn : Held S) → IsIdleBook g conn
+    → IsIdleKnown g conn
+known_book g conn book = record { idle = book.idle; has = λ clean. inl (book.has clean) }
 
 -- ---- why a call was refused
 

@@ -1,5 +1,5 @@
 -- What the query for the schema number shows.
-use Rattle.std.proofs.Common.{◌≡◌, inl, inr, ℤ, List, [], ◌∷◌, codes}
+use Rattle.std.proofs.Common.{◌≡◌, ◌≢◌, inl, inr, ℤ, List, [], ◌∷◌, codes}
 use Rattle.std.proofs.Common.{true}
 use Rattle.std.proofs.Common.{refl, sym, ap, subst, ◌∙◌}
 use Rattle.std.proofs.lemmas.Bool.{and_parts}
@@ -17,17 +17,16 @@ use Rattle.acct_sql.specs.declared.sql_book_error.SqlBookError.{SqlBookError}
 use Rattle.acct_sql.specs.declared.sql_book_error.SqlBookError.TheVariants.{NotABook, PlansDiffer}
 use Rattle.acct_sql.specs.declared.sql_book_error.SqlBookError.TheVariants.{WrongSchema}
 use Rattle.acct_sql.specs.declared.sql_book_error.SqlBookError.TheVariants.{Unavailable}
-use Rattle.acct_sql.specs.Tables.{book_schema, meta}
+use Rattle.acct_sql.specs.Tables.{book_schema, meta, own_number}
 use Rattle.acct_sql.specs.Make.{HasNumber}
 use Rattle.acct_sql.specs.Look.{HasNumberAlone, IsRefusedAs}
-use Rattle.acct_sql.specs.inner.Looked.{IsSchemaNumber, HasNone, IsSchemaNumberFault}
+use Rattle.acct_sql.specs.inner.Looked.{IsKnown, IsSchemaNumber, HasNone, IsSchemaNumberFault}
+use Rattle.acct_sql.specs.inner.Looked.{IsNumberFault, IsUnknownFault}
 use Rattle.acct_sql.specs.declared.statements.TheConstants as texts
 use Rattle.acct_sql.proofs.QueryLemmas.{over_table, all_rows, meets, shown_has, has_shown}
 use Rattle.acct_sql.proofs.QueryLemmas.{answer_of}
-use Rattle.acct_sql.proofs.TextLemmas.{schema_filter, value_shown, schema_number}
-use Rattle.acct_sql.proofs.QueryLemmas.{over_table, all_rows, meets, shown_has, has_shown}
-use Rattle.acct_sql.proofs.QueryLemmas.{answer_of}
-use Rattle.acct_sql.proofs.TextLemmas.{schema_filter, value_shown, schema_number}
+use Rattle.acct_sql.proofs.TextLemmas.{schema_filter, value_shown}
+use Rattle.acct_sql.proofs.OlderLemmas.{schema_number}
 use Rattle.acct_sql.proofs.ValueLemmas.{equal_text, text_equal}
 
 -- ---- what it shows
@@ -40,11 +39,11 @@ pub record Tells (db : Trees) (rows : List Row) : Type 0 where
 int_is : (m n : ℤ) → ◌≡◌ {A = Value} (Int m) (Int n) → m ≡ n
 int_is m n e = cc
 
-module _ (old new : State) (rows : List Row) (has : old.now.schema ≡ book_schema)
+module _ (old new : State) (rows : List Row) (known : IsKnown old.now.schema)
     (h : Shown texts.SCHEMA_NUMBER.now [] old new rows) where
   answer : IsAnswerAs Null (over_table meta.tree schema_filter value_shown [] all_rows)
       old.now.trees [] rows
-  answer = answer_of schema_number [] old new rows has h
+  answer = answer_of (schema_number old.now.schema known) [] old new rows refl h
 
   shown_number : (n : ℤ) (row : Row) → Has rows row → column row 0 ≡ Int n
       → HasNumber n old.now.trees
@@ -86,10 +85,31 @@ module _ (old new : State) (rows : List Row) (has : old.now.schema ≡ book_sche
     one = number_alone;
   }
 
-pub number_refused : (plans : List Plan) (db : Database) (rows : List Row) (e : SqlBookError)
-    → (db.schema ≡ book_schema → Tells db.trees rows) → IsSchemaNumberFault rows e
-    → IsRefusedAs plans db e
-number_refused plans db rows NotABook told none = λ has. (told has).none none
-number_refused plans db rows (WrongSchema n) told other = (other.1, λ has. (told has).one n other.0)
-number_refused plans db rows PlansDiffer told never = absurd never
-number_refused plans db rows Unavailable told it = tt
+pub number_refused : (wanted : ℤ) (db : Trees) (rows : List Row) (e : SqlBookError)
+    → Tells db rows → IsSchemaNumberFault wanted rows e → IsNumberFault wanted db e
+number_refused wanted db rows NotABook told none = told.none none
+number_refused wanted db rows (WrongSchema n) told other = (other.1, told.one n other.0)
+number_refused wanted db rows PlansDiffer told never = never
+number_refused wanted db rows Unavailable told it = tt
+
+pub unknown_refused : (wanted : ℤ) (rows : List Row) (e : SqlBookError)
+    → IsSchemaNumberFault wanted rows e → IsUnknownFault wanted e
+unknown_refused wanted rows NotABook it = tt
+unknown_refused wanted rows (WrongSchema n) other = other.1
+unknown_refused wanted rows PlansDiffer never = never
+unknown_refused wanted rows Unavailable it = tt
+
+pub other_refused : (plans : List Plan) (db : Database) (e : SqlBookError)
+    → db.schema ≢ book_schema → IsUnknownFault own_number e → IsRefusedAs plans db e
+other_refused plans db NotABook other it = λ has. absurd (other has)
+other_refused plans db (WrongSchema n) other it = (it, λ has. absurd (other has))
+other_refused plans db PlansDiffer other never = absurd never
+other_refused plans db Unavailable other it = tt
+
+-- what is wrong with the number of a book is why it is refused
+pub book_refused : (plans : List Plan) (db : Database) (e : SqlBookError)
+    → IsNumberFault own_number db.trees e → IsRefusedAs plans db e
+book_refused plans db NotABook none = λ _. none
+book_refused plans db (WrongSchema n) other = (other.0, λ _. other.1)
+book_refused plans db PlansDiffer never = absurd never
+book_refused plans db Unavailable it = tt

@@ -15,17 +15,19 @@ use Rattle.acct_model.specs.declared.plan.Plan.{Plan}
 use Rattle.acct_sql.specs.Tables.{book_schema, price_plan, plan_count}
 use Rattle.acct_sql.specs.Make.{KeepsPrices, KeepsCounts, IsPlanRow, IsCountRow}
 use Rattle.acct_sql.specs.Look.{IsIdle, LooksAtTables}
-use Rattle.acct_sql.specs.inner.Looked.{ShowsPlan, ShowsCount, IsShownIn, IsPlanIn, AreShown}
+use Rattle.acct_sql.specs.inner.Looked.{IsKnown, ShowsPlan, ShowsCount, IsShownIn, IsPlanIn}
+use Rattle.acct_sql.specs.inner.Looked.{AreShown}
 use Rattle.acct_sql.specs.declared.adopting.PlanTable.TheVariants.{Prices, Counts}
 use Rattle.acct_sql.specs.declared.statements.TheConstants as texts
 use Rattle.acct_sql.proofs.QueryLemmas.{over_table, all_rows, shown_has, has_shown, answer_of}
-use Rattle.acct_sql.proofs.TextLemmas.{plan_shown, plan_rows, count_shown, count_rows}
+use Rattle.acct_sql.proofs.TextLemmas.{plan_shown, count_shown, count_rows}
+use Rattle.acct_sql.proofs.OlderLemmas.{prices}
 
-module _ (old new : State) (rows : List Row) (plans : List Plan) (has : old.now.schema
-    ≡ book_schema) (h : Shown texts.PLANS.now [] old new rows) where
+module _ (old new : State) (rows : List Row) (plans : List Plan) (known : IsKnown old.now.schema)
+    (h : Shown texts.PLANS.now [] old new rows) where
   answer : IsAnswerAs Null (over_table price_plan.tree [] plan_shown [] all_rows) old.now.trees []
       rows
-  answer = answer_of plan_rows [] old new rows has h
+  answer = answer_of (prices old.now.schema known) [] old new rows refl h
 
   says : (plan : Plan) (r : Row) → ShowsPlan plan (eval_all plan_shown ([] ∷ r ∷ []))
       → IsPlanRow plan r

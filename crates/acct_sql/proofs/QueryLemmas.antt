@@ -19,6 +19,7 @@ use Rattle.sqlite.proofs.Callers.{IsPlain, command_of, reads_as}
 use Rattle.sqlite_rules.specs.Lists.{Has}
 use Rattle.sqlite_rules.proofs.ListLemmas.{all_has, all_from, has_either, has_left, has_right}
 use Rattle.sqlite_trees.proofs.ListLemmas.{all-permutation}
+use Rattle.sqlite.specs.Schema.{Schema}
 use Rattle.acct_sql.specs.Tables.{book_schema}
 
 pub has_mapped : {A B : Type 0} (f : A → B) (xs : List A) (y : B) → Has (map f xs) y → (x : A)
@@ -150,22 +151,27 @@ seen_bare t filter project order limit lost seen db params rows same a =
 
 -- ---- a statement that is such a query
 
--- under the schema of the book the text means this query, and nothing besides
-pub record IsQuery (text : List ℕ) (t : ℕ) (filter project : List Term) (order : List (Term × Key))
-    (limit : Term) : Type 0 where
+-- under this schema the text means this query, and nothing besides
+pub record IsQueryIn (schema : Schema) (text : List ℕ) (t : ℕ) (filter project : List Term)
+    (order : List (Term × Key)) (limit : Term) : Type 0 where
   pub names : List (List ℕ)
-  pub is : command_of (understood book_schema text)
+  pub is : command_of (understood schema text)
       ≡ Select (record { lets = []; body = over_table t filter project order limit }) names
-  pub unlisted : reads_listing book_schema text ≡ false
-  pub plain : IsPlain (understood book_schema text)
+  pub unlisted : reads_listing schema text ≡ false
+  pub plain : IsPlain (understood schema text)
   pub bare : (db : Trees) → overlay db [] t ≡ db t
 
+-- the same under the schema of the book
+abbrev pub IsQuery : List ℕ → ℕ → List Term → List Term → List (Term × Key) → Term → Type 0
+IsQuery = IsQueryIn book_schema
+
 -- what was shown is an answer of the query
-pub answer_of : {text : List ℕ} {t : ℕ} {filter project : List Term} {order : List (Term × Key)}
-    {limit : Term} → IsQuery text t filter project order limit → (params : Row) (old new : State)
-    (rows : List Row) → old.now.schema ≡ book_schema → Shown text params old new rows
+pub answer_of : {schema : Schema} {text : List ℕ} {t : ℕ} {filter project : List Term}
+    {order : List (Term × Key)} {limit : Term}
+    → IsQueryIn schema text t filter project order limit → (params : Row) (old new : State)
+    (rows : List Row) → old.now.schema ≡ schema → Shown text params old new rows
     → IsAnswerAs Null (over_table t filter project order limit) old.now.trees params rows
-answer_of {text} {t} {filter} {project} {order} {limit} query params old new rows has h =
+answer_of {schema} {text} {t} {filter} {project} {order} {limit} query params old new rows has h =
     seen_bare t filter project order limit Null (overlay old.now.trees []) old.now.trees params rows
-    (query.bare old.now.trees) ((reads_as text params old new book_schema has _ query.is query.plain
+    (query.bare old.now.trees) ((reads_as text params old new schema has _ query.is query.plain
     query.unlisted rows h).answer Null)

@@ -17,9 +17,7 @@ use Rattle.sqlite.specs.Given.{HasGiven, HasBegun, Advances}
 use Rattle.sqlite.specs.Listing.{understood}
 use Rattle.sqlite.proofs.Callers.{IsPlain, begun_plain, unchanged_then}
 use Rattle.sqlite_trees.proofs.ListLemmas.{all-append}
-use Rattle.acct_sql.specs.Tables.{book_schema}
 use Rattle.acct_sql.specs.Look.{IsIdle, LooksAtTables}
-use Rattle.acct_sql.specs.inner.Looked.{HasSchema}
 use Rattle.acct_sql.specs.inner.Rising.{AreRising, IsAbove, ShowsRising, shown_id}
 use Rattle.acct_sql.proofs.ListLemmas.{ascends}
 use Rattle.acct_sql.proofs.LookLemmas.{looks, looks_then, commits_nothing, plain_here}
@@ -81,18 +79,18 @@ module _ {S : Type 0} (g : Ghosts S) (sql : List ℕ) where
     pub given : HasCleanDisk (state g now) → (rows : List Row) × HasGiven g sql [] now rows
         × AreRising rows × EndsAt last rows
 
-  pub risen_first : (old new : Held S) → IsIdle (state g old) → HasSchema (state g old)
-      → IsPlain (understood book_schema sql)
+  pub risen_first : (old new : Held S) → IsIdle (state g old)
+      → (HasCleanDisk (state g old) → IsPlain (understood (state g old).now.schema sql))
       → (HasCleanDisk (state g new) → HasBegun g sql [] old new)
       → ((state g old).in_transaction ≡ false → (state g new).in_transaction ≡ false)
       → Survives (state g old) (state g new) (CommitsShowing sql [] (state g old))
       → HasRisen old new None
-  risen_first old new idle has plain begun mode survives =
+  risen_first old new idle plain begun mode survives =
       let began = λ (clean : HasCleanDisk (state g new)). begun_plain g sql [] old new
-      (plain_here sql [] (state g old) (state g new) has plain survives clean) (begun clean) in
+      (plain_here sql [] (state g old) (state g new) plain survives clean) (begun clean) in
       record {
         looks = looks (state g old) (state g new) idle (λ clean. inl (began clean).1) mode
-            (commits_nothing sql [] (state g old) (state g new) has plain survives);
+            (commits_nothing sql [] (state g old) (state g new) plain survives);
         same = λ clean. (began clean).1;
         given = λ clean. ([], (began clean).0, none_rise, refl);
       }

@@ -362,6 +362,16 @@ schema_number = record {
   bare = λ db. refl;
 }
 
+pub meta_rowids : IsQuery texts.META_ROWIDS.now meta.tree [] ids_shown by_rowid all_rows
+unfolding understood everything
+meta_rowids = record {
+  names = codes "rowid" ∷ [];
+  is = refl;
+  unlisted = refl;
+  plain = (refl, refl);
+  bare = λ db. refl;
+}
+
 abbrev pub plan_shown : List Term
 plan_shown = col 1 1 ∷ col 1 2 ∷ col 1 3 ∷ []
 

@@ -14,7 +14,8 @@ ghost use Rattle.acct_sql.specs.Tables.{book_schema, own_number};
 ghost use Rattle.acct_sql.specs.Book.{is_sound_at};
 ghost use Rattle.acct_sql.specs.Make.{KeepsPlans, KeepsPrices, KeepsCounts};
 ghost use Rattle.acct_sql.specs.Look.{IsIdle, LooksAtTables, HasNumberAlone, IsRefusedAs};
-ghost use Rattle.acct_sql.specs.inner.Looked.{IsIdleBook, IsBookWith, HasRowsOf, tables_at};
+ghost use Rattle.acct_sql.specs.inner.Looked.{IsIdleBook, IsIdleKnown, IsBookWith, HasRowsOf};
+ghost use Rattle.acct_sql.specs.inner.Looked.{tables_at, IsNumberFault, IsUnknownFault};
 ghost use Rattle.acct_sql.specs.inner.Looked.{Peeks, Examines, ShowsPlan, ShowsCount, Says};
 ghost use Rattle.acct_sql.specs.inner.Looked.{IsShownIn, IsPlanIn};
 ghost use Rattle.acct_sql.specs.inner.Looked.{AreShown, IsSchemaNumber, IsSchemaNumberFault};
@@ -29,19 +30,26 @@ use acct_model::{Plan, Plans};
 use sqlite::types::ValueRef;
 use sqlite::{Alter, Connection, Error, ErrorCode};
 
-// A table of plans.
+/// The schema number of a book.
+pub(crate) const OWN_NUMBER: i64 = 3;
+
+/// A table of plans.
 #[derive(Clone, Copy)]
-enum PlanTable {
-    // Their blocks and units.
+pub(crate) enum PlanTable {
+    /// Their blocks and units.
     Prices,
-    // What they count.
+    /// What they count.
     Counts,
 }
 
-// What a query shows of the tables of a book.
-fn peek<S: Alter>(conn: &mut Connection<S>, sql: &str) -> Result<Vec<sqlite::Row>, SqlBookError>
-    requires book { IsIdleBook S.Store conn.old }
-    requires plain { IsPlain (understood book_schema sql.now) }
+/// What a query shows of the tables of a database.
+pub(crate) fn peek<S: Alter>(
+    conn: &mut Connection<S>,
+    sql: &str,
+) -> Result<Vec<sqlite::Row>, SqlBookError>
+    requires idle { IsIdle (state S.Store conn.old) }
+    requires plain { is_sound_at S.Store conn.old
+        → IsPlain (understood (tables_at S.Store conn.old).schema sql.now) }
     ensures looks { Peeks S.Store conn.old conn.new result }
     ensures shown { is_sound_at S.Store conn.new
         → IfOk result (λ rows. Shown sql.now [] (state S.Store conn.old) (state S.Store conn.new)
@@ -87,7 +95,7 @@ pub(crate) fn examine<S: Alter>(conn: &mut Connection<S>, plans: &Plans) -> Resu
     if is_book_schema(conn.schema()) {
         examine_book(conn, plans.list())
     } else {
-        Err(fault_of_other(conn))
+        Err(fault_of_other(conn, OWN_NUMBER))
     }
 }
 
@@ -98,32 +106,35 @@ fn examine_book<S: Alter>(conn: &mut Connection<S>, plans: &[Plan]) -> Result<()
     ensures refused { is_sound_at S.Store conn.new
         → IfErr result (IsRefusedAs plans.now (tables_at S.Store conn.old)) }
 {
-    check_number(conn)?;
+    check_number(conn, OWN_NUMBER)?;
     check_plans(conn, plans)?;
     check_rowids(conn)
 }
 
-// Refuses another schema number than 3, and tables that have none.
-fn check_number<S: Alter>(conn: &mut Connection<S>) -> Result<(), SqlBookError>
-    requires { IsIdleBook S.Store conn.old }
-    ensures number { Examines S.Store conn.old conn.new (HasNumberAlone own_number) result }
-    ensures refused { is_sound_at S.Store conn.new → IfErr result
-        (λ e. (plans : List Plan) → IsRefusedAs plans (tables_at S.Store conn.old) e) }
+/// Refuses another schema number than the wanted one, and tables that have none.
+pub(crate) fn check_number<S: Alter>(
+    conn: &mut Connection<S>,
+    wanted: i64,
+) -> Result<(), SqlBookError>
+    requires { IsIdleKnown S.Store conn.old }
+    ensures number { Examines S.Store conn.old conn.new (HasNumberAlone wanted) result }
+    ensures refused { is_sound_at S.Store conn.new
+        → IfErr result (IsNumberFault wanted (tables_at S.Store conn.old).trees) }
 {
     let rows = peek(conn, SCHEMA_NUMBER)?;
-    judge_number(&rows)
+    judge_number(&rows, wanted)
 }
 
-// Judges the answer of the query for the schema number: one row, which has the number 3.
-fn judge_number(rows: &[sqlite::Row]) -> Result<(), SqlBookError>
-    ensures ok { OnOk result (IsSchemaNumber own_number rows.now) }
-    ensures err { IfErr result (IsSchemaNumberFault rows.now) }
+// Judges the answer of the query for the schema number: one row, which has this number.
+fn judge_number(rows: &[sqlite::Row], wanted: i64) -> Result<(), SqlBookError>
+    ensures ok { OnOk result (IsSchemaNumber wanted rows.now) }
+    ensures err { IfErr result (IsSchemaNumberFault wanted rows.now) }
 {
     let [row] = rows else {
         return Err(fault_of_many(rows));
     };
     match id_of(row) {
-        Some(3) => Ok(()),
+        Some(number) if number == wanted => Ok(()),
         Some(number) => Err(SqlBookError::WrongSchema(number)),
         None => Err(SqlBookError::NotABook),
     }
@@ -131,7 +142,7 @@ fn judge_number(rows: &[sqlite::Row]) -> Result<(), SqlBookError>
 
 // The same of an answer that isn't one row.
 fn fault_of_many(rows: &[sqlite::Row]) -> SqlBookError
-    ensures { IsSchemaNumberFault rows.now result }
+    ensures { (wanted : ℤ) → IsSchemaNumberFault wanted rows.now result }
 {
     if rows.is_empty() {
         SqlBookError::NotABook
@@ -151,8 +162,12 @@ fn check_plans<S: Alter>(conn: &mut Connection<S>, plans: &[Plan]) -> Result<(),
     check_counts(conn, plans)
 }
 
-fn check_prices<S: Alter>(conn: &mut Connection<S>, plans: &[Plan]) -> Result<(), SqlBookError>
-    requires { IsIdleBook S.Store conn.old }
+/// Refuses a book, be it an older one, whose plans have other blocks or units than these.
+pub(crate) fn check_prices<S: Alter>(
+    conn: &mut Connection<S>,
+    plans: &[Plan],
+) -> Result<(), SqlBookError>
+    requires { IsIdleKnown S.Store conn.old }
     ensures prices { Examines S.Store conn.old conn.new (KeepsPrices plans.now) result }
     ensures fault { is_sound_at S.Store conn.new → IfErr result
         (IsPlanFault (KeepsPrices plans.now (tables_at S.Store conn.old).trees)) }
@@ -179,18 +194,17 @@ fn check_counts<S: Alter>(conn: &mut Connection<S>, plans: &[Plan]) -> Result<()
     }
 }
 
-// Why a database with other tables is no book: it has another schema number than 3, or it is none.
-fn fault_of_other<S: Alter>(conn: &mut Connection<S>) -> SqlBookError
-    requires idle { IsIdle (state S.Store conn.old) }
-    requires other { (tables_at S.Store conn.old).schema ≢ book_schema }
+/// Why a database with other tables than those of the wanted schema number is refused: it has
+/// another number, or none.
+pub(crate) fn fault_of_other<S: Alter>(conn: &mut Connection<S>, wanted: i64) -> SqlBookError
+    requires { IsIdle (state S.Store conn.old) }
     ensures looks { LooksAtTables (state S.Store conn.old) (state S.Store conn.new) }
-    ensures refused { is_sound_at S.Store conn.new
-        → (plans : List Plan) → IsRefusedAs plans (tables_at S.Store conn.old) result }
+    ensures fault { IsUnknownFault wanted result }
 {
     match glance(conn) {
         Err(error) if is_failure(&error) => SqlBookError::Unavailable,
         Err(_) => SqlBookError::NotABook,
-        Ok(rows) => match judge_number(&rows) {
+        Ok(rows) => match judge_number(&rows, wanted) {
             Err(SqlBookError::WrongSchema(number)) => SqlBookError::WrongSchema(number),
             _ => SqlBookError::NotABook,
         },

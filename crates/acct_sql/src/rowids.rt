@@ -4,10 +4,13 @@ ghost use Rattle.sqlite.specs.Given.{IsPlain};
 ghost use Rattle.sqlite.specs.Listing.{understood};
 ghost use Rattle.sqlite_value.specs.Order.{column};
 ghost use Rattle.sqlite_value.specs.declared.value.Value.TheVariants.{Int};
-ghost use Rattle.acct_sql.specs.Tables.{book_schema, account, voucher, session, session_plan};
+ghost use Rattle.sqlite.specs.Held.{state};
+ghost use Rattle.acct_sql.specs.Tables.{account, voucher, session, session_plan};
 ghost use Rattle.acct_sql.specs.Tidy.{IsTidy};
 ghost use Rattle.acct_sql.specs.Book.{is_sound_at};
-ghost use Rattle.acct_sql.specs.inner.Looked.{IsIdleBook, Peeks, Examines, AreTidy};
+ghost use Rattle.acct_sql.specs.Look.{IsIdle};
+ghost use Rattle.acct_sql.specs.inner.Looked.{IsIdleBook, IsIdleKnown, Peeks, Examines, AreTidy};
+ghost use Rattle.acct_sql.specs.inner.Looked.{tables_at};
 ghost use Rattle.acct_sql.specs.inner.Rising.{IsAbove, ShowsRising};
 
 use crate::adopting::id_of;
@@ -29,7 +32,7 @@ pub(crate) fn check_rowids<S: Alter>(conn: &mut Connection<S>) -> Result<(), Sql
 }
 
 fn check_accounts<S: Alter>(conn: &mut Connection<S>) -> Result<(), SqlBookError>
-    requires { IsIdleBook S.Store conn.old }
+    requires { IsIdleKnown S.Store conn.old }
     ensures tidy { Examines S.Store conn.old conn.new (λ db. IsTidy (db account.tree)) result }
     ensures fault { IfErr result (λ e. e ≡ SqlBookError.Unavailable) }
 {
@@ -40,7 +43,7 @@ fn check_accounts<S: Alter>(conn: &mut Connection<S>) -> Result<(), SqlBookError
 }
 
 fn check_vouchers<S: Alter>(conn: &mut Connection<S>) -> Result<(), SqlBookError>
-    requires { IsIdleBook S.Store conn.old }
+    requires { IsIdleKnown S.Store conn.old }
     ensures tidy { Examines S.Store conn.old conn.new (λ db. IsTidy (db voucher.tree)) result }
     ensures fault { IfErr result (λ e. e ≡ SqlBookError.Unavailable) }
 {
@@ -51,7 +54,7 @@ fn check_vouchers<S: Alter>(conn: &mut Connection<S>) -> Result<(), SqlBookError
 }
 
 fn check_sessions<S: Alter>(conn: &mut Connection<S>) -> Result<(), SqlBookError>
-    requires { IsIdleBook S.Store conn.old }
+    requires { IsIdleKnown S.Store conn.old }
     ensures tidy { Examines S.Store conn.old conn.new (λ db. IsTidy (db session.tree)) result }
     ensures fault { IfErr result (λ e. e ≡ SqlBookError.Unavailable) }
 {
@@ -74,8 +77,9 @@ fn check_session_plans<S: Alter>(conn: &mut Connection<S>) -> Result<(), SqlBook
 
 // Refuses a query whose rows do not each begin with an id above that of the row before.
 fn check_ids<S: Alter>(conn: &mut Connection<S>, sql: &str) -> Result<(), Refused>
-    requires book { IsIdleBook S.Store conn.old }
-    requires plain { IsPlain (understood book_schema sql.now) }
+    requires idle { IsIdle (state S.Store conn.old) }
+    requires plain { is_sound_at S.Store conn.old
+        → IsPlain (understood (tables_at S.Store conn.old).schema sql.now) }
     ensures looks { Peeks S.Store conn.old conn.new result }
     ensures shown { is_sound_at S.Store conn.new
         → OnOk result (ShowsRising S.Store sql.now conn.old conn.new) }

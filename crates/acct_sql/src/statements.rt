@@ -39,6 +39,8 @@ pub(crate) const NEW_SCHEMA_NUMBER: &str = "INSERT INTO meta (name, value) VALUE
 
 pub(crate) const SCHEMA_NUMBER: &str = "SELECT value FROM meta WHERE name = 'schema'";
 
+pub(crate) const META_ROWIDS: &str = "SELECT rowid FROM meta ORDER BY rowid";
+
 // ---- the plans
 
 pub(crate) const PLAN_TABLE: &str = "\

@@ -1,6 +1,6 @@
 -- What the looks at a database that may be a book tell of it.
-use Rattle.std.specs.Prelude.{◌≡◌, ◌≢◌, ℤ, pos, Bool, true, false, List, [], ◌∷◌, Result, IsTrue}
-use Rattle.std.specs.Prelude.{OnOk}
+use Rattle.std.specs.Prelude.{◌≡◌, ◌≢◌, ◌⊎◌, ℤ, pos, Bool, true, false, List, [], ◌∷◌, Result}
+use Rattle.std.specs.Prelude.{IsTrue, OnOk}
 use Rattle.std.specs.List.{AllByRecursion}
 use Rattle.sqlite.specs.declared.types.Value.TheVariants.{Int, Blob}
 use Rattle.sqlite.specs.declared.error.Error.{Error}
@@ -9,6 +9,7 @@ use Rattle.sqlite.specs.declared.error.ErrorCode.TheVariants as code
 use Rattle.sqlite.specs.Order.{Row, column}
 use Rattle.sqlite.specs.Tree.{Trees}
 use Rattle.sqlite.specs.Effect.{Database}
+use Rattle.sqlite.specs.Schema.{Schema}
 use Rattle.sqlite.specs.Store.{Ghosts}
 use Rattle.sqlite.specs.Held.{Held, state}
 use Rattle.sqlite.specs.State.{State, HasCleanDisk}
@@ -18,18 +19,22 @@ use Rattle.acct_sql.specs.declared.sql_book_error.SqlBookError.{SqlBookError}
 use Rattle.acct_sql.specs.declared.sql_book_error.SqlBookError.TheVariants.{NotABook, PlansDiffer}
 use Rattle.acct_sql.specs.declared.sql_book_error.SqlBookError.TheVariants.{WrongSchema}
 use Rattle.acct_sql.specs.declared.sql_book_error.SqlBookError.TheVariants.{Unavailable}
-use Rattle.acct_sql.specs.Tables.{book_schema, account, voucher, session}
+use Rattle.acct_sql.specs.Tables.{book_schema, first_schema, account, voucher, session}
 use Rattle.acct_sql.specs.Tables.{session_plan, own_number}
 use Rattle.acct_sql.specs.Tidy.{IsTidy}
 use Rattle.acct_sql.specs.Book.{IsBook}
 use Rattle.acct_sql.specs.declared.adopting.PlanTable.{PlanTable}
 use Rattle.acct_sql.specs.declared.adopting.PlanTable.TheVariants.{Prices, Counts}
-use Rattle.acct_sql.specs.Make.{KeepsPlans, mode_of}
+use Rattle.acct_sql.specs.Make.{HasNumber, KeepsPlans, mode_of}
 use Rattle.acct_sql.specs.Look.{IsIdle, LooksAtTables, HasNumberAlone}
 
 -- it has the tables of a book
 abbrev pub HasSchema : State → Type 0
 HasSchema s = HasCleanDisk s → s.now.schema ≡ book_schema
+
+-- the tables are those of a book, or of one of schema number 1
+abbrev pub IsKnown : Schema → Type 0
+IsKnown schema = (schema ≡ book_schema) ⊎ (schema ≡ first_schema)
 
 -- the rowids of its accounts, vouchers, sessions and their plans tell their rows apart
 pub record AreTidy (db : Trees) : Type 0 where
@@ -61,6 +66,11 @@ module _ {S : Type 0} (g : Ghosts S) where
   pub record IsIdleBook (conn : Held S) : Type 0 where
     pub idle : IsIdle (state g conn)
     pub has : HasSchema (state g conn)
+
+  -- outside a transaction, over a database that has the tables of a book or of an older one
+  pub record IsIdleKnown (conn : Held S) : Type 0 where
+    pub idle : IsIdle (state g conn)
+    pub has : HasCleanDisk (state g conn) → IsKnown (tables_at conn).schema
 
   -- a look that changes nothing: where it succeeds, the database is open
   pub record Peeks {T E : Type 0} (old new : Held S) (result : Result T E) : Type 0 where
@@ -113,12 +123,26 @@ IsSchemaNumber n rows = (row : Row) × (rows ≡ row ∷ []) × (column row 0 �
 abbrev pub HasNone : List Row → Type 0
 HasNone rows = (row : Row) (n : ℤ) → Has rows row → column row 0 ≢ Int n
 
--- what the answer is instead of the number of a book
-abbrev pub IsSchemaNumberFault : List Row → SqlBookError → Type 0
-IsSchemaNumberFault rows NotABook = HasNone rows
-IsSchemaNumberFault rows (WrongSchema n) = IsSchemaNumber n rows × (n ≢ own_number)
-IsSchemaNumberFault rows PlansDiffer = ⊥
-IsSchemaNumberFault rows Unavailable = Unit {0}
+-- what the answer is instead of the wanted number
+abbrev pub IsSchemaNumberFault : ℤ → List Row → SqlBookError → Type 0
+IsSchemaNumberFault wanted rows NotABook = HasNone rows
+IsSchemaNumberFault wanted rows (WrongSchema n) = IsSchemaNumber n rows × (n ≢ wanted)
+IsSchemaNumberFault wanted rows PlansDiffer = ⊥
+IsSchemaNumberFault wanted rows Unavailable = Unit {0}
+
+-- what the tables have instead of the wanted number
+abbrev pub IsNumberFault : ℤ → Trees → SqlBookError → Type 0
+IsNumberFault wanted db NotABook = (n : ℤ) → ¬ (HasNumber n db)
+IsNumberFault wanted db (WrongSchema n) = (n ≢ wanted) × HasNumberAlone n db
+IsNumberFault wanted db PlansDiffer = ⊥
+IsNumberFault wanted db Unavailable = Unit {0}
+
+-- why other tables than the wanted ones are refused, whose number would be this
+abbrev pub IsUnknownFault : ℤ → SqlBookError → Type 0
+IsUnknownFault wanted NotABook = Unit {0}
+IsUnknownFault wanted (WrongSchema n) = n ≢ wanted
+IsUnknownFault wanted PlansDiffer = ⊥
+IsUnknownFault wanted Unavailable = Unit {0}
 
 -- the store or memory failed, or the limit on steps was met
 abbrev pub is_failure : Error → Bool

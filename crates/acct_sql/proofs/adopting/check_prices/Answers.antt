@@ -4,11 +4,11 @@ use Rattle.sqlite.specs.Held.{state}
 use Rattle.acct_sql.specs.inner.Looked.{AreShown}
 use Rattle.acct_sql.specs.declared.adopting.PlanTable.TheVariants.{Prices}
 use Rattle.acct_sql.proofs.PlanLemmas.{plans_shown, shown_plans}
-use Rattle.acct_sql.proofs.TextLemmas as t
+use Rattle.acct_sql.proofs.OlderLemmas.{prices}
 use Rattle.acct_sql.proofs.adopting.check_prices.Goals as goal
 
 pub peek-requires-clause-plain : goal.peek-requires-clause-plain
-peek-requires-clause-plain g c = t.plan_rows.plain
+peek-requires-clause-plain g c = λ clean. (prices _ (c.requires.has clean)).plain
 
 pub returns-then-are_kept-clause-prices : goal.returns-then-are_kept-clause-prices
 returns-then-are_kept-clause-prices g c = record {

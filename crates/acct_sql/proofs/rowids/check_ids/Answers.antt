@@ -11,9 +11,9 @@ returns-in_err-rows-clause-looks g c =
     let new = state g.S.Store c.query.follows.lender-at-none in
     let held = rw c.in_err-rows.was at c.query.follows.holds-at-none in
     record {
-      looks = looks old new c.requires.book.idle
+      looks = looks old new c.requires.idle
           (λ clean. query_quiet c.args.sql.now [] old new _ (held.err clean)) held.mode
-          (commits_nothing c.args.sql.now [] old new c.requires.book.has c.requires.plain
+          (commits_nothing c.args.sql.now [] old new c.requires.plain
           held.survives);
       stays_open = λ clean. search rules;
     }
@@ -22,8 +22,8 @@ pub rows-init : goal.rows-init
 rows-init g c =
     let made = c.in_ok-rows.ensures in (
       refl,
-      risen_first g.S.Store c.args.sql.now c.args.conn.now _ c.requires.book.idle
-          c.requires.book.has c.requires.plain made.begun made.mode made.survives,
+      risen_first g.S.Store c.args.sql.now c.args.conn.now _ c.requires.idle
+          c.requires.plain made.begun made.mode made.survives,
     )
 
 pub returns-in_err-row-clause-looks : goal.returns-in_err-row-clause-looks

@@ -1,4 +1,7 @@
-use Rattle.std.proofs.Common.{rules, arith}
+use Rattle.std.proofs.Common.{rules, arith, subst, sym}
+use Rattle.sqlite.specs.Given.{IsPlain}
+use Rattle.sqlite.specs.Listing.{understood}
+use Rattle.acct_sql.specs.declared.statements.TheConstants as texts
 use Rattle.sqlite.specs.State.{HasCleanDisk}
 use Rattle.sqlite.specs.Held.{state}
 use Rattle.acct_sql.proofs.IdLemmas.{session_plans_rise}
@@ -6,7 +9,8 @@ use Rattle.acct_sql.proofs.TextLemmas as t
 use Rattle.acct_sql.proofs.rowids.check_session_plans.Goals as goal
 
 pub check_ids-requires-clause-plain : goal.check_ids-requires-clause-plain
-check_ids-requires-clause-plain g c = t.session_plan_rowids.plain
+check_ids-requires-clause-plain g c = λ clean. subst (λ s. IsPlain (understood s
+    texts.SESSION_PLAN_ROWIDS.now)) (sym (c.requires.has clean)) t.session_plan_rowids.plain
 
 pub returns-in-Ok-clause-tidy : goal.returns-in-Ok-clause-tidy
 returns-in-Ok-clause-tidy g c = record {

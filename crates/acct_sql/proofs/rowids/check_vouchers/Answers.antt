@@ -2,11 +2,11 @@ use Rattle.std.proofs.Common.{rules, arith}
 use Rattle.sqlite.specs.State.{HasCleanDisk}
 use Rattle.sqlite.specs.Held.{state}
 use Rattle.acct_sql.proofs.IdLemmas.{vouchers_rise}
-use Rattle.acct_sql.proofs.TextLemmas as t
+use Rattle.acct_sql.proofs.OlderLemmas.{voucher_ids}
 use Rattle.acct_sql.proofs.rowids.check_vouchers.Goals as goal
 
 pub check_ids-requires-clause-plain : goal.check_ids-requires-clause-plain
-check_ids-requires-clause-plain g c = t.voucher_rowids.plain
+check_ids-requires-clause-plain g c = λ clean. (voucher_ids _ (c.requires.has clean)).plain
 
 pub returns-in-Ok-clause-tidy : goal.returns-in-Ok-clause-tidy
 returns-in-Ok-clause-tidy g c = record {

@@ -1,0 +1,101 @@
+-- What the statements mean that look at older tables too.
+use Rattle.std.proofs.Common.{List, [], ◌∷◌, codes, refl, sym, subst, inl, inr}
+use Rattle.sqlite_value.specs.declared.keys.Key.{Key as Direction}
+use Rattle.sqlite.specs.Term.{Term}
+use Rattle.sqlite.specs.Schema.{Schema}
+use Rattle.sqlite.specs.Listing.{understood}
+use Rattle.sqlite_tied.specs.Compute.{everything}
+use Rattle.acct_sql.specs.Tables.{first_schema, meta, price_plan, account, voucher, session}
+use Rattle.acct_sql.specs.inner.Looked.{IsKnown}
+use Rattle.acct_sql.specs.declared.statements.TheConstants as texts
+use Rattle.acct_sql.proofs.QueryLemmas.{all_rows, IsQuery, IsQueryIn}
+use Rattle.acct_sql.proofs.TextLemmas as t
+use Rattle.acct_sql.proofs.TextLemmas.{ids_shown, by_rowid, schema_filter, value_shown, plan_shown}
+
+-- a text that means one query under the tables of a book and under those of an older one
+known : {text : List _} {tree : _} {filter project : List Term} {order : List (Term × Direction)}
+    {limit : Term} → IsQuery text tree filter project order limit
+    → IsQueryIn first_schema text tree filter project order limit
+    → (schema : Schema) → IsKnown schema → IsQueryIn schema text tree filter project order limit
+known {text} {tree} {filter} {project} {order} {limit} own first schema (inl is) =
+    subst (λ s. IsQueryIn s text tree filter project order limit) (sym is) own
+known {text} {tree} {filter} {project} {order} {limit} own first schema (inr is) =
+    subst (λ s. IsQueryIn s text tree filter project order limit) (sym is) first
+
+first_schema_number : IsQueryIn first_schema texts.SCHEMA_NUMBER.now meta.tree schema_filter value_shown [] all_rows
+unfolding understood everything
+first_schema_number = record {
+  names = codes "value" ∷ [];
+  is = refl;
+  unlisted = refl;
+  plain = (refl, refl);
+  bare = λ db. refl;
+}
+
+pub schema_number : (schema : Schema) → IsKnown schema → IsQueryIn schema texts.SCHEMA_NUMBER.now meta.tree schema_filter value_shown [] all_rows
+schema_number = known t.schema_number first_schema_number
+
+first_number_ids : IsQueryIn first_schema texts.META_ROWIDS.now meta.tree [] ids_shown by_rowid all_rows
+unfolding understood everything
+first_number_ids = record {
+  names = codes "rowid" ∷ [];
+  is = refl;
+  unlisted = refl;
+  plain = (refl, refl);
+  bare = λ db. refl;
+}
+
+pub number_ids : (schema : Schema) → IsKnown schema → IsQueryIn schema texts.META_ROWIDS.now meta.tree [] ids_shown by_rowid all_rows
+number_ids = known t.meta_rowids first_number_ids
+
+first_prices : IsQueryIn first_schema texts.PLANS.now price_plan.tree [] plan_shown [] all_rows
+unfolding understood everything
+first_prices = record {
+  names = codes "class" ∷ codes "block" ∷ codes "unit" ∷ [];
+  is = refl;
+  unlisted = refl;
+  plain = (refl, refl);
+  bare = λ db. refl;
+}
+
+pub prices : (schema : Schema) → IsKnown schema → IsQueryIn schema texts.PLANS.now price_plan.tree [] plan_shown [] all_rows
+prices = known t.plan_rows first_prices
+
+first_account_ids : IsQueryIn first_schema texts.ACCOUNT_ROWIDS.now account.tree [] ids_shown by_rowid all_rows
+unfolding understood everything
+first_account_ids = record {
+  names = codes "rowid" ∷ [];
+  is = refl;
+  unlisted = refl;
+  plain = (refl, refl);
+  bare = λ db. refl;
+}
+
+pub account_ids : (schema : Schema) → IsKnown schema → IsQueryIn schema texts.ACCOUNT_ROWIDS.now account.tree [] ids_shown by_rowid all_rows
+account_ids = known t.account_rowids first_account_ids
+
+first_voucher_ids : IsQueryIn first_schema texts.VOUCHER_ROWIDS.now voucher.tree [] ids_shown by_rowid all_rows
+unfolding understood everything
+first_voucher_ids = record {
+  names = codes "rowid" ∷ [];
+  is = refl;
+  unlisted = refl;
+  plain = (refl, refl);
+  bare = λ db. refl;
+}
+
+pub voucher_ids : (schema : Schema) → IsKnown schema → IsQueryIn schema texts.VOUCHER_ROWIDS.now voucher.tree [] ids_shown by_rowid all_rows
+voucher_ids = known t.voucher_rowids first_voucher_ids
+
+first_session_ids : IsQueryIn first_schema texts.SESSION_ROWIDS.now session.tree [] ids_shown by_rowid all_rows
+unfolding understood everything
+first_session_ids = record {
+  names = codes "rowid" ∷ [];
+  is = refl;
+  unlisted = refl;
+  plain = (refl, refl);
+  bare = λ db. refl;
+}
+
+pub session_ids : (schema : Schema) → IsKnown schema → IsQueryIn schema texts.SESSION_ROWIDS.now session.tree [] ids_shown by_rowid all_rows
+session_ids = known t.session_rowids first_session_ids
