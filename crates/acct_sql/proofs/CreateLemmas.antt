@@ -102,7 +102,7 @@ tables_made c mid new first then =
 
 -- ---- a row of one table leaves the others
 
-no_rows : (rows : List Row) → rows ≡ [] → IsTidy rows
+pub no_rows : (rows : List Row) → rows ≡ [] → IsTidy rows
 no_rows rows none = subst IsTidy (sym none) (record {
   ints = λ r h. absurd h;
   keyed = λ r s h k same. absurd h;
@@ -119,7 +119,7 @@ content_none db sessions accounts vouchers = λ i. record {
       (find (is_voucher number) (vouchers i));
 }
 
-content_same : (old new : Trees) → new session.tree ≡ old session.tree → new account.tree
+pub content_same : (old new : Trees) → new session.tree ≡ old session.tree → new account.tree
     ≡ old account.tree → new voucher.tree ≡ old voucher.tree
     → new session_plan.tree ≡ old session_plan.tree → content_in_tables new
     ≡ content_in_tables old
@@ -140,7 +140,7 @@ no_prices db none = record {
       (subst (λ rows. Has rows row) none h);
 }
 
-no_counts : (db : Trees) → db plan_count.tree ≡ [] → KeepsCounts [] db
+pub no_counts : (db : Trees) → db plan_count.tree ≡ [] → KeepsCounts [] db
 no_counts db none = record {
   each = λ plan h. absurd h;
   only = λ row h. absurd
@@ -148,7 +148,7 @@ no_counts db none = record {
 }
 
 -- the plans of a table whose rows are as they were
-prices_same : (plans : List Plan) (old new : Trees) → new price_plan.tree ≡ old price_plan.tree
+pub prices_same : (plans : List Plan) (old new : Trees) → new price_plan.tree ≡ old price_plan.tree
     → KeepsPrices plans old → KeepsPrices plans new
 prices_same plans old new same kept = record {
   each = λ plan h. let r = kept.each plan h in
@@ -156,7 +156,7 @@ prices_same plans old new same kept = record {
   only = λ row h. kept.only row (subst (λ rows. Has rows row) same h);
 }
 
-counts_same : (plans : List Plan) (old new : Trees) → new plan_count.tree ≡ old plan_count.tree
+pub counts_same : (plans : List Plan) (old new : Trees) → new plan_count.tree ≡ old plan_count.tree
     → KeepsCounts plans old → KeepsCounts plans new
 counts_same plans old new same kept = record {
   each = λ plan h. let r = kept.each plan h in
@@ -164,7 +164,7 @@ counts_same plans old new same kept = record {
   only = λ row h. kept.only row (subst (λ rows. Has rows row) same h);
 }
 
-number_same : (old new : Trees) → new meta.tree ≡ old meta.tree → KeepsNumber own_number old
+pub number_same : (old new : Trees) → new meta.tree ≡ old meta.tree → KeepsNumber own_number old
     → KeepsNumber own_number new
 number_same old new same kept = let it = kept.has in record {
   has = (it.0, subst (λ rows. Has rows it.0) (sym same) it.1, it.2, it.3);
@@ -245,7 +245,7 @@ numbered c old new n h t =
 
 -- ---- a plan
 
-one_price_more : (plans : List Plan) (plan : Plan) (put : Row) (old new : Trees)
+pub one_price_more : (plans : List Plan) (plan : Plan) (put : Row) (old new : Trees)
     → IsPlanRow plan put → IsAdded put (old price_plan.tree) (new price_plan.tree)
     → KeepsPrices plans old → KeepsPrices (plans ++ plan ∷ []) new
 one_price_more plans plan put old new says added kept = record {
@@ -270,7 +270,7 @@ one_price_more plans plan put old new says added kept = record {
   ];
 }
 
-one_count_more : (plans : List Plan) (plan : Plan) (put : Row) (old new : Trees)
+pub one_count_more : (plans : List Plan) (plan : Plan) (put : Row) (old new : Trees)
     → IsCountRow plan put → IsAdded put (old plan_count.tree) (new plan_count.tree)
     → KeepsCounts plans old → KeepsCounts (plans ++ plan ∷ []) new
 one_count_more plans plan put old new says added kept = record {
@@ -347,7 +347,7 @@ price_added c prices counts plan old new n h t =
       session_plans = session_plans ∙ t.session_plans;
     }
 
-count_put : (plan : Plan) (old new : State) (done : HasInserted 5 plan_count.name plan_count.tree
+pub count_put : (plan : Plan) (old new : State) (done : HasInserted 5 plan_count.name plan_count.tree
     plan_count.columns (1 ∷ []) refl (λ db. refl) (λ taken news. refl) (Null ∷ count_columns plan)
     old new)
     → inserted book_schema Enforced plan_count old.now.trees new.now.trees

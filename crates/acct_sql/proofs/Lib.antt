@@ -17,6 +17,10 @@ pub mod CommitLemmas
 pub mod ReadLemmas
 pub mod MakeLemmas
 mod CreateLemmas
+mod MigrateLemmas
+mod ClassLemmas
+mod MigrationLemmas
+mod StoodLemmas
 mod NextLemmas
 mod KeyedLemmas
 mod ColumnLemmas

@@ -22,7 +22,8 @@ use Rattle.acct_sql.specs.Content.{content_in_tables, content_without_plans, pla
 use Rattle.acct_sql.specs.Content.{with_plan, with_plans}
 use Rattle.acct_sql.specs.Book.{IsBook, HasSamePlans}
 use Rattle.acct_sql.specs.inner.Inside.{HasPut, with_row, with_balance, with_voucher, HasMade}
-use Rattle.acct_sql.specs.inner.Inside.{HasMadeBare, HasSetPlan, without_plan}
+use Rattle.acct_sql.specs.Content.{without_plan}
+use Rattle.acct_sql.specs.inner.Inside.{HasMadeBare, HasSetPlan}
 use Rattle.acct_sql.proofs.QueryLemmas.{over_table, all_rows}
 use Rattle.sqlite.specs.State.{State, Executes, ExecutesInside}
 use Rattle.sqlite.specs.Store.{Ghosts}

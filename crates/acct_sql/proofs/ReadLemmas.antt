@@ -163,7 +163,7 @@ runs_keeps old new sql c params e None h = unchanged_keeps old new h.3
 runs_keeps old new sql c params e (Some what) (inl refused) = unchanged_keeps old new refused.1
 runs_keeps old new sql c params e (Some what) (inr failed) = fails_keeps old new _ e failed
 
-query_keeps : (sql : List ℕ) (params : Row) (old new : State) (e : Error)
+pub query_keeps : (sql : List ℕ) (params : Row) (old new : State) (e : Error)
     → FailsToQuery sql params old new e → KeepsCommit old new
 unfolding FailsToQuery IsNotRun
 query_keeps sql params old new e (inl (inl refused)) = unchanged_keeps old new refused.1

@@ -22,7 +22,7 @@ use Rattle.acct_sql.specs.Tables.{book_schema, session}
 use Rattle.acct_sql.specs.Columns.{session_columns, session_in_columns, columns, state_in, code_of}
 use Rattle.acct_sql.specs.Columns.{cause_in, framed_in, framed_octets}
 use Rattle.acct_sql.specs.Content.{is_session}
-use Rattle.acct_sql.specs.inner.Inside.{without_plan}
+use Rattle.acct_sql.specs.Content.{without_plan}
 use Rattle.acct_sql.specs.Book.{IsBook}
 use Rattle.acct_sql.proofs.TextLemmas.{session_filter, session_project}
 use Rattle.acct_sql.proofs.QueryLemmas.{meets, shown_has, has_shown}

@@ -171,6 +171,30 @@ session_rowids = record {
   bare = λ db. refl;
 }
 
+abbrev pub class_shown : List Term
+class_shown = col 1 0 ∷ col 1 1 ∷ col 1 2 ∷ col 1 4 ∷ []
+
+pub first_class : IsQuery texts.FIRST_CLASS.now session.tree [] class_shown by_rowid one_row
+unfolding understood everything
+first_class = record {
+  names = codes "rowid" ∷ codes "client" ∷ codes "id" ∷ codes "class" ∷ [];
+  is = refl;
+  unlisted = refl;
+  plain = (refl, refl);
+  bare = λ db. refl;
+}
+
+pub class_after : IsQuery texts.CLASS_AFTER.now session.tree (is_after 0 0 ∷ []) class_shown
+    by_rowid one_row
+unfolding understood everything
+class_after = record {
+  names = codes "rowid" ∷ codes "client" ∷ codes "id" ∷ codes "class" ∷ [];
+  is = refl;
+  unlisted = refl;
+  plain = (refl, refl);
+  bare = λ db. refl;
+}
+
 -- ---- account
 
 abbrev pub name_filter : List Term
@@ -371,6 +395,21 @@ meta_rowids = record {
   plain = (refl, refl);
   bare = λ db. refl;
 }
+
+abbrev pub number_project : List Term
+number_project = col 1 0 ∷ col 1 0 ∷ col 1 1 ∷ lit (Int (pos 3)) ∷ []
+
+pub set_number_is : command_of (understood book_schema texts.SET_SCHEMA_NUMBER.now)
+    ≡ Update 0 (record {
+      lets = [];
+      body = over_table meta.tree schema_filter number_project [] all_rows;
+    })
+unfolding understood everything
+set_number_is = refl
+
+pub set_number_plain : IsPlain (understood book_schema texts.SET_SCHEMA_NUMBER.now)
+unfolding understood everything
+set_number_plain = (refl, refl)
 
 abbrev pub plan_shown : List Term
 plan_shown = col 1 1 ∷ col 1 2 ∷ col 1 3 ∷ []

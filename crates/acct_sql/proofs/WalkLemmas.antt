@@ -52,12 +52,12 @@ use Rattle.acct_sql.proofs.SessionLemmas.{key_here}
 
 -- ---- SQL's > on texts and blobs
 
-greater_is : (o : Ordering) → is_true (from_truth (Some (is_gt o))) ≡ true → o ≡ Greater
+pub greater_is : (o : Ordering) → is_true (from_truth (Some (is_gt o))) ≡ true → o ≡ Greater
 greater_is Less h = absurd (true≢false (sym h))
 greater_is Equal h = absurd (true≢false (sym h))
 greater_is Greater h = refl
 
-is_greater : (o : Ordering) → o ≡ Greater → is_true (from_truth (Some (is_gt o))) ≡ true
+pub is_greater : (o : Ordering) → o ≡ Greater → is_true (from_truth (Some (is_gt o))) ≡ true
 is_greater o is = ap (λ o. is_true (from_truth (Some (is_gt o)))) is
 
 turned : (a b : List ℕ) → octets_cmp b a ≡ Greater → octets_cmp a b ≡ Less
@@ -66,7 +66,7 @@ turned a b is = nat_list_cmp_total.antisymm a b ∙ ap ordering_reverse is
 back : (a b : List ℕ) → octets_cmp a b ≡ Less → octets_cmp b a ≡ Greater
 back a b is = nat_list_cmp_total.antisymm b a ∙ ap ordering_reverse is
 
-abbrev above : Value → Value → Bool
+abbrev pub above : Value → Value → Bool
 above v w = is_true (binary (Compare Gt Binary) v w)
 
 blob_above : (k after : List ℕ) → above (Blob k) (Blob after) ≡ true → octets_cmp after k ≡ Less
@@ -87,7 +87,7 @@ above_text k after h = is_greater _ (value_cmp-Text k after ∙ back after k h)
 
 -- ---- the orders
 
-then_equal : (o : Ordering) → ordering_then o Equal ≡ o
+pub then_equal : (o : Ordering) → ordering_then o Equal ≡ o
 then_equal Less = refl
 then_equal Equal = refl
 then_equal Greater = refl

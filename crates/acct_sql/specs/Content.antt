@@ -1,5 +1,6 @@
 -- The content of a book, as its tables hold it.
-use Rattle.std.specs.Prelude.{ℕ, ◌+◌, ◌^◌, ◌&&◌, Bool, List, Option, Some, None, find, option_map}
+use Rattle.std.specs.Prelude.{ℕ, ◌+◌, ◌^◌, ◌&&◌, Bool, List, [], Option, Some, None, find}
+use Rattle.std.specs.Prelude.{option_map}
 use Rattle.sqlite.specs.Order.{Row, column}
 use Rattle.sqlite.specs.Tree.{Trees}
 use Rattle.sqlite_value.specs.Order.{bytes}
@@ -24,6 +25,10 @@ is_voucher number row = is_text number (column row 1)
 abbrev pub plans_in_tables : Trees → Key → Option (List ℕ)
 plans_in_tables db key = option_map (λ row. bytes (column row 3))
     (find (is_session key) (db session_plan.tree))
+
+-- the session, of whose plan nothing is said
+abbrev pub without_plan : RowFacts → RowFacts
+without_plan row = record row { plan = [] }
 
 -- what the tables `session`, `account` and `voucher` hold, column by column, without the plans
 abbrev pub content_without_plans : Trees → Content

@@ -5,6 +5,7 @@ pub mod Content
 pub mod Kept
 pub mod Book
 pub mod Make
+pub mod Migrate
 pub mod Look
 pub mod Laws
 pub mod inner

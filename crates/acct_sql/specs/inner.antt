@@ -3,6 +3,7 @@ pub mod Columns
 pub mod Inside
 pub mod AtRest
 pub mod NewBook
+pub mod Migrating
 pub mod Looked
 pub mod Next
 pub mod Rising

@@ -73,8 +73,8 @@ pub(crate) fn id_of(row: &sqlite::Row) -> Option<i64>
     }
 }
 
-// The value of a column, NULL past the last one.
-fn value_at(row: &sqlite::Row, at: usize) -> ValueRef<'_>
+/// The value of a column, NULL past the last one.
+pub(crate) fn value_at(row: &sqlite::Row, at: usize) -> ValueRef<'_>
     ensures { owned result ≡ column row.now at }
 {
     match row.get_ref(at) {

@@ -85,8 +85,8 @@ fn define_first_tables<S: Alter>(tx: &mut Transaction<'_, S>) -> Result<(), Refu
     define(tx, VOUCHER_ACCOUNT_INDEX)
 }
 
-// The two tables of plans that the schema number 3 has besides. They come last.
-fn define_plan_tables<S: Alter>(tx: &mut Transaction<'_, S>) -> Result<(), Refused>
+/// Makes the two tables of plans that the schema number 3 has besides. They come last.
+pub(crate) fn define_plan_tables<S: Alter>(tx: &mut Transaction<'_, S>) -> Result<(), Refused>
     ensures { RunsInside S.Store tx.old.conn tx.new.conn
         (λ old new. old.now.schema ≡ first_schema → HasPlanTables old new) result }
 {

@@ -5,18 +5,21 @@ ghost use Rattle.sqlite.specs.Listing.{understood};
 ghost use Rattle.sqlite_value.specs.Order.{column};
 ghost use Rattle.sqlite_value.specs.declared.value.Value.TheVariants.{Int};
 ghost use Rattle.sqlite.specs.Held.{state};
-ghost use Rattle.acct_sql.specs.Tables.{account, voucher, session, session_plan};
+ghost use Rattle.acct_sql.specs.Tables.{meta, account, voucher, session, session_plan};
 ghost use Rattle.acct_sql.specs.Tidy.{IsTidy};
 ghost use Rattle.acct_sql.specs.Book.{is_sound_at};
 ghost use Rattle.acct_sql.specs.Look.{IsIdle};
 ghost use Rattle.acct_sql.specs.inner.Looked.{IsIdleBook, IsIdleKnown, Peeks, Examines, AreTidy};
 ghost use Rattle.acct_sql.specs.inner.Looked.{tables_at};
+ghost use Rattle.acct_sql.specs.inner.Migrating.{AreFirstTidy};
 ghost use Rattle.acct_sql.specs.inner.Rising.{IsAbove, ShowsRising};
 
 use crate::adopting::id_of;
 use crate::refused::Refused;
 use crate::sql_book_error::SqlBookError;
-use crate::statements::{ACCOUNT_ROWIDS, SESSION_PLAN_ROWIDS, SESSION_ROWIDS, VOUCHER_ROWIDS};
+use crate::statements::{
+    ACCOUNT_ROWIDS, META_ROWIDS, SESSION_PLAN_ROWIDS, SESSION_ROWIDS, VOUCHER_ROWIDS,
+};
 use sqlite::{Alter, Connection};
 
 /// Refuses tables in which two rows have one rowid. It reads each rowid once, and keeps one.
@@ -29,6 +32,29 @@ pub(crate) fn check_rowids<S: Alter>(conn: &mut Connection<S>) -> Result<(), Sql
     check_vouchers(conn)?;
     check_sessions(conn)?;
     check_session_plans(conn)
+}
+
+/// The same of an older book, whose schema number has a rowid too.
+pub(crate) fn check_first_rowids<S: Alter>(conn: &mut Connection<S>) -> Result<(), SqlBookError>
+    requires { IsIdleKnown S.Store conn.old }
+    ensures tidy { Examines S.Store conn.old conn.new AreFirstTidy result }
+    ensures fault { IfErr result (λ e. e ≡ SqlBookError.Unavailable) }
+{
+    check_numbers(conn)?;
+    check_accounts(conn)?;
+    check_vouchers(conn)?;
+    check_sessions(conn)
+}
+
+fn check_numbers<S: Alter>(conn: &mut Connection<S>) -> Result<(), SqlBookError>
+    requires { IsIdleKnown S.Store conn.old }
+    ensures tidy { Examines S.Store conn.old conn.new (λ db. IsTidy (db meta.tree)) result }
+    ensures fault { IfErr result (λ e. e ≡ SqlBookError.Unavailable) }
+{
+    match check_ids(conn, META_ROWIDS) {
+        Ok(()) => Ok(()),
+        Err(_) => Err(SqlBookError::Unavailable),
+    }
 }
 
 fn check_accounts<S: Alter>(conn: &mut Connection<S>) -> Result<(), SqlBookError>

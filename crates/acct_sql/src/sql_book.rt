@@ -4,6 +4,7 @@ ghost use Rattle.sqlite.specs.Held.{state};
 use crate::adopting::examine;
 use crate::listing::{read_sessions, read_topups};
 use crate::making::{is_bare, make_book};
+use crate::migrating::migrate_book;
 use crate::reading::{
     read_balance, read_next_account, read_next_session, read_next_topup, read_session, read_voucher,
 };
@@ -48,7 +49,11 @@ impl<S: Alter> SqlBook<S> {
     ghost use Rattle.acct_sql.specs.Tables.{no_schema, own_number};
     ghost use Rattle.acct_sql.specs.Make.{IsNew, KeepsPlans};
     ghost use Rattle.acct_sql.specs.Look.{LooksAtTables, HasNumberAlone, IsRefusedAs};
+    ghost use Rattle.acct_sql.specs.Migrate.{IsMigrated, IsNotMigratedAs, StoodFor};
+    ghost use Rattle.acct_sql.specs.Content.{content_in_tables, content_without_plans};
     ghost use Rattle.acct_sql.specs.Book.{IsOpenBook, IsResting, IsBookOver};
+    ghost use Rattle.acct_book.specs.Stands.{Stands};
+    ghost use Rattle.acct_model.specs.History.{History};
 
     /// Makes an empty database an empty book that is kept by these plans: the seven tables, their
     /// two indices, the schema number 3 and a row for each plan, in one transaction. It is handed
@@ -126,6 +131,53 @@ impl<S: Alter> SqlBook<S> {
         let is_idle = conn.is_autocommit();
         prove!(is_idle);
         match examine(&mut conn, plans) {
+            Ok(()) => Ok(SqlBook { conn, alloc }),
+            Err(error) => Err((error, conn)),
+        }
+    }
+
+    /// Makes a book of schema number 1 one of today's, in one transaction: it adds the two tables
+    /// of plans, where each plan counts both directions and each session has the plan of its class,
+    /// else `default`. The database is handed back on an error, as it was. It reads each rowid of
+    /// the older tables once, and holds one session at a time.
+    ///
+    /// # Errors
+    ///
+    /// `WrongSchema` where a schema number is read that is not 1, `NotABook` where none is or the
+    /// tables and indices are not exactly those of such a book, and `PlansDiffer` where it was made
+    /// with other plans or one of these counts one direction alone, in this order. `Unavailable`
+    /// where the store or memory refused, or where two rows have one rowid or both the schema
+    /// number.
+    pub fn migrate(
+        alloc: Global,
+        mut conn: Connection<S>,
+        plans: &Plans,
+    ) -> Result<SqlBook<S>, (SqlBookError, Connection<S>)>
+        requires { (state S.Store conn).in_transaction ≡ false }
+        ensures migrated { IfOk result (λ book. HasCleanDisk (state S.Store book)
+            → IsOpenBook (state S.Store book) × IsMigrated plans.now
+            (state S.Store conn).now.trees (state S.Store book).now.trees) }
+        ensures stands { IfOk result (λ book. HasCleanDisk (state S.Store book)
+            → (history : History)
+            → StoodFor plans.now (content_without_plans (state S.Store conn).now.trees) history
+            → Stands plans.now (content_in_tables (state S.Store book).now.trees) history) }
+        ensures tables { IfOk result (IsBookOver S.Store ⟦<SqlBook<S> as Book>⟧.content
+            ⟦<SqlBook<S> as Book>⟧.is_sound ⟦<SqlBook<S> as Book>⟧.is_open
+            ⟦<SqlBook<S> as Book>⟧.left) }
+        ensures refused { IfErr result (λ e. HasCleanDisk (state S.Store e.1)
+            → IsNotMigratedAs plans.now (state S.Store conn).now e.0) }
+        ensures idle { IfErr result (λ e. (state S.Store e.1).in_transaction ≡ false) }
+        ensures same { IfErr result (λ e. HasCleanDisk (state S.Store e.1)
+            → IsTrue (state S.Store e.1).is_open → (state S.Store e.1).now
+            ≡ (state S.Store conn).now) }
+        ensures crash { IfOk result (λ book. Survives (state S.Store conn) (state S.Store book)
+            (IsMigrated plans.now (state S.Store conn).now.trees)) }
+        ensures crash_err { IfErr result (λ e. Survives (state S.Store conn) (state S.Store e.1)
+            (IsMigrated plans.now (state S.Store conn).now.trees)) }
+    {
+        let is_idle = conn.is_autocommit();
+        prove!(is_idle);
+        match migrate_book(&mut conn, plans) {
             Ok(()) => Ok(SqlBook { conn, alloc }),
             Err(error) => Err((error, conn)),
         }

@@ -39,6 +39,8 @@ pub(crate) const NEW_SCHEMA_NUMBER: &str = "INSERT INTO meta (name, value) VALUE
 
 pub(crate) const SCHEMA_NUMBER: &str = "SELECT value FROM meta WHERE name = 'schema'";
 
+pub(crate) const SET_SCHEMA_NUMBER: &str = "UPDATE meta SET value = 3 WHERE name = 'schema'";
+
 pub(crate) const META_ROWIDS: &str = "SELECT rowid FROM meta ORDER BY rowid";
 
 // ---- the plans
@@ -175,6 +177,17 @@ pub(crate) const SESSION_OF_LATER_CLIENT: &str = with_session_columns!(
 );
 
 pub(crate) const SESSION_ROWIDS: &str = "SELECT rowid FROM session ORDER BY rowid";
+
+// A statement that shows the class of a session.
+macro_rules! with_class_columns {
+    ($after:literal) => { concat!("SELECT rowid, client, id, class FROM session", $after) };
+}
+
+pub(crate) const FIRST_CLASS: &str = with_class_columns!(" ORDER BY rowid LIMIT 1");
+
+pub(crate) const CLASS_AFTER: &str = with_class_columns!(
+    " WHERE rowid > ?1 ORDER BY rowid LIMIT 1"
+);
 
 // ---- the plans of the sessions
 

@@ -3,7 +3,8 @@ ghost use Rattle.sqlite.specs.Held.{state};
 ghost use Rattle.sqlite.specs.Values.{bound};
 ghost use Rattle.acct_book.specs.Content.{key_of, with_session, with_topup, with_closed};
 ghost use Rattle.acct_sql.specs.inner.Inside.{HoldsBook, HasMade, HasPut, RunsInside, HasFinished};
-ghost use Rattle.acct_sql.specs.inner.Inside.{with_row, with_balance, with_voucher, without_plan};
+ghost use Rattle.acct_sql.specs.Content.{without_plan};
+ghost use Rattle.acct_sql.specs.inner.Inside.{with_row, with_balance, with_voucher};
 ghost use Rattle.acct_sql.specs.inner.Inside.{HasMadeBare, HasSetPlan};
 ghost use Rattle.acct_sql.specs.inner.AtRest.{IsAtRest, WritesAtRest};
 

@@ -1,5 +1,5 @@
 -- What a call does inside a transaction, and what the end of the transaction makes of it.
-use Rattle.std.specs.Prelude.{◌≡◌, ◌≢◌, ◌⊎◌, ℕ, ℤ, List, [], false, true, bytes_eq, Some, Ok}
+use Rattle.std.specs.Prelude.{◌≡◌, ◌≢◌, ◌⊎◌, ℕ, ℤ, List, false, true, bytes_eq, Some, Ok}
 use Rattle.std.specs.Prelude.{Result, IsTrue, IsOk, OnOk, OnErr}
 use Rattle.std.specs.Borrow.{MutBor}
 use Rattle.std.specs.Map.{update}
@@ -26,10 +26,6 @@ with_row content row = record {
   topups = content.topups;
 }
 
--- the session, of whose plan nothing is said
-abbrev pub without_plan : RowFacts → RowFacts
-without_plan row = record row { plan = [] }
-
 -- with this balance of an account
 abbrev pub with_balance : Content → List ℕ → ℤ → Content
 with_balance content name balance = record {
@@ -48,10 +44,13 @@ with_voucher content topup = record {
 
 -- ---- the call
 
+-- while it is open, this holds of what it shows
+abbrev pub Holds : {S : Type 0} → Ghosts S → (State → Type 0) → Held S → Type 0
+Holds g P conn = HasCleanDisk (state g conn) → IsTrue (state g conn).is_open → P (state g conn)
+
 -- while it is open its tables are those of a book
 abbrev pub HoldsBook : {S : Type 0} → Ghosts S → Held S → Type 0
-HoldsBook g conn = HasCleanDisk (state g conn) → IsTrue (state g conn).is_open
-    → IsBook (state g conn).now
+HoldsBook g conn = Holds g (λ s. IsBook s.now) conn
 
 -- the content was changed and nothing was committed
 pub record HasMade (change : Content → Content) (old new : State) : Type 0 where

@@ -1,0 +1,124 @@
+-- The making of an older book one of today's, in a transaction over what was committed before.
+use Rattle.std.specs.Prelude.{◌≡◌, ◌≢◌, ℕ, ℤ, true, List, [], ◌∷◌, Option, Some, None, IsTrue}
+use Rattle.std.specs.Ordering.{int_cmp}
+use Rattle.std.specs.declared.cmp.Ordering.TheVariants.{Less, Greater}
+use Rattle.sqlite.specs.declared.types.Value.TheVariants.{Blob}
+use Rattle.sqlite.specs.Order.{Row, column}
+use Rattle.sqlite.specs.Tree.{Trees, rowid}
+use Rattle.sqlite.specs.Edit.{id_in}
+use Rattle.sqlite.specs.Change.{KeepsRows}
+use Rattle.sqlite.specs.Effect.{Database, IsDatabase}
+use Rattle.sqlite.specs.State.{State}
+use Rattle.sqlite_value.specs.Order.{bytes}
+use Rattle.sqlite_rules.specs.Lists.{Has}
+use Rattle.acct_model.specs.declared.plan.Plan.{Plan}
+use Rattle.acct_model.specs.Plans.{plan_for}
+use Rattle.acct_book.specs.Charge.{class_of_plan}
+use Rattle.acct_sql.specs.declared.sql_book_error.SqlBookError.{SqlBookError}
+use Rattle.acct_sql.specs.declared.sql_book_error.SqlBookError.TheVariants.{NotABook, PlansDiffer}
+use Rattle.acct_sql.specs.declared.sql_book_error.SqlBookError.TheVariants.{WrongSchema}
+use Rattle.acct_sql.specs.declared.sql_book_error.SqlBookError.TheVariants.{Unavailable}
+use Rattle.acct_sql.specs.Tables.{book_schema, first_schema, meta, account, voucher, session}
+use Rattle.acct_sql.specs.Tables.{plan_count, session_plan, own_number}
+use Rattle.acct_sql.specs.Tidy.{IsTidy}
+use Rattle.acct_sql.specs.Book.{IsBook, IsOpenBook}
+use Rattle.acct_sql.specs.Make.{HasNumber, KeepsPrices, KeepsCounts}
+use Rattle.acct_sql.specs.Look.{HasNumberAlone}
+use Rattle.acct_sql.specs.Migrate.{first_number, KeepsFirstPlans, IsMigrated}
+
+-- ---- an older book
+
+-- rowids tell the rows of the first tables apart
+pub record AreFirstTidy (db : Trees) : Type 0 where
+  pub metas : IsTidy (db meta.tree)
+  pub accounts : IsTidy (db account.tree)
+  pub vouchers : IsTidy (db voucher.tree)
+  pub sessions : IsTidy (db session.tree)
+
+-- the rows of the first tables are those of an older book of these plans
+pub record IsFirst (plans : List Plan) (db : Trees) : Type 0 where
+  pub number : HasNumberAlone first_number db
+  pub plans_kept : KeepsFirstPlans plans db
+  pub tidy : AreFirstTidy db
+
+-- it is an older book of these plans
+pub record IsFirstBook (plans : List Plan) (db : Database) : Type 0 where
+  pub schema : db.schema ≡ first_schema
+  pub rows : IsFirst plans db.trees
+
+-- why the rows are not those of an older book
+abbrev pub IsFirstFault : List Plan → Trees → SqlBookError → Type 0
+IsFirstFault plans db NotABook = (n : ℤ) → ¬ (HasNumber n db)
+IsFirstFault plans db (WrongSchema n) = (n ≢ first_number) × HasNumberAlone n db
+IsFirstFault plans db PlansDiffer = HasNumberAlone first_number db × ¬ (KeepsFirstPlans plans db)
+IsFirstFault plans db Unavailable = Unit {0}
+
+-- ---- a walk through the sessions by their rowids
+
+-- the session stands after this rowid, where there is one
+abbrev pub IsAfter : Option ℤ → Row → Type 0
+IsAfter None s = Unit {0}
+IsAfter (Some id) s = int_cmp (id_in (rowid s)) id ≡ Greater
+
+-- a row of an answer shows this session: rowid, client, id, class
+pub record ShowsClass (s row : Row) : Type 0 where
+  pub rowid_is : column row 0 ≡ rowid s
+  pub client : column row 1 ≡ column s 1
+  pub id : column row 2 ≡ column s 2
+  pub class : column row 3 ≡ column s 4
+
+-- an answer shows the first session after this rowid, or there is none
+abbrev pub ShowsNext : Option ℤ → Trees → List Row → Type 0
+ShowsNext last db [] = (s : Row) → Has (db session.tree) s → ¬ IsAfter last s
+ShowsNext last db (row ∷ more) = (s : Row) × Has (db session.tree) s × IsAfter last s
+    × ShowsClass s row
+    × ((t : Row) → Has (db session.tree) t → IsAfter last t
+    → int_cmp (id_in (rowid t)) (id_in (rowid s)) ≢ Less)
+
+-- a row of `session_plan` is that of a session: client, id, class
+pub record IsClassRow (plans : List Plan) (s row : Row) : Type 0 where
+  pub client : column row 1 ≡ column s 1
+  pub id : column row 2 ≡ column s 2
+  pub plan : column row 3 ≡ Blob (class_of_plan (plan_for plans (bytes (column s 4))))
+
+-- each session up to this rowid has its row
+abbrev pub HaveClasses : List Plan → Option ℤ → Trees → Type 0
+HaveClasses plans last db = (s : Row) → Has (db session.tree) s → ¬ IsAfter last s
+    → (row : Row) × Has (db session_plan.tree) row × IsClassRow plans s row
+
+-- ---- the transaction
+
+-- the tables of plans were made beside those of an older book of these plans
+pub record HasPlanTablesOver (plans : List Plan) (s : State) : Type 0 where
+  pub schema : s.now.schema ≡ book_schema
+  pub sound : IsDatabase s.now
+  pub counts : s.now.trees plan_count.tree ≡ []
+  pub session_plans : s.now.trees session_plan.tree ≡ []
+  pub others : KeepsRows first_schema.tables s.committed.trees s.now.trees
+  pub first : IsFirst plans s.committed.trees
+
+-- the number, these counts and the plans of the sessions up to a rowid were written
+pub record HasWritten (plans counts : List Plan) (last : Option ℤ) (s : State) : Type 0 where
+  pub is_open : IsTrue s.is_open
+  pub mode : s.in_transaction ≡ true
+  pub book : IsBook s.now
+  pub number : HasNumberAlone own_number s.now.trees
+  pub accounts : s.now.trees account.tree ≡ s.committed.trees account.tree
+  pub vouchers : s.now.trees voucher.tree ≡ s.committed.trees voucher.tree
+  pub sessions : s.now.trees session.tree ≡ s.committed.trees session.tree
+  pub prices_kept : KeepsPrices plans s.now.trees
+  pub counts_kept : KeepsCounts counts s.now.trees
+  pub classes : HaveClasses plans last s.now.trees
+
+-- all of it was written
+pub record HasMigrated (plans : List Plan) (s : State) : Type 0 where
+  pub is_open : IsTrue s.is_open
+  pub mode : s.in_transaction ≡ true
+  pub book : IsBook s.now
+  pub is : IsMigrated plans s.committed.trees s.now.trees
+
+-- an older book was made one of today's, and committed
+pub record IsMigratedBook (plans : List Plan) (old : Trees) (s : State) : Type 0 where
+  pub settled : IsOpenBook s
+  pub book : IsBook s.now
+  pub is : IsMigrated plans old s.now.trees
