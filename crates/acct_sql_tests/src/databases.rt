@@ -9,7 +9,7 @@ use std::alloc::Global;
 use std::test::Fail;
 
 // The sample site's plans with this unit of gold, which is 10 there.
-fn plans(alloc: Global, gold: u64) -> Result<Plans, Fail> {
+pub(crate) fn plans(alloc: Global, gold: u64) -> Result<Plans, Fail> {
     let gold = plan(alloc, b"gold", 1_048_576, gold)?;
     let other = plan(alloc, b"default", 1_000_000, 5)?;
     Ok(Plans::new(vec![in alloc; gold, other]?)?)
@@ -205,9 +205,9 @@ fn a_session_has_the_plan_that_is_kept(rt: HostRuntime) -> Result<(), Fail> {
 
 // Whether an adoption refuses a book whose `gold` counts one thing, by plans whose `gold` counts
 // another.
-fn counted_otherwise(alloc: Global, made: Count, given: Count) -> Result<bool, Fail> {
+fn counted_otherwise(alloc: Global, before: Count, given: Count) -> Result<bool, Fail> {
     let conn = Connection::open_in_memory(alloc)?;
-    let book = match SqlBook::create(alloc, conn, &counting(alloc, made)?) {
+    let book = match SqlBook::create(alloc, conn, &counting(alloc, before)?) {
         Ok(book) => book,
         Err(_) => return Err("refused".into()),
     };
@@ -218,7 +218,7 @@ fn counted_otherwise(alloc: Global, made: Count, given: Count) -> Result<bool, F
 }
 
 // The sample site's plans, of which `gold` counts this.
-fn counting(alloc: Global, count: Count) -> Result<Plans, Fail> {
+pub(crate) fn counting(alloc: Global, count: Count) -> Result<Plans, Fail> {
     let mut gold = plan(alloc, b"gold", 1_048_576, 10)?;
     gold.count = count;
     let other = plan(alloc, b"default", 1_000_000, 5)?;
@@ -238,7 +238,7 @@ fn a_book_keeps_what_its_plans_count(rt: HostRuntime) -> Result<(), Fail> {
 }
 
 // The texts of a book of the schema number 1, kept by the sample site's plans.
-static FIRST_SCHEMA: [&str; 9] = [
+pub(crate) static FIRST_SCHEMA: [&str; 9] = [
     "CREATE TABLE meta (name TEXT NOT NULL PRIMARY KEY, value INTEGER NOT NULL) STRICT",
     "CREATE TABLE price_plan (class BLOB NOT NULL PRIMARY KEY, block INTEGER NOT NULL, \
      unit INTEGER NOT NULL) STRICT",

@@ -6,6 +6,8 @@ mod both_books;
 #[cfg(test)]
 mod databases;
 #[cfg(test)]
+mod migrations;
+#[cfg(test)]
 mod refused_memory;
 #[cfg(test)]
 mod sample_book;

@@ -4,6 +4,7 @@
 //! Each call does all that it does with ample memory, or tells the refusal and does nothing: the
 //! same call, asked again, does it.
 use crate::databases::kept;
+use crate::migrations::{migrated, older};
 use crate::sample_book::{S1, STOPPED, key, made, row};
 use acct_book::{Book, Unavailable};
 use acct_model::{Plans, TopUp};
@@ -51,6 +52,22 @@ fn is_adopted(alloc: Global, conn: Database) -> Result<bool, Fail> {
         opened => opened,
     };
     Ok(balance_in(opened)? == Some(500))
+}
+
+// The same of an older book that is migrated.
+fn is_migrated(alloc: Global) -> Result<bool, Fail> {
+    let plans = sample_plans(alloc)?;
+    let opened = match migrated(alloc, older(alloc)?, &plans)? {
+        Err((SqlBookError::Unavailable, conn)) => migrated(alloc, conn, &plans)?,
+        opened => opened,
+    };
+    Ok(balance_in(opened)? == Some(480))
+}
+
+#[test]
+fn an_older_book_is_migrated_or_refused(rt: HostRuntime) -> Result<(), Fail> {
+    assert!(rt; is_migrated(rt.alloc())?);
+    Ok(())
 }
 
 #[test]
