@@ -98,11 +98,15 @@ bare_app = requires_subcommand (has_version (new_app (codes "radacctd")))
 abbrev pub bookless_app : App
 bookless_app = with_subcommand (with_subcommand bare_app feed_app.top) check_app.top
 
--- the program's command line
-abbrev pub app : App
-app =
+-- the same with its commands that work with a book
+abbrev pub working_app : App
+working_app =
     with_subcommand (with_subcommand (with_subcommand (with_subcommand bookless_app
     (book_app (codes "init")).top) serve_app.top) (book_app (codes "import")).top) export_app.top
+
+-- the program's command line: the same with the command that changes how a book is kept
+abbrev pub app : App
+app = with_subcommand working_app (book_app (codes "migrate")).top
 
 -- the option has this number, from 1 to the given one
 abbrev pub IsNumber : Text → List Row → ℕ → ℕ → Type 0
@@ -147,6 +151,7 @@ WordsAskFor name rows (job.Serve paths listening turns) =
 WordsAskFor name rows (job.Import paths) = (name ≡ codes "import") × ArePaths rows paths
 WordsAskFor name rows (job.Export paths what) =
     (name ≡ codes "export") × ArePaths rows paths × IsExport rows what
+WordsAskFor name rows (job.Migrate paths) = (name ≡ codes "migrate") × ArePaths rows paths
 
 -- the job is that of the subcommand that the words name
 abbrev pub NamesJob : Option (Text × List Row) → Job → Type 0
@@ -161,3 +166,4 @@ HasTurns (job.Init paths) = ⊤
 HasTurns (job.Serve paths listening turns) = turns < 2 ^ 63
 HasTurns (job.Import paths) = ⊤
 HasTurns (job.Export paths what) = ⊤
+HasTurns (job.Migrate paths) = ⊤

@@ -63,6 +63,11 @@ pub enum Job {
         /// What of the book.
         what: Export,
     },
+    /// Makes a book of an earlier version one of this version.
+    Migrate {
+        /// Its files.
+        paths: Paths,
+    },
 }
 
 // It is written out, so that a caller does not prove again how each part is dropped.
@@ -79,6 +84,7 @@ impl Drop for Job {
             } => {}
             Job::Import { paths: _ } => {}
             Job::Export { paths: _, what: _ } => {}
+            Job::Migrate { paths: _ } => {}
         }
     }
 }
@@ -184,6 +190,7 @@ fn asked_of_book(
         "serve" => asked_to_serve(alloc, paths, options),
         "import" => Ok(Some(Job::Import { paths })),
         "export" => Ok(asked_to_export(paths, options)),
+        "migrate" => Ok(Some(Job::Migrate { paths })),
         _ => Ok(None),
     }
 }
@@ -311,7 +318,8 @@ fn command<'a>(alloc: Global) -> Result<Command<'a>, AllocError>
         .subcommand(init_command(alloc)?)?
         .subcommand(serve_command(alloc)?)?
         .subcommand(import_command(alloc)?)?
-        .subcommand(export_command(alloc)?)
+        .subcommand(export_command(alloc)?)?
+        .subcommand(migrate_command(alloc)?)
 }
 
 fn feed_command<'a>(alloc: Global) -> Result<Command<'a>, AllocError>
@@ -377,6 +385,13 @@ fn export_command<'a>(alloc: Global) -> Result<Command<'a>, AllocError>
 {
     let about = "Writes the sessions, balances, topups or overruns of a book as CSV";
     book_command(alloc, "export", about)?.arg(what_option(alloc))
+}
+
+fn migrate_command<'a>(alloc: Global) -> Result<Command<'a>, AllocError>
+    ensures { IfOk result (λ c. app_of c ≡ book_app (codes "migrate")) }
+{
+    let about = "Makes a book of an earlier version one of this version, with the same balances";
+    book_command(alloc, "migrate", about)
 }
 
 // A command that keeps a book.

@@ -17,6 +17,7 @@ use Rattle.acct_sql.specs.Book.{IsOpenBook}
 use Rattle.acct_sql.specs.Look.{HasNumberAlone, IsRefusedAs}
 use Rattle.acct_sql.specs.Tables.{own_number}
 use Rattle.acct_sql.specs.Make.{IsNew, KeepsPlans}
+use Rattle.acct_sql.specs.Migrate.{IsMigrated, IsNotMigratedAs}
 use Rattle.acct_sql.specs.Tables.{no_schema}
 use Rattle.acct_commands.specs.declared.fault.Fault.{Fault}
 use Rattle.acct_commands.specs.declared.fault.Fault.TheVariants as fault
@@ -40,7 +41,7 @@ pub record WasHeldIn (image : Image) (held : Database) : Type 0 where
 module _ {D : Type 0} {g : Ghosts D} where
   -- ---- a book
 
-  -- the book that the files held: it is kept by these plans, and has the schema number 1
+  -- the book that the files held: it is kept by these plans, and has the number of our schema
   pub record IsBookOf (image : Image) (plans : List Plan) (book : Held (FileStore D g)) : Type 0
     where
       pub settled : IsOpenBook (file_state book)
@@ -56,6 +57,14 @@ module _ {D : Type 0} {g : Ghosts D} where
       pub held : Database
       pub was_held : WasHeldIn image held
       pub was_bare : ¬ (held.schema ≢ no_schema)
+
+  -- the older book of these plans that the files held, made one of today's
+  pub record IsMigratedIn (image : Image) (plans : List Plan) (book : Held (FileStore D g)) : Type 0
+    where
+      pub settled : IsOpenBook (file_state book)
+      pub held : Database
+      pub was_held : WasHeldIn image held
+      pub migrated : IsMigrated plans held.trees (file_state book).now.trees
 
   -- ---- none
 
@@ -87,6 +96,20 @@ module _ {D : Type 0} {g : Ghosts D} where
     pub why : HasCleanDisk (file_state last) → told ≡ fault.Store store.NotABook
         → (held : Database) × WasHeldIn image held × (held.schema ≢ no_schema)
 
+  -- No book was migrated. The files hold what they held, but for a crash, which may leave the
+  -- migrated book.
+  pub record IsUnmigrated (image : Image) (plans : List Plan) (told : Fault)
+      (last : Held (FileStore D g)) : Type 0 where
+    pub reads : HasCleanDisk (file_state last) → IsTrue (file_state last).is_open
+        → AreHeldIn image (file_state last).now.trees
+    pub leaves : HasCleanDisk (file_state last) → (db : Trees) → (file_state last).may_leave db
+        → AreHeldIn image db
+        ⊎ ((held : Trees) × AreHeldIn image held × IsMigrated plans held db)
+    pub error : SqlBookError
+    pub telling : told ≡ fault.Store (store_fault_of error)
+    pub why : HasCleanDisk (file_state last)
+        → (held : Database) × WasHeldIn image held × IsNotMigratedAs plans held error
+
   -- ---- what is left
 
   -- no database was opened
@@ -106,6 +129,11 @@ module _ {D : Type 0} {g : Ghosts D} where
   abbrev pub HasNotMade : Image → List Plan → Fault → Left D g → Type 0
   HasNotMade image plans told (left.Open last) = IsUnmade image plans told last
   HasNotMade image plans told rest = IsUnread image told rest
+
+  -- why no book was migrated, and what is left of the files
+  abbrev pub HasNotMigrated : Image → List Plan → Fault → Left D g → Type 0
+  HasNotMigrated image plans told (left.Open last) = IsUnmigrated image plans told last
+  HasNotMigrated image plans told rest = IsUnread image told rest
 
   -- the two files have what the book committed, where the disk has returned what it took
   abbrev pub Copies : Held (FileStore D g) → Files D → Type 0

@@ -28,7 +28,8 @@ use Rattle.acct_commands.specs.declared.fault.Fault.{Fault}
 use Rattle.acct_commands.specs.declared.fault.Fault.TheVariants as fault
 use Rattle.radacctd.specs.declared.left.Left.{Left}
 use Rattle.radacctd.specs.declared.left.Left.TheVariants as left
-use Rattle.radacctd.specs.Files.{IsMadeIn, HasNotMade, IsUnclosed, Copies}
+use Rattle.radacctd.specs.Files.{IsMadeIn, HasNotMade, IsMigratedIn, HasNotMigrated, IsUnclosed}
+use Rattle.radacctd.specs.Files.{Copies}
 use Rattle.radacctd.specs.Commands.{Worked, Closes, Fails, WritesOut, FailsToExport}
 
 -- what a command printed, where its output was not lost
@@ -39,6 +40,10 @@ text_of contents (Some output) = contents output
 -- `book made`
 abbrev pub made_line : List ℕ
 made_line = codes "book made" ++ 10 ∷ []
+
+-- `schema 3`: the number of the schema that a migrated book has
+abbrev pub schema_line : List ℕ
+schema_line = codes "schema 3" ++ 10 ∷ []
 
 -- ---- commands without a book
 
@@ -76,33 +81,64 @@ module _ {D : Type 0} {g : disk.Ghosts D} where
       × Closed status files)
       ⊎ ((told : Fault) × (ended ≡ Err told) × Failed told rest)
 
-  module _ (image : Image) where
-    -- a new book of these plans was closed into these files
-    pub record IsClosedNew (plans : List Plan) (book : Held (FileStore D g)) (files : Files D)
-        : Type 0 where
-      pub made : HasCleanDisk (file_state book) → IsMadeIn image plans book
+  -- `init` and `migrate`: the book that is made of the files for a configuration's plans, with a
+  -- number to tell; why it is not; and the line that tells the number
+  module _ (Made : List Plan → ℕ → Held (FileStore D g) → Type 0)
+      (HasNot : List Plan → Fault → Left D g → Type 0) (line : ℕ → List ℕ) where
+    -- the book was made, and was closed into these files
+    pub record IsMadeAndClosed (plans : List Plan) (count : ℕ) (book : Held (FileStore D g))
+        (files : Files D) : Type 0 where
+      pub made : HasCleanDisk (file_state book) → Made plans count book
       pub copied : Copies book files
 
-    -- a new book of these plans was made, and could not be closed
-    pub record IsUnclosedNew (plans : List Plan) (told : Fault) (rest : Left D g) : Type 0 where
+    -- it was made, and could not be closed
+    pub record IsMadeUnclosed (plans : List Plan) (told : Fault) (rest : Left D g) : Type 0 where
       pub book : Held (FileStore D g)
-      pub made : HasCleanDisk (file_state book) → IsMadeIn image plans book
+      pub count : ℕ
+      pub made : HasCleanDisk (file_state book) → Made plans count book
       pub unclosed : IsUnclosed book told rest
 
-    -- one was closed, and the line that says so could not be written
-    pub record IsUntoldNew (plans : List Plan) (told : Fault) (rest : Left D g) : Type 0 where
+    -- it was closed, and the line that says so could not be written
+    pub record IsMadeUntold (plans : List Plan) (told : Fault) (rest : Left D g) : Type 0 where
       pub untold : told ≡ fault.CannotWrite
       pub files : Files D
       pub closed : rest ≡ left.Closed files
       pub book : Held (FileStore D g)
-      pub is_new : IsClosedNew plans book files
+      pub count : ℕ
+      pub is_made : IsMadeAndClosed plans count book files
 
-    -- why `init` did not end well
+    -- why the command did not end well
     abbrev pub FailsToMake : Fault → Left D g → Type 0
     FailsToMake told rest = HasNoConfig told rest
-        ⊎ ((config : Config) × (HasNotMade image config.plans told rest
-        ⊎ IsUnclosedNew config.plans told rest
-        ⊎ IsUntoldNew config.plans told rest))
+        ⊎ ((config : Config) × (HasNot config.plans told rest
+        ⊎ IsMadeUnclosed config.plans told rest
+        ⊎ IsMadeUntold config.plans told rest))
+
+    -- it ended well: the book, and a line that says so
+    pub record MakesBook (before after : Option (List ℕ)) (ended : Status) (files : Files D)
+        : Type 0 where
+      pub config : Config
+      pub done : ended ≡ status.Done
+      pub book : Held (FileStore D g)
+      pub count : ℕ
+      pub is_made : IsMadeAndClosed config.plans count book files
+      pub told : Appends before after (line count)
+
+  module _ (image : Image) where
+    -- `init`: an empty book, and its line
+    abbrev pub IsNewBook : List Plan → ℕ → Held (FileStore D g) → Type 0
+    IsNewBook plans count book = IsMadeIn image plans book
+
+    abbrev pub FailsToMakeNew : Fault → Left D g → Type 0
+    FailsToMakeNew told rest = FailsToMake IsNewBook (HasNotMade image) (λ _. made_line) told rest
+
+    -- `migrate`: the older book as one of today's, and its line
+    abbrev pub IsMigratedBook : List Plan → ℕ → Held (FileStore D g) → Type 0
+    IsMigratedBook plans count book = IsMigratedIn image plans book
+
+    abbrev pub FailsToMigrate : Fault → Left D g → Type 0
+    FailsToMigrate told rest =
+        FailsToMake IsMigratedBook (HasNotMigrated image) (λ _. schema_line) told rest
 
     -- `serve` and `import`: what was done with a configuration, from the book that the files held
     module _ (Did : Config → Result Status Fault → Held (FileStore D g) → Held (FileStore D g)
@@ -116,14 +152,15 @@ module _ {D : Type 0} {g : disk.Ghosts D} where
           ⊎ ((config : Config) × Fails image config.plans (Did config) told rest)
 
     module _ (b : book.Ghosts (Held (FileStore D g))) where
-      -- `init` ended well: a new book, and a line that says so
-      pub record MakesBook (before after : Option (List ℕ)) (ended : Status) (files : Files D)
-          : Type 0 where
-        pub config : Config
-        pub done : ended ≡ status.Done
-        pub book : Held (FileStore D g)
-        pub is_new : IsClosedNew config.plans book files
-        pub told : Appends before after made_line
+      -- `init` and `migrate` ended well
+      abbrev pub MakesNew : Option (List ℕ) → Option (List ℕ) → Status → Files D → Type 0
+      MakesNew before after ended files =
+          MakesBook IsNewBook (HasNotMade image) (λ _. made_line) before after ended files
+
+      abbrev pub Migrates : Option (List ℕ) → Option (List ℕ) → Status → Files D → Type 0
+      Migrates before after ended files =
+          MakesBook IsMigratedBook (HasNotMigrated image) (λ _. schema_line) before after ended
+          files
 
       -- `export`: what was written of the content that the files held
       pub record ExportsBook (what : Export) (before after : Option (List ℕ))
@@ -164,7 +201,7 @@ module _ {D : Type 0} {g : disk.Ghosts D} where
           × IfErr ended (IsUnchecked None) × (rest ≡ left.Nothing)
       DoesJob (job.Check file) ended rest = ChecksConfig before after ended × (rest ≡ left.Nothing)
       DoesJob (job.Init paths) ended rest =
-          ClosesOrFails (MakesBook b before after) FailsToMake ended rest
+          ClosesOrFails (MakesNew b before after) FailsToMakeNew ended rest
       DoesJob (job.Serve paths listening turns) ended rest =
           ClosesOrFails (WorksAndCloses (HasServed turns)) (FailsAtWork (HasServed turns)) ended
           rest
@@ -173,3 +210,5 @@ module _ {D : Type 0} {g : disk.Ghosts D} where
           ended rest
       DoesJob (job.Export paths what) ended rest =
           ExportsBook b what before after ended rest ⊎ ExportsNothing b ended rest
+      DoesJob (job.Migrate paths) ended rest =
+          ClosesOrFails (Migrates b before after) FailsToMigrate ended rest

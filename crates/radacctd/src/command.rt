@@ -1,8 +1,8 @@
 //! The commands of the program.
 //!
 //! A command takes its configuration, then its book, then its sockets, and then standard input. The
-//! first fault ends it. `init`, `serve` and `import` close the book at their end; `export` only
-//! reads it, and leaves its files as they are.
+//! first fault ends it. `export` only reads the book, and leaves its files as they are; the other
+//! commands that keep a book close it at their end.
 ghost use Rattle.std.specs.Prelude.{◌≢◌, ◌≡◌, ◌⊎◌, ◌<◌, ◌^◌, ℕ, Ok, Err, IfOk, IfErr, OnOk};
 ghost use Rattle.std.specs.Io.KnownBytes.{Appends};
 ghost use Rattle.sqlite_wal.specs.Files.{image_at};
@@ -10,17 +10,18 @@ ghost use Rattle.acct_site.specs.declared.config.Config.{Config};
 ghost use Rattle.acct_command_line.specs.CommandLine.{HasTurns};
 ghost use Rattle.radacctd.specs.Commands.{Closes, Fails, Worked, WritesOut, FailsToExport};
 ghost use Rattle.radacctd.specs.Files.{Copies, IsUnclosed};
-ghost use Rattle.radacctd.specs.Jobs.{DoesJob, HasNoConfig, MakesBook, FailsToMake, WorksAndCloses};
-ghost use Rattle.radacctd.specs.Jobs.{FailsAtWork, ExportsBook, ExportsNothing, FeedsScript};
-ghost use Rattle.radacctd.specs.Jobs.{text_of, made_line, IsSiteOf};
+ghost use Rattle.radacctd.specs.Jobs.{DoesJob, HasNoConfig, WorksAndCloses, FailsAtWork};
+ghost use Rattle.radacctd.specs.Jobs.{ExportsBook, ExportsNothing, FeedsScript};
+ghost use Rattle.radacctd.specs.Jobs.{text_of, IsSiteOf};
 ghost use Rattle.acct_commands.specs.Checks.{IsUnchecked};
 ghost use Rattle.std.specs.Option.{option_copied};
 ghost use Rattle.acct_commands.specs.Serving.{RunsServer};
 ghost use Rattle.acct_commands.specs.Imports.{Runs};
 
-use crate::database::{FileBook, adopted, close, made};
+use crate::database::{FileBook, adopted, close};
 use crate::feed::run_feed;
 use crate::left::Left;
+use crate::making::{init, migrate};
 use acct_book::Book;
 use acct_command_line::{Export, Job, Listening, Paths};
 use acct_commands::{Fault, read_config, run_check, run_export, run_import, run_serve};
@@ -47,7 +48,7 @@ pub struct Outcome<W, D: Disk> {
 }
 
 // The end of a command that closes its book, or what a fault left.
-type Ending<S> = Result<(Status, Files<FileFrom<S>>), (Fault, Left<FileFrom<S>>)>;
+pub(crate) type Ending<S> = Result<(Status, Files<FileFrom<S>>), (Fault, Left<FileFrom<S>>)>;
 
 /// Does a job over these streams, and says how it ended. The book's files held what `S` says.
 pub fn run<S: Start, I: Read + Drop, W: Write + Drop>(
@@ -91,6 +92,10 @@ pub fn run<S: Start, I: Read + Drop, W: Write + Drop>(
             with_book(ending, output)
         }
         Job::Export { paths, what } => export(runtime, paths, *what, output, start),
+        Job::Migrate { paths } => {
+            let ending = migrate(runtime, paths, &mut output, start);
+            with_book(ending, output)
+        }
     }
 }
 
@@ -145,7 +150,8 @@ fn feed<I: Read + Drop, W: Write + Drop>(
     ensures other { IfOk result (λ status. status ≢ Status.WrongWords) }
     ensures refused { IfErr result (IsUnchecked None) }
     ensures done { result ≡ Ok Status.Done → (config : Config)
-        × IsSiteOf (option_copied file.entry) config × FeedsScript ⟦<SqlBook<MemStore> as Book>⟧ config (I.remaining input)
+        × IsSiteOf (option_copied file.entry) config
+        × FeedsScript ⟦<SqlBook<MemStore> as Book>⟧ config (I.remaining input)
         (W.contents output.old) (W.contents output.new) }
 {
     let alloc = runtime.alloc();
@@ -175,44 +181,16 @@ fn finished<S: Start>(book: FileBook<S>, status: Status) -> Ending<S>
 }
 
 // The configuration of a command that keeps a book, before any file of the book is opened.
-fn config_of<D: Disk>(runtime: &HostRuntime, paths: &Paths) -> Result<Config, (Fault, Left<D>)>
+pub(crate) fn config_of<D: Disk>(
+    runtime: &HostRuntime,
+    paths: &Paths,
+) -> Result<Config, (Fault, Left<D>)>
     ensures { IfErr result (λ e. HasNoConfig e.0 e.1) }
 {
     match read_config(runtime, runtime.alloc(), &paths.config) {
         Ok(config) => Ok(config),
         Err(fault) => Err((fault, Left::Nothing)),
     }
-}
-
-// `init`: an empty book.
-fn init<S: Start, W: Write>(
-    runtime: &HostRuntime,
-    paths: &Paths,
-    output: &mut W,
-    start: S,
-) -> Ending<S>
-    ensures other { IfOk result (λ done. done.0 ≢ Status.WrongWords) }
-    ensures made { IfOk result (λ done. MakesBook (image_at S.Start)
-        ⟦<SqlBook<FileStore<FileFrom<S>>> as Book>⟧ (W.contents output.old)
-        (W.contents output.new) done.0 done.1) }
-    ensures failed { IfErr result (λ e. FailsToMake (image_at S.Start) e.0 e.1) }
-{
-    let config = config_of(runtime, paths)?;
-    let book = made(runtime, &paths.database, &config.plans, start)?;
-    let files = close(book)?;
-    match write_made(output) {
-        Ok(()) => Ok((Status::Done, files)),
-        Err(_) => Err((Fault::CannotWrite, Left::Closed(files))),
-    }
-}
-
-// Says that a book was made.
-fn write_made<W: Write>(output: &mut W) -> io::Result<()>
-    ensures { OnOk result (Appends (W.contents output.old) (W.contents output.new)
-        made_line) }
-{
-    writeln!(output, "book made")?;
-    output.flush()
 }
 
 // `serve` over the book of a file.

@@ -9,7 +9,7 @@ ghost use Rattle.sqlite.specs.State.{HasCleanDisk};
 ghost use Rattle.sqlite.specs.Files.{file_state};
 ghost use Rattle.radacctd.specs.Faults.{store_fault_of};
 ghost use Rattle.radacctd.specs.Files.{IsBookOf, IsMadeIn, IsRefused, HasNotMade, IsUnread};
-ghost use Rattle.radacctd.specs.Files.{Copies, IsUnclosed};
+ghost use Rattle.radacctd.specs.Files.{IsMigratedIn, HasNotMigrated, Copies, IsUnclosed};
 ghost use Rattle.radacctd.specs.inner.Files.{IsOpenedOn};
 
 use crate::left::Left;
@@ -72,6 +72,30 @@ pub fn adopted<S: Start>(
     taken(runtime.alloc(), connection, plans)
 }
 
+/// The book of schema number 1 in a file that is there, as one of today's.
+///
+/// # Errors
+///
+/// `CannotOpen` where no regular file of 100 octets or more is there or it cannot be opened, else
+/// that of `SqlBook::migrate`, with what is left of the files. They hold what they held, but for a
+/// crash, which may leave the migrated book.
+pub fn migrated<S: Start>(
+    runtime: &HostRuntime,
+    file: &Text,
+    plans: &Plans,
+    start: S,
+) -> Result<FileBook<S>, (Fault, Left<FileFrom<S>>)>
+    ensures migrated { IfOk result (λ book. HasCleanDisk (file_state book)
+        → IsMigratedIn (image_at S.Start) plans.now book) }
+    ensures refused { IfErr result (λ e. HasNotMigrated (image_at S.Start) plans.now e.0 e.1) }
+{
+    if !may_be_database(runtime, file) {
+        return Err((Fault::CannotOpen, Left::Nothing));
+    }
+    let connection = opened(runtime, file, start)?;
+    raised(runtime.alloc(), connection, plans)
+}
+
 /// Closes a book: what its log holds is copied into its file. It hands back the two files, which
 /// then hold the last commit, the file of the book alone too.
 ///
@@ -129,6 +153,28 @@ fn taken<D: Disk + Drop>(
         → IfErr result (λ e. IsRefused image plans.now e.0 e.1) }
 {
     match SqlBook::adopt(alloc, connection, plans) {
+        Ok(book) => Ok(book),
+        Err((error, connection)) => {
+            Err((Fault::Store(store_fault(error)), Left::Open(connection)))
+        }
+    }
+}
+
+// The book of today's that an older one is made, in a database that was opened over files that held
+// an image.
+fn raised<D: Disk + Drop>(
+    alloc: Global,
+    connection: Connection<FileStore<D>>,
+    plans: &Plans,
+) -> Result<SqlBook<FileStore<D>>, (Fault, Left<D>)>
+    requires { (file_state connection).in_transaction ≡ false }
+    ensures migrated { (image : Image) → IsOpenedOn image connection
+        → IfOk result (λ book. HasCleanDisk (file_state book)
+        → IsMigratedIn image plans.now book) }
+    ensures refused { (image : Image) → IsOpenedOn image connection
+        → IfErr result (λ e. HasNotMigrated image plans.now e.0 e.1) }
+{
+    match SqlBook::migrate(alloc, connection, plans) {
         Ok(book) => Ok(book),
         Err((error, connection)) => {
             Err((Fault::Store(store_fault(error)), Left::Open(connection)))

@@ -45,3 +45,10 @@ returns-in-Import-clause-does g c =
 
 pub returns-in-Export-clause-does : goal.returns-in-Export-clause-does
 returns-in-Export-clause-does g c = rw c.in-Export.is c.export.ensures.does
+
+pub returns-in-Migrate-clause-does : goal.returns-in-Migrate-clause-does
+returns-in-Migrate-clause-does g c =
+    let out = c.with_book-in-Migrate.ensures in
+    rw (c.in-Migrate.is, out.output)
+    (ended_so _ _ c.migrate-ending.result _ _ out.ok out.err c.migrate-ending.ensures.made
+    c.migrate-ending.ensures.failed)

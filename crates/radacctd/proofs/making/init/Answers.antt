@@ -1,6 +1,6 @@
 use Rattle.std.proofs.Common.{inl, inr, refl}
 use Rattle.std.proofs.lemmas.Result.{err_from_is_err_and}
-use Rattle.radacctd.proofs.command.init.Goals as goal
+use Rattle.radacctd.proofs.making.init.Goals as goal
 
 pub returns-in_err-files-clause-failed : goal.returns-in_err-files-clause-failed
 returns-in_err-files-clause-failed g c =
@@ -10,6 +10,7 @@ returns-in_err-files-clause-failed g c =
       c.in_ok-config.config,
       inr (inl (record {
         book = c.in_ok-book.book;
+        count = 0;
         made = c.in_ok-book.ensures.made;
         unclosed = c.in_err-files.ensures.kept;
       })),
@@ -20,7 +21,8 @@ returns-in-Ok-clause-made g c = record {
   config = c.in_ok-config.config;
   done = refl;
   book = c.in_ok-book.book;
-  is_new = record { made = c.in_ok-book.ensures.made; copied = c.in_ok-files.ensures.copied };
+  count = 0;
+  is_made = record { made = c.in_ok-book.ensures.made; copied = c.in_ok-files.ensures.copied };
   told = c.in-Ok.ensures;
 }
 
@@ -32,6 +34,7 @@ returns-clause-failed g c = inr (
     files = c.in_ok-files.files;
     closed = refl;
     book = c.in_ok-book.book;
-    is_new = record { made = c.in_ok-book.ensures.made; copied = c.in_ok-files.ensures.copied };
+    count = 0;
+    is_made = record { made = c.in_ok-book.ensures.made; copied = c.in_ok-files.ensures.copied };
   })),
 )
