@@ -22,8 +22,9 @@ _radacctd() {
             serve) words='--config --db --bind --radius-port --desk-port --turns --help' ;;
             import) words='--config --db --help' ;;
             export) words='--config --db --help sessions balances topups overruns' ;;
-            help) words='feed check init serve import export' ;;
-            *) words='feed check init serve import export help --help --version' ;;
+            migrate) words='--config --db --help' ;;
+            help) words='feed check init serve import export migrate' ;;
+            *) words='feed check init serve import export migrate help --help --version' ;;
         esac ;;
     esac
     mapfile -t COMPREPLY < <(compgen -W "$words" -- "$current")
