@@ -1,89 +1,224 @@
-//! A caller of the desk, which has a few seconds and no more.
+//! A caller of the desk: what has come of its request, and what is still to go of its response.
+ghost use Rattle.std.specs.Prelude.{◌≡◌, IfOk, OnOk};
+ghost use Rattle.acct_sockets.specs.inner.Going.{GoesOn, Goes, Advances, AsksNothing, IsFresh};
+
+use crate::readiness::has_to_wait;
+use crate::request::Request;
+use crate::response::{Response, write_some};
+use acct_model::Octets;
+use acct_service::Fault;
+use std::alloc::Global;
 use std::io;
-use std::io::{ErrorKind, Read, Write};
-use std::net::{Net, OpenStream, Shutdown};
-use std::time::{Clock, Duration, Instant};
+use std::io::{Read, Write};
+use std::net::{OpenStream, Shutdown};
+use std::time::{Duration, Instant};
 
-/// How many seconds a caller has from its accept on, for all that it sends and takes.
-const SECONDS_IN_ALL: u64 = 4;
-/// How many seconds one read or one write waits for a caller.
-const SECONDS_AT_ONCE: u64 = 2;
-/// How often octets that nobody asked for are taken from a caller that was answered.
-const LAST_READS: u32 = 16;
+/// How many seconds a caller has from its accept on until its request is there.
+const SECONDS_TO_ASK: u64 = 4;
+/// How many seconds a caller is kept without an octet that came or went.
+const SECONDS_OF_SILENCE: u64 = 2;
+/// How many milliseconds a caller keeps its place from its accept on where others wait for one.
+const SHORTEST_STAY: u64 = 25;
 
-/// A caller's connection, which is closed as this is let go. Each read and each write fails once
-/// its time is up, so that a caller that sends or takes an octet now and then is given up too.
-#[derive(Drop)]
-pub struct Caller<'r, R: Net> {
-    runtime: &'r R,
-    stream: R::Stream,
-    until: Instant,
+/// How far a caller has come.
+pub enum Stage {
+    /// Its request comes.
+    Asking(Request),
+    /// Its request is there, and is answered.
+    Asked,
+    /// Its response goes, and this is left of it.
+    Told(Response),
+    /// Its response has gone, and the connection's sending side is closed. What else it sends is
+    /// read away until it closes its side too, since a connection that is closed over unread octets
+    /// is reset, and the caller may then lose the response.
+    Leaving,
 }
 
-impl<'r, R: Net + Clock> Caller<'r, R> {
+// It is written out, so that a caller does not prove again how each part is dropped.
+impl Drop for Stage {
+    fn drop(self) {
+        match self {
+            Stage::Asking(_) => {}
+            Stage::Told(_) => {}
+            Stage::Asked | Stage::Leaving => {}
+        }
+    }
+}
+
+/// What a caller's turn came to.
+#[derive(Drop)]
+pub enum Step {
+    /// More has to come or to go.
+    Waits,
+    /// Its request is there.
+    Asks(Octets),
+    /// It has its response, and has closed the connection.
+    Gone,
+}
+
+/// A caller's connection, which is closed as this is let go. Its reads and writes don't wait.
+#[derive(Drop)]
+pub struct Caller<S> {
+    stream: S,
+    stage: Stage,
+    is_ready: bool,
+    came: Instant,
+    heard: Instant,
+}
+
+impl<S: Read + Write + OpenStream + Drop> Caller<S> {
     /// A caller whose connection was just accepted.
     ///
     /// # Errors
     ///
-    /// Those of the clock.
-    pub fn new(runtime: &'r R, stream: R::Stream) -> io::Result<Caller<'r, R>> {
-        let Some(until) = Instant::now(runtime)?.checked_add(Duration::from_secs(SECONDS_IN_ALL))
-        else {
-            return Err(io::Error::from(ErrorKind::TimedOut));
-        };
+    /// Those of the system.
+    pub fn new(alloc: Global, stream: S, now: Instant) -> io::Result<Caller<S>>
+        ensures { IfOk result (λ caller. IsFresh caller.stage) }
+    {
+        stream.set_nonblocking(true)?;
         Ok(Caller {
-            runtime,
             stream,
-            until,
+            stage: Stage::Asking(Request::new(alloc)),
+            is_ready: true,
+            came: now,
+            heard: now,
         })
     }
 
-    /// Writes the response and closes the connection's sending side. What else the caller sent is
-    /// read away, since a connection that is closed over unread octets is reset, and the caller may
-    /// then lose the response.
+    /// Whether the next read or write need not wait, as far as is known.
+    pub fn is_ready(&self) -> bool {
+        self.is_ready
+    }
+
+    /// Notes that the next read or write need not wait.
+    pub fn rouse(&mut self) {
+        self.is_ready = true;
+    }
+
+    /// When its connection was accepted.
+    pub fn came(&self) -> Instant {
+        self.came
+    }
+
+    /// Whether its response has gone.
+    pub fn is_leaving(&self) -> bool {
+        matches!(&self.stage, Stage::Leaving)
+    }
+
+    /// Whether its time is up.
+    pub fn is_late(&self, now: Instant) -> bool {
+        let asks_too_long = matches!(&self.stage, Stage::Asking(_))
+            && now.duration_since(self.came) >= Duration::from_secs(SECONDS_TO_ASK);
+        asks_too_long || now.duration_since(self.heard) >= Duration::from_secs(SECONDS_OF_SILENCE)
+    }
+
+    /// Whether it may give its place to another one: it is silent, and was not just accepted or has
+    /// its response.
+    pub fn may_give_way(&self, now: Instant) -> bool {
+        match &self.stage {
+            Stage::Asking(_) => {
+                let stay = Duration::from_millis(SHORTEST_STAY);
+                !self.is_ready && now.duration_since(self.came) >= stay
+            }
+            Stage::Leaving => !self.is_ready,
+            Stage::Asked | Stage::Told(_) => false,
+        }
+    }
+
+    /// Goes on by one read or one write, into or out of the room.
     ///
     /// # Errors
     ///
-    /// Those of a write, and `TimedOut` once the caller's time is up.
-    pub fn answer(&mut self, response: &[u8], room: &mut [u8]) -> io::Result<()> {
-        self.write_all(response)?;
-        self.stream.shutdown(Shutdown::Write)?;
-        self.stream.set_nonblocking(true)?;
-        for _ in 0..LAST_READS {
-            match self.stream.read(room) {
-                Ok(0) | Err(_) => return Ok(()),
-                Ok(_) => {}
+    /// Where the connection fails before its response has gone, or memory is refused.
+    pub fn go_on(&mut self, alloc: Global, room: &mut [u8], now: Instant) -> Result<Step, Fault>
+        ensures { IfOk result (GoesOn (S.remaining self.old.stream) (S.remaining self.new.stream)
+            (S.contents self.old.stream) (S.contents self.new.stream)
+            self.old.stage self.new.stage) }
+    {
+        match &mut self.stage {
+            Stage::Asking(request) => {
+                let has_moved = request.take(&mut self.stream, room)?;
+                self.advance(alloc, has_moved, now)
             }
+            Stage::Told(response) => {
+                let has_moved = response.write(&mut self.stream)?;
+                self.advance(alloc, has_moved, now)
+            }
+            Stage::Asked | Stage::Leaving => Ok(self.see_off(room)),
         }
+    }
+
+    // Goes to its next stage, where octets that came or went have ended this one.
+    fn advance(&mut self, alloc: Global, has_moved: bool, now: Instant) -> Result<Step, Fault>
+        ensures same { self.new.stream ≡ self.old.stream }
+        ensures advances { IfOk result (Advances self.old.stage self.new.stage) }
+    {
+        if !has_moved {
+            self.is_ready = false;
+            return Ok(Step::Waits);
+        }
+        self.heard = now;
+        match &self.stage {
+            Stage::Asking(request) => match request.read(alloc)? {
+                Some(octets) => {
+                    self.stage = Stage::Asked;
+                    Ok(Step::Asks(octets))
+                }
+                None => Ok(Step::Waits),
+            },
+            Stage::Told(response) if response.has_gone() => {
+                self.take_leave()?;
+                Ok(Step::Waits)
+            }
+            _ => Ok(Step::Waits),
+        }
+    }
+
+    // Reads away what a caller that has its response still sends.
+    fn see_off(&mut self, room: &mut [u8]) -> Step
+        ensures stage { self.new.stage ≡ self.old.stage }
+        ensures asks { AsksNothing result }
+    {
+        match self.stream.read(room) {
+            Ok(0) => Step::Gone,
+            Ok(_) => Step::Waits,
+            Err(error) if has_to_wait(&error) => {
+                self.is_ready = false;
+                Step::Waits
+            }
+            Err(_) => Step::Gone,
+        }
+    }
+
+    /// Sends its response: what the system doesn't take at once goes as the caller takes it.
+    ///
+    /// # Errors
+    ///
+    /// Where the connection fails, or memory is refused for what is left of the response.
+    pub fn answer(&mut self, alloc: Global, response: &[u8], now: Instant) -> Result<(), Fault>
+        ensures { OnOk result (Goes (S.contents self.old.stream) (S.contents self.new.stream)
+            response.now self.new.stage) }
+    {
+        self.heard = now;
+        let count = write_some(&mut self.stream, response)?;
+        self.is_ready = count > 0;
+        let left = &response[count..];
+        if left.is_empty() {
+            return self.take_leave();
+        }
+        let left = Response::from_slice(alloc, left).map_err(|_| Fault)?;
+        self.stage = Stage::Told(left);
         Ok(())
     }
 
-    // How long a read or a write may wait now.
-    fn patience(&self) -> io::Result<Duration> {
-        let left = self.until.duration_since(Instant::now(self.runtime)?);
-        if left.is_zero() {
-            return Err(io::Error::from(ErrorKind::TimedOut));
-        }
-        Ok(left.min(Duration::from_secs(SECONDS_AT_ONCE)))
-    }
-}
-
-impl<'r, R: Net + Clock> Read for Caller<'r, R> {
-    fn read(&mut self, buf: &mut [u8]) -> io::Result<usize> {
-        let patience = self.patience()?;
-        self.stream.set_read_timeout(Some(patience))?;
-        self.stream.read(buf)
-    }
-}
-
-impl<'r, R: Net + Clock> Write for Caller<'r, R> {
-    fn write(&mut self, buf: &[u8]) -> io::Result<usize> {
-        let patience = self.patience()?;
-        self.stream.set_write_timeout(Some(patience))?;
-        self.stream.write(buf)
-    }
-
-    fn flush(&mut self) -> io::Result<()> {
-        self.stream.flush()
+    // Closes the sending side, since all of the response has gone.
+    fn take_leave(&mut self) -> Result<(), Fault>
+        ensures same { self.new.stream ≡ self.old.stream }
+        ensures leaves { OnOk result (self.new.stage ≡ Stage.Leaving) }
+    {
+        self.stream.shutdown(Shutdown::Write).map_err(|_| Fault)?;
+        self.is_ready = true;
+        self.stage = Stage::Leaving;
+        Ok(())
     }
 }

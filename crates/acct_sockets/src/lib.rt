@@ -3,6 +3,10 @@
 
 mod caller;
 mod clock;
+mod desk;
+mod readiness;
+mod request;
+mod response;
 mod sockets;
 
 pub use clock::moment_of;

@@ -1,16 +1,16 @@
 //! The sockets of a server: datagrams of access servers, and callers of the desk.
 //!
-//! 1. A turn first gives up the caller that is still connected. Then it waits 20 milliseconds for a
-//!    datagram, and where none came it takes one caller that waits already.
-//! 2. Datagrams that come without a pause would keep callers waiting for ever. So the first turn,
-//!    and each a second after the last caller was let go or none was found, looks for one first.
-//! 3. A timeout with no caller is a turn without an event. Every other fault is counted.
+//! 1. A turn waits up to 20 milliseconds until a datagram came or something can be done for a
+//!    caller, and not at all where that is known already. No read and no write waits.
+//! 2. Datagrams and callers take turns: after a datagram callers are heard first, and after a
+//!    request or a fault of a caller a datagram goes first.
+//! 3. A wait in which nothing came is a turn without an event. Every other fault is counted.
 //! 4. Room for a datagram is made once, and not for each turn.
 ghost use Rattle.std.specs.Prelude.{◌≡◌, None, IfOk};
 
-use crate::caller::Caller;
 use crate::clock::moment_of;
-use acct_desk::read_request;
+use crate::desk::{Desk, PLACES};
+use crate::readiness::Readiness;
 use acct_model::Octets;
 use acct_service::{Event, Exchange, Fault, What};
 use std::alloc::Global;
@@ -21,20 +21,18 @@ use std::time::{Clock, Duration, Instant};
 
 /// The most octets of a datagram.
 const LONGEST_DATAGRAM: usize = 65_535;
-/// How many milliseconds a turn waits for a datagram.
+/// The most milliseconds that a turn waits.
 const PATIENCE: u64 = 20;
-/// How many seconds datagrams go before callers, from when one was last looked for.
-const DATAGRAMS_FIRST: u64 = 1;
+/// The number under which datagrams are watched. Those below are the places of callers.
+const DATAGRAMS: usize = PLACES;
+/// The number under which the desk's listener is watched.
+const LISTENER: usize = PLACES + 1;
+/// How many sockets are watched at the most.
+const WATCHED: usize = PLACES + 2;
 
-/// The two sockets of a server, with the caller that is connected.
+/// The sockets of a server, with the callers that are connected.
 pub struct Sockets<'r, R: Net> {
-    runtime: &'r R,
-    alloc: Global,
-    radius: UdpSocket,
-    desk: R::Listener,
-    caller: Option<Caller<'r, R>>,
-    callers_first_at: Option<Instant>,
-    room: Vec<u8>,
+    ports: Ports<'r, R>,
     turns: u64,
     failures: u64,
 }
@@ -43,13 +41,7 @@ pub struct Sockets<'r, R: Net> {
 impl<'r, R: Net> Drop for Sockets<'r, R> {
     fn drop(self) {
         let Sockets {
-            runtime: _,
-            alloc: _,
-            radius: _,
-            desk: _,
-            caller: _,
-            callers_first_at: _,
-            room: _,
+            ports: _,
             turns: _,
             failures: _,
         } = self;
@@ -63,7 +55,8 @@ impl<'r, R: Net + Clock> Sockets<'r, R> {
     /// # Errors
     ///
     /// Those of the system: a port is taken or needs a right that the program hasn't, or the
-    /// machine hasn't the address. `OutOfMemory` where there is no room for a datagram.
+    /// machine hasn't the address. `OutOfMemory` where there is no room for a datagram and for
+    /// callers.
     pub fn bind(
         runtime: &'r R,
         alloc: Global,
@@ -73,19 +66,8 @@ impl<'r, R: Net + Clock> Sockets<'r, R> {
     ) -> io::Result<Sockets<'r, R>>
         ensures fresh { IfOk result (λ s. (s.turns ≡ 0) × (s.failures ≡ 0)) }
     {
-        let address = Ipv4Addr::from(address);
-        let radius = UdpSocket::bind(runtime, (address, radius))?;
-        radius.set_read_timeout(Some(Duration::from_millis(PATIENCE)))?;
-        let desk = TcpListener::bind(runtime, (address, desk))?;
-        desk.set_nonblocking(true)?;
         Ok(Sockets {
-            runtime,
-            alloc,
-            radius,
-            desk,
-            caller: None,
-            callers_first_at: None,
-            room: vec![in alloc; 0; LONGEST_DATAGRAM]?,
+            ports: Ports::bind(runtime, alloc, address, radius, desk)?,
             turns: 0,
             failures: 0,
         })
@@ -98,123 +80,9 @@ impl<'r, R: Net + Clock> Sockets<'r, R> {
     /// Those of the system.
     pub fn ports(&self) -> io::Result<(u16, u16)> {
         Ok((
-            self.radius.local_addr()?.port(),
-            self.desk.local_addr()?.port(),
+            self.ports.radius.local_addr()?.port(),
+            self.ports.desk.listener().local_addr()?.port(),
         ))
-    }
-
-    // What comes in a turn.
-    fn come(&mut self) -> Result<Option<Event>, Fault>
-        ensures turns { self.new.turns ≡ self.old.turns }
-        ensures failures { self.new.failures ≡ self.old.failures }
-    {
-        if self.are_callers_first() {
-            if let Some(event) = self.accept()? {
-                return Ok(Some(event));
-            }
-        }
-        self.receive()
-    }
-
-    // Whether a turn looks for a caller before it waits for a datagram: the first turn does.
-    fn are_callers_first(&self) -> bool {
-        match (self.callers_first_at, Instant::now(self.runtime)) {
-            (Some(moment), Ok(now)) => moment <= now,
-            (None, Ok(_)) => true,
-            _ => false,
-        }
-    }
-
-    // Lets datagrams go first for a while, since a caller was looked for.
-    fn put_datagrams_first(&mut self)
-        ensures turns { self.new.turns ≡ self.old.turns }
-        ensures failures { self.new.failures ≡ self.old.failures }
-    {
-        self.callers_first_at = match Instant::now(self.runtime) {
-            Ok(now) => now.checked_add(Duration::from_secs(DATAGRAMS_FIRST)),
-            Err(_) => None,
-        };
-    }
-
-    // The datagram that comes within a turn's patience, or else a caller.
-    fn receive(&mut self) -> Result<Option<Event>, Fault>
-        ensures turns { self.new.turns ≡ self.old.turns }
-        ensures failures { self.new.failures ≡ self.old.failures }
-    {
-        match self.radius.recv_from(self.room.as_mut_slice()) {
-            Ok((size, SocketAddr::V4(source))) => {
-                let bytes = self.copy(size)?;
-                let what = What::Datagram {
-                    source: source.ip().octets(),
-                    port: source.port(),
-                    bytes,
-                };
-                Ok(Some(self.event(what)))
-            }
-            Ok((_, SocketAddr::V6(_))) => Err(Fault),
-            Err(error) if nothing_came(&error) => self.accept(),
-            Err(_) => Err(Fault),
-        }
-    }
-
-    // The octets that the last datagram left at the front of the room.
-    fn copy(&self, size: usize) -> Result<Octets, Fault> {
-        let octets = self.room.get(..size).ok_or(Fault)?;
-        Octets::from_slice(self.alloc, octets).map_err(|_| Fault)
-    }
-
-    // What a caller asks that waits already, if one does.
-    fn accept(&mut self) -> Result<Option<Event>, Fault>
-        ensures turns { self.new.turns ≡ self.old.turns }
-        ensures failures { self.new.failures ≡ self.old.failures }
-    {
-        let accepted = match self.desk.accept() {
-            Ok((stream, _)) => self.listen_to(stream),
-            Err(error) if nothing_came(&error) => Ok(None),
-            Err(_) => Err(Fault),
-        };
-        self.put_datagrams_first();
-        accepted
-    }
-
-    // What a caller asks.
-    fn listen_to(&mut self, stream: R::Stream) -> Result<Option<Event>, Fault>
-        ensures turns { self.new.turns ≡ self.old.turns }
-        ensures failures { self.new.failures ≡ self.old.failures }
-    {
-        let mut caller = Caller::new(self.runtime, stream).map_err(|_| Fault)?;
-        let octets = read_request(self.alloc, &mut caller).map_err(|_| Fault)?;
-        self.caller = Some(caller);
-        let bytes = Octets { octets };
-        Ok(Some(self.event(What::Desk { bytes })))
-    }
-
-    // What came, at the clock's moment.
-    fn event(&self, what: What) -> Event {
-        let moment = moment_of(self.runtime);
-        Event { moment, what }
-    }
-
-    // Sends octets to where an event came from.
-    fn send(&mut self, what: &What, bytes: &[u8]) -> Result<(), Fault>
-        ensures turns { self.new.turns ≡ self.old.turns }
-        ensures failures { self.new.failures ≡ self.old.failures }
-    {
-        match what {
-            What::Datagram { source, port, .. } => {
-                let address = Ipv4Addr::from(*source);
-                match self.radius.send_to(bytes, (address, *port)) {
-                    Ok(count) if count == bytes.len() => Ok(()),
-                    _ => Err(Fault),
-                }
-            }
-            What::Desk { .. } => {
-                let mut caller = self.caller.take().ok_or(Fault)?;
-                let answered = caller.answer(bytes, self.room.as_mut_slice());
-                self.put_datagrams_first();
-                answered.map_err(|_| Fault)
-            }
-        }
     }
 }
 
@@ -227,16 +95,17 @@ impl<'r, R: Net + Clock> Exchange for Sockets<'r, R> {
 
     fn next(&mut self) -> Result<Option<Event>, Fault> {
         self.turns += 1;
-        self.caller = None;
-        let came = self.come();
+        let came = self.ports.come();
         if came.is_err() {
             self.failures += 1;
         }
         came
     }
 
+    /// Sends octets to where an event came from. What a caller does not take at once of them goes
+    /// in later turns, and where it fails then, that turn is a fault.
     fn reply(&mut self, event: &Event, bytes: &[u8]) -> Result<(), Fault> {
-        let sent = self.send(&event.what, bytes);
+        let sent = self.ports.send(&event.what, bytes);
         if sent.is_err() {
             self.failures += 1;
         }
@@ -252,10 +121,174 @@ impl<'r, R: Net + Clock> Exchange for Sockets<'r, R> {
     }
 }
 
-// Whether a socket only has nothing yet.
-fn nothing_came(error: &io::Error) -> bool {
-    matches!(
-        error.kind(),
-        ErrorKind::WouldBlock | ErrorKind::TimedOut | ErrorKind::Interrupted
-    )
+// Both sockets, with the callers that are connected.
+struct Ports<'r, R: Net> {
+    runtime: &'r R,
+    alloc: Global,
+    readiness: Readiness,
+    radius: UdpSocket,
+    may_receive: bool,
+    desk: Desk<R>,
+    are_callers_first: bool,
+    room: Vec<u8>,
+}
+
+// It is written out, so that a caller does not prove again how each part is dropped.
+impl<'r, R: Net> Drop for Ports<'r, R> {
+    fn drop(self) {
+        let Ports {
+            runtime: _,
+            alloc: _,
+            readiness: _,
+            radius: _,
+            may_receive: _,
+            desk: _,
+            are_callers_first: _,
+            room: _,
+        } = self;
+    }
+}
+
+impl<'r, R: Net + Clock> Ports<'r, R> {
+    // Binds both sockets, and watches them.
+    fn bind(
+        runtime: &'r R,
+        alloc: Global,
+        address: [u8; 4],
+        radius: u16,
+        desk: u16,
+    ) -> io::Result<Ports<'r, R>> {
+        let address = Ipv4Addr::from(address);
+        let readiness = Readiness::new(runtime, alloc, WATCHED)?;
+        let radius = UdpSocket::bind(runtime, (address, radius))?;
+        radius.set_nonblocking(true)?;
+        readiness.watch(&radius, DATAGRAMS)?;
+        let listener = TcpListener::bind(runtime, (address, desk))?;
+        let desk = Desk::new(alloc, listener)?;
+        readiness.watch(desk.listener(), LISTENER)?;
+        Ok(Ports {
+            runtime,
+            alloc,
+            readiness,
+            radius,
+            may_receive: true,
+            desk,
+            are_callers_first: true,
+            room: vec![in alloc; 0; LONGEST_DATAGRAM]?,
+        })
+    }
+
+    // What comes in a turn. A caller that was not answered in the last one is given up.
+    fn come(&mut self) -> Result<Option<Event>, Fault> {
+        self.desk.forget_asker();
+        self.look()?;
+        let (came, is_callers) = if self.are_callers_first {
+            match self.hear() {
+                Ok(None) => (self.receive(), false),
+                heard => (heard, true),
+            }
+        } else {
+            match self.receive() {
+                Ok(None) => (self.hear(), true),
+                received => (received, false),
+            }
+        };
+        self.are_callers_first = !is_callers;
+        came
+    }
+
+    // Looks which sockets are ready, and waits for one where none was left. Each is tried again
+    // after a wait in which none was: so nobody waits for long whom the system did not tell of.
+    fn look(&mut self) -> Result<(), Fault> {
+        let is_busy = self.may_receive || self.desk.is_busy();
+        let patience = if is_busy { 0 } else { PATIENCE };
+        let waited = self.readiness.wait(Duration::from_millis(patience));
+        waited.map_err(|_| Fault)?;
+        if !is_busy && self.readiness.events().is_empty() {
+            self.may_receive = true;
+            self.desk.rouse();
+        }
+        for event in self.readiness.events() {
+            match event.token().0 {
+                DATAGRAMS => self.may_receive = true,
+                LISTENER => self.desk.rouse(),
+                place => self.desk.rouse_caller(place),
+            }
+        }
+        Ok(())
+    }
+
+    // What a caller asks, if one does now.
+    fn hear(&mut self) -> Result<Option<Event>, Fault> {
+        let now = Instant::now(self.runtime).map_err(|_| Fault)?;
+        let asked = self
+            .desk
+            .hear(&self.readiness, self.room.as_mut_slice(), now)?;
+        Ok(asked.map(|bytes| self.event(What::Desk { bytes })))
+    }
+
+    // The datagram that waits, if one does.
+    fn receive(&mut self) -> Result<Option<Event>, Fault> {
+        if !self.may_receive {
+            return Ok(None);
+        }
+        match self.radius.recv_from(self.room.as_mut_slice()) {
+            Ok((size, SocketAddr::V4(source))) => {
+                let bytes = self.copy(size)?;
+                let what = What::Datagram {
+                    source: source.ip().octets(),
+                    port: source.port(),
+                    bytes,
+                };
+                Ok(Some(self.event(what)))
+            }
+            Err(error) if error.kind() == ErrorKind::WouldBlock => {
+                self.may_receive = false;
+                Ok(None)
+            }
+            Err(error) if error.kind() == ErrorKind::Interrupted => Ok(None),
+            Ok((_, SocketAddr::V6(_))) | Err(_) => Err(Fault),
+        }
+    }
+
+    // The octets that the last datagram left at the front of the room.
+    fn copy(&self, size: usize) -> Result<Octets, Fault> {
+        let octets = self.room.get(..size).ok_or(Fault)?;
+        Octets::from_slice(self.alloc, octets).map_err(|_| Fault)
+    }
+
+    // What came, at the clock's moment.
+    fn event(&self, what: What) -> Event {
+        let moment = moment_of(self.runtime);
+        Event { moment, what }
+    }
+
+    // Sends octets to where an event came from.
+    fn send(&mut self, what: &What, bytes: &[u8]) -> Result<(), Fault> {
+        match what {
+            What::Datagram { source, port, .. } => {
+                match self.send_datagram(bytes, (Ipv4Addr::from(*source), *port)) {
+                    Ok(count) if count == bytes.len() => Ok(()),
+                    _ => Err(Fault),
+                }
+            }
+            What::Desk { .. } => {
+                let now = Instant::now(self.runtime).map_err(|_| Fault)?;
+                self.desk.answer(bytes, now)
+            }
+        }
+    }
+
+    // Sends a datagram. Where the system has no room for it now, this waits until it has.
+    fn send_datagram(&self, bytes: &[u8], to: (Ipv4Addr, u16)) -> io::Result<usize> {
+        match self.radius.send_to(bytes, to) {
+            Err(error) if error.kind() == ErrorKind::WouldBlock => {
+                self.radius.set_nonblocking(false)?;
+                let sent = self.radius.send_to(bytes, to);
+                self.radius.set_nonblocking(true)?;
+                sent
+            }
+            sent => sent,
+        }
+    }
 }

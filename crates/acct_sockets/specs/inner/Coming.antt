@@ -1,0 +1,22 @@
+-- What comes of a request and goes of a response.
+use Rattle.std.specs.Prelude.{◌≡◌, ◌⊎◌, ℕ, Bool, true, List, [], ◌++◌, Option, length}
+use Rattle.std.specs.Io.KnownBytes.{Consumes, Appends}
+use Rattle.acct_desk.specs.Reading.{IsSettled}
+
+-- what came of a request grew at its end by the octets that a reader lost at its front
+abbrev pub Takes : Option (List ℕ) → Option (List ℕ) → List ℕ → List ℕ → Type 0
+Takes old_left new_left old new =
+    (octets : List ℕ) × Consumes old_left new_left octets × (new ≡ old ++ octets)
+
+-- what is left of a response lost at its front the octets by which a writer grew at its end
+abbrev pub Gives : Option (List ℕ) → Option (List ℕ) → List ℕ → List ℕ → Type 0
+Gives old_held new_held old new =
+    (octets : List ℕ) × Appends old_held new_held octets × (old ≡ octets ++ new)
+
+-- A request that is read from what came: the first octets, and no fewer than are needed to know it,
+-- unless they are as many as are taken of any, or the caller sent no more.
+pub record IsRequestOf (came : List ℕ) (has_ended : Bool) (request : List ℕ) : Type 0 where
+  pub rest : List ℕ
+  pub first : came ≡ request ++ rest
+  pub ends : IsSettled request ⊎ (length request ≡ 12288)
+      ⊎ ((rest ≡ []) × (has_ended ≡ true))

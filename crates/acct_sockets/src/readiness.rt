@@ -1,0 +1,64 @@
+//! Which sockets need not wait.
+use mio::unix::SourceFd;
+use mio::{Events, Interest, Poll, Token};
+use std::alloc::Global;
+use std::io;
+use std::io::ErrorKind;
+use std::net::Net;
+use std::os::fd::AsRawFd;
+use std::time::Duration;
+
+/// The sockets that are watched, each under a number, and those of them that were last found ready.
+/// A socket is found ready once, as it becomes so: it is to be used until it would have to wait.
+#[derive(Drop)]
+pub struct Readiness {
+    poll: Poll,
+    events: Events<Global>,
+}
+
+impl Readiness {
+    /// No socket yet, with room for so many.
+    ///
+    /// # Errors
+    ///
+    /// Those of the system, and `OutOfMemory`.
+    pub fn new<R: Net>(runtime: &R, alloc: Global, room: usize) -> io::Result<Readiness> {
+        Ok(Readiness {
+            poll: Poll::new(runtime)?,
+            events: Events::with_capacity(alloc, room)?,
+        })
+    }
+
+    /// Watches a socket under a number, until it is closed.
+    ///
+    /// # Errors
+    ///
+    /// Those of the system.
+    pub fn watch<S: AsRawFd>(&self, socket: &S, number: usize) -> io::Result<()> {
+        let descriptor = socket.as_raw_fd();
+        let interest = Interest::READABLE | Interest::WRITABLE;
+        self.poll
+            .registry()
+            .register(&mut SourceFd(&descriptor), Token(number), interest)
+    }
+
+    /// Waits until a socket is ready, and no longer than this.
+    ///
+    /// # Errors
+    ///
+    /// Those of the system.
+    pub fn wait(&mut self, patience: Duration) -> io::Result<()> {
+        self.poll.poll(&mut self.events, Some(patience))
+    }
+
+    /// The sockets that were found ready, which may still have to wait.
+    pub fn events(&self) -> &Events<Global> {
+        &self.events
+    }
+}
+
+/// Whether a call failed only since it would have to wait. (One that does not wait is interrupted
+/// by nothing, but the kit's types leave it open.)
+pub fn has_to_wait(error: &io::Error) -> bool {
+    matches!(error.kind(), ErrorKind::WouldBlock | ErrorKind::Interrupted)
+}

@@ -1,0 +1,87 @@
+//! What is still to go of a caller's response.
+ghost use Rattle.std.specs.Prelude.{◌≡◌, ◌↔◌, ◌≤◌, [], ℕ, List, drop, take, length};
+ghost use Rattle.std.specs.Prelude.{IsTrue, OnOk, IfOk};
+ghost use Rattle.std.specs.Io.KnownBytes.{Appends};
+ghost use Rattle.acct_sockets.specs.inner.Coming.{Gives};
+
+use crate::readiness::has_to_wait;
+use acct_model::Octets;
+use acct_service::Fault;
+use std::alloc::{AllocError, Global};
+use std::io::Write;
+use std::marker::Model;
+
+/// The most octets that are written at once, so that one caller's long response keeps nobody
+/// waiting for long.
+const MOST_AT_ONCE: usize = 65_536;
+
+/// What is left of a response: its last octets.
+#[derive(Drop)]
+pub struct Response {
+    octets: Octets,
+    sent: usize,
+}
+
+impl Model for Response {
+    ghost Value = { List ℕ };
+
+    ghost view = { λ response. drop response.sent response.octets };
+
+    ghost invariant = { λ response. response.sent ≤ length response.octets };
+}
+
+impl Response {
+    /// These octets, of which none has gone.
+    ///
+    /// # Errors
+    ///
+    /// Only where memory is refused.
+    pub fn from_slice(alloc: Global, octets: &[u8]) -> Result<Response, AllocError>
+        ensures { IfOk result (λ response. response ≡ octets.now) }
+    {
+        let octets = Octets::from_slice(alloc, octets)?;
+        Ok(Response { octets, sent: 0 })
+    }
+
+    /// Whether all octets have gone.
+    pub fn has_gone(&self) -> bool
+        ensures { IsTrue result ↔ (self.now ≡ []) }
+    {
+        self.octets.as_slice()[self.sent..].is_empty()
+    }
+
+    /// Writes the next octets, as many as the writer takes of them at once, and says whether it took
+    /// some.
+    ///
+    /// # Errors
+    ///
+    /// Where the write fails for another reason than that it would have to wait.
+    pub fn write<W: Write>(&mut self, writer: &mut W) -> Result<bool, Fault>
+        ensures gives { OnOk result (Gives (W.contents writer.old) (W.contents writer.new)
+            self.old self.new) }
+    {
+        let count = write_some(writer, &self.octets.as_slice()[self.sent..])?;
+        self.sent += count;
+        Ok(count > 0)
+    }
+}
+
+/// Writes the first of these octets, as many as the writer takes of them at once, and says how many
+/// these were: none where it would have to wait.
+///
+/// # Errors
+///
+/// Where the write fails for another reason than that it would have to wait.
+pub fn write_some<W: Write>(writer: &mut W, octets: &[u8]) -> Result<usize, Fault>
+    ensures within { IfOk result (λ count. count ≤ length octets.now) }
+    ensures gives { IfOk result (λ count.
+        Appends (W.contents writer.old) (W.contents writer.new) (take count octets.now)) }
+{
+    let piece = octets.len().min(MOST_AT_ONCE);
+    match writer.write(&octets[..piece]) {
+        Ok(0) if piece > 0 => Err(Fault),
+        Ok(count) => Ok(count),
+        Err(error) if has_to_wait(&error) => Ok(0),
+        Err(_) => Err(Fault),
+    }
+}
