@@ -15,8 +15,11 @@ use std::time::{Duration, Instant};
 
 /// How many seconds a caller has from its accept on until its request is there.
 const SECONDS_TO_ASK: u64 = 4;
-/// How many seconds a caller is kept without an octet that came or went.
+/// How many seconds a caller is kept without an octet, but while its response goes.
 const SECONDS_OF_SILENCE: u64 = 2;
+/// How many seconds a caller is kept while nothing goes of its response: the system takes octets by
+/// the megabyte, and then none until a good part of them went over a slow link.
+const SECONDS_TO_TAKE: u64 = 30;
 /// How many milliseconds a caller keeps its place from its accept on where others wait for one.
 const SHORTEST_STAY: u64 = 25;
 
@@ -107,22 +110,31 @@ impl<S: Read + Write + OpenStream + Drop> Caller<S> {
 
     /// Whether its time is up.
     pub fn is_late(&self, now: Instant) -> bool {
-        let asks_too_long = matches!(&self.stage, Stage::Asking(_))
-            && now.duration_since(self.came) >= Duration::from_secs(SECONDS_TO_ASK);
-        asks_too_long || now.duration_since(self.heard) >= Duration::from_secs(SECONDS_OF_SILENCE)
+        let silence = now.duration_since(self.heard);
+        match &self.stage {
+            Stage::Told(_) => silence >= Duration::from_secs(SECONDS_TO_TAKE),
+            Stage::Asking(_) => {
+                silence >= Duration::from_secs(SECONDS_OF_SILENCE)
+                    || now.duration_since(self.came) >= Duration::from_secs(SECONDS_TO_ASK)
+            }
+            Stage::Asked | Stage::Leaving => silence >= Duration::from_secs(SECONDS_OF_SILENCE),
+        }
     }
 
-    /// Whether it may give its place to another one: it is silent, and was not just accepted or has
-    /// its response.
+    /// Whether it gives its place to another one that waits: nothing comes or goes now, and it was
+    /// not just accepted, or has taken nothing of its response for a while, or has all of it.
     pub fn may_give_way(&self, now: Instant) -> bool {
-        match &self.stage {
+        let is_idle = match &self.stage {
             Stage::Asking(_) => {
-                let stay = Duration::from_millis(SHORTEST_STAY);
-                !self.is_ready && now.duration_since(self.came) >= stay
+                now.duration_since(self.came) >= Duration::from_millis(SHORTEST_STAY)
             }
-            Stage::Leaving => !self.is_ready,
-            Stage::Asked | Stage::Told(_) => false,
-        }
+            Stage::Told(_) => {
+                now.duration_since(self.heard) >= Duration::from_secs(SECONDS_OF_SILENCE)
+            }
+            Stage::Asked => false,
+            Stage::Leaving => true,
+        };
+        is_idle && !self.is_ready
     }
 
     /// Goes on by one read or one write, into or out of the room.

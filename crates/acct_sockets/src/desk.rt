@@ -5,6 +5,9 @@
 //! 2. Where no place is free, the caller that came first of those that are silent gives its place
 //!    to one that waits. So strangers who hold every place keep nobody away.
 //! 3. What a turn does for callers is bounded, so that no datagram waits for all of them.
+ghost use Rattle.std.specs.Prelude.{IfOk, IfSome, OnOk};
+ghost use Rattle.acct_sockets.specs.inner.Places.{IsAsked, Answers};
+
 use crate::caller::{Caller, Step};
 use crate::readiness::Readiness;
 use acct_model::Octets;
@@ -105,7 +108,10 @@ impl<R: Net> Desk<R> {
         readiness: &Readiness,
         room: &mut [u8],
         now: Instant,
-    ) -> Result<Option<Octets>, Fault> {
+    ) -> Result<Option<Octets>, Fault>
+        ensures { IfOk result (λ heard. IfSome heard (λ _.
+            IsAsked self.new.asker self.new.places.items)) }
+    {
         if let Some(place) = self.late_place(now) {
             self.let_go(place)?;
         }
@@ -118,16 +124,17 @@ impl<R: Net> Desk<R> {
     /// # Errors
     ///
     /// Where none asked, its connection fails, or memory is refused. It is then given up.
-    pub fn answer(&mut self, response: &[u8], now: Instant) -> Result<(), Fault> {
+    pub fn answer(&mut self, response: &[u8], now: Instant) -> Result<(), Fault>
+        ensures { OnOk result (Answers R.Stream.contents self.old.asker self.old.places.items
+            self.new.places.items response.now) }
+    {
         let place = self.asker.take().ok_or(Fault)?;
-        let Some(Some(caller)) = self.places.get_mut(place) else {
-            return Err(Fault);
-        };
-        let answered = caller.answer(self.alloc, response, now);
-        if answered.is_err() {
-            self.clear(place);
-        }
-        answered
+        self.is_full = false;
+        let slot = self.places.get_mut(place).ok_or(Fault)?;
+        let mut caller = slot.take().ok_or(Fault)?;
+        caller.answer(self.alloc, response, now)?;
+        *slot = Some(caller);
+        Ok(())
     }
 
     /// Closes the connection of the caller that asked last and was not answered, if there is one.
@@ -190,7 +197,10 @@ impl<R: Net> Desk<R> {
     }
 
     // Goes on with callers that are ready, until one of them asks.
-    fn visit(&mut self, room: &mut [u8], now: Instant) -> Result<Option<Octets>, Fault> {
+    fn visit(&mut self, room: &mut [u8], now: Instant) -> Result<Option<Octets>, Fault>
+        ensures { IfOk result (λ heard. IfSome heard (λ _.
+            IsAsked self.new.asker self.new.places.items)) }
+    {
         for _ in 0..VISITS {
             let Some(place) = self.ready_place() else {
                 return Ok(None);
@@ -209,24 +219,24 @@ impl<R: Net> Desk<R> {
         place: usize,
         room: &mut [u8],
         now: Instant,
-    ) -> Result<Option<Octets>, Fault> {
-        let Some(Some(caller)) = self.places.get_mut(place) else {
+    ) -> Result<Option<Octets>, Fault>
+        ensures { IfOk result (λ heard. IfSome heard (λ _.
+            IsAsked self.new.asker self.new.places.items)) }
+    {
+        let slot = self.places.get_mut(place).ok_or(Fault)?;
+        let mut caller = slot.take().ok_or(Fault)?;
+        self.is_full = false;
+        let step = caller.go_on(self.alloc, room, now)?;
+        if let Step::Gone = &step {
             return Ok(None);
-        };
-        match caller.go_on(self.alloc, room, now) {
-            Ok(Step::Waits) => Ok(None),
-            Ok(Step::Asks(request)) => {
+        }
+        *slot = Some(caller);
+        match step {
+            Step::Asks(request) => {
                 self.asker = Some(place);
                 Ok(Some(request))
             }
-            Ok(Step::Gone) => {
-                self.clear(place);
-                Ok(None)
-            }
-            Err(Fault) => {
-                self.clear(place);
-                Err(Fault)
-            }
+            Step::Waits | Step::Gone => Ok(None),
         }
     }
 

@@ -1,5 +1,5 @@
 -- How a caller goes on: its request comes, and then its response goes.
-use Rattle.std.specs.Prelude.{◌≡◌, ⊤, ℕ, Bool, false, List, [], Option}
+use Rattle.std.specs.Prelude.{◌≡◌, ⊤, ℕ, false, List, [], Option}
 use Rattle.acct_sockets.specs.declared.caller.Stage.{Stage}
 use Rattle.acct_sockets.specs.declared.caller.Stage.TheVariants as stage
 use Rattle.acct_sockets.specs.declared.caller.Step.{Step}
