@@ -3,13 +3,20 @@
  *
  *   server_sender echo PORT
  *   server_sender send PORT WINDOW FILE
+ *   server_sender pace PORT RATE FILE
+ *
+ * `send` keeps so many on their way. `pace` sends so many a second, whatever comes back, and counts
+ * the time to a reply from the moment at which its datagram was due, so that one stall of the
+ * server shows in all that it held up.
  *
  * FILE holds datagrams, each after its size as two octets, the high one first. The second octet of
  * a datagram is its identifier, the number of the datagram modulo 256; a reply has it at the same
  * place. What no reply came for within a second counts as lost and is not sent again. It prints how
  * many were answered and lost, the seconds from the first sending to the last reply, and the median
  * and the 99th percentile of the time to a reply, in microseconds. */
+#define _GNU_SOURCE
 #include <arpa/inet.h>
+#include <poll.h>
 #include <stdint.h>
 #include <stdio.h>
 #include <stdlib.h>
@@ -97,28 +104,56 @@ static long settle(int s, long *answered, long *lost, int64_t *last) {
     return gone;
 }
 
-static int send_all(int port, long window, const char *path) {
-    FILE *file = fopen(path, "rb");
-    if (file == NULL) {
-        perror(path);
-        return 1;
-    }
+/* A socket that sends to a port of this machine, and waits so long for what comes back. */
+static int sender_to(int port, long microseconds) {
     struct sockaddr_in to = {
         .sin_family = AF_INET, .sin_port = htons(port), .sin_addr.s_addr = htonl(INADDR_LOOPBACK)};
     int s = bound(0);
-    struct timeval patience = {.tv_sec = 0, .tv_usec = 200000};
+    struct timeval patience = {.tv_sec = 0, .tv_usec = microseconds};
     setsockopt(s, SOL_SOCKET, SO_RCVTIMEO, &patience, sizeof patience);
     connect(s, (struct sockaddr *)&to, sizeof to);
+    return s;
+}
+
+/* The size of the next datagram of the file, or 0 at its end. */
+static size_t next_of(FILE *file, const char *path, unsigned char *octets) {
+    int high = fgetc(file);
+    if (high == EOF) {
+        return 0;
+    }
+    size_t size = (size_t)high << 8 | (size_t)fgetc(file);
+    if (size > LONGEST || fread(octets, 1, size, file) != size) {
+        fprintf(stderr, "%s is cut\n", path);
+        exit(1);
+    }
+    return size;
+}
+
+static void tell(long answered, long lost, int64_t first, int64_t last) {
+    qsort(took, (size_t)answered, sizeof took[0], by_size);
+    int64_t median = answered ? took[answered / 2] : 0;
+    int64_t late = answered ? took[answered * 99 / 100] : 0;
+    double seconds = (last - first) / 1e9;
+    printf("%ld %ld %.6f %.1f %.1f\n", answered, lost, seconds, median / 1e3, late / 1e3);
+}
+
+static FILE *opened(const char *path) {
+    FILE *file = fopen(path, "rb");
+    if (file == NULL) {
+        perror(path);
+        exit(1);
+    }
+    return file;
+}
+
+static int send_all(int port, long window, const char *path) {
+    FILE *file = opened(path);
+    int s = sender_to(port, 200000);
     long answered = 0, lost = 0, out = 0;
     int64_t first = now(), last = first;
     unsigned char octets[LONGEST];
-    int high;
-    while ((high = fgetc(file)) != EOF) {
-        size_t size = (size_t)high << 8 | (size_t)fgetc(file);
-        if (size > sizeof octets || fread(octets, 1, size, file) != size) {
-            fprintf(stderr, "%s is cut\n", path);
-            return 1;
-        }
+    size_t size;
+    while ((size = next_of(file, path, octets)) != 0) {
         while (out >= window || is_out[octets[1]]) {
             out -= settle(s, &answered, &lost, &last);
         }
@@ -130,14 +165,50 @@ static int send_all(int port, long window, const char *path) {
     while (out > 0) {
         out -= settle(s, &answered, &lost, &last);
     }
-    qsort(took, (size_t)answered, sizeof took[0], by_size);
-    int64_t median = answered ? took[answered / 2] : 0;
-    int64_t late = answered ? took[answered * 99 / 100] : 0;
-    double seconds = (last - first) / 1e9;
-    printf("%ld %ld %.6f %.1f %.1f\n", answered, lost, seconds, median / 1e3, late / 1e3);
+    tell(answered, lost, first, last);
     return 0;
 }
 
+/* Takes what comes back until a moment. */
+static long take_until(int s, int64_t moment, long *answered, int64_t *last) {
+    long taken = 0;
+    struct pollfd asked = {.fd = s, .events = POLLIN};
+    for (;;) {
+        int64_t left = moment - now();
+        struct timespec patience = {.tv_sec = left / 1000000000ll, .tv_nsec = left % 1000000000ll};
+        if (left <= 0 || ppoll(&asked, 1, &patience, NULL) <= 0) {
+            return taken;
+        }
+        taken += take(s, answered, last);
+    }
+}
+
+static int pace_all(int port, long rate, const char *path) {
+    FILE *file = opened(path);
+    int s = sender_to(port, 1000);
+    long answered = 0, lost = 0, out = 0, sent = 0;
+    int64_t first = now(), last = first;
+    unsigned char octets[LONGEST];
+    size_t size;
+    while ((size = next_of(file, path, octets)) != 0) {
+        int64_t due = first + sent++ * 1000000000ll / rate;
+        out -= take_until(s, due, &answered, &last);
+        long gone = give_up();
+        out -= gone;
+        lost += gone;
+        if (is_out[octets[1]]) {
+            out--;
+            lost++;
+        }
+        sent_at[octets[1]] = due;
+        is_out[octets[1]] = 1;
+        out++;
+        send(s, octets, size, 0);
+    }
+    out -= take_until(s, now() + PATIENCE, &answered, &last);
+    tell(answered, lost + out, first, last);
+    return 0;
+}
 int main(int count, char **words) {
     if (count == 3 && strcmp(words[1], "echo") == 0) {
         echo(atoi(words[2]));
@@ -145,6 +216,9 @@ int main(int count, char **words) {
     if (count == 5 && strcmp(words[1], "send") == 0) {
         return send_all(atoi(words[2]), atol(words[3]), words[4]);
     }
-    fprintf(stderr, "server_sender echo PORT, or server_sender send PORT WINDOW FILE\n");
+    if (count == 5 && strcmp(words[1], "pace") == 0) {
+        return pace_all(atoi(words[2]), atol(words[3]), words[4]);
+    }
+    fprintf(stderr, "server_sender echo PORT, send PORT WINDOW FILE or pace PORT RATE FILE\n");
     return 2;
 }

@@ -50,8 +50,8 @@ impl Response {
         self.octets.as_slice()[self.sent..].is_empty()
     }
 
-    /// Writes the next octets, as many as the writer takes of them at once, and says whether it took
-    /// some.
+    /// Writes the next octets, as many as the writer takes of them at once, and says whether it
+    /// took some.
     ///
     /// # Errors
     ///

@@ -1,0 +1,331 @@
+//! Callers of the desk on loopback: each kind of them, and many at once.
+use acct_service::{Event, Exchange, Fault, What};
+use acct_sockets::Sockets;
+use std::alloc::Global;
+use std::io::{Read, Write};
+use std::net::{Shutdown, TcpStream, UdpSocket};
+use std::test::Fail;
+use std::time::{Duration, Instant};
+
+const REQUEST: &[u8] = b"GET /me/balance HTTP/1.1\r\nDesk-Key: al-key-0000000001\r\n\r\n";
+
+fn bound<'r>(rt: &'r HostRuntime) -> Result<Sockets<'r, HostRuntime>, Fail> {
+    match Sockets::bind(rt, rt.alloc(), [127, 0, 0, 1], 0, 0) {
+        Ok(sockets) => Ok(sockets),
+        Err(_) => Err("no sockets".into()),
+    }
+}
+
+// A caller that has sent these octets.
+fn caller(
+    rt: &HostRuntime,
+    sockets: &Sockets<'_, HostRuntime>,
+    octets: &[u8],
+) -> Result<TcpStream, Fail> {
+    let (_, desk) = sockets.ports()?;
+    let mut stream = TcpStream::connect(rt, ("127.0.0.1", desk))?;
+    stream.set_read_timeout(Some(Duration::from_secs(5)))?;
+    stream.write_all(octets)?;
+    Ok(stream)
+}
+
+// What comes in at most so many turns.
+fn next(sockets: &mut Sockets<'_, HostRuntime>, turns: u32) -> Result<Option<Event>, Fault> {
+    for _ in 0..turns {
+        if let Some(event) = sockets.next()? {
+            return Ok(Some(event));
+        }
+    }
+    Ok(None)
+}
+
+// Answers what comes in at most so many turns by its own octets, and says whether these are wanted.
+fn echoes(sockets: &mut Sockets<'_, HostRuntime>, turns: u32, wanted: &[u8]) -> Result<bool, Fail> {
+    let Ok(Some(event)) = next(sockets, turns) else {
+        return Ok(false);
+    };
+    let What::Desk { bytes } = &event.what else {
+        return Ok(false);
+    };
+    let is_wanted = bytes.as_slice() == wanted;
+    Ok(sockets.reply(&event, bytes.as_slice()).is_ok() && is_wanted)
+}
+
+// Whether a caller gets just these octets, and then the end.
+fn gets<R: Read>(alloc: Global, stream: &mut R, wanted: &[u8]) -> Result<bool, Fail> {
+    let mut response = Vec::new(alloc);
+    stream.read_to_end(&mut response)?;
+    Ok(response.as_slice() == wanted)
+}
+
+#[test]
+fn hears_a_caller(rt: HostRuntime) -> Result<(), Fail> {
+    let mut sockets = bound(&rt)?;
+    let mut guest = caller(&rt, &sockets, REQUEST)?;
+    assert!(rt; echoes(&mut sockets, 8, REQUEST)?);
+    assert!(rt; gets(rt.alloc(), &mut guest, REQUEST)?);
+    assert_eq!(rt; sockets.failures(), 0);
+    Ok(())
+}
+
+// What a caller sends on is read away, so that its response isn't lost to a reset.
+#[test]
+fn hears_one_request_of_a_caller(rt: HostRuntime) -> Result<(), Fail> {
+    let mut sockets = bound(&rt)?;
+    let mut guest = caller(&rt, &sockets, REQUEST)?;
+    assert!(rt; echoes(&mut sockets, 8, REQUEST)?);
+    guest.write_all(REQUEST)?;
+    assert!(rt; matches!(&next(&mut sockets, 4), Ok(None)));
+    guest.write_all(REQUEST)?;
+    assert!(rt; gets(rt.alloc(), &mut guest, REQUEST)?);
+    guest.shutdown(Shutdown::Write)?;
+    assert!(rt; matches!(&next(&mut sockets, 4), Ok(None)));
+    assert_eq!(rt; sockets.failures(), 0);
+    Ok(())
+}
+
+#[test]
+fn answers_a_caller_that_closed_its_side(rt: HostRuntime) -> Result<(), Fail> {
+    let mut sockets = bound(&rt)?;
+    for octets in [b"GET /me", REQUEST, b""] {
+        let mut guest = caller(&rt, &sockets, octets)?;
+        guest.shutdown(Shutdown::Write)?;
+        assert!(rt; echoes(&mut sockets, 8, octets)?);
+        assert!(rt; gets(rt.alloc(), &mut guest, octets)?);
+    }
+    assert_eq!(rt; sockets.failures(), 0);
+    Ok(())
+}
+
+// A request that comes in pieces is one event, once it is whole, and others come meanwhile.
+#[test]
+fn hears_others_while_a_request_comes(rt: HostRuntime) -> Result<(), Fail> {
+    let mut sockets = bound(&rt)?;
+    let mut slow = caller(&rt, &sockets, b"")?;
+    for octet in REQUEST {
+        let mut guest = caller(&rt, &sockets, REQUEST)?;
+        assert!(rt; echoes(&mut sockets, 8, REQUEST)?);
+        assert!(rt; gets(rt.alloc(), &mut guest, REQUEST)?);
+        slow.write_all(&[*octet])?;
+    }
+    assert!(rt; echoes(&mut sockets, 8, REQUEST)?);
+    assert!(rt; gets(rt.alloc(), &mut slow, REQUEST)?);
+    assert_eq!(rt; sockets.failures(), 0);
+    Ok(())
+}
+
+// Makes turns until so many faults came, while this caller sends an octet in each ten turns, and
+// says whether that was within these milliseconds.
+fn faults_within(
+    rt: &HostRuntime,
+    sockets: &mut Sockets<'_, HostRuntime>,
+    dripping: &mut TcpStream,
+    count: u64,
+    (least, most): (u64, u64),
+) -> Result<bool, Fail> {
+    let begun = Instant::now(rt)?;
+    for _ in 0..100 {
+        if sockets.failures() >= count {
+            let took = begun.elapsed(rt)?;
+            return Ok(took > Duration::from_millis(least) && took < Duration::from_millis(most));
+        }
+        let _ = dripping.write(b"G");
+        for _ in 0..10 {
+            let _ = sockets.next();
+        }
+    }
+    Err("no faults".into())
+}
+
+// A caller that sends nothing is given up after two seconds.
+#[test]
+fn gives_up_who_is_silent(rt: HostRuntime) -> Result<(), Fail> {
+    let mut sockets = bound(&rt)?;
+    let mut silent = caller(&rt, &sockets, b"")?;
+    let mut dripping = caller(&rt, &sockets, b"G")?;
+    assert!(rt; faults_within(&rt, &mut sockets, &mut dripping, 1, (1_900, 3_500))?);
+    assert!(rt; gets(rt.alloc(), &mut silent, b"")?);
+    Ok(())
+}
+
+// One that goes on sending is given up after four, and the next one is answered.
+#[test]
+fn gives_up_who_never_asks(rt: HostRuntime) -> Result<(), Fail> {
+    let mut sockets = bound(&rt)?;
+    let mut dripping = caller(&rt, &sockets, b"G")?;
+    assert!(rt; faults_within(&rt, &mut sockets, &mut dripping, 1, (3_900, 5_500))?);
+    let mut guest = caller(&rt, &sockets, REQUEST)?;
+    assert!(rt; echoes(&mut sockets, 8, REQUEST)?);
+    assert!(rt; gets(rt.alloc(), &mut guest, REQUEST)?);
+    assert_eq!(rt; sockets.failures(), 1);
+    Ok(())
+}
+
+// Octets of which no two parts are alike.
+fn long_response(alloc: Global, blocks: u32) -> Result<Vec<u8>, Fail> {
+    let mut response = Vec::new(alloc);
+    let block = [b'.'; 4096];
+    for number in 0..blocks {
+        response.extend_from_slice(&number.to_be_bytes())?;
+        response.extend_from_slice(&block)?;
+    }
+    Ok(response)
+}
+
+// What a caller takes of its response, a part at a time, while others ask and are answered.
+fn taken_slowly(
+    rt: &HostRuntime,
+    sockets: &mut Sockets<'_, HostRuntime>,
+    slow: &mut TcpStream,
+) -> Result<Vec<u8>, Fail> {
+    let mut taken = Vec::new(rt.alloc());
+    let mut room = vec![in rt.alloc(); 0; 1 << 18]?;
+    for _ in 0..1000 {
+        let mut guest = caller(rt, sockets, REQUEST)?;
+        if !echoes(sockets, 64, REQUEST)? || !gets(rt.alloc(), &mut guest, REQUEST)? {
+            return Err("another caller".into());
+        }
+        if !matches!(&next(sockets, 5), Ok(None)) {
+            return Err("an event".into());
+        }
+        match slow.read(room.as_mut_slice())? {
+            0 => return Ok(taken),
+            count => taken.extend_from_slice(&room[..count])?,
+        }
+    }
+    Err("no end".into())
+}
+
+// A response that its caller takes slowly goes whole, though it takes more than two seconds, and
+// keeps nobody waiting.
+#[test]
+fn answers_a_slow_caller(rt: HostRuntime) -> Result<(), Fail> {
+    let mut sockets = bound(&rt)?;
+    let response = long_response(rt.alloc(), 2_048)?;
+    let mut slow = caller(&rt, &sockets, REQUEST)?;
+    let Ok(Some(event)) = next(&mut sockets, 8) else {
+        return Err("no event".into());
+    };
+    let begun = Instant::now(&rt)?;
+    assert!(rt; sockets.reply(&event, response.as_slice()).is_ok());
+    let taken = taken_slowly(&rt, &mut sockets, &mut slow)?;
+    assert!(rt; taken.as_slice() == response.as_slice());
+    assert!(rt; begun.elapsed(&rt)? > Duration::from_secs(2));
+    assert_eq!(rt; sockets.failures(), 0);
+    Ok(())
+}
+
+// One that takes nothing for more than two seconds, and all of it then.
+#[test]
+fn waits_for_a_caller_that_takes_nothing(rt: HostRuntime) -> Result<(), Fail> {
+    let mut sockets = bound(&rt)?;
+    let response = long_response(rt.alloc(), 2_048)?;
+    let mut deaf = caller(&rt, &sockets, REQUEST)?;
+    let Ok(Some(event)) = next(&mut sockets, 8) else {
+        return Err("no event".into());
+    };
+    assert!(rt; sockets.reply(&event, response.as_slice()).is_ok());
+    let begun = Instant::now(&rt)?;
+    assert!(rt; matches!(&next(&mut sockets, 150), Ok(None)));
+    assert!(rt; begun.elapsed(&rt)? > Duration::from_secs(2));
+    let taken = taken_slowly(&rt, &mut sockets, &mut deaf)?;
+    assert!(rt; taken.as_slice() == response.as_slice());
+    assert_eq!(rt; sockets.failures(), 0);
+    Ok(())
+}
+
+// The request of the caller with this number.
+fn request_of(alloc: Global, number: usize) -> Result<String, Fail> {
+    Ok(format!(in alloc; "GET /{number} HTTP/1.1\r\n\r\n")?)
+}
+
+// So many callers, each with a request of its own.
+fn callers(
+    rt: &HostRuntime,
+    sockets: &Sockets<'_, HostRuntime>,
+    count: usize,
+) -> Result<Vec<TcpStream>, Fail> {
+    let mut streams = Vec::new(rt.alloc());
+    for number in 0..count {
+        let request = request_of(rt.alloc(), number)?;
+        streams.push(caller(rt, sockets, request.as_bytes())?)?;
+    }
+    Ok(streams)
+}
+
+// Answers each request of so many turns by its octets.
+fn echo_all(sockets: &mut Sockets<'_, HostRuntime>, turns: u32) -> bool {
+    for _ in 0..turns {
+        let Ok(came) = sockets.next() else {
+            return false;
+        };
+        if let Some(event) = came
+            && let What::Desk { bytes } = &event.what
+            && sockets.reply(&event, bytes.as_slice()).is_err()
+        {
+            return false;
+        }
+    }
+    true
+}
+
+// More callers at once than there are places get each the response to its own request.
+#[test]
+fn answers_many_at_once(rt: HostRuntime) -> Result<(), Fail> {
+    let mut sockets = bound(&rt)?;
+    let mut streams = callers(&rt, &sockets, 100)?;
+    assert!(rt; echo_all(&mut sockets, 200));
+    for (number, stream) in streams.iter_mut().enumerate() {
+        let request = request_of(rt.alloc(), number)?;
+        assert!(rt; gets(rt.alloc(), stream, request.as_bytes())?);
+    }
+    assert_eq!(rt; sockets.failures(), 0);
+    Ok(())
+}
+
+// Strangers at every place keep nobody away: the first of them gives way.
+#[test]
+fn hears_past_silent_callers(rt: HostRuntime) -> Result<(), Fail> {
+    let mut sockets = bound(&rt)?;
+    let mut silent = Vec::new(rt.alloc());
+    for _ in 0..64 {
+        silent.push(caller(&rt, &sockets, b"")?)?;
+        assert!(rt; matches!(&next(&mut sockets, 2), Ok(None)));
+    }
+    let mut guest = caller(&rt, &sockets, REQUEST)?;
+    let begun = Instant::now(&rt)?;
+    assert!(rt; matches!(&next(&mut sockets, 4), Err(Fault)));
+    assert!(rt; echoes(&mut sockets, 4, REQUEST)?);
+    assert!(rt; gets(rt.alloc(), &mut guest, REQUEST)?);
+    assert!(rt; begun.elapsed(&rt)? < Duration::from_millis(1_000));
+    if let Some(first) = silent.first_mut() {
+        assert!(rt; gets(rt.alloc(), first, b"")?);
+    }
+    assert_eq!(rt; sockets.failures(), 1);
+    Ok(())
+}
+
+// A Start of the client, whose digest another program computed.
+const START: &[u8] = b"\x04\x07\x00\x22\xa0\x21\x9d\xa7\x81\xbf\x21\x71\x05\xbb\xdd\x1d\x2b\x3a\
+    \x0e\x94\x28\x06\x00\x00\x00\x01\x2c\x04\x73\x31\x01\x04\x61\x6c";
+
+// Datagrams and callers that wait take turns.
+#[test]
+fn takes_turns(rt: HostRuntime) -> Result<(), Fail> {
+    let mut sockets = bound(&rt)?;
+    let (radius, _) = sockets.ports()?;
+    let client = UdpSocket::bind(&rt, "127.0.0.1:0")?;
+    for _ in 0..10 {
+        client.send_to(START, ("127.0.0.1", radius))?;
+    }
+    let _streams = callers(&rt, &sockets, 10)?;
+    for turn in 0..20 {
+        let Ok(Some(event)) = next(&mut sockets, 1) else {
+            return Err(Fail::from(("turn", turn)));
+        };
+        let is_caller = matches!(&event.what, What::Desk { .. });
+        assert_eq!(rt; is_caller, turn % 2 == 0);
+        assert!(rt; sockets.reply(&event, b"x").is_ok());
+    }
+    Ok(())
+}
