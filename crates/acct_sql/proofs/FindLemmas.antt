@@ -59,6 +59,21 @@ find_has p (x ∷ xs) r h = go (p x) refl h (find_has p xs r)
     go true is h rest = let same : x ≡ r = cc in (inl (sym same), ap p (sym same) ∙ is)
     go false is h rest = (inr (rest h).0, (rest h).1)
 
+-- where nothing was found, no member passes
+pub none_has : {X : Type 0} (p : X → Bool) (xs : List X) → find p xs ≡ None → (x : X) → Has xs x
+    → p x ≡ false
+none_has p [] none x h = absurd h
+none_has p (y ∷ xs) none x h = go (p y) refl none (none_has p xs)
+  where
+    go : (b : Bool) → p y ≡ b → cond b (Some y) (find p xs) ≡ None
+        → (find p xs ≡ None → (z : _) → Has xs z → p z ≡ false) → p x ≡ false
+    go true is unfound rest = absurd cc
+    go false is unfound rest = elim h [
+      | inl same ↦ ap p same
+          ∙ is
+      | inr later ↦ rest unfound x later
+    ]
+
 abbrev pub IsOne : {X : Type 0} → (X → Bool) → List X → Type 0
 IsOne {X} p xs = (r s : X) → Has xs r → Has xs s → p r ≡ true → p s ≡ true → r ≡ s
 

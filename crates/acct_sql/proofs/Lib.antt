@@ -27,6 +27,7 @@ mod ColumnLemmas
 mod WalkLemmas
 mod ListLemmas
 mod PlanReadLemmas
+mod KeptPlanLemmas
 mod IdLemmas
 mod RisingLemmas
 mod LookLemmas

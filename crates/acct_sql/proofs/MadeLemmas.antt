@@ -19,7 +19,7 @@ use Rattle.acct_sql.specs.Tidy.{IsTidy}
 use Rattle.acct_sql.specs.Columns.{session_columns, session_plan_columns, topup_columns}
 use Rattle.acct_sql.specs.Columns.{framed_in, framed_octets}
 use Rattle.acct_sql.specs.Content.{content_in_tables, content_without_plans, plans_in_tables}
-use Rattle.acct_sql.specs.Content.{with_plan, with_plans}
+use Rattle.acct_sql.specs.Content.{with_plan, with_plans, is_session}
 use Rattle.acct_sql.specs.Book.{IsBook, HasSamePlans}
 use Rattle.acct_sql.specs.inner.Inside.{HasPut, with_row, with_balance, with_voucher, HasMade}
 use Rattle.acct_sql.specs.Content.{without_plan}
@@ -29,6 +29,7 @@ use Rattle.sqlite.specs.State.{State, Executes, ExecutesInside}
 use Rattle.sqlite.specs.Store.{Ghosts}
 use Rattle.sqlite.specs.Held.{state}
 use Rattle.sqlite_schema.specs.declared.schema.Keys.TheVariants.{Enforced}
+use Rattle.sqlite_rules.specs.Lists.{Has}
 use Rattle.acct_model.specs.Vouchers.{TopUpFacts}
 use Rattle.acct_book.specs.Row.{RowFacts}
 use Rattle.acct_book.specs.Content.{Content, same_key, key_of, with_closed, closed_by}
@@ -371,10 +372,13 @@ bare_same old new accounts vouchers sessions = λ i. record {
   topups = v.topups_in (vouchers i);
 }
 
-made_plan : (row : RowFacts) (old new : State) (count : ℕ) → IsBookIf old → count ≢ 0
+-- where a row of the session is kept, an UPDATE sets its plan
+pub made_plan : (row : RowFacts) (old new : State) (count : ℕ) → IsBookIf old
+    → (kept : Row) → Has (old.now.trees session_plan.tree) kept
+    → is_session (key_of row) kept ≡ true
     → ExecutesInside 0 texts.SET_SESSION_PLAN.now (session_plan_columns row) old new (Ok count)
     → HasSetPlan (key_of row) row.plan old new
-made_plan row old new count books some h =
+made_plan row old new count books kept has mine h =
     let book = books h.1.was_open in
     let params = session_plan_columns row in
     let done = plan_updates params old new count book.schema h.0 in
@@ -384,6 +388,7 @@ made_plan row old new count books some h =
     let tidy = update_tidy book_schema Enforced session_plan t.session_filter t.plan_project Null
     old.now.trees new.now.trees params done.answer done.selects (λ r. refl) (λ r. refl)
     book.plans done.applies in
+    let some = p.kept_met row old new count book done kept has mine in
     record {
       shows = h.1;
       book = after_plan old.now new.now book done.schema done.sound tidy accounts vouchers sessions;
@@ -393,53 +398,32 @@ made_plan row old new count books some h =
           (λ e. absurd (omega (arith, e))) done.applies.tables;
     }
 
-made_new_plan : (row : RowFacts) (old mid new : State) (count more : ℕ) → IsBookIf old → count ≡ 0
-    → ExecutesInside 0 texts.SET_SESSION_PLAN.now (session_plan_columns row) old mid (Ok count)
-    → ExecutesInside 0 texts.NEW_SESSION_PLAN.now (session_plan_columns row) mid new (Ok more)
+-- where none is kept, an INSERT sets it
+pub made_new_plan : (row : RowFacts) (old new : State) (count : ℕ) → IsBookIf old
+    → ((r : Row) → Has (old.now.trees session_plan.tree) r → is_session (key_of row) r ≡ false)
+    → ExecutesInside 0 texts.NEW_SESSION_PLAN.now (session_plan_columns row) old new (Ok count)
     → HasSetPlan (key_of row) row.plan old new
-made_new_plan row old mid new count more books none first second =
-    let book = books first.1.was_open in
+made_new_plan row old new count books fresh h =
+    let book = books h.1.was_open in
     let params = session_plan_columns row in
-    let done = plan_updates params old mid count book.schema first.0 in
-    let accounts = done.applies.tables.1.1.0 (λ e. absurd (omega (arith, e))) in
-    let vouchers = done.applies.tables.1.1.1.0 (λ e. absurd (omega (arith, e))) in
-    let sessions = done.applies.tables.1.1.1.1.0 (λ e. absurd (omega (arith, e))) in
-    let tidy = update_tidy book_schema Enforced session_plan t.session_filter t.plan_project Null
-    old.now.trees mid.now.trees params done.answer done.selects (λ r. refl) (λ r. refl)
-    book.plans done.applies in
-    let book' = after_plan old.now mid.now book done.schema done.sound tidy accounts vouchers
-    sessions in
     let added = inserts 6 session_plan.name session_plan.tree session_plan.columns (1 ∷ 2 ∷ [])
     refl (λ db. refl) (λ taken news. refl) texts.NEW_SESSION_PLAN.now t.session_plan_terms 4 params
-    (Null ∷ params) mid new more t.new_session_plan_is t.new_session_plan_plain refl book'.schema
-    second.0 in
-    let accounts' = added.applies.tables.1.1.0 (λ e. absurd (omega (arith, e))) in
-    let vouchers' = added.applies.tables.1.1.1.0 (λ e. absurd (omega (arith, e))) in
-    let sessions' = added.applies.tables.1.1.1.1.0 (λ e. absurd (omega (arith, e))) in
-    let fresh = p.none_kept row old mid count book done none in
-    let tidy' = insert_tidy book_schema Enforced session_plan mid.now.trees new.now.trees
-    (Null ∷ params) refl added.applies book'.plans (next_rowid (mid.now.trees session_plan.tree))
-    (ap rowid (p.put_is row mid new book' added fresh)) in
-    let same = p.set_none row old mid count book done none in
+    (Null ∷ params) old new count t.new_session_plan_is t.new_session_plan_plain refl book.schema
+    h.0 in
+    let accounts = added.applies.tables.1.1.0 (λ e. absurd (omega (arith, e))) in
+    let vouchers = added.applies.tables.1.1.1.0 (λ e. absurd (omega (arith, e))) in
+    let sessions = added.applies.tables.1.1.1.1.0 (λ e. absurd (omega (arith, e))) in
+    let tidy = insert_tidy book_schema Enforced session_plan old.now.trees new.now.trees
+    (Null ∷ params) refl added.applies book.plans (next_rowid (old.now.trees session_plan.tree))
+    (ap rowid (p.put_is row old new book added fresh)) in
     record {
-      shows = record {
-        was_open = first.1.was_open;
-        is_open = second.1.is_open;
-        now_is = refl;
-        committed_is = second.1.committed_is ∙ first.1.committed_is;
-        mode = second.1.mode;
-      };
-      book = after_plan mid.now new.now book' added.schema added.sound tidy' accounts' vouchers'
-          sessions';
-      content = bare_same old.now.trees new.now.trees (accounts' ∙ accounts) (vouchers' ∙ vouchers)
-          (sessions' ∙ sessions);
-      plans = λ i key. (p.new_plan row mid new book' added fresh key
-          ∙ ap (λ o. cond (same_key (key_of row) key) (Some row.plan) o) (same key)) i;
-      same_plans = same_plans_then old.now.trees mid.now.trees new.now.trees
-          (same_plans 14 old.now.trees mid.now.trees (omega arith)
-          (λ e. absurd (omega (arith, e))) done.applies.tables)
-          (same_plans 14 mid.now.trees new.now.trees (omega arith)
-          (λ e. absurd (omega (arith, e))) added.applies.tables);
+      shows = h.1;
+      book = after_plan old.now new.now book added.schema added.sound tidy accounts vouchers
+          sessions;
+      content = bare_same old.now.trees new.now.trees accounts vouchers sessions;
+      plans = λ i key. p.new_plan row old new book added fresh key i;
+      same_plans = same_plans 14 old.now.trees new.now.trees (omega arith)
+          (λ e. absurd (omega (arith, e))) added.applies.tables;
     }
 
 -- a session's columns and its plan are the session
@@ -452,8 +436,8 @@ planned_row plans rows row key true = refl
 planned_row plans rows row key false = refl
 
 with_plans_row : (plans : Key → Option (List ℕ)) (c : Content) (row : RowFacts)
-    → with_plans (update same_key plans (key_of row) (Some row.plan)) (with_row c (without_plan row))
-    ≡ with_row (with_plans plans c) row
+    → with_plans (update same_key plans (key_of row) (Some row.plan))
+    (with_row c (without_plan row)) ≡ with_row (with_plans plans c) row
 with_plans_row plans c row = λ i. record {
   rows = λ key. planned_row plans c.rows row key (same_key (key_of row) key) i;
   balances = c.balances;
@@ -667,10 +651,3 @@ pub put_topup : {S : Type 0} (g : Ghosts S) (topup : TopUpFacts) (old new : Stat
 put_topup g topup old new books (inl met) = made_topup topup old new met.0 books met.1 met.2
 put_topup g topup old new books (inr none) = made_new_topup topup old (state g none.0) new 0 none.1
     books refl none.2 none.3
-
-pub put_plan : {S : Type 0} (g : Ghosts S) (row : RowFacts) (old new : State) → IsBookIf old
-    → HasPut g texts.SET_SESSION_PLAN.now texts.NEW_SESSION_PLAN.now (session_plan_columns row) old
-    new → HasSetPlan (key_of row) row.plan old new
-put_plan g row old new books (inl met) = made_plan row old new met.0 books met.1 met.2
-put_plan g row old new books (inr none) = made_new_plan row old (state g none.0) new 0 none.1 books
-    refl none.2 none.3

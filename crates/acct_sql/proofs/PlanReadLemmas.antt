@@ -40,7 +40,7 @@ use Rattle.acct_sql.proofs.WalkLemmas.{keyed_row, next_is}
 
 -- ---- what the query for a plan shows
 
-plan_found : (key : Key) (old new : State) (rows : List Row) → IsBook old.now
+pub plan_found : (key : Key) (old new : State) (rows : List Row) → IsBook old.now
     → Shown texts.PLAN_OF_SESSION.now (Text key.client ∷ Blob key.session ∷ []) old new rows
     → row_found (λ r. bytes (column r 0)) rows ≡ plans_in_tables old.now.trees key
 plan_found key old new rows book h =

@@ -115,23 +115,10 @@ module _ (row : RowFacts) (old new : State) (count : ℕ) (book : IsBook old.now
       _ (has_shown session_plan.tree session_filter plan_project [] Null old.now.trees params
       done.answer done.selects r h passes))
 
-  -- no row was met, and nothing has changed
-  pub set_none : count ≡ 0 → (key : Key) → plans_in (new.now.trees session_plan.tree) key
-      ≡ plans_in (old.now.trees session_plan.tree) key
-  set_none nothing key =
-      ap (option_map (λ r. bytes (column r 3))) (found key
-      ∙ unchanged step (find (is_session key) (old.now.trees session_plan.tree)) (λ r is.
-      ap (λ b. cond b (made r) r) (unmet nothing r (find_has (is_session key)
-      (old.now.trees session_plan.tree) r is).0)))
-
-  -- no row has the key
-  pub none_kept : count ≡ 0 → (r : Row) → Has (new.now.trees session_plan.tree) r
-      → is_session (key_of row) r ≡ false
-  none_kept nothing r h = not_true _ (λ passes.
-      let b = mapped.back r h in
-      let was : is_session (key_of row) b.0 ≡ true = sym (keeps (key_of row) b.0)
-      ∙ (ap (is_session (key_of row)) (sym b.2) ∙ passes) in
-      true≢false (sym (key_met b.0 was) ∙ unmet nothing b.0 b.1))
+  -- a row that has the key is met
+  pub kept_met : (r : Row) → Has (old.now.trees session_plan.tree) r
+      → is_session (key_of row) r ≡ true → count ≢ 0
+  kept_met r h mine nothing = true≢false (sym (key_met r mine) ∙ unmet nothing r h)
 
   -- a row was met, so it is the new one
   pub set_plan : count ≢ 0 → (key : Key) → plans_in (new.now.trees session_plan.tree) key

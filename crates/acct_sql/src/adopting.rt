@@ -315,7 +315,8 @@ fn shows_plan(row: &sqlite::Row, plan: &Plan) -> bool
         && has_count(row, 2, plan.unit)
 }
 
-fn has_blob(row: &sqlite::Row, octets: &[u8]) -> bool
+/// Whether the first column of a row is these octets.
+pub(crate) fn has_blob(row: &sqlite::Row, octets: &[u8]) -> bool
     ensures { IsTrue result ↔ (column row.now 0 ≡ Blob octets.now) }
 {
     match value_at(row, 0) {

@@ -75,8 +75,8 @@ fn session_after<S: Alter>(
     }
 }
 
-// What a query shows of the tables of a book.
-fn show<S: Alter>(
+/// What a query shows of the tables of a book.
+pub(crate) fn show<S: Alter>(
     tx: &mut Transaction<'_, S>,
     sql: &str,
     params: &[ValueRef<'_>],

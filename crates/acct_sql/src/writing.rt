@@ -1,18 +1,21 @@
 //! The statements that write, each in a transaction.
+ghost use Rattle.std.specs.Prelude.{IsTrue};
 ghost use Rattle.sqlite.specs.Held.{state};
 ghost use Rattle.sqlite.specs.Values.{bound};
 ghost use Rattle.acct_book.specs.Content.{key_of, with_session, with_topup, with_closed};
 ghost use Rattle.acct_sql.specs.inner.Inside.{HoldsBook, HasMade, HasPut, RunsInside, HasFinished};
 ghost use Rattle.acct_sql.specs.Content.{without_plan};
 ghost use Rattle.acct_sql.specs.inner.Inside.{with_row, with_balance, with_voucher};
-ghost use Rattle.acct_sql.specs.inner.Inside.{HasMadeBare, HasSetPlan};
+ghost use Rattle.acct_sql.specs.inner.Inside.{HasMadeBare, HasSetPlan, Holds};
 ghost use Rattle.acct_sql.specs.inner.AtRest.{IsAtRest, WritesAtRest};
 
+use crate::adopting::has_blob;
 use crate::columns::{session_plan_values, session_values, topup_values};
 use crate::refused::Refused;
+use crate::session_classes::show;
 use crate::statements::{
-    CLOSE_SESSIONS_OF_CLIENT, NEW_BALANCE, NEW_SESSION, NEW_SESSION_PLAN, NEW_TOPUP, SET_BALANCE,
-    SET_SESSION, SET_SESSION_PLAN, SET_TOPUP,
+    CLOSE_SESSIONS_OF_CLIENT, NEW_BALANCE, NEW_SESSION, NEW_SESSION_PLAN, NEW_TOPUP,
+    PLAN_OF_SESSION, SET_BALANCE, SET_SESSION, SET_SESSION_PLAN, SET_TOPUP,
 };
 use acct_book::Row;
 use acct_model::TopUp;
@@ -45,18 +48,25 @@ fn set_columns<S: Alter>(tx: &mut Transaction<'_, S>, row: &Row) -> Result<(), R
     put(tx, SET_SESSION, NEW_SESSION, &session_values(row))
 }
 
-// Sets the plan of a session.
+// Sets the plan of a session. A later report finds it kept, and then nothing is written.
 fn set_plan<S: Alter>(tx: &mut Transaction<'_, S>, row: &Row) -> Result<(), Refused>
-    requires { HoldsBook S.Store tx.old.conn.now }
+    requires book { HoldsBook S.Store tx.old.conn.now }
+    requires inside { Holds S.Store (λ s. IsTrue s.in_transaction) tx.old.conn.now }
     ensures { RunsInside S.Store tx.old.conn tx.new.conn
         (HasSetPlan (key_of row.now) row.now.plan) result }
 {
-    put(
+    let rows = show(
         tx,
-        SET_SESSION_PLAN,
-        NEW_SESSION_PLAN,
-        &session_plan_values(row),
-    )
+        PLAN_OF_SESSION,
+        params![row.client.as_str(), row.session.as_slice()],
+    )?;
+    let sql = match rows.first() {
+        Some(columns) if has_blob(columns, row.plan.as_slice()) => return Ok(()),
+        Some(_) => SET_SESSION_PLAN,
+        None => NEW_SESSION_PLAN,
+    };
+    tx.execute(sql, &session_plan_values(row))?;
+    Ok(())
 }
 
 fn set_row<S: Alter>(tx: &mut Transaction<'_, S>, row: &Row) -> Result<(), Refused>

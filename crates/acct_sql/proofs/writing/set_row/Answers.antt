@@ -6,8 +6,12 @@ use Rattle.acct_sql.proofs.StepLemmas.{quiet_then}
 use Rattle.acct_sql.proofs.MadeLemmas.{made_with_plan}
 use Rattle.acct_sql.proofs.writing.set_row.Goals as goal
 
-pub set_plan-requires : goal.set_plan-requires
-set_plan-requires g c = λ clean o. (c.in_ok-set_columns.ensures.done clean).book
+pub set_plan-requires-clause-book : goal.set_plan-requires-clause-book
+set_plan-requires-clause-book g c = λ clean o. (c.in_ok-set_columns.ensures.done clean).book
+
+pub set_plan-requires-clause-inside : goal.set_plan-requires-clause-inside
+set_plan-requires-clause-inside g c = λ clean o.
+    (c.in_ok-set_columns.ensures.done clean).shows.mode
 
 pub returns : goal.returns
 returns g c = record {
