@@ -119,6 +119,13 @@ impl Plans {
         true
     }
 
+    /// Plans have no fault, whoever made them. It takes no memory, and does nothing.
+    pub fn have_no_fault(&self)
+        ensures { plans_fault self.now ≡ None }
+    {
+        let _ = &self.plans;
+    }
+
     /// The plans in the order in which they were given.
     pub fn list(&self) -> &[Plan]
         ensures { result.now ≡ self.now }
