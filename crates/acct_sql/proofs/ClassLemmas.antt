@@ -1,5 +1,6 @@
 -- The walk through the sessions of an older book, and its looks inside a transaction.
-use Rattle.std.proofs.Common.{◌≡◌, ◌⊎◌, inl, inr, ℕ, ℤ, List, [], ◌∷◌, true, Option, Some, None, Ok, Err}
+use Rattle.std.proofs.Common.{◌≡◌, ◌⊎◌, inl, inr, ℕ, ℤ, List, [], ◌∷◌, true, Option, Some, None, Ok}
+use Rattle.std.proofs.Common.{Err}
 use Rattle.std.proofs.Common.{Result, IsTrue, IfOk, IfErr, Ordering, Less, int_cmp, true≢false}
 use Rattle.std.proofs.Common.{refl, sym, ap, ap₂, subst, ◌∙◌, slice_get}
 use Rattle.std.specs.Ordering.{is_lt, ordering_then}

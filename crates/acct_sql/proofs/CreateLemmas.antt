@@ -31,7 +31,7 @@ use Rattle.acct_sql.specs.Make.{KeepsNumber, IsNew}
 use Rattle.acct_sql.specs.inner.Columns.{plan_columns, count_columns}
 use Rattle.acct_sql.specs.inner.Inside.{HasFinished}
 use Rattle.acct_sql.specs.inner.NewBook.{HasRun, GoesOn, HasFirstTables, HasPlanTables}
-use Rattle.acct_sql.specs.inner.NewBook.{HasTables, HasPlansSoFar, HasPlans}
+use Rattle.acct_sql.specs.inner.NewBook.{HasTables, HasPlansSoFar, HasPlans, IsNewBook}
 use Rattle.acct_sql.specs.declared.statements.TheConstants as texts
 use Rattle.acct_sql.proofs.MakeLemmas as m
 use Rattle.acct_sql.proofs.TextLemmas.{number_terms, number_is, number_plain, plan_terms}
@@ -213,34 +213,44 @@ numbered c old new n h t =
     let added = insert_added book_schema Enforced meta old.now.trees new.now.trees source refl
     done.applies in
     record {
-      on = goes_on c old new t.on h.1;
-      book = record {
-        schema = done.schema;
-        sound = done.sound;
-        accounts = no_rows _ accounts;
-        vouchers = no_rows _ vouchers;
-        sessions = no_rows _ sessions;
-        plans = no_rows _ session_plans;
+      first = new.now.trees;
+      fresh = record {
+        content = content_none new.now.trees sessions accounts vouchers;
+        number = record {
+          has = (
+            put,
+            added.adds,
+            ap (λ r. column r 1) (number_put old new done),
+            ap (λ r. column r 2) (number_put old new done),
+          );
+          only = λ row h. elim (added.back row h) [
+            | inl is ↦ (
+              ap (λ r. column r 1) (is ∙ number_put old new done),
+              ap (λ r. column r 2) (is ∙ number_put old new done),
+            )
+            | inr was ↦ absurd (subst (λ rows. Has rows row) t.empty.meta_rows was)
+          ];
+        };
+        session_plans = session_plans;
       };
-      content = content_none new.now.trees sessions accounts vouchers;
-      number = record {
-        has = (
-          put,
-          added.adds,
-          ap (λ r. column r 1) (number_put old new done),
-          ap (λ r. column r 2) (number_put old new done),
-        );
-        only = λ row h. elim (added.back row h) [
-          | inl is ↦ (
-            ap (λ r. column r 1) (is ∙ number_put old new done),
-            ap (λ r. column r 2) (is ∙ number_put old new done),
-          )
-          | inr was ↦ absurd (subst (λ rows. Has rows row) t.empty.meta_rows was)
-        ];
+      so_far = record {
+        on = goes_on c old new t.on h.1;
+        book = record {
+          schema = done.schema;
+          sound = done.sound;
+          accounts = no_rows _ accounts;
+          vouchers = no_rows _ vouchers;
+          sessions = no_rows _ sessions;
+          plans = no_rows _ session_plans;
+        };
+        metas = refl;
+        accounts = refl;
+        vouchers = refl;
+        sessions = refl;
+        session_plans = refl;
+        prices_kept = no_prices new.now.trees plans;
+        counts_kept = no_counts new.now.trees counts;
       };
-      prices_kept = no_prices new.now.trees plans;
-      counts_kept = no_counts new.now.trees counts;
-      session_plans = session_plans;
     }
 
 -- ---- a plan
@@ -304,10 +314,12 @@ price_put : (plan : Plan) (old new : State) (done : HasInserted 1 price_plan.nam
 price_put plan old new done = rw (cast_null, cast_int (pos plan.block), cast_int (pos plan.unit))
     refl
 
-pub price_added : (c : Database) (prices counts : List Plan) (plan : Plan) (old new : State) (n : ℕ)
+pub price_added : (c : Database) (first : Trees) (prices counts : List Plan) (plan : Plan)
+    (old new : State) (n : ℕ)
     → ExecutesInside 0 texts.NEW_PLAN.now (plan_columns plan) old new (Ok n)
-    → HasPlansSoFar c prices counts old → HasPlansSoFar c (prices ++ plan ∷ []) counts new
-price_added c prices counts plan old new n h t =
+    → HasPlansSoFar c first prices counts old
+    → HasPlansSoFar c first (prices ++ plan ∷ []) counts new
+price_added c first prices counts plan old new n h t =
     let params = plan_columns plan in
     let done = inserts 1 price_plan.name price_plan.tree price_plan.columns (1 ∷ []) refl
     (λ db. refl) (λ taken news. refl) texts.NEW_PLAN.now plan_terms 4 params (Null ∷ params) old new
@@ -338,16 +350,18 @@ price_added c prices counts plan old new n h t =
         sessions = subst IsTidy (sym sessions) t.book.sessions;
         plans = subst IsTidy (sym session_plans) t.book.plans;
       };
-      content = content_same old.now.trees new.now.trees sessions accounts vouchers session_plans
-          ∙ t.content;
-      number = number_same old.now.trees new.now.trees metas t.number;
+      metas = metas ∙ t.metas;
+      accounts = accounts ∙ t.accounts;
+      vouchers = vouchers ∙ t.vouchers;
+      sessions = sessions ∙ t.sessions;
+      session_plans = session_plans ∙ t.session_plans;
       prices_kept = one_price_more prices plan put old.now.trees new.now.trees says added
           t.prices_kept;
       counts_kept = counts_same counts old.now.trees new.now.trees kept_counts t.counts_kept;
-      session_plans = session_plans ∙ t.session_plans;
     }
 
-pub count_put : (plan : Plan) (old new : State) (done : HasInserted 5 plan_count.name plan_count.tree
+pub count_put : (plan : Plan) (old new : State)
+    (done : HasInserted 5 plan_count.name plan_count.tree
     plan_count.columns (1 ∷ []) refl (λ db. refl) (λ taken news. refl) (Null ∷ count_columns plan)
     old new)
     → inserted book_schema Enforced plan_count old.now.trees new.now.trees
@@ -355,10 +369,12 @@ pub count_put : (plan : Plan) (old new : State) (done : HasInserted 5 plan_count
     ∷ count_columns plan
 count_put plan old new done = rw (cast_null, cast_int (pos (mode_of plan.count))) refl
 
-pub count_added : (c : Database) (prices counts : List Plan) (plan : Plan) (old new : State) (n : ℕ)
+pub count_added : (c : Database) (first : Trees) (prices counts : List Plan) (plan : Plan)
+    (old new : State) (n : ℕ)
     → ExecutesInside 0 texts.NEW_PLAN_COUNT.now (count_columns plan) old new (Ok n)
-    → HasPlansSoFar c prices counts old → HasPlansSoFar c prices (counts ++ plan ∷ []) new
-count_added c prices counts plan old new n h t =
+    → HasPlansSoFar c first prices counts old
+    → HasPlansSoFar c first prices (counts ++ plan ∷ []) new
+count_added c first prices counts plan old new n h t =
     let params = count_columns plan in
     let done = inserts 5 plan_count.name plan_count.tree plan_count.columns (1 ∷ []) refl
     (λ db. refl) (λ taken news. refl) texts.NEW_PLAN_COUNT.now count_terms 3 params (Null ∷ params)
@@ -388,23 +404,25 @@ count_added c prices counts plan old new n h t =
         sessions = subst IsTidy (sym sessions) t.book.sessions;
         plans = subst IsTidy (sym session_plans) t.book.plans;
       };
-      content = content_same old.now.trees new.now.trees sessions accounts vouchers session_plans
-          ∙ t.content;
-      number = number_same old.now.trees new.now.trees metas t.number;
+      metas = metas ∙ t.metas;
+      accounts = accounts ∙ t.accounts;
+      vouchers = vouchers ∙ t.vouchers;
+      sessions = sessions ∙ t.sessions;
+      session_plans = session_plans ∙ t.session_plans;
       prices_kept = prices_same prices old.now.trees new.now.trees kept_prices t.prices_kept;
       counts_kept = one_count_more counts plan put old.now.trees new.now.trees says added
           t.counts_kept;
-      session_plans = session_plans ∙ t.session_plans;
     }
 
 -- a book with all of them is a new one
 fresh_of : (c : Database) (plans : List Plan) (s : State) → HasPlans c plans s
     → IsNew plans s.now.trees
-fresh_of c plans s t = record {
-  content = t.content;
-  number = t.number;
+fresh_of c plans s has = let first = has.fresh in let t = has.so_far in record {
+  content = content_same has.first s.now.trees t.sessions t.accounts t.vouchers t.session_plans
+      ∙ first.content;
+  number = number_same has.first s.now.trees t.metas first.number;
   plans_kept = record { prices = t.prices_kept; counts = t.counts_kept };
-  session_plans = t.session_plans;
+  session_plans = t.session_plans ∙ first.session_plans;
 }
 
 -- ---- the transaction
@@ -431,15 +449,15 @@ module _ {S T E F : Type 0} (g : Ghosts S) (old end : Held S) (mid : State) (pla
     settled_by clean (Ok x) ok = ((clean, ok.1.is_open), ok.1.now_is ∙ sym ok.1.committed_is)
     settled_by clean (Err e) ok = tt
 
-    pub made_settled : HasCleanDisk last → OnOk result (IsOpenBook last)
+    made_settled : HasCleanDisk last → OnOk result (IsOpenBook last)
     made_settled clean = settled_by clean result (finished.ok clean)
 
     book_by : HasCleanDisk last → (r : Result T E) → OnOk r
         (IsOk done × Shows mid last mid.now mid.now false) → OnOk r (IsBook last.now)
-    book_by clean (Ok x) ok = subst IsBook (sym ok.1.now_is) (has clean ok.0).book
+    book_by clean (Ok x) ok = subst IsBook (sym ok.1.now_is) (has clean ok.0).so_far.book
     book_by clean (Err e) ok = tt
 
-    pub made_book : HasCleanDisk last → OnOk result (IsBook last.now)
+    made_book : HasCleanDisk last → OnOk result (IsBook last.now)
     made_book clean = book_by clean result (finished.ok clean)
 
     new_by : HasCleanDisk last → (r : Result T E) → OnOk r
@@ -448,8 +466,16 @@ module _ {S T E F : Type 0} (g : Ghosts S) (old end : Held S) (mid : State) (pla
         (fresh_of begun.committed plans mid (has clean ok.0))
     new_by clean (Err e) ok = tt
 
-    pub made_new : HasCleanDisk last → OnOk result (IsNew plans last.now.trees)
+    made_new : HasCleanDisk last → OnOk result (IsNew plans last.now.trees)
     made_new clean = new_by clean result (finished.ok clean)
+
+    together : (r : Result T E) → OnOk r (IsOpenBook last) → OnOk r (IsBook last.now)
+        → OnOk r (IsNew plans last.now.trees) → OnOk r (IsNewBook plans last)
+    together (Ok x) settled book fresh = record { settled = settled; book = book; fresh = fresh }
+    together (Err e) settled book fresh = tt
+
+    pub new_book : HasCleanDisk last → OnOk result (IsNewBook plans last)
+    new_book clean = together result (made_settled clean) (made_book clean) (made_new clean)
 
     both_modes : (b : Bool) → b ≡ true → b ≡ false → ⊥
     both_modes true on off = absurd cc
@@ -458,7 +484,8 @@ module _ {S T E F : Type 0} (g : Ghosts S) (old end : Held S) (mid : State) (pla
     rolled : HasCleanDisk last → IsRolledBack mid last ⊎ (IsOk done × (mid.in_transaction ≡ false))
         → IsRolledBack mid last
     rolled clean (inl back) = back
-    rolled clean (inr ended) = absurd (both_modes mid.in_transaction (has clean ended.0).on.mode
+    rolled clean (inr ended) = absurd (both_modes mid.in_transaction
+        (has clean ended.0).so_far.on.mode
         ended.1)
 
     undone_by : HasCleanDisk last → IsTrue last.is_open → (r : Result T E)

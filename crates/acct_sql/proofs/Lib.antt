@@ -20,6 +20,7 @@ mod CreateLemmas
 mod MigrateLemmas
 mod ClassLemmas
 mod MigrationLemmas
+mod BecomeLemmas
 mod StoodLemmas
 mod NextLemmas
 mod KeyedLemmas
@@ -33,3 +34,4 @@ mod RisingLemmas
 mod LookLemmas
 mod NumberLemmas
 mod PlanLemmas
+mod AddLemmas

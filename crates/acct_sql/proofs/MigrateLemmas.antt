@@ -37,7 +37,8 @@ use Rattle.acct_sql.specs.declared.statements.TheConstants as texts
 use Rattle.acct_sql.proofs.TextLemmas as t
 use Rattle.acct_sql.proofs.QueryLemmas.{meets}
 use Rattle.acct_sql.proofs.StatementLemmas.{updates, inserts, HasUpdated}
-use Rattle.acct_sql.proofs.WriteLemmas.{update_mapped, rewritten, inserted, insert_added, insert_tidy}
+use Rattle.acct_sql.proofs.WriteLemmas.{update_mapped, rewritten, inserted, insert_added}
+use Rattle.acct_sql.proofs.WriteLemmas.{insert_tidy}
 use Rattle.acct_sql.proofs.FindLemmas.{IsMapped, IsAdded, found_is, find_has}
 use Rattle.acct_sql.proofs.ValueLemmas.{cast_int, cast_null, text_equal}
 use Rattle.acct_sql.proofs.KeyLemmas.{one_session_plan}

@@ -22,30 +22,34 @@ known {text} {tree} {filter} {project} {order} {limit} own first schema (inl is)
 known {text} {tree} {filter} {project} {order} {limit} own first schema (inr is) =
     subst (λ s. IsQueryIn s text tree filter project order limit) (sym is) first
 
-first_schema_number : IsQueryIn first_schema texts.SCHEMA_NUMBER.now meta.tree schema_filter value_shown [] all_rows
+first_schema_number : IsQueryIn first_schema texts.SCHEMA_NUMBER.now meta.tree schema_filter
+    value_shown [] all_rows
 unfolding understood everything
 first_schema_number = record {
   names = codes "value" ∷ [];
   is = refl;
   unlisted = refl;
   plain = (refl, refl);
-  bare = λ db. refl;
+  unhidden = λ db. refl;
 }
 
-pub schema_number : (schema : Schema) → IsKnown schema → IsQueryIn schema texts.SCHEMA_NUMBER.now meta.tree schema_filter value_shown [] all_rows
+pub schema_number : (schema : Schema) → IsKnown schema
+    → IsQueryIn schema texts.SCHEMA_NUMBER.now meta.tree schema_filter value_shown [] all_rows
 schema_number = known t.schema_number first_schema_number
 
-first_number_ids : IsQueryIn first_schema texts.META_ROWIDS.now meta.tree [] ids_shown by_rowid all_rows
+first_number_ids : IsQueryIn first_schema texts.META_ROWIDS.now meta.tree [] ids_shown by_rowid
+    all_rows
 unfolding understood everything
 first_number_ids = record {
   names = codes "rowid" ∷ [];
   is = refl;
   unlisted = refl;
   plain = (refl, refl);
-  bare = λ db. refl;
+  unhidden = λ db. refl;
 }
 
-pub number_ids : (schema : Schema) → IsKnown schema → IsQueryIn schema texts.META_ROWIDS.now meta.tree [] ids_shown by_rowid all_rows
+pub number_ids : (schema : Schema) → IsKnown schema
+    → IsQueryIn schema texts.META_ROWIDS.now meta.tree [] ids_shown by_rowid all_rows
 number_ids = known t.meta_rowids first_number_ids
 
 first_prices : IsQueryIn first_schema texts.PLANS.now price_plan.tree [] plan_shown [] all_rows
@@ -55,47 +59,54 @@ first_prices = record {
   is = refl;
   unlisted = refl;
   plain = (refl, refl);
-  bare = λ db. refl;
+  unhidden = λ db. refl;
 }
 
-pub prices : (schema : Schema) → IsKnown schema → IsQueryIn schema texts.PLANS.now price_plan.tree [] plan_shown [] all_rows
+pub prices : (schema : Schema) → IsKnown schema
+    → IsQueryIn schema texts.PLANS.now price_plan.tree [] plan_shown [] all_rows
 prices = known t.plan_rows first_prices
 
-first_account_ids : IsQueryIn first_schema texts.ACCOUNT_ROWIDS.now account.tree [] ids_shown by_rowid all_rows
+first_account_ids : IsQueryIn first_schema texts.ACCOUNT_ROWIDS.now account.tree [] ids_shown
+    by_rowid all_rows
 unfolding understood everything
 first_account_ids = record {
   names = codes "rowid" ∷ [];
   is = refl;
   unlisted = refl;
   plain = (refl, refl);
-  bare = λ db. refl;
+  unhidden = λ db. refl;
 }
 
-pub account_ids : (schema : Schema) → IsKnown schema → IsQueryIn schema texts.ACCOUNT_ROWIDS.now account.tree [] ids_shown by_rowid all_rows
+pub account_ids : (schema : Schema) → IsKnown schema
+    → IsQueryIn schema texts.ACCOUNT_ROWIDS.now account.tree [] ids_shown by_rowid all_rows
 account_ids = known t.account_rowids first_account_ids
 
-first_voucher_ids : IsQueryIn first_schema texts.VOUCHER_ROWIDS.now voucher.tree [] ids_shown by_rowid all_rows
+first_voucher_ids : IsQueryIn first_schema texts.VOUCHER_ROWIDS.now voucher.tree [] ids_shown
+    by_rowid all_rows
 unfolding understood everything
 first_voucher_ids = record {
   names = codes "rowid" ∷ [];
   is = refl;
   unlisted = refl;
   plain = (refl, refl);
-  bare = λ db. refl;
+  unhidden = λ db. refl;
 }
 
-pub voucher_ids : (schema : Schema) → IsKnown schema → IsQueryIn schema texts.VOUCHER_ROWIDS.now voucher.tree [] ids_shown by_rowid all_rows
+pub voucher_ids : (schema : Schema) → IsKnown schema
+    → IsQueryIn schema texts.VOUCHER_ROWIDS.now voucher.tree [] ids_shown by_rowid all_rows
 voucher_ids = known t.voucher_rowids first_voucher_ids
 
-first_session_ids : IsQueryIn first_schema texts.SESSION_ROWIDS.now session.tree [] ids_shown by_rowid all_rows
+first_session_ids : IsQueryIn first_schema texts.SESSION_ROWIDS.now session.tree [] ids_shown
+    by_rowid all_rows
 unfolding understood everything
 first_session_ids = record {
   names = codes "rowid" ∷ [];
   is = refl;
   unlisted = refl;
   plain = (refl, refl);
-  bare = λ db. refl;
+  unhidden = λ db. refl;
 }
 
-pub session_ids : (schema : Schema) → IsKnown schema → IsQueryIn schema texts.SESSION_ROWIDS.now session.tree [] ids_shown by_rowid all_rows
+pub session_ids : (schema : Schema) → IsKnown schema
+    → IsQueryIn schema texts.SESSION_ROWIDS.now session.tree [] ids_shown by_rowid all_rows
 session_ids = known t.session_rowids first_session_ids

@@ -1,7 +1,8 @@
 -- Sessions that are read with their plans.
 use Rattle.std.proofs.Common.{◌≡◌, inl, inr, ℕ, ◌+◌, ◌<◌, List, [], ◌∷◌, ◌++◌, true, Option}
 use Rattle.std.proofs.Common.{Some, None, map, take, length, slice_index_or}
-use Rattle.std.proofs.Common.{option_map, refl, sym, ap, subst, ◌∙◌, Ordering, Less, bytes_eq, IsTrue}
+use Rattle.std.proofs.Common.{option_map, refl, sym, ap, subst, ◌∙◌, Ordering, Less, bytes_eq}
+use Rattle.std.proofs.Common.{IsTrue}
 use Rattle.std.specs.Prelude.{◌↔◌, Contains}
 use Rattle.std.specs.List.Sorted.{IsStrictlySortedBy}
 use Rattle.std.proofs.lemmas.Bool.{and_parts}
@@ -48,7 +49,8 @@ plan_found key old new rows book h =
     book.schema h)
   where
     go : (shown : List Row) → IsAnswerAs Null (over_table session_plan.tree t.session_filter
-        t.plan_class_shown [] all_rows) old.now.trees (Text key.client ∷ Blob key.session ∷ []) shown
+        t.plan_class_shown [] all_rows) old.now.trees
+        (Text key.client ∷ Blob key.session ∷ []) shown
         → row_found (λ r. bytes (column r 0)) shown ≡ plans_in_tables old.now.trees key
     go [] a = sym (ap (option_map (λ r. bytes (column r 3)))
         (none_is (is_session key) (old.now.trees session_plan.tree) (λ r there. not_true _ (λ mine.

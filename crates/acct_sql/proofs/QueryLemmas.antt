@@ -132,11 +132,11 @@ module _ (t : ℕ) (filter project : List Term) (order : List (Term × Key)) (lo
         (has_ordered all_rows rows a r h passes))
 
 -- tables that were computed before the query do not hide one with a small number
-pub seen_bare : (t : ℕ) (filter project : List Term) (order : List (Term × Key)) (limit : Term)
+pub seen_unhidden : (t : ℕ) (filter project : List Term) (order : List (Term × Key)) (limit : Term)
     (lost : Value) (seen db : Trees) (params : Row) (rows : List Row) → seen t ≡ db t
     → IsAnswerAs lost (over_table t filter project order limit) seen params rows
     → IsAnswerAs lost (over_table t filter project order limit) db params rows
-seen_bare t filter project order limit lost seen db params rows same a =
+seen_unhidden t filter project order limit lost seen db params rows same a =
     record {
       staged = a.staged;
       grouped = a.grouped ∙ ap (flat_map (λ r. cond (list_all (holds (params ∷ r ∷ [])) filter)
@@ -159,7 +159,7 @@ pub record IsQueryIn (schema : Schema) (text : List ℕ) (t : ℕ) (filter proje
       ≡ Select (record { lets = []; body = over_table t filter project order limit }) names
   pub unlisted : reads_listing schema text ≡ false
   pub plain : IsPlain (understood schema text)
-  pub bare : (db : Trees) → overlay db [] t ≡ db t
+  pub unhidden : (db : Trees) → overlay db [] t ≡ db t
 
 -- the same under the schema of the book
 abbrev pub IsQuery : List ℕ → ℕ → List Term → List Term → List (Term × Key) → Term → Type 0
@@ -172,6 +172,6 @@ pub answer_of : {schema : Schema} {text : List ℕ} {t : ℕ} {filter project : 
     (rows : List Row) → old.now.schema ≡ schema → Shown text params old new rows
     → IsAnswerAs Null (over_table t filter project order limit) old.now.trees params rows
 answer_of {schema} {text} {t} {filter} {project} {order} {limit} query params old new rows has h =
-    seen_bare t filter project order limit Null (overlay old.now.trees []) old.now.trees params rows
-    (query.bare old.now.trees) ((reads_as text params old new schema has _ query.is query.plain
+    seen_unhidden t filter project order limit Null (overlay old.now.trees []) old.now.trees params rows
+    (query.unhidden old.now.trees) ((reads_as text params old new schema has _ query.is query.plain
     query.unlisted rows h).answer Null)

@@ -377,7 +377,8 @@ plans_then g old mid new tables was_open then_open a b = record {
 -- ---- reads of a book that is at rest
 
 -- before the first of them
-pub stays_first : {S : Type 0} (g : Ghosts S) (old : Held S) → IsAtRest g old → StaysAtRest g old old
+pub stays_first : {S : Type 0} (g : Ghosts S) (old : Held S) → IsAtRest g old
+    → StaysAtRest g old old
 stays_first g old resting = record {
   resting = resting;
   read = record {

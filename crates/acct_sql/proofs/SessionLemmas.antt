@@ -195,7 +195,8 @@ module _ (row : RowFacts) (old new : State) (count : ℕ) (book : IsBook old.now
 
   -- a row was met, so it is the new one
   pub set_row : count ≢ 0 → (key : Key) → rows_in (new.now.trees session.tree) key
-      ≡ update same_key (rows_in (old.now.trees session.tree)) (key_of row) (Some (without_plan row)) key
+      ≡ update same_key (rows_in (old.now.trees session.tree)) (key_of row) (Some
+      (without_plan row)) key
   set_row some key = go (same_key (key_of row) key) refl
       (some_shown done.answer count done.counted some)
     where
@@ -253,17 +254,20 @@ module _ (row : RowFacts) (old new : State) (book : IsBook old.now)
       (λ is r h. subst (λ k. is_session k r ≡ false) (key_is (key_of row) key
       (sym (put_key key) ∙ is)) (fresh r h)) added
 
-  shown_if : (b : Bool) (x : Row) (o : Option Row) → session_in_columns (columns x) ≡ without_plan row
+  shown_if : (b : Bool) (x : Row) (o : Option Row) → session_in_columns (columns x)
+      ≡ without_plan row
       → option_map (λ r. session_in_columns (columns r)) (cond b (Some x) o)
       ≡ cond b (Some (without_plan row)) (option_map (λ r. session_in_columns (columns r)) o)
   shown_if true x o is = ap Some is
   shown_if false x o is = refl
 
   pub new_row : (key : Key) → rows_in (new.now.trees session.tree) key
-      ≡ update same_key (rows_in (old.now.trees session.tree)) (key_of row) (Some (without_plan row)) key
+      ≡ update same_key (rows_in (old.now.trees session.tree)) (key_of row) (Some
+      (without_plan row)) key
   new_row key =
       ap (option_map (λ r. session_in_columns (columns r))) (found_now key)
       ∙ (shown_if (is_session key put) put (find (is_session key) (old.now.trees session.tree))
       (ap (λ r. session_in_columns (columns r)) put_is ∙ read_back row
       (Int (next_rowid (old.now.trees session.tree))) framed)
-      ∙ ap (λ b. cond b (Some (without_plan row)) (rows_in (old.now.trees session.tree) key)) (put_key key))
+      ∙ ap (λ b. cond b (Some (without_plan row)) (rows_in (old.now.trees session.tree) key))
+      (put_key key))

@@ -96,11 +96,13 @@ module _ (row : RowFacts) (old new : State) (count : ℕ) (book : IsBook old.now
   found : (key : Key) → find (is_session key) (new.now.trees session_plan.tree)
       ≡ option_map step (find (is_session key) (old.now.trees session_plan.tree))
   found key = find_mapped (is_session key) step (old.now.trees session_plan.tree)
-      (new.now.trees session_plan.tree) (one_session_plan old.now book key) (λ r h. keeps key r) mapped
+      (new.now.trees session_plan.tree) (one_session_plan old.now book key)
+      (λ r h. keeps key r) mapped
 
   -- other sessions stay
   pub set_other : (key : Key) → same_key (key_of row) key ≡ false
-      → plans_in (new.now.trees session_plan.tree) key ≡ plans_in (old.now.trees session_plan.tree) key
+      → plans_in (new.now.trees session_plan.tree) key ≡ plans_in
+      (old.now.trees session_plan.tree) key
   set_other key apart =
       ap (option_map (λ r. bytes (column r 3))) (found key
       ∙ unchanged step (find (is_session key) (old.now.trees session_plan.tree)) (λ r is.
@@ -122,7 +124,8 @@ module _ (row : RowFacts) (old new : State) (count : ℕ) (book : IsBook old.now
 
   -- a row was met, so it is the new one
   pub set_plan : count ≢ 0 → (key : Key) → plans_in (new.now.trees session_plan.tree) key
-      ≡ update same_key (plans_in (old.now.trees session_plan.tree)) (key_of row) (Some row.plan) key
+      ≡ update same_key (plans_in (old.now.trees session_plan.tree)) (key_of row)
+      (Some row.plan) key
   set_plan some key = go (same_key (key_of row) key) refl
       (some_shown done.answer count done.counted some)
     where
@@ -130,12 +133,14 @@ module _ (row : RowFacts) (old new : State) (count : ℕ) (book : IsBook old.now
           → plans_in (new.now.trees session_plan.tree) key ≡ cond b (Some row.plan) (plans_in
           (old.now.trees session_plan.tree) key)
       go true is shown =
-          let r = shown_has session_plan.tree session_filter plan_project [] Null old.now.trees params
+          let r = shown_has session_plan.tree session_filter plan_project [] Null old.now.trees
+          params
           done.answer done.selects shown.0 shown.1 in
           let mine = met_key r.0 r.2 in
           let at = found_is (is_session (key_of row)) (old.now.trees session_plan.tree) r.0 r.1 mine
           (λ s h passes. one_session_plan old.now book (key_of row) s r.0 h r.1 passes mine) in
-          let made_here : step r.0 ≡ cast kind.Integer (column r.0 0) ∷ session_plan_columns row = ap
+          let made_here : step r.0 ≡ cast kind.Integer
+          (column r.0 0) ∷ session_plan_columns row = ap
           (λ b. cond b (made r.0) r.0) r.2 ∙ made_is r.0 mine in
           let here : plans_in (new.now.trees session_plan.tree) (key_of row) ≡ Some row.plan =
           ap (option_map (λ r. bytes (column r 3)))
@@ -163,7 +168,8 @@ module _ (row : RowFacts) (old new : State) (book : IsBook old.now)
   put_key key = ap (is_session key) put_is
 
   found_now : (key : Key) → find (is_session key) (new.now.trees session_plan.tree)
-      ≡ cond (is_session key put) (Some put) (find (is_session key) (old.now.trees session_plan.tree))
+      ≡ cond (is_session key put) (Some put) (find (is_session key)
+      (old.now.trees session_plan.tree))
   found_now key = find_added (is_session key) put (old.now.trees session_plan.tree)
       (new.now.trees session_plan.tree) (one_session_plan old.now book key)
       (λ is r h. subst (λ k. is_session k r ≡ false) (key_is (key_of row) key
@@ -176,9 +182,11 @@ module _ (row : RowFacts) (old new : State) (book : IsBook old.now)
   shown_if false x o is = refl
 
   pub new_plan : (key : Key) → plans_in (new.now.trees session_plan.tree) key
-      ≡ update same_key (plans_in (old.now.trees session_plan.tree)) (key_of row) (Some row.plan) key
+      ≡ update same_key (plans_in (old.now.trees session_plan.tree)) (key_of row)
+      (Some row.plan) key
   new_plan key =
       ap (option_map (λ r. bytes (column r 3))) (found_now key)
       ∙ (shown_if (is_session key put) put (find (is_session key) (old.now.trees session_plan.tree))
       (ap (λ r. bytes (column r 3)) put_is)
-      ∙ ap (λ b. cond b (Some row.plan) (plans_in (old.now.trees session_plan.tree) key)) (put_key key))
+      ∙ ap (λ b. cond b (Some row.plan) (plans_in (old.now.trees session_plan.tree) key))
+      (put_key key))

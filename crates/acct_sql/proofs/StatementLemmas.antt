@@ -26,7 +26,7 @@ use Rattle.sqlite.specs.Listing.{understood}
 use Rattle.sqlite.specs.State.{State, mode_of, Executes}
 use Rattle.sqlite.proofs.Callers.{IsPlain, command_of, statement_of, runs_as, one_step}
 use Rattle.acct_sql.specs.Tables.{book_schema, table_of}
-use Rattle.acct_sql.proofs.QueryLemmas.{over_table, all_rows, seen_bare}
+use Rattle.acct_sql.proofs.QueryLemmas.{over_table, all_rows, seen_unhidden}
 
 -- a part that gave a value did not stop on the way
 pub went : {B E R : Type 0} {b : B} {Stops : E → Type 0}
@@ -89,7 +89,7 @@ module _ (at : ℕ) (name : List ℕ) (tree : ℕ) (columns : List Column) (key 
       let after : new.now.trees ≡ wrote.0 = ap (λ (d : Database). d.trees) now ∙ trees in
       record {
         answer = read.0;
-        selects = seen_bare tree filter project [] all_rows Null (overlay db []) db params read.0
+        selects = seen_unhidden tree filter project [] all_rows Null (overlay db []) db params read.0
             (seen db) (read.1.answer Null);
         applies = subst (Applies book_schema Enforced db edit) (sym after) step;
         schema = ap (λ (d : Database). d.schema) now;

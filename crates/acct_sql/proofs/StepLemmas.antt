@@ -81,3 +81,18 @@ quiet_then g a b c one two = record {
   survives = survives_then (state g a.now) (state g b.now) (state g c.now) (λ _. ⊥) (λ _. ⊥)
       (λ _. ⊥) (λ _ db none. none) (λ _ db none. none) one.survives two.survives;
 }
+
+-- before the first of them
+pub quiet_none : {S : Type 0} (g : Ghosts S) (a : MutBor (Held S)) → CommitsNothing g a a
+quiet_none g a = record {
+  same_reference = refl;
+  kept = λ clean. record { was_open = λ o. o; committed = λ _. refl };
+  survives = record {
+    clean = omega arith;
+    shield = λ h. h;
+    counts = omega arith;
+    limit = refl;
+    closes = λ clean o. inl o;
+    crash = λ clean db left. inl left;
+  };
+}

@@ -1,5 +1,6 @@
 -- The content of a migrated book stands for the history that the older one stood for.
-use Rattle.std.proofs.Common.{◌≡◌, List, [], ◌∷◌, Bool, Option, None, Some, option_map, refl, sym, ap}
+use Rattle.std.proofs.Common.{◌≡◌, List, [], ◌∷◌, Bool, Option, None, Some, option_map, refl, sym}
+use Rattle.std.proofs.Common.{ap}
 use Rattle.std.proofs.Common.{◌∙◌}
 use Rattle.sqlite.specs.Tree.{Trees}
 use Rattle.acct_model.specs.declared.plan.Plan.{Plan}

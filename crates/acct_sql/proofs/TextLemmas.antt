@@ -109,7 +109,7 @@ session_of_key = record {
   is = refl;
   unlisted = refl;
   plain = (refl, refl);
-  bare = λ db. refl;
+  unhidden = λ db. refl;
 }
 
 abbrev pub sessions_filter : List Term
@@ -123,7 +123,7 @@ sessions_of_account = record {
   is = refl;
   unlisted = refl;
   plain = (refl, refl);
-  bare = λ db. refl;
+  unhidden = λ db. refl;
 }
 
 pub first_session : IsQuery texts.FIRST_SESSION.now session.tree [] session_shown by_key one_row
@@ -133,7 +133,7 @@ first_session = record {
   is = refl;
   unlisted = refl;
   plain = (refl, refl);
-  bare = λ db. refl;
+  unhidden = λ db. refl;
 }
 
 abbrev pub within_filter : List Term
@@ -147,7 +147,7 @@ later_session_of_client = record {
   is = refl;
   unlisted = refl;
   plain = (refl, refl);
-  bare = λ db. refl;
+  unhidden = λ db. refl;
 }
 
 pub session_of_later_client : IsQuery texts.SESSION_OF_LATER_CLIENT.now session.tree
@@ -158,7 +158,7 @@ session_of_later_client = record {
   is = refl;
   unlisted = refl;
   plain = (refl, refl);
-  bare = λ db. refl;
+  unhidden = λ db. refl;
 }
 
 pub session_rowids : IsQuery texts.SESSION_ROWIDS.now session.tree [] ids_shown by_rowid all_rows
@@ -168,7 +168,7 @@ session_rowids = record {
   is = refl;
   unlisted = refl;
   plain = (refl, refl);
-  bare = λ db. refl;
+  unhidden = λ db. refl;
 }
 
 abbrev pub class_shown : List Term
@@ -181,7 +181,7 @@ first_class = record {
   is = refl;
   unlisted = refl;
   plain = (refl, refl);
-  bare = λ db. refl;
+  unhidden = λ db. refl;
 }
 
 pub class_after : IsQuery texts.CLASS_AFTER.now session.tree (is_after 0 0 ∷ []) class_shown
@@ -192,7 +192,7 @@ class_after = record {
   is = refl;
   unlisted = refl;
   plain = (refl, refl);
-  bare = λ db. refl;
+  unhidden = λ db. refl;
 }
 
 -- ---- account
@@ -239,7 +239,7 @@ balance_of_account = record {
   is = refl;
   unlisted = refl;
   plain = (refl, refl);
-  bare = λ db. refl;
+  unhidden = λ db. refl;
 }
 
 abbrev pub account_shown : List Term
@@ -252,7 +252,7 @@ first_account = record {
   is = refl;
   unlisted = refl;
   plain = (refl, refl);
-  bare = λ db. refl;
+  unhidden = λ db. refl;
 }
 
 pub account_after : IsQuery texts.ACCOUNT_AFTER.now account.tree (is_after 1 0 ∷ []) account_shown
@@ -263,7 +263,7 @@ account_after = record {
   is = refl;
   unlisted = refl;
   plain = (refl, refl);
-  bare = λ db. refl;
+  unhidden = λ db. refl;
 }
 
 pub account_rowids : IsQuery texts.ACCOUNT_ROWIDS.now account.tree [] ids_shown by_rowid all_rows
@@ -273,7 +273,7 @@ account_rowids = record {
   is = refl;
   unlisted = refl;
   plain = (refl, refl);
-  bare = λ db. refl;
+  unhidden = λ db. refl;
 }
 
 -- ---- voucher
@@ -320,7 +320,7 @@ topup_of_number = record {
   is = refl;
   unlisted = refl;
   plain = (refl, refl);
-  bare = λ db. refl;
+  unhidden = λ db. refl;
 }
 
 abbrev pub topups_filter : List Term
@@ -334,7 +334,7 @@ topups_of_account = record {
   is = refl;
   unlisted = refl;
   plain = (refl, refl);
-  bare = λ db. refl;
+  unhidden = λ db. refl;
 }
 
 pub first_topup : IsQuery texts.FIRST_TOPUP.now voucher.tree [] topup_shown by_name one_row
@@ -344,7 +344,7 @@ first_topup = record {
   is = refl;
   unlisted = refl;
   plain = (refl, refl);
-  bare = λ db. refl;
+  unhidden = λ db. refl;
 }
 
 pub topup_after : IsQuery texts.TOPUP_AFTER.now voucher.tree (is_after 1 0 ∷ []) topup_shown by_name
@@ -355,7 +355,7 @@ topup_after = record {
   is = refl;
   unlisted = refl;
   plain = (refl, refl);
-  bare = λ db. refl;
+  unhidden = λ db. refl;
 }
 
 pub voucher_rowids : IsQuery texts.VOUCHER_ROWIDS.now voucher.tree [] ids_shown by_rowid all_rows
@@ -365,7 +365,7 @@ voucher_rowids = record {
   is = refl;
   unlisted = refl;
   plain = (refl, refl);
-  bare = λ db. refl;
+  unhidden = λ db. refl;
 }
 
 -- ---- meta and price_plan
@@ -383,7 +383,7 @@ schema_number = record {
   is = refl;
   unlisted = refl;
   plain = (refl, refl);
-  bare = λ db. refl;
+  unhidden = λ db. refl;
 }
 
 pub meta_rowids : IsQuery texts.META_ROWIDS.now meta.tree [] ids_shown by_rowid all_rows
@@ -393,7 +393,7 @@ meta_rowids = record {
   is = refl;
   unlisted = refl;
   plain = (refl, refl);
-  bare = λ db. refl;
+  unhidden = λ db. refl;
 }
 
 abbrev pub number_project : List Term
@@ -421,7 +421,7 @@ plan_rows = record {
   is = refl;
   unlisted = refl;
   plain = (refl, refl);
-  bare = λ db. refl;
+  unhidden = λ db. refl;
 }
 
 abbrev pub number_terms : List Term
@@ -460,7 +460,7 @@ count_rows = record {
   is = refl;
   unlisted = refl;
   plain = (refl, refl);
-  bare = λ db. refl;
+  unhidden = λ db. refl;
 }
 
 abbrev pub count_terms : List Term
@@ -515,7 +515,7 @@ plan_of_session = record {
   is = refl;
   unlisted = refl;
   plain = (refl, refl);
-  bare = λ db. refl;
+  unhidden = λ db. refl;
 }
 
 pub session_plan_rowids : IsQuery texts.SESSION_PLAN_ROWIDS.now session_plan.tree [] ids_shown
@@ -526,5 +526,5 @@ session_plan_rowids = record {
   is = refl;
   unlisted = refl;
   plain = (refl, refl);
-  bare = λ db. refl;
+  unhidden = λ db. refl;
 }

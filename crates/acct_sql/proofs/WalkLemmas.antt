@@ -216,7 +216,8 @@ module _ (db : Database) (book : IsBook db) (filter : List Term) (order : List (
             (columns it.1),
       ) = ap (λ r. keyed_row (session_in_columns (column r))) it.4
       ∙ ap (λ n. (n, session_in_columns (columns it.1))) own in
-      subst (λ o. IsLeast key_cmp (content_without_plans db.trees).rows ahead (Some o)) (sym shown) it.5
+      subst (λ o. IsLeast key_cmp (content_without_plans db.trees).rows ahead (Some o))
+      (sym shown) it.5
 
 by_both : (j k : Key) (r s : Row) → is_session j r ≡ true → is_session k s ≡ true
     → ordering_then (value_cmp (column r 1) (column s 1))

@@ -75,7 +75,8 @@ bare_key db key row is =
 pub own_keys : (db : Trees) → HasOwnKeys (content_in_tables db)
 own_keys db = record {
   rows = λ key row is.
-      let bare = was_found (with_plan (plans_in_tables db key)) ((content_without_plans db).rows key)
+      let bare = was_found (with_plan (plans_in_tables db key))
+      ((content_without_plans db).rows key)
       row is in
       ap key_of bare.2 ∙ (key_of-with_plan (plans_in_tables db key) bare.0
       ∙ bare_key db key bare.0 bare.1);

@@ -6,6 +6,7 @@ pub mod Kept
 pub mod Book
 pub mod Make
 pub mod Migrate
+pub mod Add
 pub mod Look
 pub mod Laws
 pub mod inner

@@ -4,6 +4,7 @@ pub mod Inside
 pub mod AtRest
 pub mod NewBook
 pub mod Migrating
+pub mod Adding
 pub mod Looked
 pub mod Next
 pub mod Rising

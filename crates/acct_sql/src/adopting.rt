@@ -257,7 +257,8 @@ fn are_shown(table: PlanTable, plans: &[Plan], rows: &[sqlite::Row]) -> bool
     true
 }
 
-fn is_shown(table: PlanTable, plan: &Plan, rows: &[sqlite::Row]) -> bool
+/// A plan is shown by a row.
+pub(crate) fn is_shown(table: PlanTable, plan: &Plan, rows: &[sqlite::Row]) -> bool
     ensures { IsTrue result ↔ IsShownIn table rows.now plan.now }
 {
     for row in rows {
@@ -268,8 +269,8 @@ fn is_shown(table: PlanTable, plan: &Plan, rows: &[sqlite::Row]) -> bool
     false
 }
 
-// Each row shows a plan.
-fn are_plans(table: PlanTable, rows: &[sqlite::Row], plans: &[Plan]) -> bool
+/// Each row shows a plan.
+pub(crate) fn are_plans(table: PlanTable, rows: &[sqlite::Row], plans: &[Plan]) -> bool
     ensures { IsTrue result ↔ AllByRecursion (IsPlanIn table plans.now) rows.now }
 {
     for row in rows {

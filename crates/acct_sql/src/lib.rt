@@ -17,6 +17,7 @@
 //!    plan is kept.
 #![tactic(auto)]
 
+mod adding;
 mod adopting;
 mod book_schema;
 mod columns;

@@ -3,6 +3,7 @@ ghost use Rattle.std.specs.Prelude.{◌≡◌, ◌↔◌, false, [], ◌∷◌, 
 ghost use Rattle.std.specs.Prelude.{OnErr};
 ghost use Rattle.sqlite.specs.State.{Survives};
 ghost use Rattle.sqlite.specs.Held.{state};
+ghost use Rattle.sqlite.specs.Tree.{Trees};
 ghost use Rattle.sqlite.specs.Effect.{Database};
 ghost use Rattle.acct_model.specs.declared.plan.Plan.{Plan};
 ghost use Rattle.acct_sql.specs.Tables.{no_schema, first_schema};
@@ -10,7 +11,7 @@ ghost use Rattle.acct_sql.specs.Book.{is_sound_at};
 ghost use Rattle.acct_sql.specs.Make.{IsNew};
 ghost use Rattle.acct_sql.specs.inner.Inside.{RunsInside};
 ghost use Rattle.acct_sql.specs.inner.NewBook.{HasRun, HasFirstTables, HasPlanTables, HasTables};
-ghost use Rattle.acct_sql.specs.inner.NewBook.{HasPlans, HasPlansSoFar, IsNewBook};
+ghost use Rattle.acct_sql.specs.inner.NewBook.{HasPlans, HasPlansOver, HasPlansSoFar, IsNewBook};
 ghost use Rattle.acct_sql.specs.inner.Looked.{tables_at};
 
 use crate::columns::{count_values, plan_values};
@@ -26,7 +27,7 @@ use sqlite::{Alter, Connection, Transaction};
 use sqlite_schema::schema::Schema;
 
 /// Nothing was made in the database yet.
-pub(crate) fn is_bare(schema: &Schema) -> bool
+pub(crate) fn has_nothing(schema: &Schema) -> bool
     ensures { IsTrue result ↔ (schema.now ≡ no_schema) }
 {
     schema.tables.is_empty() && schema.indexes.is_empty() && schema.views.is_empty()
@@ -35,7 +36,7 @@ pub(crate) fn is_bare(schema: &Schema) -> bool
 /// Makes the tables, the schema number and the plans, all of it or nothing.
 pub(crate) fn make_book<S: Alter>(conn: &mut Connection<S>, plans: &Plans) -> Result<(), Refused>
     requires idle { (state S.Store conn.old).in_transaction ≡ false }
-    requires bare { (tables_at S.Store conn.old).schema ≡ no_schema }
+    requires nothing { (tables_at S.Store conn.old).schema ≡ no_schema }
     ensures idle { (state S.Store conn.new).in_transaction ≡ false }
     ensures made { is_sound_at S.Store conn.new
         → OnOk result (IsNewBook plans.now (state S.Store conn.new)) }
@@ -119,10 +120,12 @@ fn add_plans<S: Alter>(tx: &mut Transaction<'_, S>, plans: &[Plan]) -> Result<()
     Ok(())
 }
 
-fn add_plan<S: Alter>(tx: &mut Transaction<'_, S>, plan: &Plan) -> Result<(), Refused>
+/// Adds a plan, and what it counts.
+pub(crate) fn add_plan<S: Alter>(tx: &mut Transaction<'_, S>, plan: &Plan) -> Result<(), Refused>
     ensures { RunsInside S.Store tx.old.conn tx.new.conn
-        (λ old new. (c : Database) (plans : List Plan) → HasPlans c plans old
-        → HasPlans c (plans ++ plan.now ∷ []) new) result }
+        (λ old new. (c : Database) (first : Trees) (plans : List Plan)
+        → HasPlansOver c first plans old
+        → HasPlansOver c first (plans ++ plan.now ∷ []) new) result }
 {
     add_price(tx, plan)?;
     add_count(tx, plan)
@@ -130,9 +133,9 @@ fn add_plan<S: Alter>(tx: &mut Transaction<'_, S>, plan: &Plan) -> Result<(), Re
 
 fn add_count<S: Alter>(tx: &mut Transaction<'_, S>, plan: &Plan) -> Result<(), Refused>
     ensures { RunsInside S.Store tx.old.conn tx.new.conn
-        (λ old new. (c : Database) (prices counts : List Plan)
-        → HasPlansSoFar c prices counts old
-        → HasPlansSoFar c prices (counts ++ plan.now ∷ []) new) result }
+        (λ old new. (c : Database) (first : Trees) (prices counts : List Plan)
+        → HasPlansSoFar c first prices counts old
+        → HasPlansSoFar c first prices (counts ++ plan.now ∷ []) new) result }
 {
     let values = count_values(plan);
     tx.execute(NEW_PLAN_COUNT, &values)?;
@@ -141,9 +144,9 @@ fn add_count<S: Alter>(tx: &mut Transaction<'_, S>, plan: &Plan) -> Result<(), R
 
 fn add_price<S: Alter>(tx: &mut Transaction<'_, S>, plan: &Plan) -> Result<(), Refused>
     ensures { RunsInside S.Store tx.old.conn tx.new.conn
-        (λ old new. (c : Database) (prices counts : List Plan)
-        → HasPlansSoFar c prices counts old
-        → HasPlansSoFar c (prices ++ plan.now ∷ []) counts new) result }
+        (λ old new. (c : Database) (first : Trees) (prices counts : List Plan)
+        → HasPlansSoFar c first prices counts old
+        → HasPlansSoFar c first (prices ++ plan.now ∷ []) counts new) result }
 {
     if plan.block >= 1 << 63 || plan.unit >= 1 << 63 {
         return Err(Refused);

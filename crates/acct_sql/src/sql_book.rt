@@ -1,9 +1,10 @@
 //! The book on tables.
 ghost use Rattle.sqlite.specs.Held.{state};
 
+use crate::adding::add_to_book;
 use crate::adopting::examine;
 use crate::listing::{read_sessions, read_topups};
-use crate::making::{is_bare, make_book};
+use crate::making::{has_nothing, make_book};
 use crate::migrating::migrate_book;
 use crate::reading::{
     read_balance, read_next_account, read_next_session, read_next_topup, read_session, read_voucher,
@@ -44,7 +45,7 @@ impl<S: Alter> Model for SqlBook<S> {
 
 impl<S: Alter> SqlBook<S> {
     ghost use Rattle.std.specs.Prelude.{◌≡◌, ◌↔◌, ◌≢◌, ◌⊎◌, false, IsTrue, IfOk, IfErr};
-    ghost use Rattle.std.specs.Prelude.{IsErrAnd};
+    ghost use Rattle.std.specs.Prelude.{IsErrAnd, List, ◌∷◌, None, length};
     ghost use Rattle.sqlite.specs.State.{HasCleanDisk, Survives};
     ghost use Rattle.acct_sql.specs.Tables.{no_schema, own_number};
     ghost use Rattle.acct_sql.specs.Make.{IsNew, KeepsPlans};
@@ -53,7 +54,11 @@ impl<S: Alter> SqlBook<S> {
     ghost use Rattle.acct_sql.specs.Content.{content_in_tables, content_without_plans};
     ghost use Rattle.acct_sql.specs.Book.{IsOpenBook, IsResting, IsBookOver};
     ghost use Rattle.acct_book.specs.Stands.{Stands};
-    ghost use Rattle.acct_model.specs.History.{History};
+    ghost use Rattle.acct_model.specs.declared.plan.Plan.{Plan};
+    ghost use Rattle.acct_model.specs.Plans.{Extends, plans_added};
+    ghost use Rattle.acct_model.specs.PlanFaults.{plans_fault};
+    ghost use Rattle.acct_model.specs.History.{PlansAdded, History};
+    ghost use Rattle.acct_sql.specs.Add.{AreExtended, HasAdded, IsNotAddedAs};
 
     /// Makes an empty database an empty book that is kept by these plans: the seven tables, their
     /// two indices, the schema number 3 and a row for each plan, in one transaction. It is handed
@@ -87,7 +92,7 @@ impl<S: Alter> SqlBook<S> {
         ensures crash_err { IfErr result (λ e. Survives (state S.Store conn) (state S.Store e.1)
             (IsNew plans.now)) }
     {
-        if !is_bare(conn.schema()) {
+        if !has_nothing(conn.schema()) {
             return Err((SqlBookError::NotABook, conn));
         }
         match make_book(&mut conn, plans) {
@@ -179,6 +184,58 @@ impl<S: Alter> SqlBook<S> {
         prove!(is_idle);
         match migrate_book(&mut conn, plans) {
             Ok(()) => Ok(SqlBook { conn, alloc }),
+            Err(error) => Err((error, conn)),
+        }
+    }
+
+    /// Adds the plans that a book does not keep yet, in one transaction, and tells how many they
+    /// are. The database is handed back on an error, as it was. It reads each rowid of the
+    /// accounts, top-ups, sessions and their plans once.
+    ///
+    /// # Errors
+    ///
+    /// `WrongSchema` where a schema number is read that is not 3, `NotABook` where none is or the
+    /// tables and indices are not exactly those of a book, and `PlansDiffer` where a kept plan is
+    /// not one of these, with what it counts, in this order. `Unavailable` where the store or
+    /// memory refused, or where two rows of a book have one rowid or both the schema number.
+    pub fn add_plans(
+        alloc: Global,
+        mut conn: Connection<S>,
+        plans: &Plans,
+    ) -> Result<(SqlBook<S>, u64), (SqlBookError, Connection<S>)>
+        requires { (state S.Store conn).in_transaction ≡ false }
+        ensures added { IfOk result (λ done. HasCleanDisk (state S.Store done.0)
+            → IsOpenBook (state S.Store done.0) × AreExtended plans.now
+            (state S.Store conn).now.trees × HasAdded plans.now (state S.Store conn).now.trees
+            (state S.Store done.0).now.trees) }
+        ensures number { IfOk result (λ done. HasCleanDisk (state S.Store done.0)
+            → (old : List Plan) → KeepsPlans old (state S.Store conn).now.trees
+            → Extends plans.now old × (done.1 ≡ length (plans_added old plans.now))) }
+        ensures stands { IfOk result (λ done. HasCleanDisk (state S.Store done.0)
+            → (old : List Plan) (history : History)
+            → KeepsPlans old (state S.Store conn).now.trees → plans_fault old ≡ None
+            → Stands old (content_in_tables (state S.Store conn).now.trees) history
+            → Stands plans.now (content_in_tables (state S.Store done.0).now.trees)
+            (PlansAdded (plans_added old plans.now) ∷ history)) }
+        ensures tables { IfOk result (λ done. IsBookOver S.Store ⟦<SqlBook<S> as Book>⟧.content
+            ⟦<SqlBook<S> as Book>⟧.is_sound ⟦<SqlBook<S> as Book>⟧.is_open
+            ⟦<SqlBook<S> as Book>⟧.left done.0) }
+        ensures refused { IfErr result (λ e. HasCleanDisk (state S.Store e.1)
+            → IsNotAddedAs plans.now (state S.Store conn).now e.0) }
+        ensures idle { IfErr result (λ e. (state S.Store e.1).in_transaction ≡ false) }
+        ensures same { IfErr result (λ e. HasCleanDisk (state S.Store e.1)
+            → IsTrue (state S.Store e.1).is_open → (state S.Store e.1).now
+            ≡ (state S.Store conn).now) }
+        ensures crash { IfOk result (λ done. Survives (state S.Store conn) (state S.Store done.0)
+            (HasAdded plans.now (state S.Store conn).now.trees)) }
+        ensures crash_err { IfErr result (λ e. Survives (state S.Store conn) (state S.Store e.1)
+            (HasAdded plans.now (state S.Store conn).now.trees)) }
+    {
+        let is_idle = conn.is_autocommit();
+        prove!(is_idle);
+        plans.have_no_fault();
+        match add_to_book(&mut conn, plans) {
+            Ok(added) => Ok((SqlBook { conn, alloc }, added)),
             Err(error) => Err((error, conn)),
         }
     }

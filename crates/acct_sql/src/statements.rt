@@ -32,14 +32,25 @@ macro_rules! with_session_columns {
 
 // ---- the schema number
 
+// A statement with the schema number of a book in its midst.
+macro_rules! with_own_number {
+    ($before:literal, $after:literal) => { concat!($before, "3", $after) };
+}
+
 pub(crate) const META_TABLE: &str = "\
     CREATE TABLE meta (name TEXT NOT NULL PRIMARY KEY, value INTEGER NOT NULL) STRICT";
 
-pub(crate) const NEW_SCHEMA_NUMBER: &str = "INSERT INTO meta (name, value) VALUES ('schema', 3)";
+pub(crate) const NEW_SCHEMA_NUMBER: &str = with_own_number!(
+    "INSERT INTO meta (name, value) VALUES ('schema', ",
+    ")"
+);
 
 pub(crate) const SCHEMA_NUMBER: &str = "SELECT value FROM meta WHERE name = 'schema'";
 
-pub(crate) const SET_SCHEMA_NUMBER: &str = "UPDATE meta SET value = 3 WHERE name = 'schema'";
+pub(crate) const SET_SCHEMA_NUMBER: &str = with_own_number!(
+    "UPDATE meta SET value = ",
+    " WHERE name = 'schema'"
+);
 
 pub(crate) const META_ROWIDS: &str = "SELECT rowid FROM meta ORDER BY rowid";
 

@@ -6,6 +6,7 @@ use Rattle.std.specs.Map.{update}
 use Rattle.sqlite.specs.Store.{Ghosts}
 use Rattle.sqlite.specs.Held.{Held, state}
 use Rattle.sqlite.specs.Order.{Row}
+use Rattle.sqlite.specs.Tree.{Trees}
 use Rattle.sqlite.specs.State.{State, HasCleanDisk, Shows, KeepsCommit, IsRolledBack, Survives}
 use Rattle.sqlite.specs.State.{ExecutesInside}
 use Rattle.acct_model.specs.Vouchers.{TopUpFacts}
@@ -14,7 +15,7 @@ use Rattle.acct_book.specs.Row.{RowFacts}
 use Rattle.acct_book.specs.Content.{Content, same_key, key_of}
 use Rattle.acct_sql.specs.Content.{content_in_tables, content_without_plans}
 use Rattle.acct_sql.specs.Content.{plans_in_tables}
-use Rattle.acct_sql.specs.Book.{IsBook, HasSamePlans}
+use Rattle.acct_sql.specs.Book.{IsBook, IsOpenBook, HasSamePlans}
 
 -- ---- the parts of a write
 
@@ -96,7 +97,20 @@ pub record RunsInside {S T E : Type 0} (g : Ghosts S) (old new : MutBor (Held S)
   pub quiet : CommitsNothing g old new
   pub done : HasCleanDisk (state g new.now) → OnOk result (Done (state g old.now) (state g new.now))
 
+-- inside a transaction, the tables of a book were made of those that were committed before
+pub record HasBecome (Is : Trees → Trees → Type 0) (s : State) : Type 0 where
+  pub is_open : IsTrue s.is_open
+  pub mode : s.in_transaction ≡ true
+  pub book : IsBook s.now
+  pub is : Is s.committed.trees s.now.trees
+
 -- ---- the end
+
+-- the tables of a book were made of older ones, and committed
+pub record IsBookOf (Is : Trees → Trees → Type 0) (old : Trees) (s : State) : Type 0 where
+  pub settled : IsOpenBook s
+  pub book : IsBook s.now
+  pub is : Is old s.now.trees
 
 -- how a transaction ended whose statements gave this
 pub record HasFinished {T E F : Type 0} (done : Result T F) (mid end : State) (result : Result T E)

@@ -21,10 +21,11 @@ use Rattle.acct_sql.specs.declared.sql_book_error.SqlBookError.TheVariants.{Unav
 use Rattle.acct_sql.specs.Tables.{book_schema, first_schema, meta, account, voucher, session}
 use Rattle.acct_sql.specs.Tables.{plan_count, session_plan, own_number}
 use Rattle.acct_sql.specs.Tidy.{IsTidy}
-use Rattle.acct_sql.specs.Book.{IsBook, IsOpenBook}
+use Rattle.acct_sql.specs.Book.{IsBook}
 use Rattle.acct_sql.specs.Make.{HasNumber, KeepsPrices, KeepsCounts}
 use Rattle.acct_sql.specs.Look.{HasNumberAlone}
 use Rattle.acct_sql.specs.Migrate.{first_number, KeepsFirstPlans, IsMigrated}
+use Rattle.acct_sql.specs.inner.Inside.{HasBecome, IsBookOf}
 
 -- ---- an older book
 
@@ -111,14 +112,9 @@ pub record HasWritten (plans counts : List Plan) (last : Option ℤ) (s : State)
   pub classes : HaveClasses plans last s.now.trees
 
 -- all of it was written
-pub record HasMigrated (plans : List Plan) (s : State) : Type 0 where
-  pub is_open : IsTrue s.is_open
-  pub mode : s.in_transaction ≡ true
-  pub book : IsBook s.now
-  pub is : IsMigrated plans s.committed.trees s.now.trees
+abbrev pub HasMigrated : List Plan → State → Type 0
+HasMigrated plans s = HasBecome (IsMigrated plans) s
 
 -- an older book was made one of today's, and committed
-pub record IsMigratedBook (plans : List Plan) (old : Trees) (s : State) : Type 0 where
-  pub settled : IsOpenBook s
-  pub book : IsBook s.now
-  pub is : IsMigrated plans old s.now.trees
+abbrev pub IsMigratedBook : List Plan → Trees → State → Type 0
+IsMigratedBook plans old s = IsBookOf (IsMigrated plans) old s

@@ -1,5 +1,6 @@
 -- The making of a book, in a transaction over what was committed before.
 use Rattle.std.specs.Prelude.{◌≡◌, ℕ, true, List, [], Ok, IsTrue}
+use Rattle.sqlite.specs.Tree.{Trees}
 use Rattle.sqlite.specs.Change.{KeepsRows}
 use Rattle.sqlite.specs.Effect.{Database, IsDatabase}
 use Rattle.sqlite.specs.State.{State, ExecutesInside}
@@ -65,20 +66,35 @@ pub record HasTables (committed : Database) (s : State) : Type 0 where
   pub on : GoesOn committed s
   pub empty : AreEmpty s.now
 
--- the book has the prices of the first plans so far, and what the second count
-pub record HasPlansSoFar (committed : Database) (prices counts : List Plan) (s : State) : Type 0
-  where
-    pub on : GoesOn committed s
-    pub book : IsBook s.now
-    pub content : content_in_tables s.now.trees ≡ empty_content
-    pub number : KeepsNumber own_number s.now.trees
-    pub prices_kept : KeepsPrices prices s.now.trees
-    pub counts_kept : KeepsCounts counts s.now.trees
-    pub session_plans : s.now.trees session_plan.tree ≡ []
+-- the book has the prices of the first plans so far, and what the second count; its other tables
+-- are as they were at first
+pub record HasPlansSoFar (committed : Database) (first : Trees) (prices counts : List Plan)
+    (s : State) : Type 0 where
+  pub on : GoesOn committed s
+  pub book : IsBook s.now
+  pub metas : s.now.trees meta.tree ≡ first meta.tree
+  pub accounts : s.now.trees account.tree ≡ first account.tree
+  pub vouchers : s.now.trees voucher.tree ≡ first voucher.tree
+  pub sessions : s.now.trees session.tree ≡ first session.tree
+  pub session_plans : s.now.trees session_plan.tree ≡ first session_plan.tree
+  pub prices_kept : KeepsPrices prices s.now.trees
+  pub counts_kept : KeepsCounts counts s.now.trees
 
 -- the book has these plans so far
-abbrev pub HasPlans : Database → List Plan → State → Type 0
-HasPlans committed plans s = HasPlansSoFar committed plans plans s
+abbrev pub HasPlansOver : Database → Trees → List Plan → State → Type 0
+HasPlansOver committed first plans s = HasPlansSoFar committed first plans plans s
+
+-- the tables have a book's schema number, and nothing besides
+pub record HasNumberOnly (db : Trees) : Type 0 where
+  pub content : content_in_tables db ≡ empty_content
+  pub number : KeepsNumber own_number db
+  pub session_plans : db session_plan.tree ≡ []
+
+-- a new book has these plans so far
+pub record HasPlans (committed : Database) (plans : List Plan) (s : State) : Type 0 where
+  pub first : Trees
+  pub fresh : HasNumberOnly first
+  pub so_far : HasPlansOver committed first plans s
 
 -- a book was made with these plans, and committed
 pub record IsNewBook (plans : List Plan) (s : State) : Type 0 where

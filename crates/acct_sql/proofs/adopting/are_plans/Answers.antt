@@ -13,7 +13,8 @@ returns-then-not-is_plan c = (
       let no : c.is_plan.result ≡ false = search rules in
       let there = has_at c.args.rows.now c.loop-row.row-index c.row-item.result
       c.loop-row-test.true c.row-item.is in
-      let yes = c.is_plan.ensures.1 (all_has (IsPlanIn c.args.table c.args.plans.now) c.args.rows.now
+      let yes = c.is_plan.ensures.1 (all_has
+      (IsPlanIn c.args.table c.args.plans.now) c.args.rows.now
       c.row-item.result all there) in
       absurd (true≢false (sym yes ∙ no)),
 )

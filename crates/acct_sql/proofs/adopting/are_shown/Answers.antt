@@ -13,7 +13,8 @@ returns-then-not-is_shown c = (
       let no : c.is_shown.result ≡ false = search rules in
       let there = has_at c.args.plans.now c.loop-plan.plan-index c.plan-item.result
       c.loop-plan-test.true c.plan-item.is in
-      let yes = c.is_shown.ensures.1 (all_has (IsShownIn c.args.table c.args.rows.now) c.args.plans.now
+      let yes = c.is_shown.ensures.1 (all_has
+      (IsShownIn c.args.table c.args.rows.now) c.args.plans.now
       c.plan-item.result all there) in
       absurd (true≢false (sym yes ∙ no)),
 )

@@ -24,7 +24,8 @@ returns-clause-number g c =
           let told = number_told (state g.S.Store c.args.conn.now) _ c.in_ok-rows.rows.items
           (c.requires.has early) (c.in_ok-rows.ensures.shown clean) in
           answered c.judge_number.result
-          (λ n. told.one c.args.wanted (subst (IsSchemaNumber c.args.wanted) c.deref.ensures.value n))
+          (λ n. told.one c.args.wanted (subst
+          (IsSchemaNumber c.args.wanted) c.deref.ensures.value n))
           (rw back at c.judge_number.ensures.ok);
     }
 

@@ -17,7 +17,8 @@ returns-then-says c = (
 )
 
 pub loop-plan-preserved : goal.loop-plan-preserved
-loop-plan-preserved c = all_more (λ plan. ¬ (Says c.args.table plan c.args.row.now)) c.args.plans.now
+loop-plan-preserved c = all_more (λ plan. ¬
+    (Says c.args.table plan c.args.row.now)) c.args.plans.now
     c.loop-plan.plan-index c.plan-item.result c.loop-plan-test.true c.plan-item.is
     c.loop-plan.invariant
     (λ shows. true≢false (sym (c.says.ensures.1 shows) ∙ c.if-says.false))
@@ -29,6 +30,7 @@ returns c = (
       let none = subst (AllByRecursion (λ plan. ¬ (Says c.args.table plan c.args.row.now)))
       (take_all c.loop-plan.plan-index c.args.plans.now (omega (arith, c.loop-plan-test.false)))
       c.loop-plan.invariant in
-      absurd (all_has (λ plan. ¬ (Says c.args.table plan c.args.row.now)) c.args.plans.now found.0 none
+      absurd (all_has (λ plan. ¬ (Says c.args.table plan c.args.row.now)) c.args.plans.now found.0
+      none
       found.1 found.2),
 )

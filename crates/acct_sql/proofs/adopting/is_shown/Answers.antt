@@ -29,6 +29,7 @@ returns c = (
       let none = subst (AllByRecursion (λ row. ¬ (Says c.args.table c.args.plan.now row)))
       (take_all c.loop-row.row-index c.args.rows.now (omega (arith, c.loop-row-test.false)))
       c.loop-row.invariant in
-      absurd (all_has (λ row. ¬ (Says c.args.table c.args.plan.now row)) c.args.rows.now found.0 none
+      absurd (all_has (λ row. ¬ (Says c.args.table c.args.plan.now row)) c.args.rows.now found.0
+      none
       found.1 found.2),
 )

@@ -21,6 +21,7 @@ returns-in-Ok-clause-looks g c = record {
   stays_open = λ clean. subst (λ r. OnOk r (IsTrue (state g.S.Store c.query_all.new.self).is_open))
       c.in-Ok.is
       (peeked_open _ _ (state g.S.Store c.args.conn.now) (state g.S.Store c.query_all.new.self)
-      (λ rows. rows.items) c.query_all.result c.requires.idle c.requires.plain c.query_all.ensures.ok c.query_all.ensures.err c.query_all.ensures.mode
+      (λ rows. rows.items) c.query_all.result c.requires.idle c.requires.plain
+      c.query_all.ensures.ok c.query_all.ensures.err c.query_all.ensures.mode
       c.query_all.ensures.survives clean);
 }

@@ -11,6 +11,7 @@ returns g c = record {
   done = λ clean.
       let one : HasCleanDisk (state g.S.Store c.add_price.new.tx.conn.now) = omega
       (arith, c.add_count.ensures.quiet.survives.clean, clean) in
-      answered c.add_count.result (λ last d plans t. last d (plans ++ c.args.plan.now ∷ []) plans
-      (c.in_ok-add_price.ensures.done one d plans plans t)) (c.add_count.ensures.done clean);
+      answered c.add_count.result (λ last d first plans t. last d first
+      (plans ++ c.args.plan.now ∷ []) plans
+      (c.in_ok-add_price.ensures.done one d first plans plans t)) (c.add_count.ensures.done clean);
 }

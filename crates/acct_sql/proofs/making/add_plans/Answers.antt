@@ -2,7 +2,7 @@ use Rattle.std.proofs.Common.{arith, ◌≡◌, ◌+◌, ◌++◌, [], ◌∷◌
 use Rattle.std.proofs.lemmas.List.{take_all, take_more}
 use Rattle.sqlite.specs.State.{HasCleanDisk}
 use Rattle.sqlite.specs.Held.{state}
-use Rattle.acct_sql.specs.inner.NewBook.{HasPlans}
+use Rattle.acct_sql.specs.inner.NewBook.{HasPlans, HasPlansOver}
 use Rattle.acct_sql.proofs.StepLemmas.{quiet_then}
 use Rattle.acct_sql.proofs.making.add_plans.Goals as goal
 
@@ -19,9 +19,14 @@ loop-plan-preserved g c =
       done = λ clean d start.
           let early : HasCleanDisk (state g.S.Store c.loop-plan.tx.conn.now) = omega
           (arith, c.add_plan.ensures.quiet.survives.clean, clean) in
-          subst (λ plans. HasPlans d plans (state g.S.Store c.add_plan.new.tx.conn.now)) (sym more)
-          (c.in_ok-add_plan.ensures.done clean d (take c.loop-plan.plan-index c.args.plans.now)
-          (before.done early d start));
+          let was = before.done early d start in record {
+            first = was.first;
+            fresh = was.fresh;
+            so_far = subst (λ plans. HasPlansOver d was.first plans
+                (state g.S.Store c.add_plan.new.tx.conn.now)) (sym more)
+                (c.in_ok-add_plan.ensures.done clean d was.first
+                (take c.loop-plan.plan-index c.args.plans.now) was.so_far);
+          };
     }
 
 pub returns : goal.returns

@@ -18,7 +18,8 @@ returns-clause-written g c clean = λ last more w shown.
     let ran = rw c.as_slice.ensures at (c.in_ok-execute.ensures.runs clean inside) in
     let found = c.plan_of-plan.ensures.found in
     let back : to_z w64 (of_z w64 c.in-Some.id) ≡ c.in-Some.id = search rules in
-    rw back (class_written c.args.plans.now last c.args.columns.now more c.in-Some.id names.client.now
+    rw back (class_written c.args.plans.now last c.args.columns.now more c.in-Some.id
+    names.client.now
     names.session.now names.class.now old new c.in_ok-execute.field-0 c.in-Some.ensures
     names.ensures.client names.ensures.session names.ensures.class
     (subst (λ p. ExecutesInside 0 texts.NEW_SESSION_PLAN.now

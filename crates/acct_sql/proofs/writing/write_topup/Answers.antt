@@ -11,7 +11,8 @@ returns g c =
     let old = c.args.conn.now in
     let mid = state g.S.Store c.set_credit-done.new.tx.conn.now in
     let end = c.finish.new.tx.0 in
-    let change : Content → Content = λ content. with_topup content c.args.topup.now c.args.balance in
+    let change : Content → Content = λ content. with_topup content c.args.topup.now c.args.balance
+    in
     let same : end ≡ c.conn-1.given.0 = search rules in
     let back = to_z-of_z w64 c.args.balance c.ranges.balance in
     let made = rw (c.transaction-tx.ensures.begun, back) at c.set_credit-done.ensures in
