@@ -2,25 +2,32 @@
 use Rattle.std.proofs.Common.{◌≡◌, ◌≤◌, ◌<◌, ◌+◌, ◌⊎◌, inl, inr, ℕ, zero, suc, Bool, true, false}
 use Rattle.std.proofs.Common.{List, [], ◌∷◌, ◌++◌, length, take, drop, map, refl, ap, sym, subst}
 use Rattle.std.proofs.Common.{◌∙◌, arith, append_assoc, length-append, length-take, Option, Some}
-use Rattle.std.proofs.Common.{None}
+use Rattle.std.proofs.Common.{None, min, ◌≢◌}
 use Rattle.std.specs.Prelude.{nat_lt, nat_le, if◌then◌else◌, codes, Result, Ok, Err}
 use Rattle.std.proofs.lemmas.Bool.Decides.{nat_tests}
-use Rattle.std.proofs.lemmas.List.{take-append-le, take-append-drop, length-map}
+use Rattle.std.proofs.lemmas.List.{take-append-le, take-append-drop, length-map, take_all}
+use Rattle.std.proofs.lemmas.List.{append-nil}
 use Rattle.std.proofs.Math.Seq.{take-append_seam}
 use Rattle.httparse.specs.Grammar.{RequestHead, print_request, ReadsRequest, HasNoRequest}
+use Rattle.httparse.specs.Grammar.{NeverHasRequest}
 use Rattle.httparse.specs.Spans.{RequestOverflows, IsRequestAt, header_bytes, name_and_value}
+use Rattle.httparse.specs.Spans.{IsRequestWithin, FindsRequest}
 use Rattle.httparse.specs.declared.spans.HeaderSpan.{HeaderSpan}
 use Rattle.httparse.specs.declared.spans.RequestSpans.{RequestSpans}
 use Rattle.httparse.specs.declared.Error.{Error}
 use Rattle.httparse.specs.declared.Status.{Status}
 use Rattle.httparse.specs.declared.Status.TheVariants.{Complete, Partial}
-use Rattle.httparse.specs.Outcome.{IfComplete, OnPartial}
+use Rattle.httparse.specs.Outcome.{IfComplete, OnPartial, IsCompleteAnd}
 use Rattle.httparse.proofs.GrammarLemmas.{ReadsRequest-append, request_unique}
+use Rattle.acct_desk.specs.declared.framing.Reach.{Reach}
 use Rattle.acct_desk.specs.declared.framing.Reach.TheVariants.{More, Whole, Bad, TooLarge}
 use Rattle.acct_desk.specs.declared.reading.Watch.{Watch}
 use Rattle.acct_desk.specs.Request.{Begins, IsHeadOf, IsExtent, reach_of, reach_of_fields}
 use Rattle.acct_desk.specs.Request.{fields_of, body_length, values_of, is_empty, reach_of_length}
+use Rattle.acct_desk.specs.Reading.{IsSettled}
+use Rattle.acct_desk.specs.inner.Head.{HasNoHead}
 use Rattle.acct_desk.specs.inner.Reading.{EndsInEmptyLine, NoHeadEnds, StaysOpen}
+use Rattle.acct_desk.proofs.FramingLemmas.{front_begins, extent_at_front, extent_without_front}
 use Rattle.acct_desk.proofs.HeadEndLemmas.{head_ends, nothing_ends}
 
 within_or_past : (a b : ℕ) → (a ≤ b) ⊎ (b < a)
@@ -60,26 +67,85 @@ no_head_came bytes more none quiet head rest reads =
           (subst EndsInEmptyLine (sym front) (head_ends head reads.0))
     ]
 
-pub partial_stays : (watch : Watch) (bytes : List ℕ) → IsExtent bytes More → HasNoRequest bytes
-    → watch.next ≤ 8192 → watch.ends ≡ true → StaysOpen watch bytes
-partial_stays watch bytes is none near ends = record {
-  open_yet = is;
-  stays = λ more short quiet.
-      headless_open (bytes ++ more) (let h : length (bytes ++ more) < 8192 = omega arith in h)
-      (λ head begins. no_head_came bytes more none (quiet ends) head begins.reads.0 begins.reads.1);
-}
+-- so few octets are all looked at
+front_is_all : (bytes front : List ℕ) → front ≡ take (min (length bytes) 8192) bytes
+    → length bytes < 8192 → front ≡ bytes
+front_is_all bytes front is short =
+    is ∙ take_all (min (length bytes) 8192) bytes (omega arith)
 
-pub overflow_stays : (watch : Watch) (bytes : List ℕ) → IsExtent bytes More
-    → RequestOverflows 64 bytes → watch.next ≤ 8192 → StaysOpen watch bytes
-overflow_stays watch bytes is over near = record {
-  open_yet = is;
-  stays = λ more short quiet.
-      headless_open (bytes ++ more) (let h : length (bytes ++ more) < 8192 = omega arith in h)
-      (λ head begins.
-      let many : 64 < length head.fields = over more head begins.reads.0 begins.reads.1 in
-      let few = begins.few in
-      omega arith);
-}
+pub partial_stays : (watch : Watch) (bytes front : List ℕ)
+    → front ≡ take (min (length bytes) 8192) bytes → length bytes < 8192 → HasNoRequest front
+    → watch.next ≤ 8192 → watch.ends ≡ true → StaysOpen watch bytes
+partial_stays watch bytes front is few looked near ends =
+    let none : HasNoRequest bytes = subst HasNoRequest (front_is_all bytes front is few) looked in
+    record {
+      open_yet = headless_open bytes few (λ head begins. none head begins.reads.0 begins.reads.1);
+      stays = λ more short quiet.
+          headless_open (bytes ++ more)
+          (let h : length (bytes ++ more) < 8192 = omega arith in h)
+          (λ head begins. no_head_came bytes more none (quiet ends) head begins.reads.0
+          begins.reads.1);
+    }
+
+-- no head of few fields begins, whatever octets follow
+none_after : (bytes : List ℕ) → RequestOverflows 64 bytes → (more : List ℕ) (head : RequestHead)
+    → ¬ (Begins (bytes ++ more) head)
+none_after bytes over more head begins =
+    let many : 64 < length head.fields = over more head begins.reads.0 begins.reads.1 in
+    let few = begins.few in
+    omega arith
+
+pub overflow_stays : (watch : Watch) (bytes front : List ℕ)
+    → front ≡ take (min (length bytes) 8192) bytes → length bytes < 8192
+    → RequestOverflows 64 front → watch.next ≤ 8192 → StaysOpen watch bytes
+overflow_stays watch bytes front is few looked near =
+    let over : RequestOverflows 64 bytes =
+    subst (RequestOverflows 64) (front_is_all bytes front is few) looked in
+    let IsHeadless : List ℕ → Type 0 = λ bs. (head : RequestHead) → ¬ (Begins bs head) in
+    record {
+      open_yet = headless_open bytes few
+          (subst IsHeadless (append-nil bytes) (none_after bytes over []));
+      stays = λ more short quiet.
+          headless_open (bytes ++ more)
+          (let h : length (bytes ++ more) < 8192 = omega arith in h)
+          (none_after bytes over more);
+    }
+
+-- ---- settled without a head
+
+-- what begins with octets that can't become a request can't either
+pub never_settled : (bytes front : List ℕ) → front ≡ take (min (length bytes) 8192) bytes
+    → NeverHasRequest front → IsSettled bytes
+never_settled bytes front is never =
+    let n = min (length bytes) 8192 in
+    inr (λ more.
+    let whole : front ++ (drop n bytes ++ more) ≡ bytes ++ more =
+    sym (append_assoc front (drop n bytes) more)
+    ∙ ap (λ bs. (bs ++ drop n bytes) ++ more) is
+    ∙ ap (λ bs. bs ++ more) (take-append-drop n bytes) in
+    subst HasNoRequest whole (never (drop n bytes ++ more)))
+
+-- the parser answers each head of few fields
+pub no_head_found : (front : List ℕ) (headers : List HeaderSpan)
+    (r : Result (Status RequestSpans) Error) → FindsRequest front 64 headers r
+    → ((spans : RequestSpans) → r ≢ Ok (Complete spans)) → HasNoHead front
+no_head_found front headers r found other head rest reads =
+    elim (within_or_past (length head.fields) 64) [
+      | inl few ↦ absurd (none_complete _ r (found head rest reads few) other)
+      | inr many ↦ many
+    ]
+  where
+    none_complete : (P : RequestSpans → Type 0) (r : Result (Status RequestSpans) Error)
+        → IsCompleteAnd r P → ((spans : RequestSpans) → r ≢ Ok (Complete spans)) → ⊥
+    none_complete P (Ok (Complete spans)) fact other = other spans refl
+    none_complete P (Ok Partial) fact other = fact
+    none_complete P (Err e) fact other = fact
+
+pub too_large_settled : (bytes front : List ℕ) → front ≡ take (min (length bytes) 8192) bytes
+    → 8192 ≤ length bytes → HasNoHead front → IsSettled bytes
+too_large_settled bytes front is large none =
+    let reach : TooLarge ≡ reach_of None (length bytes) = grind (arith, nat_tests) in
+    inl (TooLarge, extent_without_front _ bytes front TooLarge is refl none reach, λ e. cc)
 
 -- ---- with a head
 
@@ -138,17 +204,34 @@ few_fields bytes headers spans head at room =
     let cut = length-take spans.headers headers in
     omega arith
 
-pub complete_stays : (watch : Watch) (bytes : List ℕ) (headers : List HeaderSpan)
-    (spans : RequestSpans) (head : RequestHead) → IsExtent bytes More
-    → IsRequestAt bytes headers spans head → length headers ≡ 64
+-- the extent by a head that was found in the front
+pub extent_found : (bytes front : List ℕ) (headers : List HeaderSpan) (spans : RequestSpans)
+    (head : RequestHead) (reach : Reach) → front ≡ take (min (length bytes) 8192) bytes
+    → IsRequestAt front headers spans head → IsRequestWithin front headers spans
+    → length headers ≡ 64
+    → reach ≡ reach_of_fields spans.len (length bytes)
+    (map (header_bytes front) (take spans.headers headers))
+    → IsExtent bytes reach
+extent_found bytes front headers spans head reach is at within room reached =
+    let small : min (length bytes) 8192 ≤ 8192 = omega arith in
+    let few = few_fields front headers spans head at room in
+    extent_at_front _ bytes front headers spans reach is small
+    (record { head = head; is_at = at; few = few; within = within }) reached
+
+pub complete_stays : (watch : Watch) (bytes front : List ℕ) (headers : List HeaderSpan)
+    (spans : RequestSpans) (head : RequestHead) → front ≡ take (min (length bytes) 8192) bytes
+    → IsExtent bytes More → IsRequestAt front headers spans head → length headers ≡ 64
     → ((body : ℕ) → body_length (values_of (codes "content-length")
-    (map (header_bytes bytes) (take spans.headers headers))) ≡ Some body
+    (map (header_bytes front) (take spans.headers headers))) ≡ Some body
     → watch.next ≤ spans.len + body)
     → StaysOpen watch bytes
-complete_stays watch bytes headers spans head is at room next =
-    let rest = drop spans.len bytes in
-    let few = few_fields bytes headers spans head at room in
-    let open_yet = open_head bytes head rest at.reads few is.0 is.1 is.2 in
+complete_stays watch bytes front headers spans head cut is at room next =
+    let n = min (length bytes) 8192 in
+    let rest = drop spans.len front ++ drop n bytes in
+    let P : List ℕ → Type 0 = λ bs. ReadsRequest bs head (drop spans.len front) in
+    let reads = front_begins n bytes head (drop spans.len front) (subst P cut at.reads) in
+    let few = few_fields front headers spans head at room in
+    let open_yet = open_head bytes head rest reads few is.0 is.1 is.2 in
     let fields = fields_of head in
     let waits = open_body (is_empty (values_of (codes "transfer-encoding") fields))
     (body_length (values_of (codes "content-length") fields)) (length (print_request head))
@@ -161,7 +244,7 @@ complete_stays watch bytes headers spans head is at room next =
       stays = λ more short quiet. (
         Some head,
         record {
-          reads = (rest ++ more, ReadsRequest-append bytes head rest more at.reads);
+          reads = (rest ++ more, ReadsRequest-append bytes head rest more reads);
           short = open_yet.0;
           few = few;
         },

@@ -14,7 +14,7 @@ ghost use Rattle.acct_desk.specs.inner.Reading.{ReadsOn};
 ghost use Rattle.acct_desk.specs.inner.Reading.{EndsInEmptyLine};
 ghost use Rattle.acct_desk.specs.inner.Reading.{NoHeadEnds, StaysOpen};
 
-use crate::framing::{HEAD_LIMIT, Reach, declared_length, extent};
+use crate::framing::{HEAD_LIMIT, Reach, declared_length, front_of, reach_by_fields};
 use crate::head::FIELD_LIMIT;
 use httparse::spans::{EMPTY_HEADER_SPAN, HeaderSpan, parse_request};
 use httparse::{Error as HeadError, Status};
@@ -126,28 +126,36 @@ impl Watch {
 
 // None where no further octets are wanted, else when to look again. Without a head that is at twice
 // the octets, so that what can be no request is given up soon, at little cost.
+//
+// One parse tells how far the request reaches, which is what `extent` says of the octets, and what
+// an open request waits for. Where the octets in which a head is looked for are all there and have
+// none, the request is too large.
 fn look(bytes: &[u8]) -> Option<Watch>
     ensures settled { IfNone result (IsSettled bytes.now) }
     ensures open { IfSome result (λ watch. StaysOpen watch bytes.now) }
 {
-    let Reach::More = extent(bytes) else {
-        return None;
-    };
+    let front = front_of(bytes);
     let mut headers = [EMPTY_HEADER_SPAN; FIELD_LIMIT];
-    match parse_request(bytes, &mut headers) {
-        Ok(Status::Complete(head)) => Some(Watch {
-            next: end_of(bytes, &headers[..head.headers], head.len),
-            ends: false,
-        }),
-        Ok(Status::Partial) => Some(Watch {
+    match parse_request(front, &mut headers) {
+        Ok(Status::Complete(head)) => {
+            let fields = &headers[..head.headers];
+            match reach_by_fields(front, fields, head.len, bytes.len()) {
+                Reach::More => Some(Watch {
+                    next: end_of(front, fields, head.len),
+                    ends: false,
+                }),
+                _ => None,
+            }
+        }
+        Ok(Status::Partial) if bytes.len() < HEAD_LIMIT => Some(Watch {
             next: bytes.len().saturating_mul(2).min(HEAD_LIMIT),
             ends: true,
         }),
-        Err(HeadError::TooManyHeaders) => Some(Watch {
+        Err(HeadError::TooManyHeaders) if bytes.len() < HEAD_LIMIT => Some(Watch {
             next: HEAD_LIMIT,
             ends: false,
         }),
-        Err(_) => None,
+        _ => None,
     }
 }
 
