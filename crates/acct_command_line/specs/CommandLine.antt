@@ -104,9 +104,11 @@ working_app =
     with_subcommand (with_subcommand (with_subcommand (with_subcommand bookless_app
     (book_app (codes "init")).top) serve_app.top) (book_app (codes "import")).top) export_app.top
 
--- the program's command line: the same with the command that changes how a book is kept
+-- the program's command line: the same with the commands that change how a book is kept
 abbrev pub app : App
-app = with_subcommand working_app (book_app (codes "migrate")).top
+app =
+    with_subcommand (with_subcommand working_app (book_app (codes "migrate")).top)
+    (book_app (codes "plans")).top
 
 -- the option has this number, from 1 to the given one
 abbrev pub IsNumber : Text → List Row → ℕ → ℕ → Type 0
@@ -152,6 +154,7 @@ WordsAskFor name rows (job.Import paths) = (name ≡ codes "import") × ArePaths
 WordsAskFor name rows (job.Export paths what) =
     (name ≡ codes "export") × ArePaths rows paths × IsExport rows what
 WordsAskFor name rows (job.Migrate paths) = (name ≡ codes "migrate") × ArePaths rows paths
+WordsAskFor name rows (job.AddPlans paths) = (name ≡ codes "plans") × ArePaths rows paths
 
 -- the job is that of the subcommand that the words name
 abbrev pub NamesJob : Option (Text × List Row) → Job → Type 0
@@ -167,3 +170,4 @@ HasTurns (job.Serve paths listening turns) = turns < 2 ^ 63
 HasTurns (job.Import paths) = ⊤
 HasTurns (job.Export paths what) = ⊤
 HasTurns (job.Migrate paths) = ⊤
+HasTurns (job.AddPlans paths) = ⊤

@@ -68,6 +68,11 @@ pub enum Job {
         /// Its files.
         paths: Paths,
     },
+    /// Adds the plans that the book does not keep yet.
+    AddPlans {
+        /// Its files.
+        paths: Paths,
+    },
 }
 
 // It is written out, so that a caller does not prove again how each part is dropped.
@@ -85,6 +90,7 @@ impl Drop for Job {
             Job::Import { paths: _ } => {}
             Job::Export { paths: _, what: _ } => {}
             Job::Migrate { paths: _ } => {}
+            Job::AddPlans { paths: _ } => {}
         }
     }
 }
@@ -191,6 +197,7 @@ fn asked_of_book(
         "import" => Ok(Some(Job::Import { paths })),
         "export" => Ok(asked_to_export(paths, options)),
         "migrate" => Ok(Some(Job::Migrate { paths })),
+        "plans" => Ok(Some(Job::AddPlans { paths })),
         _ => Ok(None),
     }
 }
@@ -319,7 +326,8 @@ fn command<'a>(alloc: Global) -> Result<Command<'a>, AllocError>
         .subcommand(serve_command(alloc)?)?
         .subcommand(import_command(alloc)?)?
         .subcommand(export_command(alloc)?)?
-        .subcommand(migrate_command(alloc)?)
+        .subcommand(migrate_command(alloc)?)?
+        .subcommand(plans_command(alloc)?)
 }
 
 fn feed_command<'a>(alloc: Global) -> Result<Command<'a>, AllocError>
@@ -392,6 +400,13 @@ fn migrate_command<'a>(alloc: Global) -> Result<Command<'a>, AllocError>
 {
     let about = "Makes a book of an earlier version one of this version, with the same balances";
     book_command(alloc, "migrate", about)
+}
+
+fn plans_command<'a>(alloc: Global) -> Result<Command<'a>, AllocError>
+    ensures { IfOk result (λ c. app_of c ≡ book_app (codes "plans")) }
+{
+    let about = "Adds the plans of a configuration that a book does not keep yet";
+    book_command(alloc, "plans", about)
 }
 
 // A command that keeps a book.

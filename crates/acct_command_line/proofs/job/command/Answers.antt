@@ -15,6 +15,7 @@ returns c =
     let import_is = c.in_ok-import_command.ensures in
     let export_is = c.in_ok-export_command.ensures in
     let migrate_is = c.in_ok-migrate_command.ensures in
+    let plans_is = c.in_ok-plans_command.ensures in
     let named : app_of c.about.result ≡ new_app (codes "radacctd") =
     ap app_of_fields c.about.ensures ∙ c.new.ensures.app in
     let versioned : app_of c.version.result ≡ has_version (new_app (codes "radacctd")) =
@@ -39,6 +40,9 @@ returns c =
     let sixth = c.in_ok-subcommand-6.ensures.shape (plain_fields c.in_ok-export_command.field-0
     (ap (λ (a : App). a.top.is_plain) export_is)).globals
     ∙ ap₂ with_subcommand fifth (ap (λ (a : App). a.top) export_is) in
-    IfOk-weaker c.subcommand-7.result _ _ (λ m h. h.shape (plain_fields
+    let seventh = c.in_ok-subcommand-7.ensures.shape (plain_fields
     c.in_ok-migrate_command.field-0 (ap (λ (a : App). a.top.is_plain) migrate_is)).globals
-    ∙ ap₂ with_subcommand sixth (ap (λ (a : App). a.top) migrate_is)) c.subcommand-7.ensures
+    ∙ ap₂ with_subcommand sixth (ap (λ (a : App). a.top) migrate_is) in
+    IfOk-weaker c.subcommand-8.result _ _ (λ m h. h.shape (plain_fields
+    c.in_ok-plans_command.field-0 (ap (λ (a : App). a.top.is_plain) plans_is)).globals
+    ∙ ap₂ with_subcommand seventh (ap (λ (a : App). a.top) plans_is)) c.subcommand-8.ensures
