@@ -17,7 +17,7 @@ use Rattle.radacctd.specs.declared.left.Left.{Left}
 use Rattle.radacctd.specs.declared.left.Left.TheVariants as left
 use Rattle.radacctd.specs.Files.{AreHeldIn, WasHeldIn, HoldsStill}
 use Rattle.radacctd.specs.inner.Files.{IsOpenedOn}
-use Rattle.radacctd.specs.Files.{IsUnread, IsRefused, HasNotMade, HasNotMigrated}
+use Rattle.radacctd.specs.Files.{IsUnread, IsRefused, HasNotMade, HasNotMigrated, HasNotAdded}
 
 module _ {D : Type 0} {g : Ghosts D} where
   -- an open that failed is a refusal to adopt, and to make
@@ -44,6 +44,14 @@ module _ {D : Type 0} {g : Ghosts D} where
   unread_unmigrated image plans told (left.Open last) h = absurd h
   unread_unmigrated image plans told (left.Unclosed it) h = absurd h
   unread_unmigrated image plans told (left.Closed files) h = absurd h
+
+  pub unread_unadded : (image : Image) (plans : List Plan) (told : Fault) (rest : Left D g)
+      → IsUnread image told rest → HasNotAdded image plans told rest
+  unread_unadded image plans told left.Nothing h = h
+  unread_unadded image plans told (left.Unopened it) h = h
+  unread_unadded image plans told (left.Open last) h = absurd h
+  unread_unadded image plans told (left.Unclosed it) h = absurd h
+  unread_unadded image plans told (left.Closed files) h = absurd h
 
   module _ (image : Image) (first : Held (FileStore D g)) (found : IsOpenedOn image first) where
     -- what an open finds is what the files held

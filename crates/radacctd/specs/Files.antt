@@ -1,5 +1,5 @@
 -- What the files of a book held as they were opened, and what they hold afterwards.
-use Rattle.std.specs.Prelude.{◌≡◌, ◌≢◌, ◌⊎◌, List, IsTrue}
+use Rattle.std.specs.Prelude.{◌≡◌, ◌≢◌, ◌⊎◌, ℕ, List, IsTrue, length}
 use Rattle.sqlite_disk.specs.declared.Disk.{Ghosts}
 use Rattle.sqlite_disk.specs.declared.Files.{Files}
 use Rattle.sqlite_wal.specs.Recovery.{Image}
@@ -12,12 +12,14 @@ use Rattle.sqlite.specs.State.{HasCleanDisk}
 use Rattle.sqlite.specs.Files.{file_state, HoldsDatabase, AreFoundIn, IsClosed}
 use Rattle.sqlite.specs.Closing.{IsCopied}
 use Rattle.acct_model.specs.declared.plan.Plan.{Plan}
+use Rattle.acct_model.specs.Plans.{plans_added}
 use Rattle.acct_sql.specs.declared.sql_book_error.SqlBookError.{SqlBookError}
 use Rattle.acct_sql.specs.Book.{IsOpenBook}
 use Rattle.acct_sql.specs.Look.{HasNumberAlone, IsRefusedAs}
 use Rattle.acct_sql.specs.Tables.{own_number}
 use Rattle.acct_sql.specs.Make.{IsNew, KeepsPlans}
 use Rattle.acct_sql.specs.Migrate.{IsMigrated, IsNotMigratedAs}
+use Rattle.acct_sql.specs.Add.{AreExtended, HasAdded, IsNotAddedAs}
 use Rattle.acct_sql.specs.Tables.{no_schema}
 use Rattle.acct_commands.specs.declared.fault.Fault.{Fault}
 use Rattle.acct_commands.specs.declared.fault.Fault.TheVariants as fault
@@ -66,6 +68,18 @@ module _ {D : Type 0} {g : Ghosts D} where
       pub was_held : WasHeldIn image held
       pub migrated : IsMigrated plans held.trees (file_state book).now.trees
 
+  -- the book that the files held, with so many plans added to those that it kept, which are then
+  -- these
+  pub record IsAddedIn (image : Image) (plans : List Plan) (count : ℕ)
+      (book : Held (FileStore D g)) : Type 0 where
+    pub settled : IsOpenBook (file_state book)
+    pub held : Database
+    pub was_held : WasHeldIn image held
+    pub extended : AreExtended plans held.trees
+    pub added : HasAdded plans held.trees (file_state book).now.trees
+    pub counted : (kept : List Plan) → KeepsPlans kept held.trees
+        → count ≡ length (plans_added kept plans)
+
   -- ---- none
 
   -- the files hold what they held: a read tells it while the connection is open, and a crash leaves
@@ -110,6 +124,20 @@ module _ {D : Type 0} {g : Ghosts D} where
     pub why : HasCleanDisk (file_state last)
         → (held : Database) × WasHeldIn image held × IsNotMigratedAs plans held error
 
+  -- No plan was added. The files hold what they held, but for a crash, which may leave the book with
+  -- the added plans.
+  pub record IsUnadded (image : Image) (plans : List Plan) (told : Fault)
+      (last : Held (FileStore D g)) : Type 0 where
+    pub reads : HasCleanDisk (file_state last) → IsTrue (file_state last).is_open
+        → AreHeldIn image (file_state last).now.trees
+    pub leaves : HasCleanDisk (file_state last) → (db : Trees) → (file_state last).may_leave db
+        → AreHeldIn image db
+        ⊎ ((held : Trees) × AreHeldIn image held × HasAdded plans held db)
+    pub error : SqlBookError
+    pub telling : told ≡ fault.Store (store_fault_of error)
+    pub why : HasCleanDisk (file_state last)
+        → (held : Database) × WasHeldIn image held × IsNotAddedAs plans held error
+
   -- ---- what is left
 
   -- no database was opened
@@ -134,6 +162,11 @@ module _ {D : Type 0} {g : Ghosts D} where
   abbrev pub HasNotMigrated : Image → List Plan → Fault → Left D g → Type 0
   HasNotMigrated image plans told (left.Open last) = IsUnmigrated image plans told last
   HasNotMigrated image plans told rest = IsUnread image told rest
+
+  -- why no plan was added, and what is left of the files
+  abbrev pub HasNotAdded : Image → List Plan → Fault → Left D g → Type 0
+  HasNotAdded image plans told (left.Open last) = IsUnadded image plans told last
+  HasNotAdded image plans told rest = IsUnread image told rest
 
   -- the two files have what the book committed, where the disk has returned what it took
   abbrev pub Copies : Held (FileStore D g) → Files D → Type 0

@@ -1,7 +1,7 @@
 -- What each job does: how it ends, what it has printed where it ends well, and what it leaves of
 -- the book's files, with some configuration. No contract can name the file that it was read from.
 use Rattle.std.specs.Prelude.{◌≡◌, ◌⊎◌, ⊤, ◌<◌, ◌^◌, ℕ, List, [], ◌∷◌, ◌++◌, Option, Some, None}
-use Rattle.std.specs.Prelude.{Result, Ok, Err, IfErr, IfSome, OnOk, codes}
+use Rattle.std.specs.Prelude.{Result, Ok, Err, IfErr, IfSome, OnOk, codes, decimal}
 use Rattle.std.specs.Io.KnownBytes.{Appends}
 use Rattle.sqlite_disk.specs.declared.Disk as disk
 use Rattle.sqlite_disk.specs.declared.Files.{Files}
@@ -29,7 +29,7 @@ use Rattle.acct_commands.specs.declared.fault.Fault.TheVariants as fault
 use Rattle.radacctd.specs.declared.left.Left.{Left}
 use Rattle.radacctd.specs.declared.left.Left.TheVariants as left
 use Rattle.radacctd.specs.Files.{IsMadeIn, HasNotMade, IsMigratedIn, HasNotMigrated, IsUnclosed}
-use Rattle.radacctd.specs.Files.{Copies}
+use Rattle.radacctd.specs.Files.{IsAddedIn, HasNotAdded, Copies}
 use Rattle.radacctd.specs.Commands.{Worked, Closes, Fails, WritesOut, FailsToExport}
 
 -- what a command printed, where its output was not lost
@@ -44,6 +44,10 @@ made_line = codes "book made" ++ 10 ∷ []
 -- `schema 3`: the number of the schema that a migrated book has
 abbrev pub schema_line : List ℕ
 schema_line = codes "schema 3" ++ 10 ∷ []
+
+-- `added N`: how many plans were added
+abbrev pub added_line : ℕ → List ℕ
+added_line count = codes "added " ++ decimal count ++ 10 ∷ []
 
 -- ---- commands without a book
 
@@ -81,7 +85,7 @@ module _ {D : Type 0} {g : disk.Ghosts D} where
       × Closed status files)
       ⊎ ((told : Fault) × (ended ≡ Err told) × Failed told rest)
 
-  -- `init` and `migrate`: the book that is made of the files for a configuration's plans, with a
+  -- `init`, `migrate` and `plans`: the book that is made of the files for a configuration's plans, with a
   -- number to tell; why it is not; and the line that tells the number
   module _ (Made : List Plan → ℕ → Held (FileStore D g) → Type 0)
       (HasNot : List Plan → Fault → Left D g → Type 0) (line : ℕ → List ℕ) where
@@ -140,6 +144,11 @@ module _ {D : Type 0} {g : disk.Ghosts D} where
     FailsToMigrate told rest =
         FailsToMake IsMigratedBook (HasNotMigrated image) (λ _. schema_line) told rest
 
+    -- `plans`: the book with the plans that it did not keep yet, and how many they are
+    abbrev pub FailsToAdd : Fault → Left D g → Type 0
+    FailsToAdd told rest =
+        FailsToMake (IsAddedIn image) (HasNotAdded image) added_line told rest
+
     -- `serve` and `import`: what was done with a configuration, from the book that the files held
     module _ (Did : Config → Result Status Fault → Held (FileStore D g) → Held (FileStore D g)
         → Type 0) where
@@ -152,7 +161,7 @@ module _ {D : Type 0} {g : disk.Ghosts D} where
           ⊎ ((config : Config) × Fails image config.plans (Did config) told rest)
 
     module _ (b : book.Ghosts (Held (FileStore D g))) where
-      -- `init` and `migrate` ended well
+      -- `init`, `migrate` and `plans` ended well
       abbrev pub MakesNew : Option (List ℕ) → Option (List ℕ) → Status → Files D → Type 0
       MakesNew before after ended files =
           MakesBook IsNewBook (HasNotMade image) (λ _. made_line) before after ended files
@@ -161,6 +170,10 @@ module _ {D : Type 0} {g : disk.Ghosts D} where
       Migrates before after ended files =
           MakesBook IsMigratedBook (HasNotMigrated image) (λ _. schema_line) before after ended
           files
+
+      abbrev pub AddsPlans : Option (List ℕ) → Option (List ℕ) → Status → Files D → Type 0
+      AddsPlans before after ended files =
+          MakesBook (IsAddedIn image) (HasNotAdded image) added_line before after ended files
 
       -- `export`: what was written of the content that the files held
       pub record ExportsBook (what : Export) (before after : Option (List ℕ))
@@ -212,3 +225,5 @@ module _ {D : Type 0} {g : disk.Ghosts D} where
           ExportsBook b what before after ended rest ⊎ ExportsNothing b ended rest
       DoesJob (job.Migrate paths) ended rest =
           ClosesOrFails (Migrates b before after) FailsToMigrate ended rest
+      DoesJob (job.AddPlans paths) ended rest =
+          ClosesOrFails (AddsPlans b before after) FailsToAdd ended rest

@@ -21,7 +21,7 @@ ghost use Rattle.acct_commands.specs.Imports.{Runs};
 use crate::database::{FileBook, adopted, close};
 use crate::feed::run_feed;
 use crate::left::Left;
-use crate::making::{init, migrate};
+use crate::making::{add_plans, init, migrate};
 use acct_book::Book;
 use acct_command_line::{Export, Job, Listening, Paths};
 use acct_commands::{Fault, read_config, run_check, run_export, run_import, run_serve};
@@ -94,6 +94,10 @@ pub fn run<S: Start, I: Read + Drop, W: Write + Drop>(
         Job::Export { paths, what } => export(runtime, paths, *what, output, start),
         Job::Migrate { paths } => {
             let ending = migrate(runtime, paths, &mut output, start);
+            with_book(ending, output)
+        }
+        Job::AddPlans { paths } => {
+            let ending = add_plans(runtime, paths, &mut output, start);
             with_book(ending, output)
         }
     }

@@ -9,7 +9,8 @@ ghost use Rattle.sqlite.specs.State.{HasCleanDisk};
 ghost use Rattle.sqlite.specs.Files.{file_state};
 ghost use Rattle.radacctd.specs.Faults.{store_fault_of};
 ghost use Rattle.radacctd.specs.Files.{IsBookOf, IsMadeIn, IsRefused, HasNotMade, IsUnread};
-ghost use Rattle.radacctd.specs.Files.{IsMigratedIn, HasNotMigrated, Copies, IsUnclosed};
+ghost use Rattle.radacctd.specs.Files.{IsMigratedIn, HasNotMigrated, IsAddedIn, HasNotAdded};
+ghost use Rattle.radacctd.specs.Files.{Copies, IsUnclosed};
 ghost use Rattle.radacctd.specs.inner.Files.{IsOpenedOn};
 
 use crate::left::Left;
@@ -96,6 +97,30 @@ pub fn migrated<S: Start>(
     raised(runtime.alloc(), connection, plans)
 }
 
+/// The book in a file that is there, with the plans that it did not keep yet, and how many they are.
+///
+/// # Errors
+///
+/// `CannotOpen` where no regular file of 100 octets or more is there or it cannot be opened, else
+/// that of `SqlBook::add_plans`, with what is left of the files. They hold what they held, but for
+/// a crash, which may leave the book with the added plans.
+pub fn extended<S: Start>(
+    runtime: &HostRuntime,
+    file: &Text,
+    plans: &Plans,
+    start: S,
+) -> Result<(FileBook<S>, u64), (Fault, Left<FileFrom<S>>)>
+    ensures added { IfOk result (λ done. HasCleanDisk (file_state done.0)
+        → IsAddedIn (image_at S.Start) plans.now done.1 done.0) }
+    ensures refused { IfErr result (λ e. HasNotAdded (image_at S.Start) plans.now e.0 e.1) }
+{
+    if !may_be_database(runtime, file) {
+        return Err((Fault::CannotOpen, Left::Nothing));
+    }
+    let connection = opened(runtime, file, start)?;
+    grown(runtime.alloc(), connection, plans)
+}
+
 /// Closes a book: what its log holds is copied into its file. It hands back the two files, which
 /// then hold the last commit, the file of the book alone too.
 ///
@@ -176,6 +201,28 @@ fn raised<D: Disk + Drop>(
 {
     match SqlBook::migrate(alloc, connection, plans) {
         Ok(book) => Ok(book),
+        Err((error, connection)) => {
+            Err((Fault::Store(store_fault(error)), Left::Open(connection)))
+        }
+    }
+}
+
+// The book that a database is, with the plans that it did not keep yet, in a database that was
+// opened over files that held an image.
+fn grown<D: Disk + Drop>(
+    alloc: Global,
+    connection: Connection<FileStore<D>>,
+    plans: &Plans,
+) -> Result<(SqlBook<FileStore<D>>, u64), (Fault, Left<D>)>
+    requires { (file_state connection).in_transaction ≡ false }
+    ensures added { (image : Image) → IsOpenedOn image connection
+        → IfOk result (λ done. HasCleanDisk (file_state done.0)
+        → IsAddedIn image plans.now done.1 done.0) }
+    ensures refused { (image : Image) → IsOpenedOn image connection
+        → IfErr result (λ e. HasNotAdded image plans.now e.0 e.1) }
+{
+    match SqlBook::add_plans(alloc, connection, plans) {
+        Ok((book, count)) => Ok((book, count)),
         Err((error, connection)) => {
             Err((Fault::Store(store_fault(error)), Left::Open(connection)))
         }

@@ -1,8 +1,9 @@
 //! radacctd: a RADIUS accounting server (RFC 2866) with prepaid data allowances.
 //!
 //! `radacctd serve` answers access servers and callers of the desk over a book in a file, which
-//! `init` makes and `migrate` makes of an older one; `import` credits vouchers and `export` writes
-//! the book as CSV; `check` reads a configuration; `feed` answers a script.
+//! `init` makes and `migrate` makes of an older one; `plans` adds plans to it; `import` credits
+//! vouchers and `export` writes the book as CSV; `check` reads a configuration; `feed` answers a
+//! script.
 #![tactic(auto)]
 
 ghost use Rattle.acct_command_line.specs.CommandLine.{HasTurns};

@@ -1,12 +1,12 @@
-//! The commands that make a book, or make an older one a book of today's.
+//! The commands that make a book, make an older one a book of today's, or add plans to one.
 ghost use Rattle.std.specs.Prelude.{◌≢◌, IfOk, IfErr, OnOk};
 ghost use Rattle.std.specs.Io.KnownBytes.{Appends};
 ghost use Rattle.sqlite_wal.specs.Files.{image_at};
 ghost use Rattle.radacctd.specs.Jobs.{MakesNew, FailsToMakeNew, Migrates, FailsToMigrate};
-ghost use Rattle.radacctd.specs.Jobs.{made_line, schema_line};
+ghost use Rattle.radacctd.specs.Jobs.{AddsPlans, FailsToAdd, made_line, schema_line, added_line};
 
 use crate::command::{Ending, config_of};
-use crate::database::{close, made, migrated};
+use crate::database::{close, extended, made, migrated};
 use crate::left::Left;
 use acct_book::Book;
 use acct_command_line::Paths;
@@ -76,5 +76,36 @@ fn write_schema<W: Write>(output: &mut W) -> io::Result<()>
         schema_line) }
 {
     writeln!(output, "schema 3")?;
+    output.flush()
+}
+
+/// `plans`: a book with the plans that it did not keep yet.
+pub(crate) fn add_plans<S: Start, W: Write>(
+    runtime: &HostRuntime,
+    paths: &Paths,
+    output: &mut W,
+    start: S,
+) -> Ending<S>
+    ensures other { IfOk result (λ done. done.0 ≢ Status.WrongWords) }
+    ensures added { IfOk result (λ done. AddsPlans (image_at S.Start)
+        ⟦<SqlBook<FileStore<FileFrom<S>>> as Book>⟧ (W.contents output.old)
+        (W.contents output.new) done.0 done.1) }
+    ensures failed { IfErr result (λ e. FailsToAdd (image_at S.Start) e.0 e.1) }
+{
+    let config = config_of(runtime, paths)?;
+    let (book, count) = extended(runtime, &paths.database, &config.plans, start)?;
+    let files = close(book)?;
+    match write_added(output, count) {
+        Ok(()) => Ok((Status::Done, files)),
+        Err(_) => Err((Fault::CannotWrite, Left::Closed(files))),
+    }
+}
+
+// Says how many plans were added.
+fn write_added<W: Write>(output: &mut W, count: u64) -> io::Result<()>
+    ensures { OnOk result (Appends (W.contents output.old) (W.contents output.new)
+        (added_line count)) }
+{
+    writeln!(output, "added {count}")?;
     output.flush()
 }

@@ -52,3 +52,10 @@ returns-in-Migrate-clause-does g c =
     rw (c.in-Migrate.is, out.output)
     (ended_so _ _ c.migrate-ending.result _ _ out.ok out.err c.migrate-ending.ensures.made
     c.migrate-ending.ensures.failed)
+
+pub returns-in-AddPlans-clause-does : goal.returns-in-AddPlans-clause-does
+returns-in-AddPlans-clause-does g c =
+    let out = c.with_book-in-AddPlans.ensures in
+    rw (c.in-AddPlans.is, out.output)
+    (ended_so _ _ c.add_plans-ending.result _ _ out.ok out.err c.add_plans-ending.ensures.added
+    c.add_plans-ending.ensures.failed)
