@@ -7,7 +7,7 @@ use Rattle.acct_service.specs.declared.exchange.Call.{Call}
 use Rattle.acct_service.specs.declared.exchange.Call.TheVariants as call
 use Rattle.acct_service.specs.Machine.{Answer, replied, dropped, mute, Visit}
 use Rattle.acct_service.specs.Told.{reply_asked}
-use Rattle.acct_service.specs.Serving.{calls_of, reply_to}
+use Rattle.acct_service.specs.Serving.{calls_of, told_answer}
 
 -- calls never begin with a reply
 begins_with_event : (visits : List Visit) (reply : Asked) (more : List Call)
@@ -18,7 +18,7 @@ begins_with_event (visit ∷ visits) reply more is = cc
 -- the calls of a visit with this answer, and of those after it
 abbrev calls_from : Event → Answer → Bool → List Visit → List Call
 calls_from event answer is_taken visits =
-    call.Gave event ∷ (reply_to event answer is_taken ++ flat_map calls_of visits)
+    call.Gave event ∷ (told_answer event answer is_taken ++ flat_map calls_of visits)
 
 module _ (first second : Event) (differ : first ≢ second) (octets : List ℕ) (was_taken : Bool) where
   abbrev late : Call
@@ -30,8 +30,7 @@ module _ (first second : Event) (differ : first ≢ second) (octets : List ℕ) 
       let came : event ≡ second = cc in
       let reply : reply_asked event sent is_taken ≡ reply_asked first octets was_taken = cc in
       differ (sym (ap (λ (r : Asked). r.event) reply) ∙ came)
-  second_then_late event (dropped reason) is_taken visits is =
-      begins_with_event visits (reply_asked first octets was_taken) [] (cc)
+  second_then_late event (dropped reason) is_taken visits is = cc
   second_then_late event mute is_taken visits is =
       begins_with_event visits (reply_asked first octets was_taken) [] (cc)
 
@@ -45,7 +44,7 @@ module _ (first second : Event) (differ : first ≢ second) (octets : List ℕ) 
       → calls_from event answer is_taken visits
       ≡ call.Gave first ∷ call.Gave second ∷ late ∷ [] → ⊥
   both_then_late event (replied sent) is_taken visits is = cc
-  both_then_late event (dropped reason) is_taken visits is = after_first visits (cc)
+  both_then_late event (dropped reason) is_taken visits is = cc
   both_then_late event mute is_taken visits is = after_first visits (cc)
 
   -- an event came, then another, and only then was the first one's reply asked for

@@ -21,20 +21,20 @@ use Rattle.acct_service.specs.declared.exchange.Call.TheVariants as call
 use Rattle.acct_service.specs.declared.server.Served.{Served}
 use Rattle.acct_service.specs.Machine.{Answer, replied, dropped, mute, AnswersEvent, AsksBalance}
 use Rattle.acct_service.specs.Machine.{Visit, Run}
-use Rattle.acct_service.specs.Told.{Grows, reply_asked}
+use Rattle.acct_service.specs.Told.{Grows, reply_asked, drop_told}
 
 -- ---- calls
 
--- the call that asks for a reply to an event, if its answer is one
-abbrev pub reply_to : Event → Answer → Bool → List Call
-reply_to event (replied octets) is_taken = call.Asked (reply_asked event octets is_taken) ∷ []
-reply_to event (dropped reason) is_taken = []
-reply_to event mute is_taken = []
+-- the call that tells the answer to an event: a reply that is asked for, or the reason of a drop
+abbrev pub told_answer : Event → Answer → Bool → List Call
+told_answer event (replied octets) is_taken = call.Asked (reply_asked event octets is_taken) ∷ []
+told_answer event (dropped reason) is_taken = drop_told event reason
+told_answer event mute is_taken = []
 
 -- The calls of a visit: the exchange gave its event, and was asked to reply to it at once with the
--- octets of its answer, before any other event came.
+-- octets of its answer, or told why it was dropped, before any other event came.
 abbrev pub calls_of : Visit → List Call
-calls_of visit = call.Gave visit.event ∷ reply_to visit.event visit.answer visit.is_taken
+calls_of visit = call.Gave visit.event ∷ told_answer visit.event visit.answer visit.is_taken
 
 -- ---- counts
 
@@ -142,8 +142,8 @@ pub record Attends {B : Type 0} (b : Ghosts B) (config : Config) (visits : List 
   pub steady : b.is_steady old → (visit : Visit) → Contains visits visit
       → AsksBalance config visit.event.moment visit.event.what
       → visit.answer ≢ replied unavailable_response
-  -- the exchange gave these events, and was asked for these replies and no others, each of them
-  -- between its own event and the next
+  -- the exchange gave these events, was asked for these replies and told of these drops, and of no
+  -- others, each of them between its own event and the next
   pub told : Grows old_told (flat_map calls_of visits) new_told
 
 -- a turn: one visit, or none where nothing came

@@ -1,6 +1,7 @@
 -- What an exchange tells of its calls.
 use Rattle.std.specs.Prelude.{◌≡◌, ◌+◌, ⊤, ℕ, Bool, List, [], ◌∷◌, ◌++◌, Option, Some, None, Result}
 use Rattle.std.specs.Prelude.{Ok, Err, is_ok}
+use Rattle.acct_wire.specs.declared.reason.Reason.{Reason}
 use Rattle.acct_service.specs.declared.event.Event.{Event}
 use Rattle.acct_service.specs.declared.exchange.Fault.{Fault}
 use Rattle.acct_service.specs.declared.exchange.Asked.{Asked}
@@ -23,6 +24,10 @@ given (Err fault) = []
 -- a reply that was asked for
 abbrev pub reply_asked : Event → List ℕ → Bool → Asked
 reply_asked event bytes is_taken = record { event = event; bytes = bytes; is_taken = is_taken }
+
+-- the call that was told of a drop
+abbrev pub drop_told : Event → Reason → List Call
+drop_told event reason = call.Dropped event reason ∷ []
 
 module _ {T : Type 0} where
   -- the call that was asked to send this reply, which was taken or not

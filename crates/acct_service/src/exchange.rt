@@ -1,10 +1,11 @@
 //! Where events come from and replies go.
 ghost use Rattle.std.specs.Prelude.{◌≡◌, ℕ, ◌+◌, ◌-◌, ◌^◌, ◌<◌, Option, List};
 ghost use Rattle.acct_service.specs.declared.exchange.Call.{Call};
-ghost use Rattle.acct_service.specs.Told.{Grows, given, sent, CountsFault};
+ghost use Rattle.acct_service.specs.Told.{Grows, given, sent, drop_told, CountsFault};
 
 use crate::event::Event;
 use acct_model::Octets;
+use acct_wire::Reason;
 use thiserror::Error;
 
 /// The exchange failed.
@@ -30,12 +31,14 @@ pub enum Call {
     Gave(Event),
     /// It was asked to send this reply.
     Asked(Asked),
+    /// It was told that this event was dropped, and why.
+    Dropped(Event, Reason),
 }
 
-/// A source of events that takes replies to them.
+/// A source of events that takes replies to them, and is told which of them are dropped.
 ///
-/// It counts its turns and its faults, and may tell the list of its calls: which events it gave and
-/// which replies it was asked for, in the order in which that was.
+/// It counts its turns and its faults, and may tell the list of its calls: which events it gave,
+/// which replies it was asked for and which drops it was told, in the order in which that was.
 pub trait Exchange {
     /// How many turns it made.
     ghost turn_count: { Self → ℕ };
@@ -43,8 +46,8 @@ pub trait Exchange {
     /// How many of its calls failed.
     ghost failure_count: { Self → ℕ };
 
-    /// The events that it gave and the replies that it was asked for, the oldest first, if it
-    /// tells them.
+    /// The events that it gave, the replies that it was asked for and the drops that it was told,
+    /// the oldest first, if it tells them.
     ghost told: { Self → Option (List Call) };
 
     /// One turn: the event that came, or None where nothing came.
@@ -69,6 +72,12 @@ pub trait Exchange {
         ensures turns { turn_count self.new ≡ turn_count self.old }
         ensures failures { CountsFault result (failure_count self.old) (failure_count self.new) }
         ensures told { Grows (told self.old) (sent event.now bytes.now result) (told self.new) };
+
+    /// Is told that an event was dropped: nobody gets a reply to it.
+    fn note_drop(&mut self, event: &Event, reason: Reason)
+        ensures turns { turn_count self.new ≡ turn_count self.old }
+        ensures failures { failure_count self.new ≡ failure_count self.old }
+        ensures told { Grows (told self.old) (drop_told event.now reason) (told self.new) };
 
     /// How many turns it made.
     fn turns(&self) -> u64

@@ -2,12 +2,13 @@
 ghost use Rattle.std.specs.Prelude.{◌≡◌, ◌++◌, ◌∷◌, [], OnOk, Some};
 ghost use Rattle.acct_service.specs.declared.exchange.Call.TheVariants.{Gave};
 ghost use Rattle.acct_service.specs.declared.exchange.Call.TheVariants as call;
-ghost use Rattle.acct_service.specs.Told.{reply_asked};
+ghost use Rattle.acct_service.specs.Told.{reply_asked, drop_told};
 ghost use Rattle.acct_service.specs.Listed.{told_of};
 
 use crate::event::Event;
 use crate::exchange::{Asked, Call, Exchange, Fault};
 use acct_model::Octets;
+use acct_wire::Reason;
 use std::alloc::{AllocError, Global};
 use std::mem;
 
@@ -28,8 +29,9 @@ pub enum Planned {
 }
 
 /// An exchange that brings the turns of a list, and nothing after the last of them. It tells the
-/// events that it gave and the replies that it was asked for, in their order. A growth that is
-/// refused in it is a fault, and from then on it tells nothing.
+/// events that it gave, the replies that it was asked for and the drops that it was told, in their
+/// order. A growth that is refused in it is a fault where the call can say so, and from then on it
+/// tells nothing.
 #[derive(Drop)]
 pub struct ListExchange {
     alloc: Global,
@@ -64,8 +66,8 @@ impl ListExchange {
         }
     }
 
-    /// The events that it gave and the replies that it was asked for, the oldest first, as far as
-    /// it tells them.
+    /// The events that it gave, the replies that it was asked for and the drops that it was told,
+    /// the oldest first, as far as it tells them.
     pub fn calls(&self) -> &[Call]
         ensures { result.now ≡ self.now.calls.items }
     {
@@ -100,6 +102,20 @@ fn keep_reply(
         bytes,
         is_taken,
     }))?;
+    Ok(())
+}
+
+// Keeps a drop that was told.
+fn keep_drop(
+    alloc: Global,
+    calls: &mut Vec<Call>,
+    event: &Event,
+    reason: Reason,
+) -> Result<(), AllocError>
+    ensures { OnOk result (calls.new.items ≡ calls.old.items ++ drop_told event.now reason) }
+{
+    let event = event.copy(alloc)?;
+    calls.push(Call::Dropped(event, reason))?;
     Ok(())
 }
 
@@ -145,6 +161,12 @@ impl Exchange for ListExchange {
         }
         self.failures += 1;
         Err(Fault)
+    }
+
+    fn note_drop(&mut self, event: &Event, reason: Reason) {
+        if keep_drop(self.alloc, &mut self.calls, event, reason).is_err() {
+            self.tells = false;
+        }
     }
 
     fn turns(&self) -> u64 {

@@ -72,8 +72,8 @@ impl Served {
     }
 }
 
-/// Makes one turn: one `next`, and at most one `step` and one `reply`. What comes is answered and
-/// counted. A fault is counted too, and an entry that was recorded stays recorded when its reply
+/// Makes one turn: one `next`, and at most one `step` and one `reply` or `note_drop`. What comes is
+/// answered and counted. A fault is counted too, and an entry that was recorded stays recorded when its reply
 /// fails.
 ///
 /// Turns join (`laws::turns_join`), so all that `serve` says of its end holds after each of its
@@ -111,7 +111,10 @@ pub fn take_turn<B: Book, X: Exchange>(
                     Ok(()) => served.replies += 1,
                     Err(_) => served.faults += 1,
                 },
-                Turn::Dropped(reason) => served.count_drop(reason),
+                Turn::Dropped(reason) => {
+                    served.count_drop(reason);
+                    exchange.note_drop(&event, reason);
+                }
                 Turn::Mute => served.mute += 1,
             }
         }
@@ -148,8 +151,8 @@ pub fn take_turns<B: Book, X: Exchange>(
 /// Makes exactly `limit` turns, as `take_turn` makes one.
 ///
 /// Over any book and any exchange there are visits, events with answers, which the exchange gave
-/// and was asked for where it tells its calls: each reply for its own event, before another came,
-/// and none left out. From each history for which the book's content stood they are a run of the
+/// and was asked for or told of where it tells its calls: each reply and each drop for its own
+/// event, before another came, and none left out. From each history for which the book's content stood they are a run of the
 /// machine to another, for which the content then stands. So every account's balance is the sum of
 /// its distinct vouchers less the price of each of its sessions' greatest accepted total, whatever
 /// is lost, repeated or reordered, and every reply is the one that the entries accepted before it

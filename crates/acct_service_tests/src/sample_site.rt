@@ -42,6 +42,8 @@ pub(crate) struct Ran {
     pub(crate) served: Served,
     // The exchange's own counts: turns, failures, events and replies.
     pub(crate) counts: (u64, u64, usize, usize),
+    // How often it was told of a drop for each reason.
+    pub(crate) dropped: [u64; Reason::COUNT],
     // How many replies are as they are to be, before one is not.
     pub(crate) right: usize,
     // What the accounts come to by the replies.
@@ -101,19 +103,40 @@ impl<B: Book + Drop> Site<B> {
 }
 
 fn ran_of(served: Served, exchange: &ListExchange, wants: &[Answer]) -> Ran {
-    let replies = replies_in(exchange);
     Ran {
         served,
         counts: (
             exchange.turns(),
             exchange.failures(),
-            exchange.calls().len().saturating_sub(replies),
-            replies,
+            events_in(exchange),
+            replies_in(exchange),
         ),
+        dropped: drops_in(exchange),
         right: right_replies(exchange, wants),
         told: told_balances(exchange),
         refused: refusals(&served, exchange),
     }
+}
+
+// How many events it gave.
+fn events_in(exchange: &ListExchange) -> usize {
+    exchange
+        .calls()
+        .iter()
+        .filter(|call| matches!(call, Call::Gave(_)))
+        .count()
+}
+
+// How often it was told of a drop for each reason.
+fn drops_in(exchange: &ListExchange) -> [u64; Reason::COUNT] {
+    let mut drops = [0; Reason::COUNT];
+    for call in exchange.calls() {
+        if let Call::Dropped(_, reason) = call {
+            let place = reason.number() as usize - 1;
+            drops[place] = u64::saturating_add(drops[place], 1);
+        }
+    }
+    drops
 }
 
 // How many replies it was asked for.
@@ -163,11 +186,11 @@ fn told_balances(exchange: &ListExchange) -> (i64, i64) {
     (credit.saturating_add(charge), of_bo)
 }
 
-// The octets that a call was asked to send, none where it gave an event.
+// The octets that a call was asked to send, none where it gave an event or was told of a drop.
 fn octets_of(call: &Call) -> &[u8] {
     match call {
         Call::Asked(reply) => reply.bytes.as_slice(),
-        Call::Gave(_) => &[],
+        Call::Gave(_) | Call::Dropped(..) => &[],
     }
 }
 

@@ -26,15 +26,17 @@ fn counted(script: &Script) -> Served {
     served
 }
 
-// Whether a run is as it is to be, and the exchange has counted as much.
+// Whether a run is as it is to be, and the exchange has counted as much and was told of each drop.
 fn is_served(alloc: Global, script: &Script) -> Result<bool, Fail> {
     let mut site = Site::over(alloc, MemBook::new(alloc))?;
     let ran = site.run(script.turns, script.answers)?;
     let replies = script.answers.len();
     let turns = script.turns.len() as u64;
     let events = script.served.events as usize;
+    let counted = counted(script);
     Ok(
-        ran.served == counted(script)
+        ran.served == counted
+            && ran.dropped == counted.dropped
             && ran.counts == (turns, script.served.faults, events, replies)
             && ran.right == replies
             && site.balances() == script.balances,

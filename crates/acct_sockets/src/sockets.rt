@@ -13,6 +13,7 @@ use crate::desk::{Desk, PLACES};
 use crate::readiness::Readiness;
 use acct_model::Octets;
 use acct_service::{Event, Exchange, Fault, What};
+use acct_wire::Reason;
 use std::alloc::Global;
 use std::io;
 use std::io::ErrorKind;
@@ -111,6 +112,8 @@ impl<'r, R: Net + Clock> Exchange for Sockets<'r, R> {
         }
         sent
     }
+
+    fn note_drop(&mut self, _event: &Event, _reason: Reason) {}
 
     fn turns(&self) -> u64 {
         self.turns

@@ -63,7 +63,7 @@ returns-in-Dropped-clause-turn g c =
     let gave = rw (c.in-Ok-Some.is, c.in-Ok-Some.field-0-is) at c.next.ensures.told in
     turn_one b c.args.config.now c.args.book.now c.step.new.book _ _ _ _ c.in-Ok-Some.event
     (dropped c.in-Dropped.reason) false c.in-Dropped.ensures (
-      gave,
+      grows_twice _ _ _ _ _ gave c.note_drop.ensures.told,
       record {
         events = ap (λ s. s.events) c.count_drop.ensures.others;
         replies = ap (λ s. s.replies) c.count_drop.ensures.others ∙ omega arith;
