@@ -1,5 +1,5 @@
--- The numbers of the reasons for a drop.
-use Rattle.std.specs.Prelude.{ℕ}
+-- The numbers and the names of the reasons for a drop.
+use Rattle.std.specs.Prelude.{ℕ, List, codes}
 use Rattle.acct_wire.specs.declared.reason.Reason.{Reason}
 use Rattle.acct_wire.specs.declared.reason.Reason.TheVariants as reason
 
@@ -18,3 +18,19 @@ reason_number reason.BadField = 10
 reason_number reason.TotalTooLarge = 11
 reason_number reason.BalanceLimit = 12
 reason_number reason.Unavailable = 13
+
+-- its name, which operators see beside the number
+abbrev pub reason_name : Reason → List ℕ
+reason_name reason.UnknownClient = codes "UnknownClient"
+reason_name reason.TooShort = codes "TooShort"
+reason_name reason.BadLength = codes "BadLength"
+reason_name reason.WrongCode = codes "WrongCode"
+reason_name reason.BadAuthenticator = codes "BadAuthenticator"
+reason_name reason.BadAttribute = codes "BadAttribute"
+reason_name reason.NoStatus = codes "NoStatus"
+reason_name reason.UnknownStatus = codes "UnknownStatus"
+reason_name reason.NoSessionId = codes "NoSessionId"
+reason_name reason.BadField = codes "BadField"
+reason_name reason.TotalTooLarge = codes "TotalTooLarge"
+reason_name reason.BalanceLimit = codes "BalanceLimit"
+reason_name reason.Unavailable = codes "Unavailable"

@@ -1,6 +1,6 @@
 //! Why a datagram is dropped.
 ghost use Rattle.std.specs.Prelude.{◌≡◌, ◌≤◌};
-ghost use Rattle.acct_wire.specs.Reasons.{reason_number};
+ghost use Rattle.acct_wire.specs.Reasons.{reason_number, reason_name};
 ghost use Rattle.acct_wire.specs.declared.reason.TheConstants.Reason.{COUNT};
 
 use thiserror::Error;
@@ -61,5 +61,26 @@ impl Reason {
         ensures most { result ≤ COUNT }
     {
         self as u8
+    }
+
+    /// The name that operators see beside the number: that of the variant.
+    pub fn name(self) -> &'static str
+        ensures { result.now ≡ reason_name self }
+    {
+        match self {
+            Reason::UnknownClient => "UnknownClient",
+            Reason::TooShort => "TooShort",
+            Reason::BadLength => "BadLength",
+            Reason::WrongCode => "WrongCode",
+            Reason::BadAuthenticator => "BadAuthenticator",
+            Reason::BadAttribute => "BadAttribute",
+            Reason::NoStatus => "NoStatus",
+            Reason::UnknownStatus => "UnknownStatus",
+            Reason::NoSessionId => "NoSessionId",
+            Reason::BadField => "BadField",
+            Reason::TotalTooLarge => "TotalTooLarge",
+            Reason::BalanceLimit => "BalanceLimit",
+            Reason::Unavailable => "Unavailable",
+        }
     }
 }
