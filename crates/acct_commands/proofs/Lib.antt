@@ -2,3 +2,5 @@
 pub mod DropLines
 -- texts that are no configuration as a whole
 pub mod NoConfigs
+-- the places of a log of drops
+pub mod Places

@@ -1,5 +1,6 @@
 pub mod Checks
 pub mod Counts
+pub mod Drops
 pub mod Endings
 pub mod Exports
 pub mod Imports

@@ -4,6 +4,7 @@
 mod check;
 mod config_file;
 mod counts;
+mod drop_log;
 mod ended;
 mod exporting;
 mod fault;
@@ -12,6 +13,7 @@ mod serving;
 
 pub use check::{check_from, run_check};
 pub use config_file::{config_from, read_config};
+pub use drop_log::{DropLog, Pair};
 pub use ended::Ended;
 pub use exporting::run_export;
 pub use fault::{Fault, StoreFault, end};
