@@ -1,8 +1,9 @@
 -- The command line as a simple command of clap, and what its subcommands ask for.
-use Rattle.std.specs.Prelude.{◌≡◌, ◌≤◌, ◌<◌, ◌^◌, ⊤, ℕ, pos, true, List, [], ◌∷◌, codes}
-use Rattle.std.specs.Prelude.{Option, Some, None}
-use Rattle.clap.specs.Words.{App, Row, Rule, Text, first_of, new_app, new_rule, with_rule}
+use Rattle.std.specs.Prelude.{◌≡◌, ◌≤◌, ◌<◌, ◌^◌, ⊤, ℕ, pos, Bool, true, false, List, [], ◌∷◌}
+use Rattle.std.specs.Prelude.{Option, Some, None, codes}
+use Rattle.clap.specs.Words.{App, Row, Rule, Text, first_of, one_of, new_app, new_rule, with_rule}
 use Rattle.clap.specs.Words.{with_subcommand}
+use Rattle.clap.specs.declared.builder.action.ArgAction.TheVariants as action
 use Rattle.clap.specs.declared.builder.value_parser.ValueParser.TheVariants as parser
 use Rattle.acct_feed.specs.Numbers.{number_up_to}
 use Rattle.acct_command_line.specs.declared.job.Job.{Job}
@@ -51,6 +52,13 @@ turns_rule = record (option_rule (codes "turns")) {
   defaults = codes "9223372036854775807" ∷ [];
 }
 
+-- `--quiet`
+abbrev pub quiet_rule : Rule
+quiet_rule = record (new_rule (codes "quiet")) {
+  long = Some (codes "quiet");
+  action = Some action.SetTrue;
+}
+
 -- `feed [--config FILE]`
 abbrev pub feed_app : App
 feed_app = with_rule (new_app (codes "feed")) config_rule
@@ -78,9 +86,9 @@ listening_app =
     with_rule (with_rule addressed_app (port_rule (codes "radius-port") (codes "1813")))
     (port_rule (codes "desk-port") (codes "8066"))
 
--- the same with `[--turns N]`
+-- the same with `[--turns N] [--quiet]`
 abbrev pub serve_app : App
-serve_app = with_rule listening_app turns_rule
+serve_app = with_rule (with_rule listening_app turns_rule) quiet_rule
 
 -- a command that has a version
 abbrev pub has_version : App → App
@@ -116,6 +124,13 @@ IsNumber id rows most number =
     (text : Text) × (first_of id rows ≡ Some text) × (number_up_to most text ≡ Some number)
     × (1 ≤ number) × (number ≤ most)
 
+-- whether a flag was given
+abbrev pub IsFlag : Text → List Row → Bool → Type 0
+IsFlag id rows is_given =
+    (one_of id rows ≡ Some (codes "true") → is_given ≡ true)
+    × (one_of id rows ≡ Some (codes "false") → is_given ≡ false)
+    × (one_of id rows ≡ None → is_given ≡ false)
+
 -- where the options say that a server listens
 abbrev pub IsListening : List Row → Listening → Type 0
 IsListening rows listening =
@@ -147,9 +162,10 @@ WordsAskFor name rows (job.Feed config) =
 WordsAskFor name rows (job.Check config) =
     (name ≡ codes "check") × (first_of (codes "config") rows ≡ Some config)
 WordsAskFor name rows (job.Init paths) = (name ≡ codes "init") × ArePaths rows paths
-WordsAskFor name rows (job.Serve paths listening turns) =
+WordsAskFor name rows (job.Serve paths listening turns is_quiet) =
     (name ≡ codes "serve") × ArePaths rows paths
     × IsListening rows listening × IsNumber (codes "turns") rows 9223372036854775807 turns
+    × IsFlag (codes "quiet") rows is_quiet
 WordsAskFor name rows (job.Import paths) = (name ≡ codes "import") × ArePaths rows paths
 WordsAskFor name rows (job.Export paths what) =
     (name ≡ codes "export") × ArePaths rows paths × IsExport rows what
@@ -166,7 +182,7 @@ abbrev pub HasTurns : Job → Type 0
 HasTurns (job.Feed config) = ⊤
 HasTurns (job.Check config) = ⊤
 HasTurns (job.Init paths) = ⊤
-HasTurns (job.Serve paths listening turns) = turns < 2 ^ 63
+HasTurns (job.Serve paths listening turns is_quiet) = turns < 2 ^ 63
 HasTurns (job.Import paths) = ⊤
 HasTurns (job.Export paths what) = ⊤
 HasTurns (job.Migrate paths) = ⊤

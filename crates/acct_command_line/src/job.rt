@@ -2,18 +2,18 @@
 ghost use Rattle.std.specs.Prelude.{◌≡◌, Some, false, IfOk, IfSome, codes, map, string_bytes};
 ghost use Rattle.clap.specs.Words.{app_of, first_of, rows_of, rule_of, found_of, subcommand_of};
 ghost use Rattle.acct_command_line.specs.CommandLine.{app, config_rule, database_rule, what_rule};
-ghost use Rattle.acct_command_line.specs.CommandLine.{bind_rule, port_rule, turns_rule, required};
+ghost use Rattle.acct_command_line.specs.CommandLine.{bind_rule, port_rule, turns_rule, quiet_rule, required};
 ghost use Rattle.acct_command_line.specs.CommandLine.{feed_app, check_app, book_app, addressed_app};
 ghost use Rattle.acct_command_line.specs.CommandLine.{listening_app, serve_app, export_app};
 ghost use Rattle.acct_command_line.specs.CommandLine.{export_name};
 ghost use Rattle.acct_command_line.specs.CommandLine.{WordsAskFor, ArePaths, IsExport, IsListening};
-ghost use Rattle.acct_command_line.specs.CommandLine.{IsNumber};
+ghost use Rattle.acct_command_line.specs.CommandLine.{IsNumber, IsFlag};
 ghost use Rattle.acct_command_line.specs.CommandLine.{HasTurns, NamesJob};
 
 use acct_feed::number_up_to;
 use acct_model::Text;
 use clap::error::ErrorKind;
-use clap::{Arg, ArgMatches, Command, Error};
+use clap::{Arg, ArgAction, ArgMatches, Command, Error};
 use std::alloc::{AllocError, Global};
 
 /// The program's name.
@@ -50,6 +50,8 @@ pub enum Job {
         listening: Listening,
         /// How many turns it makes, at least one.
         turns: u64,
+        /// Whether it tells nothing while it runs.
+        is_quiet: bool,
     },
     /// Credits the vouchers of standard input.
     Import {
@@ -86,6 +88,7 @@ impl Drop for Job {
                 paths: _,
                 listening: _,
                 turns: _,
+                is_quiet: _,
             } => {}
             Job::Import { paths: _ } => {}
             Job::Export { paths: _, what: _ } => {}
@@ -223,6 +226,7 @@ fn asked_to_serve(
         paths,
         listening,
         turns,
+        is_quiet: flag_option(options, "quiet"),
     }))
 }
 
@@ -304,6 +308,13 @@ fn number_option(options: &ArgMatches<'_>, id: &str, most: u64) -> Option<u64>
     if number == 0 { None } else { Some(number) }
 }
 
+// Whether a flag is given.
+fn flag_option(options: &ArgMatches<'_>, id: &str) -> bool
+    ensures { IsFlag id.now (rows_of (found_of options.now)) result }
+{
+    options.get_flag(id)
+}
+
 // The port of an option, if it has one.
 fn port_option(options: &ArgMatches<'_>, id: &str) -> Option<u16>
     ensures { IfSome result (IsNumber id.now (rows_of (found_of options.now)) 65535) }
@@ -349,7 +360,9 @@ fn check_command<'a>(alloc: Global) -> Result<Command<'a>, AllocError>
 fn serve_command<'a>(alloc: Global) -> Result<Command<'a>, AllocError>
     ensures { IfOk result (λ c. app_of c ≡ serve_app) }
 {
-    listening_command(alloc)?.arg(turns_option(alloc))
+    listening_command(alloc)?
+        .arg(turns_option(alloc))?
+        .arg(quiet_option(alloc))
 }
 
 // `serve` with its options up to the ports.
@@ -482,6 +495,16 @@ fn turns_option<'a>(alloc: Global) -> Arg<'a>
         .value_parser(clap::value_parser!(i64).range(1..))
         .default_value("9223372036854775807")
         .help("How many turns to make before the end; one takes 20 milliseconds at most to wait")
+}
+
+fn quiet_option<'a>(alloc: Global) -> Arg<'a>
+    ensures rule { rule_of result ≡ quiet_rule }
+    ensures local { result.global ≡ false }
+{
+    Arg::new(alloc, "quiet")
+        .long("quiet")
+        .action(ArgAction::SetTrue)
+        .help("Tells no drops and no counts on standard error while it runs")
 }
 
 // The error where the words name no command, or an option is missing or out of its range.
