@@ -5,3 +5,4 @@ pub mod Endings
 pub mod Exports
 pub mod Imports
 pub mod Serving
+pub mod Told

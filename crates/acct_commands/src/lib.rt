@@ -10,6 +10,8 @@ mod exporting;
 mod fault;
 mod importing;
 mod serving;
+mod told;
+mod watching;
 
 pub use check::{check_from, run_check};
 pub use config_file::{config_from, read_config};
@@ -19,3 +21,5 @@ pub use exporting::run_export;
 pub use fault::{Fault, StoreFault, end};
 pub use importing::run_import;
 pub use serving::{run_serve, serve_exchange, serve_sockets};
+pub use told::{Minute, ToldDrop};
+pub use watching::{Watch, Watched};

@@ -8,6 +8,7 @@ ghost use Rattle.acct_commands.specs.Serving.{ended_of, drops_line, drops_lines,
 use crate::counts::{Counts, Drops};
 use crate::ended::Ended;
 use crate::fault::{Fault, StoreFault};
+use crate::watching::{Watch, Watched};
 use acct_book::Book;
 use acct_command_line::Listening;
 use acct_feed::Status;
@@ -22,7 +23,8 @@ use std::net::Net;
 use std::time::Clock;
 
 /// Serves a configuration over a book for this many turns, at an address and two ports. It says so
-/// once both sockets are bound, and what came at the end: `serve_exchange` over sockets.
+/// once both sockets are bound, and what came at the end: `serve_exchange` over sockets. While it
+/// runs it tells what it drops and how much comes on `errors`, if it has that: `Watched`.
 ///
 /// # Errors
 ///
@@ -30,7 +32,7 @@ use std::time::Clock;
 /// then as they were. `Store(Unavailable)` where the book was found shut, which ends the turns:
 /// whoever started the program is to start it again. `CannotWrite` where the output failed: before
 /// the first turn, or after the last one.
-pub fn run_serve<'r, R: Net + Clock, B: Book, W: Write>(
+pub fn run_serve<'r, R: Net + Clock, B: Book, W: Write, E: Write + Drop>(
     runtime: &'r R,
     alloc: Global,
     config: &Config,
@@ -38,14 +40,21 @@ pub fn run_serve<'r, R: Net + Clock, B: Book, W: Write>(
     listening: &Listening,
     turns: u64,
     output: &mut W,
+    errors: Option<E>,
 ) -> Result<Status, Fault>
     requires { turns < 2 ^ 63 }
     ensures done { IfOk result (λ status. status ≡ Status.Done) }
-    ensures serves { RunsServer B.Book ⟦<Sockets<'r, R> as Exchange>⟧ config.now turns
-        (W.contents output.old) (W.contents output.new) result book.old book.new }
+    ensures serves { RunsServer B.Book ⟦<Watched<'r, R, Sockets<'r, R>, E> as Exchange>⟧ config.now
+        turns (W.contents output.old) (W.contents output.new) result book.old book.new }
 {
-    match serve_sockets(runtime, alloc, config, book, listening, turns, output) {
-        Ok((_sockets, ended)) => status_of(ended),
+    let served = serve_sockets(
+        runtime, alloc, config, book, listening, turns, output, errors,
+    );
+    match served {
+        Ok((watched, ended)) => {
+            let (_sockets, _errors) = watched.finish();
+            status_of(ended)
+        }
         Err(fault) => Err(fault),
     }
 }
@@ -64,14 +73,14 @@ fn status_of(ended: Ended) -> Result<Status, Fault>
     }
 }
 
-/// Binds both sockets at an address and two ports, and is then `serve_exchange` over them. They are
-/// handed back as the last turn left them.
+/// Binds both sockets at an address and two ports, and is then `serve_exchange` over them, watched
+/// where there are `errors`. They are handed back as the last turn left them.
 ///
 /// # Errors
 ///
 /// `CannotBind`, and `NoMemory` where there is no room for datagrams. The book and the output are
 /// then as they were.
-pub fn serve_sockets<'r, R: Net + Clock, B: Book, W: Write>(
+pub fn serve_sockets<'r, R: Net + Clock, B: Book, W: Write, E: Write + Drop>(
     runtime: &'r R,
     alloc: Global,
     config: &Config,
@@ -79,17 +88,23 @@ pub fn serve_sockets<'r, R: Net + Clock, B: Book, W: Write>(
     listening: &Listening,
     turns: u64,
     output: &mut W,
-) -> Result<(Sockets<'r, R>, Ended), Fault>
+    errors: Option<E>,
+) -> Result<(Watched<'r, R, Sockets<'r, R>, E>, Ended), Fault>
     requires { turns < 2 ^ 63 }
-    ensures serves { IfOk result (λ done. EndsAfresh B.Book ⟦<Sockets<'r, R> as Exchange>⟧
-        config.now turns book.old book.new done.0 (W.contents output.old) (W.contents output.new)
-        done.1) }
+    ensures serves { IfOk result (λ done. EndsAfresh B.Book
+        ⟦<Watched<'r, R, Sockets<'r, R>, E> as Exchange>⟧ config.now turns book.old book.new done.0
+        (W.contents output.old) (W.contents output.new) done.1) }
     ensures unbound { OnErr result ((book.new ≡ book.old) × (output.new ≡ output.old)) }
     ensures why { IfErr result IsUnbound }
 {
-    let mut sockets = bound(runtime, alloc, listening)?;
-    let ended = serve_exchange(alloc, config, book, &mut sockets, turns, output);
-    Ok((sockets, ended))
+    let sockets = bound(runtime, alloc, listening)?;
+    let watch = match errors {
+        Some(writer) => Some(Watch::new(runtime, writer)),
+        None => None,
+    };
+    let mut watched = Watched::new(sockets, watch);
+    let ended = serve_exchange(alloc, config, book, &mut watched, turns, output);
+    Ok((watched, ended))
 }
 
 /// Makes this many turns of an exchange over a book, fewer only where the book is found shut, and

@@ -1,0 +1,42 @@
+-- What a server tells while it runs, as it is printed.
+use Rattle.std.specs.Prelude.{ℕ, List, Option, Some, None, [], ◌∷◌, ◌++◌, ◌==◌, if◌then◌else◌}
+use Rattle.std.specs.Prelude.{codes, decimal}
+use Rattle.std.specs.Io.KnownBytes.{Appends}
+use Rattle.std.specs.Net.Text.{ipv4_text}
+use Rattle.acct_wire.specs.Reasons.{reason_number, reason_name}
+use Rattle.acct_wire.specs.declared.reason.Reason.{Reason}
+use Rattle.acct_commands.specs.Drops.{Log, KeepsBack, TellsDrop}
+use Rattle.acct_commands.specs.declared.told.ToldDrop.{ToldDrop}
+use Rattle.acct_commands.specs.declared.told.Minute.{Minute}
+
+-- `, N more`, where there are some
+abbrev pub more_text : ℕ → List ℕ
+more_text more = if more == 0 then [] else codes ", " ++ decimal more ++ codes " more"
+
+-- `drop NUMBER NAME from A.B.C.D:PORT`
+abbrev pub told_drop_text : ToldDrop → List ℕ
+told_drop_text drop =
+    codes "drop " ++ decimal (reason_number drop.reason) ++ codes " " ++ reason_name drop.reason
+    ++ codes " from " ++ ipv4_text drop.source ++ codes ":" ++ decimal drop.port
+    ++ more_text drop.more
+
+-- `minute: events E, replies R, drops D, mute M, faults F`
+abbrev pub minute_text : Minute → List ℕ
+minute_text minute =
+    codes "minute: events " ++ decimal minute.events ++ codes ", replies "
+    ++ decimal minute.replies ++ codes ", drops " ++ decimal minute.drops ++ codes ", mute "
+    ++ decimal minute.mute ++ codes ", faults " ++ decimal minute.faults
+
+-- A drop at a moment was written, and nothing else, where it is to be told; else nothing was.
+abbrev pub WritesDrop : Log → Log → List ℕ → ℕ → Reason → ℕ → Option (List ℕ) → Option (List ℕ)
+    → Option ℕ → Type 0
+WritesDrop old new source port reason moment before after None =
+    KeepsBack old new source reason moment × Appends before after []
+WritesDrop old new source port reason moment before after (Some more) =
+    TellsDrop old new source reason moment more
+    × Appends before after (told_drop_text (record {
+      reason = reason;
+      source = source;
+      port = port;
+      more = more;
+    }) ++ 10 ∷ [])

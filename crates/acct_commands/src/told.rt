@@ -1,0 +1,77 @@
+//! What a server tells while it runs, as it is printed.
+ghost use Rattle.std.specs.Prelude.{Some};
+ghost use Rattle.acct_commands.specs.Told.{told_drop_text, more_text, minute_text};
+
+use acct_wire::Reason;
+use std::fmt;
+use std::net::Ipv4Addr;
+
+/// A drop that is told.
+#[derive(Clone, Copy, PartialEq, Eq)]
+pub struct ToldDrop {
+    /// Why it was dropped.
+    pub reason: Reason,
+    /// The IPv4 address that it came from.
+    pub source: [u8; 4],
+    /// The UDP port that it came from.
+    pub port: u16,
+    /// How many more of its source and its reason came since the last one that was told.
+    pub more: u64,
+}
+
+impl fmt::Display for ToldDrop {
+    ghost output = { λ drop. Some (told_drop_text drop) };
+
+    fn fmt<W: fmt::Write>(&self, f: &mut fmt::Formatter<W>) -> fmt::Result {
+        let (number, name) = (self.reason.number(), self.reason.name());
+        let address = Ipv4Addr::from_octets(self.source);
+        let (port, more) = (self.port, More { count: self.more });
+        write!(f, "drop {number} {name} from {address}:{port}{more}")
+    }
+}
+
+// How many more came, where there are some.
+#[derive(Clone, Copy, PartialEq, Eq)]
+struct More {
+    count: u64,
+}
+
+impl fmt::Display for More {
+    ghost output = { λ more. Some (more_text more.count) };
+
+    fn fmt<W: fmt::Write>(&self, f: &mut fmt::Formatter<W>) -> fmt::Result {
+        let count = self.count;
+        if count == 0 {
+            return f.write_str("");
+        }
+        write!(f, ", {count} more")
+    }
+}
+
+/// What came to a server in a minute, counted.
+#[derive(Clone, Copy, PartialEq, Eq)]
+pub struct Minute {
+    /// Datagrams and requests that came.
+    pub events: u64,
+    /// Replies and responses that were taken.
+    pub replies: u64,
+    /// Datagrams that were dropped.
+    pub drops: u64,
+    /// Requests that got no response for want of memory.
+    pub mute: u64,
+    /// Turns and replies that failed.
+    pub faults: u64,
+}
+
+impl fmt::Display for Minute {
+    ghost output = { λ minute. Some (minute_text minute) };
+
+    fn fmt<W: fmt::Write>(&self, f: &mut fmt::Formatter<W>) -> fmt::Result {
+        let (events, replies, drops) = (self.events, self.replies, self.drops);
+        let (mute, faults) = (self.mute, self.faults);
+        write!(
+            f,
+            "minute: events {events}, replies {replies}, drops {drops}, mute {mute}, faults {faults}"
+        )
+    }
+}
