@@ -2,7 +2,8 @@
 ghost use Rattle.std.specs.Prelude.{◌≡◌, Some, false, IfOk, IfSome, codes, map, string_bytes};
 ghost use Rattle.clap.specs.Words.{app_of, first_of, rows_of, rule_of, found_of, subcommand_of};
 ghost use Rattle.acct_command_line.specs.CommandLine.{app, config_rule, database_rule, what_rule};
-ghost use Rattle.acct_command_line.specs.CommandLine.{bind_rule, port_rule, turns_rule, quiet_rule, required};
+ghost use Rattle.acct_command_line.specs.CommandLine.{bind_rule, port_rule, turns_rule, quiet_rule};
+ghost use Rattle.acct_command_line.specs.CommandLine.{required};
 ghost use Rattle.acct_command_line.specs.CommandLine.{feed_app, check_app, book_app, addressed_app};
 ghost use Rattle.acct_command_line.specs.CommandLine.{listening_app, serve_app, export_app};
 ghost use Rattle.acct_command_line.specs.CommandLine.{export_name};

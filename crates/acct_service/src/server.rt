@@ -73,8 +73,8 @@ impl Served {
 }
 
 /// Makes one turn: one `next`, and at most one `step` and one `reply` or `note_drop`. What comes is
-/// answered and counted. A fault is counted too, and an entry that was recorded stays recorded when its reply
-/// fails.
+/// answered and counted. A fault is counted too, and an entry that was recorded stays recorded when
+/// its reply fails.
 ///
 /// Turns join (`laws::turns_join`), so all that `serve` says of its end holds after each of its
 /// turns, where a kill may fall: what a crash then leaves has every entry that was answered. A kill
@@ -152,11 +152,12 @@ pub fn take_turns<B: Book, X: Exchange>(
 ///
 /// Over any book and any exchange there are visits, events with answers, which the exchange gave
 /// and was asked for or told of where it tells its calls: each reply and each drop for its own
-/// event, before another came, and none left out. From each history for which the book's content stood they are a run of the
-/// machine to another, for which the content then stands. So every account's balance is the sum of
-/// its distinct vouchers less the price of each of its sessions' greatest accepted total, whatever
-/// is lost, repeated or reordered, and every reply is the one that the entries accepted before it
-/// determine. What a crash may leave at the end has every entry that was answered.
+/// event, before another came, and none left out. From each history for which the book's content
+/// stood they are a run of the machine to another, for which the content then stands. So every
+/// account's balance is the sum of its distinct vouchers less the price of each of its sessions'
+/// greatest accepted total, whatever is lost, repeated or reordered, and every reply is the one
+/// that the entries accepted before it determine. What a crash may leave at the end has every entry
+/// that was answered.
 ///
 /// The buffers are made once. A turn costs what `answer` or `handle` costs.
 pub fn serve<B: Book, X: Exchange>(
