@@ -1,4 +1,4 @@
-//! The numbers that operators see, and texts.
+//! The numbers and the names that operators see, and texts.
 use acct_wire::{ClientError, Reason};
 use std::alloc::Global;
 use std::fmt::Display;
@@ -21,6 +21,23 @@ const REASONS: [Reason; Reason::COUNT] = [
     Reason::Unavailable,
 ];
 
+// Their names in the same order, as the table of drops has them for operators.
+const NAMES: [&str; Reason::COUNT] = [
+    "UnknownClient",
+    "TooShort",
+    "BadLength",
+    "WrongCode",
+    "BadAuthenticator",
+    "BadAttribute",
+    "NoStatus",
+    "UnknownStatus",
+    "NoSessionId",
+    "BadField",
+    "TotalTooLarge",
+    "BalanceLimit",
+    "Unavailable",
+];
+
 const CLIENT_ERRORS: [u8; 3] = [
     ClientError::TwiceNamed as u8,
     ClientError::TwiceAddressed as u8,
@@ -33,6 +50,13 @@ fn reasons_and_client_errors_are_numbered(rt: HostRuntime) {
         assert!(rt; reason.number() as usize == place + 1);
     }
     assert!(rt; CLIENT_ERRORS == [1, 2, 3]);
+}
+
+#[test]
+fn reasons_have_names(rt: HostRuntime) {
+    for (reason, name) in REASONS.iter().zip(NAMES) {
+        assert!(rt; reason.name() == name);
+    }
 }
 
 const TOTAL_TOO_LARGE: &str = "the total is above 9223372036854775807 octets";
