@@ -4,3 +4,5 @@ pub mod DropLines
 pub mod NoConfigs
 -- the places of a log of drops
 pub mod Places
+-- an end over an exchange, as one over another that counts and tells the same
+pub mod HandedOn

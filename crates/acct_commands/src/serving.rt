@@ -24,7 +24,7 @@ use std::time::Clock;
 
 /// Serves a configuration over a book for this many turns, at an address and two ports. It says so
 /// once both sockets are bound, and what came at the end: `serve_exchange` over sockets. While it
-/// runs it tells what it drops and how much comes on `errors`, if it has that: `Watched`.
+/// runs it tells on `errors`, if it has that, what it drops and how much comes: `Watched`.
 ///
 /// # Errors
 ///
@@ -44,17 +44,14 @@ pub fn run_serve<'r, R: Net + Clock, B: Book, W: Write, E: Write + Drop>(
 ) -> Result<Status, Fault>
     requires { turns < 2 ^ 63 }
     ensures done { IfOk result (λ status. status ≡ Status.Done) }
-    ensures serves { RunsServer B.Book ⟦<Watched<'r, R, Sockets<'r, R>, E> as Exchange>⟧ config.now
-        turns (W.contents output.old) (W.contents output.new) result book.old book.new }
+    ensures serves { RunsServer B.Book ⟦<Sockets<'r, R> as Exchange>⟧ config.now turns
+        (W.contents output.old) (W.contents output.new) result book.old book.new }
 {
     let served = serve_sockets(
         runtime, alloc, config, book, listening, turns, output, errors,
     );
     match served {
-        Ok((watched, ended)) => {
-            let (_sockets, _errors) = watched.finish();
-            status_of(ended)
-        }
+        Ok((_sockets, ended)) => status_of(ended),
         Err(fault) => Err(fault),
     }
 }
@@ -89,11 +86,11 @@ pub fn serve_sockets<'r, R: Net + Clock, B: Book, W: Write, E: Write + Drop>(
     turns: u64,
     output: &mut W,
     errors: Option<E>,
-) -> Result<(Watched<'r, R, Sockets<'r, R>, E>, Ended), Fault>
+) -> Result<(Sockets<'r, R>, Ended), Fault>
     requires { turns < 2 ^ 63 }
-    ensures serves { IfOk result (λ done. EndsAfresh B.Book
-        ⟦<Watched<'r, R, Sockets<'r, R>, E> as Exchange>⟧ config.now turns book.old book.new done.0
-        (W.contents output.old) (W.contents output.new) done.1) }
+    ensures serves { IfOk result (λ done. EndsAfresh B.Book ⟦<Sockets<'r, R> as Exchange>⟧
+        config.now turns book.old book.new done.0 (W.contents output.old) (W.contents output.new)
+        done.1) }
     ensures unbound { OnErr result ((book.new ≡ book.old) × (output.new ≡ output.old)) }
     ensures why { IfErr result IsUnbound }
 {
@@ -104,7 +101,8 @@ pub fn serve_sockets<'r, R: Net + Clock, B: Book, W: Write, E: Write + Drop>(
     };
     let mut watched = Watched::new(sockets, watch);
     let ended = serve_exchange(alloc, config, book, &mut watched, turns, output);
-    Ok((watched, ended))
+    let (sockets, _errors) = watched.finish();
+    Ok((sockets, ended))
 }
 
 /// Makes this many turns of an exchange over a book, fewer only where the book is found shut, and

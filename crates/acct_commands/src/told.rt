@@ -69,9 +69,7 @@ impl fmt::Display for Minute {
     fn fmt<W: fmt::Write>(&self, f: &mut fmt::Formatter<W>) -> fmt::Result {
         let (events, replies, drops) = (self.events, self.replies, self.drops);
         let (mute, faults) = (self.mute, self.faults);
-        write!(
-            f,
-            "minute: events {events}, replies {replies}, drops {drops}, mute {mute}, faults {faults}"
-        )
+        write!(f, "minute: events {events}, replies {replies}")?;
+        write!(f, ", drops {drops}, mute {mute}, faults {faults}")
     }
 }

@@ -170,8 +170,8 @@ fn write_minute<W: Write>(writer: &mut W, minute: &Minute) -> io::Result<()>
     writer.flush()
 }
 
-/// An exchange that hands each call on to another one, and tells on a writer what is dropped and how
-/// much comes, if it has one. Its turns, its faults and the list of its calls are those of the
+/// An exchange that hands each call on to another one, and tells on a writer, if it has one, what
+/// is dropped and how much comes. Its turns, its faults and the list of its calls are those of the
 /// other one.
 #[derive(Drop)]
 pub struct Watched<'r, R, X: Exchange, W: Write> {

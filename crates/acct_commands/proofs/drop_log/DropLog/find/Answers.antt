@@ -1,4 +1,4 @@
-use Rattle.std.proofs.Common.{◌<◌, ◌≡◌, length, arith}
+use Rattle.std.proofs.Common.{◌<◌, length, arith}
 use Rattle.acct_commands.specs.Drops.{KeepsPair}
 use Rattle.acct_commands.proofs.Places.{kept_within}
 use Rattle.acct_commands.proofs.drop_log.DropLog.find.Goals as goal
