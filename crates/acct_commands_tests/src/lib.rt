@@ -10,4 +10,6 @@ mod loopback;
 #[cfg(test)]
 mod serving;
 #[cfg(test)]
+mod watching;
+#[cfg(test)]
 mod words;

@@ -63,6 +63,31 @@ fn reads_command_lines(rt: HostRuntime) -> Result<(), Fail> {
     Ok(())
 }
 
+// Whether words are of a server that is quiet, if they are of one.
+fn is_quiet(alloc: Global, words: &[&str]) -> Result<Option<bool>, AllocError> {
+    match job_of(alloc, words_of(alloc, words)?) {
+        Ok(Job::Serve { is_quiet, .. }) => Ok(Some(is_quiet)),
+        _ => Ok(None),
+    }
+}
+
+#[test]
+fn is_quiet_where_it_is_told(rt: HostRuntime) -> Result<(), Fail> {
+    let loud = ["radacctd", "serve", "--config", "a", "--db", "b"];
+    let quiet = ["radacctd", "serve", "--quiet", "--config", "a", "--db", "b"];
+    let twice = [
+        "radacctd", "serve", "--config", "a", "--db", "b", "--quiet", "--quiet",
+    ];
+    let import = [
+        "radacctd", "import", "--config", "a", "--db", "b", "--quiet",
+    ];
+    assert!(rt; is_quiet(rt.alloc(), &loud)? == Some(false));
+    assert!(rt; is_quiet(rt.alloc(), &quiet)? == Some(true));
+    assert!(rt; is_quiet(rt.alloc(), &twice)?.is_none());
+    assert!(rt; is_quiet(rt.alloc(), &import)?.is_none());
+    Ok(())
+}
+
 fn names_feed(alloc: Global) -> Result<bool, AllocError> {
     let words = words_of(alloc, &["radacctd", "feed"])?;
     Ok(matches!(&job_of(alloc, words), Ok(Job::Feed { config: None })))
