@@ -215,7 +215,7 @@ module _ {D : Type 0} {g : disk.Ghosts D} where
       DoesJob (job.Check file) ended rest = ChecksConfig before after ended × (rest ≡ left.Nothing)
       DoesJob (job.Init paths) ended rest =
           ClosesOrFails (MakesNew b before after) FailsToMakeNew ended rest
-      DoesJob (job.Serve paths listening turns) ended rest =
+      DoesJob (job.Serve paths listening turns is_quiet) ended rest =
           ClosesOrFails (WorksAndCloses (HasServed turns)) (FailsAtWork (HasServed turns)) ended
           rest
       DoesJob (job.Import paths) ended rest = (moment : ℕ) × (moment < 2 ^ 53)

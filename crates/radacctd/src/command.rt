@@ -50,12 +50,14 @@ pub struct Outcome<W, D: Disk> {
 // The end of a command that closes its book, or what a fault left.
 pub(crate) type Ending<S> = Result<(Status, Files<FileFrom<S>>), (Fault, Left<FileFrom<S>>)>;
 
-/// Does a job over these streams, and says how it ended. The book's files held what `S` says.
-pub fn run<S: Start, I: Read + Drop, W: Write + Drop>(
+/// Does a job over these streams, and says how it ended. The book's files held what `S` says. What
+/// a server tells while it runs goes to `errors`.
+pub fn run<S: Start, I: Read + Drop, W: Write + Drop, E: Write + Drop>(
     runtime: &HostRuntime,
     job: &Job,
     input: I,
     mut output: W,
+    errors: E,
     start: S,
 ) -> Outcome<W, FileFrom<S>>
     requires { HasTurns job.now }
@@ -82,8 +84,18 @@ pub fn run<S: Start, I: Read + Drop, W: Write + Drop>(
             paths,
             listening,
             turns,
+            is_quiet,
         } => {
-            let ending = serve(runtime, paths, listening, *turns, &mut output, start);
+            let errors = if *is_quiet { None } else { Some(errors) };
+            let ending = serve(
+                runtime,
+                paths,
+                listening,
+                *turns,
+                &mut output,
+                errors,
+                start,
+            );
             with_book(ending, output)
         }
         Job::Import { paths } => {
@@ -197,13 +209,14 @@ pub(crate) fn config_of<D: Disk>(
     }
 }
 
-// `serve` over the book of a file.
-fn serve<S: Start, W: Write>(
+// `serve` over the book of a file. It tells on `errors`, if it has that, what it drops.
+fn serve<S: Start, W: Write, E: Write + Drop>(
     runtime: &HostRuntime,
     paths: &Paths,
     listening: &Listening,
     turns: u64,
     output: &mut W,
+    errors: Option<E>,
     start: S,
 ) -> Ending<S>
     requires { turns < 2 ^ 63 }
@@ -225,18 +238,20 @@ fn serve<S: Start, W: Write>(
         listening,
         turns,
         output,
+        errors,
         start,
     )
 }
 
 // The same with this configuration.
-fn served<S: Start, W: Write>(
+fn served<S: Start, W: Write, E: Write + Drop>(
     runtime: &HostRuntime,
     config: &Config,
     file: &Text,
     listening: &Listening,
     turns: u64,
     output: &mut W,
+    errors: Option<E>,
     start: S,
 ) -> Ending<S>
     requires { turns < 2 ^ 63 }
@@ -252,7 +267,10 @@ fn served<S: Start, W: Write>(
 {
     let mut book = adopted(runtime, file, &config.plans, start)?;
     let alloc = runtime.alloc();
-    match run_serve(runtime, alloc, config, &mut book, listening, turns, output) {
+    let ended = run_serve(
+        runtime, alloc, config, &mut book, listening, turns, output, errors,
+    );
+    match ended {
         Ok(status) => finished(book, status),
         Err(fault) => Err((fault, Left::Open(book.into_connection()))),
     }

@@ -50,16 +50,18 @@ fn words_of(rt: &HostRuntime) -> io::Result<Vec<String>> {
 fn run_on_standard_streams(rt: &HostRuntime, job: &Job) -> Status
     requires { HasTurns job.now }
 {
-    match BufWriter::new(rt.alloc(), rt.stdout()) {
-        Ok(output) => {
+    let output = BufWriter::new(rt.alloc(), rt.stdout());
+    let errors = BufWriter::new(rt.alloc(), rt.stderr());
+    match (output, errors) {
+        (Ok(output), Ok(errors)) => {
             let Outcome {
                 ended,
                 output: _output,
                 left: _left,
-            } = run(rt, job, rt.stdin(), output, Wary);
+            } = run(rt, job, rt.stdin(), output, errors, Wary);
             end(&mut rt.stderr(), ended)
         }
-        Err(_) => {
+        _ => {
             let _ = println!(rt; "unavailable");
             Status::Unavailable
         }
