@@ -6,3 +6,4 @@ pub mod Exports
 pub mod Imports
 pub mod Serving
 pub mod Told
+pub mod inner

@@ -5,9 +5,10 @@
 //! 2. What came is counted, and told a minute after the first of it came, at the next turn.
 //! 3. The moment of a turn is that of its event, and the clock's where none came.
 //! 4. What cannot be written is not told, and changes nothing else.
-ghost use Rattle.std.specs.Prelude.{◌≡◌, ◌++◌, ◌∷◌, [], ℕ, Option, OnOk, replicate, None};
+ghost use Rattle.std.specs.Prelude.{◌≡◌, ◌++◌, ◌∷◌, [], ℕ, Option, OnOk, replicate, None, false};
 ghost use Rattle.std.specs.Io.KnownBytes.{Appends};
 ghost use Rattle.acct_commands.specs.Told.{WritesDrop, minute_text};
+ghost use Rattle.acct_commands.specs.inner.Minutes.{with_mute, with_reply, with_drop, TellsOf};
 
 use crate::drop_log::DropLog;
 use crate::told::{Minute, ToldDrop};
@@ -87,7 +88,11 @@ impl<'r, R: Clock, W: Write> Watch<'r, R, W> {
     }
 
     // Counts an event that was neither replied to nor dropped before the next turn.
-    fn note_mute(&mut self) {
+    fn note_mute(&mut self)
+        ensures counts { self.new.minute ≡ with_mute self.old.is_unanswered self.old.minute }
+        ensures answered { self.new.is_unanswered ≡ false }
+        ensures log { self.new.log ≡ self.old.log }
+    {
         if self.is_unanswered {
             self.minute.mute = self.minute.mute.saturating_add(1);
             self.is_unanswered = false;
@@ -95,7 +100,11 @@ impl<'r, R: Clock, W: Write> Watch<'r, R, W> {
     }
 
     // Counts a reply, which was taken or not.
-    fn note_reply(&mut self, is_taken: bool) {
+    fn note_reply(&mut self, is_taken: bool)
+        ensures counts { self.new.minute ≡ with_reply is_taken self.old.minute }
+        ensures answered { self.new.is_unanswered ≡ false }
+        ensures log { self.new.log ≡ self.old.log }
+    {
         self.is_unanswered = false;
         if is_taken {
             self.minute.replies = self.minute.replies.saturating_add(1);
@@ -105,18 +114,24 @@ impl<'r, R: Clock, W: Write> Watch<'r, R, W> {
     }
 
     // Counts a drop, and tells it where it is to be told.
-    fn note_drop(&mut self, event: &Event, reason: Reason) {
+    fn note_drop(&mut self, event: &Event, reason: Reason) -> io::Result<()>
+        ensures counts { self.new.minute ≡ with_drop self.old.minute }
+        ensures answered { self.new.is_unanswered ≡ false }
+        ensures tells { OnOk result (TellsOf event.now.what reason event.now.moment self.old.log
+            self.new.log (W.contents self.old.writer) (W.contents self.new.writer)) }
+    {
         self.is_unanswered = false;
         self.minute.drops = self.minute.drops.saturating_add(1);
-        if let What::Datagram { source, port, .. } = &event.what {
-            let _ = write_drop(
+        match &event.what {
+            What::Datagram { source, port, .. } => write_drop(
                 &mut self.writer,
                 &mut self.log,
                 *source,
                 *port,
                 reason,
                 event.moment,
-            );
+            ),
+            What::Desk { .. } => Ok(()),
         }
     }
 
@@ -233,7 +248,7 @@ impl<'r, R: Clock, X: Exchange, W: Write> Exchange for Watched<'r, R, X, W> {
     fn note_drop(&mut self, event: &Event, reason: Reason) {
         self.exchange.note_drop(event, reason);
         if let Some(watch) = &mut self.watch {
-            watch.note_drop(event, reason);
+            let _ = watch.note_drop(event, reason);
         }
     }
 

@@ -4,6 +4,7 @@
 //! first fault ends it. `export` only reads the book, and leaves its files as they are; the other
 //! commands that keep a book close it at their end.
 ghost use Rattle.std.specs.Prelude.{◌≢◌, ◌≡◌, ◌⊎◌, ◌<◌, ◌^◌, ℕ, Ok, Err, IfOk, IfErr, OnOk};
+ghost use Rattle.std.specs.Prelude.{true, false, None, Some};
 ghost use Rattle.std.specs.Io.KnownBytes.{Appends};
 ghost use Rattle.sqlite_wal.specs.Files.{image_at};
 ghost use Rattle.acct_site.specs.declared.config.Config.{Config};
@@ -86,7 +87,7 @@ pub fn run<S: Start, I: Read + Drop, W: Write + Drop, E: Write + Drop>(
             turns,
             is_quiet,
         } => {
-            let errors = if *is_quiet { None } else { Some(errors) };
+            let errors = told_to(errors, *is_quiet);
             let ending = serve(
                 runtime,
                 paths,
@@ -207,6 +208,14 @@ pub(crate) fn config_of<D: Disk>(
         Ok(config) => Ok(config),
         Err(fault) => Err((fault, Left::Nothing)),
     }
+}
+
+// Where a server tells what it drops: nowhere, if it is to be quiet.
+fn told_to<E: Drop>(errors: E, is_quiet: bool) -> Option<E>
+    ensures quiet { is_quiet ≡ true → result ≡ None }
+    ensures other { is_quiet ≡ false → result ≡ Some errors }
+{
+    if is_quiet { None } else { Some(errors) }
 }
 
 // `serve` over the book of a file. It tells on `errors`, if it has that, what it drops.
