@@ -1,6 +1,6 @@
 -- Plans that are added to those that a book keeps.
-use Rattle.std.proofs.Common.{◌≡◌, ◌≢◌, ◌⊎◌, inl, inr, ℕ, pos, Bool, true, false, not, cond, List, []}
-use Rattle.std.proofs.Common.{◌∷◌, ◌++◌, length, None, take, bytes_eq, refl, sym, ap, subst, ◌∙◌}
+use Rattle.std.proofs.Common.{◌≡◌, ◌≢◌, ◌⊎◌, inl, inr, ℕ, pos, Bool, true, false, not, cond, List}
+use Rattle.std.proofs.Common.{[], ◌∷◌, ◌++◌, length, None, take, bytes_eq, refl, sym, ap, subst, ◌∙◌}
 use Rattle.std.proofs.Common.{Contains, IsTrue, ◌↔◌, ◌+◌, ◌<◌, arith, get_or, true≢false}
 use Rattle.std.specs.List.{All, AllByRecursion, list_any, filter}
 use Rattle.std.proofs.lemmas.List.{take_more, length-append}
@@ -29,7 +29,8 @@ use Rattle.acct_model.proofs.PlanLaws.{apart}
 use Rattle.acct_model.proofs.Same.{Decides-bytes_eq}
 use Rattle.acct_sql.specs.Tables.{book_schema, price_plan, plan_count, own_number}
 use Rattle.acct_sql.specs.declared.adopting.PlanTable.TheVariants.{Prices, Counts}
-use Rattle.acct_sql.specs.Make.{IsPlanRow, IsCountRow, KeepsPrices, KeepsCounts, KeepsPlans, mode_of}
+use Rattle.acct_sql.specs.Make.{IsPlanRow, IsCountRow, KeepsPrices, KeepsCounts, KeepsPlans}
+use Rattle.acct_sql.specs.Make.{mode_of}
 use Rattle.acct_sql.specs.Look.{HasNumberAlone}
 use Rattle.acct_sql.specs.declared.sql_book_error.SqlBookError.{SqlBookError}
 use Rattle.acct_sql.specs.declared.sql_book_error.SqlBookError.TheVariants.{NotABook, PlansDiffer}

@@ -84,5 +84,5 @@ module _ {S T E F : Type 0} (g : Ghosts S) (old end : Held S) (mid : State)
     pub survives_of : Survives (state g old) last Made
     survives_of = survives_begin g old last Made
         (survives_then begun mid last (λ _. ⊥) (λ db. IsOk done × (db ≡ mid.now.trees)) Made
-        (λ _ db none. absurd none) (λ clean db is. subst Made (sym is.1) (made_of clean is.0)) inside
-        finished.survives)
+        (λ _ db none. absurd none) (λ clean db is. subst Made (sym is.1) (made_of clean is.0))
+        inside finished.survives)

@@ -89,8 +89,8 @@ module _ (old new : State) (rows : List Row) (plans : List Plan) (known : IsKnow
 
 module _ (old new : State) (rows : List Row) (plans : List Plan) (has : old.now.schema
     ≡ book_schema) (h : Shown texts.PLAN_COUNTS.now [] old new rows) where
-  count_answer : IsAnswerAs Null (over_table plan_count.tree [] count_shown [] all_rows) old.now.trees []
-      rows
+  count_answer : IsAnswerAs Null (over_table plan_count.tree [] count_shown [] all_rows)
+      old.now.trees [] rows
   count_answer = answer_of count_rows [] old new rows has h
 
   counts_so : (plan : Plan) (r : Row) → ShowsCount plan (eval_all count_shown ([] ∷ r ∷ []))

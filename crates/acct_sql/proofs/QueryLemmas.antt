@@ -172,6 +172,6 @@ pub answer_of : {schema : Schema} {text : List ℕ} {t : ℕ} {filter project : 
     (rows : List Row) → old.now.schema ≡ schema → Shown text params old new rows
     → IsAnswerAs Null (over_table t filter project order limit) old.now.trees params rows
 answer_of {schema} {text} {t} {filter} {project} {order} {limit} query params old new rows has h =
-    seen_unhidden t filter project order limit Null (overlay old.now.trees []) old.now.trees params rows
-    (query.unhidden old.now.trees) ((reads_as text params old new schema has _ query.is query.plain
+    seen_unhidden t filter project order limit Null (overlay old.now.trees []) old.now.trees params
+    rows (query.unhidden old.now.trees) ((reads_as text params old new schema has _ query.is query.plain
     query.unlisted rows h).answer Null)

@@ -89,8 +89,8 @@ module _ (at : ℕ) (name : List ℕ) (tree : ℕ) (columns : List Column) (key 
       let after : new.now.trees ≡ wrote.0 = ap (λ (d : Database). d.trees) now ∙ trees in
       record {
         answer = read.0;
-        selects = seen_unhidden tree filter project [] all_rows Null (overlay db []) db params read.0
-            (seen db) (read.1.answer Null);
+        selects = seen_unhidden tree filter project [] all_rows Null (overlay db []) db params
+            read.0 (seen db) (read.1.answer Null);
         applies = subst (Applies book_schema Enforced db edit) (sym after) step;
         schema = ap (λ (d : Database). d.schema) now;
         sound = w.sound;

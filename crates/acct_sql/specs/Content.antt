@@ -41,8 +41,8 @@ content_without_plans db = record {
       (find (is_voucher number) (db voucher.tree));
 }
 
--- the session with its plan. One whose plan isn't kept counts as one of 2^64 and more seconds, which
--- no row has: so each call that would show it answers that the book is unavailable.
+-- the session with its plan. One whose plan isn't kept counts as one of 2^64 and more seconds,
+-- which no row has: so each call that would show it answers that the book is unavailable.
 abbrev pub with_plan : Option (List ℕ) → RowFacts → RowFacts
 with_plan None row = record row { seconds = 2 ^ 64 + row.seconds }
 with_plan (Some class) row = record row { plan = class }
