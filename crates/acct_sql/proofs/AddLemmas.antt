@@ -1,6 +1,7 @@
 -- Plans that are added to those that a book keeps.
 use Rattle.std.proofs.Common.{◌≡◌, ◌≢◌, ◌⊎◌, inl, inr, ℕ, pos, Bool, true, false, not, cond, List}
-use Rattle.std.proofs.Common.{[], ◌∷◌, ◌++◌, length, None, take, bytes_eq, refl, sym, ap, subst, ◌∙◌}
+use Rattle.std.proofs.Common.{[], ◌∷◌, ◌++◌, length, None, take, bytes_eq, refl, sym, ap, ◌∙◌}
+use Rattle.std.proofs.Common.{subst}
 use Rattle.std.proofs.Common.{Contains, IsTrue, ◌↔◌, ◌+◌, ◌<◌, arith, get_or, true≢false}
 use Rattle.std.specs.List.{All, AllByRecursion, list_any, filter}
 use Rattle.std.proofs.lemmas.List.{take_more, length-append}

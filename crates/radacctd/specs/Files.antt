@@ -124,8 +124,8 @@ module _ {D : Type 0} {g : Ghosts D} where
     pub why : HasCleanDisk (file_state last)
         → (held : Database) × WasHeldIn image held × IsNotMigratedAs plans held error
 
-  -- No plan was added. The files hold what they held, but for a crash, which may leave the book with
-  -- the added plans.
+  -- No plan was added. The files hold what they held, but for a crash, which may leave the book
+  -- with the added plans.
   pub record IsUnadded (image : Image) (plans : List Plan) (told : Fault)
       (last : Held (FileStore D g)) : Type 0 where
     pub reads : HasCleanDisk (file_state last) → IsTrue (file_state last).is_open

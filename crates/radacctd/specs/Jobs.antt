@@ -85,8 +85,8 @@ module _ {D : Type 0} {g : disk.Ghosts D} where
       × Closed status files)
       ⊎ ((told : Fault) × (ended ≡ Err told) × Failed told rest)
 
-  -- `init`, `migrate` and `plans`: the book that is made of the files for a configuration's plans, with a
-  -- number to tell; why it is not; and the line that tells the number
+  -- `init`, `migrate` and `plans`: the book that is made of the files for a configuration's plans,
+  -- with a number to tell; why it is not; and the line that tells the number
   module _ (Made : List Plan → ℕ → Held (FileStore D g) → Type 0)
       (HasNot : List Plan → Fault → Left D g → Type 0) (line : ℕ → List ℕ) where
     -- the book was made, and was closed into these files

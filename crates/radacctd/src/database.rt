@@ -97,7 +97,8 @@ pub fn migrated<S: Start>(
     raised(runtime.alloc(), connection, plans)
 }
 
-/// The book in a file that is there, with the plans that it did not keep yet, and how many they are.
+/// The book in a file that is there, with the plans that it did not keep yet, and how many they
+/// are.
 ///
 /// # Errors
 ///
