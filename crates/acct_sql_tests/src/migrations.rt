@@ -81,7 +81,7 @@ fn each_session_gets_the_plan_of_its_class(rt: HostRuntime) -> Result<(), Fail> 
 }
 
 // What the queries show of a database, each row after the other.
-fn shown(alloc: Global, conn: &mut Database, queries: &[&str]) -> Result<String, Fail> {
+pub(crate) fn shown(alloc: Global, conn: &mut Database, queries: &[&str]) -> Result<String, Fail> {
     let mut text = String::new(alloc);
     for sql in queries {
         for row in conn.query_all(sql, &[])?.iter() {

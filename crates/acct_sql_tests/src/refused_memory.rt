@@ -3,6 +3,7 @@
 //!
 //! Each call does all that it does with ample memory, or tells the refusal and does nothing: the
 //! same call, asked again, does it.
+use crate::additions::{added, with_silver};
 use crate::databases::kept;
 use crate::migrations::{migrated, older};
 use crate::sample_book::{S1, STOPPED, key, made, row};
@@ -62,6 +63,25 @@ fn is_migrated(alloc: Global) -> Result<bool, Fail> {
         opened => opened,
     };
     Ok(balance_in(opened)? == Some(480))
+}
+
+// The same of a book to which a plan is added.
+fn is_extended(alloc: Global) -> Result<bool, Fail> {
+    let plans = with_silver(alloc)?;
+    let opened = match added(alloc, kept(alloc)?, &plans)? {
+        Err((SqlBookError::Unavailable, conn)) => added(alloc, conn, &plans)?,
+        opened => opened,
+    };
+    match opened {
+        Ok((mut book, count)) => Ok(count == 1 && book.balance(b"al")? == 500),
+        Err(_) => Ok(false),
+    }
+}
+
+#[test]
+fn plans_are_added_or_refused(rt: HostRuntime) -> Result<(), Fail> {
+    assert!(rt; is_extended(rt.alloc())?);
+    Ok(())
 }
 
 #[test]
