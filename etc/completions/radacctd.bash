@@ -19,7 +19,7 @@ _radacctd() {
             feed) words='--config --help' ;;
             check) words='--config --help' ;;
             init) words='--config --db --help' ;;
-            serve) words='--config --db --bind --radius-port --desk-port --turns --help' ;;
+            serve) words='--config --db --bind --radius-port --desk-port --turns --quiet --help' ;;
             import) words='--config --db --help' ;;
             export) words='--config --db --help sessions balances topups overruns' ;;
             migrate) words='--config --db --help' ;;
