@@ -6,11 +6,10 @@ use Rattle.std.proofs.Common.{None, min, ◌≢◌}
 use Rattle.std.specs.Prelude.{nat_lt, nat_le, if◌then◌else◌, codes, Result, Ok, Err}
 use Rattle.std.proofs.lemmas.Bool.Decides.{nat_tests}
 use Rattle.std.proofs.lemmas.List.{take-append-le, take-append-drop, length-map, take_all}
-use Rattle.std.proofs.lemmas.List.{append-nil}
 use Rattle.std.proofs.Math.Seq.{take-append_seam}
 use Rattle.httparse.specs.Grammar.{RequestHead, print_request, ReadsRequest, HasNoRequest}
 use Rattle.httparse.specs.Grammar.{NeverHasRequest}
-use Rattle.httparse.specs.Spans.{RequestOverflows, IsRequestAt, header_bytes, name_and_value}
+use Rattle.httparse.specs.Spans.{IsRequestAt, header_bytes, name_and_value}
 use Rattle.httparse.specs.Spans.{IsRequestWithin, FindsRequest}
 use Rattle.httparse.specs.declared.spans.HeaderSpan.{HeaderSpan}
 use Rattle.httparse.specs.declared.spans.RequestSpans.{RequestSpans}
@@ -85,30 +84,6 @@ partial_stays watch bytes front is few looked near ends =
           (let h : length (bytes ++ more) < 8192 = omega arith in h)
           (λ head begins. no_head_came bytes more none (quiet ends) head begins.reads.0
           begins.reads.1);
-    }
-
--- no head of few fields begins, whatever octets follow
-none_after : (bytes : List ℕ) → RequestOverflows 64 bytes → (more : List ℕ) (head : RequestHead)
-    → ¬ (Begins (bytes ++ more) head)
-none_after bytes over more head begins =
-    let many : 64 < length head.fields = over more head begins.reads.0 begins.reads.1 in
-    let few = begins.few in
-    omega arith
-
-pub overflow_stays : (watch : Watch) (bytes front : List ℕ)
-    → front ≡ take (min (length bytes) 8192) bytes → length bytes < 8192
-    → RequestOverflows 64 front → watch.next ≤ 8192 → StaysOpen watch bytes
-overflow_stays watch bytes front is few looked near =
-    let over : RequestOverflows 64 bytes =
-    subst (RequestOverflows 64) (front_is_all bytes front is few) looked in
-    let IsHeadless : List ℕ → Type 0 = λ bs. (head : RequestHead) → ¬ (Begins bs head) in
-    record {
-      open_yet = headless_open bytes few
-          (subst IsHeadless (append-nil bytes) (none_after bytes over []));
-      stays = λ more short quiet.
-          headless_open (bytes ++ more)
-          (let h : length (bytes ++ more) < 8192 = omega arith in h)
-          (none_after bytes over more);
     }
 
 -- ---- settled without a head
