@@ -1,9 +1,8 @@
 -- Plans that are added to those that a book keeps.
 use Rattle.std.proofs.Common.{◌≡◌, ◌≢◌, ◌⊎◌, inl, inr, ℕ, pos, Bool, true, false, not, cond, List}
-use Rattle.std.proofs.Common.{[], ◌∷◌, ◌++◌, length, None, take, bytes_eq, refl, sym, ap, ◌∙◌}
-use Rattle.std.proofs.Common.{subst}
+use Rattle.std.proofs.Common.{[], ◌∷◌, ◌++◌, length, None, take, refl, sym, ap, subst, ◌∙◌}
 use Rattle.std.proofs.Common.{Contains, IsTrue, ◌↔◌, ◌+◌, ◌<◌, arith, get_or, true≢false}
-use Rattle.std.specs.List.{All, AllByRecursion, list_any, filter}
+use Rattle.std.specs.List.{list_any, filter}
 use Rattle.std.proofs.lemmas.List.{take_more, length-append}
 use Rattle.sqlite.specs.declared.types.Value.{Value}
 use Rattle.sqlite.specs.declared.types.Value.TheVariants.{Int, Blob}
@@ -28,9 +27,9 @@ use Rattle.std.proofs.lemmas.List.Elements.{All-contains}
 use Rattle.acct_model.proofs.Lists.{all_listed}
 use Rattle.acct_model.proofs.PlanLaws.{apart}
 use Rattle.acct_model.proofs.Same.{Decides-bytes_eq}
-use Rattle.acct_sql.specs.Tables.{book_schema, price_plan, plan_count, own_number}
+use Rattle.acct_sql.specs.Tables.{book_schema, plan_count, own_number}
 use Rattle.acct_sql.specs.declared.adopting.PlanTable.TheVariants.{Prices, Counts}
-use Rattle.acct_sql.specs.Make.{IsPlanRow, IsCountRow, KeepsPrices, KeepsCounts, KeepsPlans}
+use Rattle.acct_sql.specs.Make.{KeepsPrices, KeepsCounts, KeepsPlans}
 use Rattle.acct_sql.specs.Make.{mode_of}
 use Rattle.acct_sql.specs.Look.{HasNumberAlone}
 use Rattle.acct_sql.specs.declared.sql_book_error.SqlBookError.{SqlBookError}
@@ -41,8 +40,8 @@ use Rattle.acct_sql.specs.Book.{IsBook}
 use Rattle.acct_sql.specs.Add.{AreExtended, HasAdded, IsNotAddedAs}
 use Rattle.acct_sql.specs.inner.Inside.{HasBecome}
 use Rattle.acct_sql.specs.inner.Looked.{IsShownIn, IsPlanFault, IsNumberFault, IsUnknownFault}
-use Rattle.acct_sql.specs.inner.NewBook.{HasPlansSoFar, HasPlansOver}
-use Rattle.acct_sql.specs.inner.Adding.{IsPriced, IsCounted, ShowsPrices, AreAmong, AreShownOf}
+use Rattle.acct_sql.specs.inner.NewBook.{HasPlansOver}
+use Rattle.acct_sql.specs.inner.Adding.{IsCounted, ShowsPrices, AreAmong, AreShownOf}
 use Rattle.acct_sql.specs.inner.Adding.{AnswersFit, ShowsClassesOf}
 use Rattle.acct_sql.specs.declared.statements.TheConstants as texts
 use Rattle.acct_sql.proofs.PlanLemmas.{price_of_shown, shown_of_price, prices_shown, shown_prices}

@@ -1,6 +1,6 @@
 -- A transaction that makes the tables of a book of other ones: all of it, or nothing.
 use Rattle.std.proofs.Common.{◌≡◌, ◌⊎◌, inl, inr, true, false, Bool, Ok, Err, Result, IsTrue}
-use Rattle.std.proofs.Common.{IsOk, OnOk, OnErr, sym, ap, subst, ◌∙◌, arith}
+use Rattle.std.proofs.Common.{IsOk, OnOk, OnErr, sym, subst, ◌∙◌, arith}
 use Rattle.sqlite.specs.Store.{Ghosts}
 use Rattle.sqlite.specs.Tree.{Trees}
 use Rattle.sqlite.specs.Effect.{Database}

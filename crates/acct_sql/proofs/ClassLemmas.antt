@@ -1,7 +1,7 @@
 -- The walk through the sessions of an older book, and its looks inside a transaction.
 use Rattle.std.proofs.Common.{◌≡◌, ◌⊎◌, inl, inr, ℕ, ℤ, List, [], ◌∷◌, true, Option, Some, None, Ok}
 use Rattle.std.proofs.Common.{Err}
-use Rattle.std.proofs.Common.{Result, IsTrue, IfOk, IfErr, Ordering, Less, int_cmp, true≢false}
+use Rattle.std.proofs.Common.{Result, IsTrue, IfOk, IfErr, int_cmp, true≢false}
 use Rattle.std.proofs.Common.{refl, sym, ap, ap₂, subst, ◌∙◌, slice_get}
 use Rattle.std.specs.Ordering.{is_lt, ordering_then}
 use Rattle.std.specs.declared.cmp.Ordering.TheVariants.{Equal, Greater}
@@ -15,7 +15,7 @@ use Rattle.sqlite.specs.Order.{Row, column, value_cmp}
 use Rattle.sqlite.specs.Tree.{Trees, rowid}
 use Rattle.sqlite.specs.Edit.{id_in}
 use Rattle.sqlite.specs.Term.{Term}
-use Rattle.sqlite.specs.Query.{IsAnswerAs, output, output_cmp}
+use Rattle.sqlite.specs.Query.{IsAnswerAs}
 use Rattle.sqlite.specs.Effect.{Database}
 use Rattle.sqlite.specs.State.{State, KeepsCommit, IsUnchanged, Shown, FailsToQuery, IsTooLate}
 use Rattle.sqlite.specs.Listing.{understood}

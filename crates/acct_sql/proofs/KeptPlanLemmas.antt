@@ -1,5 +1,5 @@
 -- The plan of a session that is looked for before it is set.
-use Rattle.std.proofs.Common.{◌≡◌, inl, inr, ℕ, List, [], ◌∷◌, Bool, true, false, cond, Option}
+use Rattle.std.proofs.Common.{◌≡◌, ℕ, List, [], ◌∷◌, Bool, true, false, cond, Option}
 use Rattle.std.proofs.Common.{Some, None, Ok, IsTrue, find, option_map, refl, sym, ap, subst, ◌∙◌}
 use Rattle.std.specs.Map.{update}
 use Rattle.sqlite.specs.declared.types.Value.TheVariants.{Text, Blob}

@@ -12,7 +12,7 @@ use Rattle.sqlite.proofs.StateLemmas.{survives_then, survives_weaker}
 use Rattle.sqlite_schema.specs.declared.command.Returning.{Returning}
 use Rattle.sqlite_resolve.specs.declared.compiled.Compiled.{Compiled}
 use Rattle.sqlite.specs.Store.{Ghosts}
-use Rattle.sqlite.specs.Held.{Held, state}
+use Rattle.sqlite.specs.Held.{Held}
 use Rattle.acct_sql.specs.Look.{IsIdle, LooksAtTables}
 use Rattle.acct_sql.specs.inner.Looked.{HasSchema, IsKnown, IsIdleBook, IsIdleKnown}
 use Rattle.acct_sql.proofs.ReadLemmas.{shown_same}

@@ -1,5 +1,5 @@
 -- An older book that is made one of today's, one statement after another.
-use Rattle.std.proofs.Common.{◌≡◌, ◌≢◌, ◌⊎◌, inl, inr, ℕ, ℤ, pos, List, [], ◌∷◌, ◌++◌, codes, true}
+use Rattle.std.proofs.Common.{◌≡◌, ◌≢◌, ◌⊎◌, inl, inr, ℕ, ℤ, List, [], ◌∷◌, ◌++◌, codes, true}
 use Rattle.std.proofs.Common.{false, cond, Bool, Ok, None, Some, Option, find, option_map}
 use Rattle.std.proofs.Common.{Ordering, Less, Equal, Greater, int_cmp}
 use Rattle.std.proofs.Common.{refl, sym, ap, subst, ◌∙◌, arith, true≢false}
@@ -17,20 +17,19 @@ use Rattle.sqlite_rules.specs.Lists.{Has}
 use Rattle.acct_model.specs.declared.plan.Plan.{Plan}
 use Rattle.acct_model.specs.Plans.{plan_for}
 use Rattle.acct_book.specs.declared.key.Key.{Key}
-use Rattle.acct_book.specs.Row.{RowFacts}
 use Rattle.acct_book.specs.Charge.{class_of_plan}
-use Rattle.acct_sql.specs.Tables.{book_schema, first_schema, meta, price_plan, account, voucher}
+use Rattle.acct_sql.specs.Tables.{book_schema, meta, price_plan, account, voucher}
 use Rattle.acct_sql.specs.Tables.{session, plan_count, session_plan, own_number}
 use Rattle.acct_sql.specs.Tidy.{IsTidy}
 use Rattle.acct_sql.specs.Columns.{columns, int_in, session_in_columns, topup_in_columns}
 use Rattle.acct_sql.specs.Content.{content_in_tables, plans_in_tables, with_plan, is_session}
 use Rattle.acct_sql.specs.Content.{is_account, is_voucher}
-use Rattle.acct_sql.specs.Make.{HasNumber, KeepsCounts, IsCountRow}
+use Rattle.acct_sql.specs.Make.{HasNumber, IsCountRow}
 use Rattle.acct_sql.specs.Look.{HasNumberAlone}
 use Rattle.acct_sql.specs.Migrate.{migrated, with_own_plan, first_number}
 use Rattle.acct_sql.specs.inner.Columns.{count_columns}
 use Rattle.acct_sql.specs.inner.NewBook.{HasPlanTables}
-use Rattle.acct_sql.specs.inner.Migrating.{IsFirst, IsFirstBook, IsAfter, ShowsClass, ShowsNext}
+use Rattle.acct_sql.specs.inner.Migrating.{IsFirst, IsFirstBook, IsAfter, ShowsNext}
 use Rattle.acct_sql.specs.inner.Migrating.{IsClassRow, HaveClasses, HasPlanTablesOver, HasWritten}
 use Rattle.acct_sql.specs.inner.Migrating.{HasMigrated}
 use Rattle.acct_sql.specs.declared.statements.TheConstants as texts

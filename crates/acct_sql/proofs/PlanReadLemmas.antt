@@ -1,9 +1,9 @@
 -- Sessions that are read with their plans.
-use Rattle.std.proofs.Common.{◌≡◌, inl, inr, ℕ, ◌+◌, ◌<◌, List, [], ◌∷◌, ◌++◌, true, Option}
+use Rattle.std.proofs.Common.{◌≡◌, inl, ℕ, ◌+◌, ◌<◌, List, [], ◌∷◌, ◌++◌, true, Option}
 use Rattle.std.proofs.Common.{Some, None, map, take, length, slice_index_or}
 use Rattle.std.proofs.Common.{option_map, refl, sym, ap, subst, ◌∙◌, Ordering, Less, bytes_eq}
 use Rattle.std.proofs.Common.{IsTrue}
-use Rattle.std.specs.Prelude.{◌↔◌, Contains}
+use Rattle.std.specs.Prelude.{Contains}
 use Rattle.std.specs.List.Sorted.{IsStrictlySortedBy}
 use Rattle.std.proofs.lemmas.Bool.{and_parts}
 use Rattle.std.proofs.lemmas.List.{map_more}
@@ -21,7 +21,7 @@ use Rattle.acct_book.specs.Row.{RowFacts}
 use Rattle.acct_book.specs.Content.{Content, key_of}
 use Rattle.acct_book.specs.Maps.{key_cmp}
 use Rattle.acct_book.specs.Walk.{AreRowsOf, IsNextRow, IsPast, IsNext}
-use Rattle.acct_sql.specs.Tables.{book_schema, session_plan}
+use Rattle.acct_sql.specs.Tables.{session_plan}
 use Rattle.acct_sql.specs.Content.{is_session, plans_in_tables, with_plan, with_plans}
 use Rattle.acct_sql.specs.Book.{IsBook}
 use Rattle.acct_sql.specs.Laws.{key_of-with_plan}

@@ -1,6 +1,6 @@
 -- What queries show of a book, and that they change nothing.
 use Rattle.std.proofs.Common.{◌≡◌, inl, inr, ℕ, List, [], ◌∷◌, true, Option, Some, None, Ok, Err}
-use Rattle.std.proofs.Common.{Result, IsTrue, IsOk, OnOk, OnErr, IfOk, IfErr, ◌⊎◌, slice_get}
+use Rattle.std.proofs.Common.{Result, IsTrue, IsOk, OnOk, IfOk, IfErr, ◌⊎◌, slice_get}
 use Rattle.std.proofs.Common.{option_map, refl, sym, ap, subst, arith, ◌∙◌}
 use Rattle.std.proofs.lemmas.Bool.{and_parts}
 use Rattle.sqlite.specs.declared.types.Value.TheVariants.{Null, Text, Blob}
@@ -30,7 +30,7 @@ use Rattle.acct_sql.specs.Book.{IsBook, IsResting, IsOpenBook, content_at, is_so
 use Rattle.acct_sql.specs.Book.{is_steady_at, left_at, LeavesPlans}
 use Rattle.acct_sql.proofs.MadeLemmas.{same_plans_then}
 use Rattle.acct_sql.specs.inner.Inside.{HasMade}
-use Rattle.acct_sql.specs.Book.{HasReadBook, Wrote}
+use Rattle.acct_sql.specs.Book.{HasReadBook}
 use Rattle.acct_sql.specs.inner.AtRest.{HasShown, HasFirst, row_found}
 use Rattle.acct_sql.specs.inner.AtRest.{bare_at, IsAtRest, ReadsAtRest, StaysAtRest, WritesAtRest}
 use Rattle.acct_sql.specs.declared.statements.TheConstants as texts

@@ -5,13 +5,12 @@ use Rattle.std.proofs.Common.{◌∙◌}
 use Rattle.sqlite.specs.Tree.{Trees}
 use Rattle.acct_model.specs.declared.plan.Plan.{Plan}
 use Rattle.acct_model.specs.Report.{ReportFacts}
-use Rattle.acct_model.specs.Plans.{plan_for}
 use Rattle.acct_model.specs.Agreement.{AddsForNone}
 use Rattle.acct_model.specs.History.{Accepted, PlansAdded, History, plan_of, reports, first_of}
 use Rattle.acct_model.proofs.Kept.{plan_by, plan-frozen}
 use Rattle.acct_book.specs.declared.key.Key.{Key}
 use Rattle.acct_book.specs.Charge.{class_of_plan}
-use Rattle.acct_book.specs.Rows.{name_of, is_restarted, row_of, row_from}
+use Rattle.acct_book.specs.Rows.{name_of, is_restarted, row_from}
 use Rattle.acct_book.specs.Stands.{Stands}
 use Rattle.acct_sql.specs.Content.{content_without_plans, without_plan}
 use Rattle.acct_sql.specs.Migrate.{AddsNoPlans, StoodFor, migrated, with_own_plan}

@@ -1,6 +1,6 @@
 -- What a call makes of a book that is at rest, and what a query shows of it.
 use Rattle.std.specs.Prelude.{◌≡◌, ℕ, List, true, Option, Result, Err, slice_get}
-use Rattle.std.specs.Prelude.{map, option_map}
+use Rattle.std.specs.Prelude.{option_map}
 use Rattle.sqlite.specs.Store.{Ghosts}
 use Rattle.sqlite.specs.Held.{Held, state}
 use Rattle.sqlite.specs.Order.{Row}
@@ -9,7 +9,7 @@ use Rattle.sqlite_value.specs.Order.{column}
 use Rattle.acct_book.specs.declared.key.Key.{Key}
 use Rattle.acct_book.specs.Row.{RowFacts}
 use Rattle.acct_book.specs.Content.{Content, key_of}
-use Rattle.acct_sql.specs.Book.{IsResting, content_at, is_sound_at, is_open_at, is_steady_at}
+use Rattle.acct_sql.specs.Book.{IsResting, is_open_at}
 use Rattle.acct_sql.specs.Book.{Wrote, HasReadBook, LeavesPlans}
 use Rattle.acct_sql.specs.Columns.{session_in_columns}
 use Rattle.acct_sql.specs.Content.{content_without_plans, plans_in_tables, with_plan}

@@ -1,5 +1,5 @@
 -- The making of an older book one of today's, in a transaction over what was committed before.
-use Rattle.std.specs.Prelude.{◌≡◌, ◌≢◌, ℕ, ℤ, true, List, [], ◌∷◌, Option, Some, None, IsTrue}
+use Rattle.std.specs.Prelude.{◌≡◌, ◌≢◌, ℤ, true, List, [], ◌∷◌, Option, Some, None, IsTrue}
 use Rattle.std.specs.Ordering.{int_cmp}
 use Rattle.std.specs.declared.cmp.Ordering.TheVariants.{Less, Greater}
 use Rattle.sqlite.specs.declared.types.Value.TheVariants.{Blob}

@@ -1,10 +1,10 @@
-use Rattle.std.proofs.Common.{rules, ap}
+use Rattle.std.proofs.Common.{ap}
 use Rattle.sqlite.specs.Effect.{Database}
 use Rattle.sqlite_value.specs.Order.{column}
 use Rattle.acct_sql.specs.Columns.{session_in_columns}
 use Rattle.acct_sql.specs.Content.{plans_in_tables}
 use Rattle.acct_sql.specs.inner.AtRest.{plans_at}
-use Rattle.acct_sql.proofs.ReadLemmas.{stays_first, stays_more}
+use Rattle.acct_sql.proofs.ReadLemmas.{stays_more}
 use Rattle.acct_sql.proofs.PlanReadLemmas.{one_planned}
 use Rattle.acct_sql.proofs.listing.sessions_in.Goals as goal
 

@@ -1,4 +1,4 @@
-use Rattle.std.proofs.Common.{rules, arith, sym, subst, ◌≡◌, ◌∷◌, [], Ok, List, ℕ}
+use Rattle.std.proofs.Common.{arith, sym, subst, ◌≡◌, ◌∷◌, [], Ok, List, ℕ}
 use Rattle.sqlite.specs.Order.{column}
 use Rattle.sqlite.specs.Held.{state}
 use Rattle.sqlite.specs.State.{HasCleanDisk, ExecutesInside, Shown}

@@ -1,4 +1,4 @@
-use Rattle.std.proofs.Common.{rules, sym, subst}
+use Rattle.std.proofs.Common.{sym, subst}
 use Rattle.sqlite.specs.Held.{state}
 use Rattle.acct_book.specs.Stands.{Stands}
 use Rattle.acct_sql.specs.inner.Migrating.{IsMigratedBook}
