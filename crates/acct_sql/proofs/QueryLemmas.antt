@@ -173,5 +173,5 @@ pub answer_of : {schema : Schema} {text : List ℕ} {t : ℕ} {filter project : 
     → IsAnswerAs Null (over_table t filter project order limit) old.now.trees params rows
 answer_of {schema} {text} {t} {filter} {project} {order} {limit} query params old new rows has h =
     seen_unhidden t filter project order limit Null (overlay old.now.trees []) old.now.trees params
-    rows (query.unhidden old.now.trees) ((reads_as text params old new schema has _ query.is query.plain
-    query.unlisted rows h).answer Null)
+    rows (query.unhidden old.now.trees) ((reads_as text params old new schema has _ query.is
+    query.plain query.unlisted rows h).answer Null)
