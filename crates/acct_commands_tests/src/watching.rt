@@ -1,4 +1,6 @@
 //! What a server tells while it runs, and which drops it tells.
+ghost use Rattle.std.specs.Prelude.{◌<◌, ◌^◌};
+
 use acct_book::MemBook;
 use acct_commands::{DropLog, Watch, Watched};
 use acct_model::Octets;
@@ -26,7 +28,9 @@ fn plan_datagram(
     planned: &mut Vec<Planned>,
     from: ([u8; 4], u16),
     moment: u64,
-) -> Result<(), Fail> {
+) -> Result<(), Fail>
+    requires { moment < 2 ^ 53 }
+{
     let (source, port) = from;
     let what = What::Datagram {
         source,
@@ -46,7 +50,9 @@ fn plan_request(
     planned: &mut Vec<Planned>,
     moment: u64,
     takes_reply: bool,
-) -> Result<(), Fail> {
+) -> Result<(), Fail>
+    requires { moment < 2 ^ 53 }
+{
     let what = What::Desk {
         bytes: Octets::from_slice(alloc, b"GET /none HTTP/1.1\r\n\r\n")?,
     };
@@ -135,12 +141,17 @@ impl Write for Full {
     }
 }
 
+// No watch, which would have had such a writer.
+fn no_watch<'r>(_rt: &'r HostRuntime) -> Option<Watch<'r, HostRuntime, Full>> {
+    None
+}
+
 // Who can't be told anything is served as well, and who is to be told nothing.
 #[test]
 fn serves_whoever_watches(rt: HostRuntime) -> Result<(), Fail> {
     let (served, calls, _) = watched(&rt, Some(Watch::new(&rt, Full)))?;
     assert_eq!(rt; (served, calls), (counted(), 92));
-    let (served, calls, told) = watched(&rt, None::<Watch<'_, HostRuntime, Full>>)?;
+    let (served, calls, told) = watched(&rt, no_watch(&rt))?;
     assert_eq!(rt; (served, calls), (counted(), 92));
     assert!(rt; told.is_none());
     Ok(())
