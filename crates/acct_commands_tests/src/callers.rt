@@ -29,10 +29,26 @@ fn caller(
     Ok(stream)
 }
 
+// A turn, unless there were as many as can be counted.
+fn turn(sockets: &mut Sockets<'_, HostRuntime>) -> Result<Option<Event>, Fault> {
+    if sockets.turns() == u64::MAX || sockets.failures() == u64::MAX {
+        return Err(Fault);
+    }
+    sockets.next()
+}
+
+// Sends a reply, unless there were as many failures as can be counted.
+fn reply(sockets: &mut Sockets<'_, HostRuntime>, event: &Event, bytes: &[u8]) -> Result<(), Fault> {
+    if sockets.failures() == u64::MAX {
+        return Err(Fault);
+    }
+    sockets.reply(event, bytes)
+}
+
 // What comes in at most so many turns.
 fn next(sockets: &mut Sockets<'_, HostRuntime>, turns: u32) -> Result<Option<Event>, Fault> {
     for _ in 0..turns {
-        if let Some(event) = sockets.next()? {
+        if let Some(event) = turn(sockets)? {
             return Ok(Some(event));
         }
     }
@@ -48,7 +64,7 @@ fn echoes(sockets: &mut Sockets<'_, HostRuntime>, turns: u32, wanted: &[u8]) -> 
         return Ok(false);
     };
     let is_wanted = bytes.as_slice() == wanted;
-    Ok(sockets.reply(&event, bytes.as_slice()).is_ok() && is_wanted)
+    Ok(reply(sockets, &event, bytes.as_slice()).is_ok() && is_wanted)
 }
 
 // Whether a caller gets just these octets, and then the end.
@@ -131,7 +147,7 @@ fn faults_within(
         }
         let _ = dripping.write(b"G");
         for _ in 0..10 {
-            let _ = sockets.next();
+            let _ = turn(sockets);
         }
     }
     Err("no faults".into())
@@ -207,7 +223,7 @@ fn answers_a_slow_caller(rt: HostRuntime) -> Result<(), Fail> {
         return Err("no event".into());
     };
     let begun = Instant::now(&rt)?;
-    assert!(rt; sockets.reply(&event, response.as_slice()).is_ok());
+    assert!(rt; reply(&mut sockets, &event, response.as_slice()).is_ok());
     let taken = taken_slowly(&rt, &mut sockets, &mut slow)?;
     assert!(rt; taken.as_slice() == response.as_slice());
     assert!(rt; begun.elapsed(&rt)? > Duration::from_secs(2));
@@ -224,7 +240,7 @@ fn waits_for_a_caller_that_takes_nothing(rt: HostRuntime) -> Result<(), Fail> {
     let Ok(Some(event)) = next(&mut sockets, 8) else {
         return Err("no event".into());
     };
-    assert!(rt; sockets.reply(&event, response.as_slice()).is_ok());
+    assert!(rt; reply(&mut sockets, &event, response.as_slice()).is_ok());
     let begun = Instant::now(&rt)?;
     assert!(rt; matches!(&next(&mut sockets, 150), Ok(None)));
     assert!(rt; begun.elapsed(&rt)? > Duration::from_secs(2));
@@ -256,12 +272,12 @@ fn callers(
 // Answers each request of so many turns by its octets.
 fn echo_all(sockets: &mut Sockets<'_, HostRuntime>, turns: u32) -> bool {
     for _ in 0..turns {
-        let Ok(came) = sockets.next() else {
+        let Ok(came) = turn(sockets) else {
             return false;
         };
         if let Some(event) = came
             && let What::Desk { bytes } = &event.what
-            && sockets.reply(&event, bytes.as_slice()).is_err()
+            && reply(sockets, &event, bytes.as_slice()).is_err()
         {
             return false;
         }
@@ -325,7 +341,7 @@ fn takes_turns(rt: HostRuntime) -> Result<(), Fail> {
         };
         let is_caller = matches!(&event.what, What::Desk { .. });
         assert_eq!(rt; is_caller, turn % 2 == 0);
-        assert!(rt; sockets.reply(&event, b"x").is_ok());
+        assert!(rt; reply(&mut sockets, &event, b"x").is_ok());
     }
     Ok(())
 }

@@ -17,8 +17,8 @@ returns-in-Ok-clause-added g c image found clean =
       settled = it.0;
       held = (file_state first).now;
       was_held = was_held image first found early;
-      extended = it.1.0;
-      added = it.1.1;
+      extended = it.1;
+      added = it.2;
       counted = λ kept keeps. (c.in-Ok.ensures.number clean kept keeps).1;
     }
 
