@@ -23,8 +23,9 @@ _radacctd() {
             import) words='--config --db --help' ;;
             export) words='--config --db --help sessions balances topups overruns' ;;
             migrate) words='--config --db --help' ;;
-            help) words='feed check init serve import export migrate' ;;
-            *) words='feed check init serve import export migrate help --help --version' ;;
+            plans) words='--config --db --help' ;;
+            help) words='feed check init serve import export migrate plans' ;;
+            *) words='feed check init serve import export migrate plans help --help --version' ;;
         esac ;;
     esac
     mapfile -t COMPREPLY < <(compgen -W "$words" -- "$current")
