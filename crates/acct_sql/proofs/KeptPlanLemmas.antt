@@ -15,11 +15,12 @@ use Rattle.acct_book.proofs.Keys.{key_is}
 use Rattle.acct_sql.specs.Tables.{session_plan, meta, price_plan, plan_count}
 use Rattle.acct_sql.specs.Columns.{session_plan_columns}
 use Rattle.acct_sql.specs.Content.{content_without_plans, plans_in_tables, is_session}
+use Rattle.acct_sql.specs.Content.{without_plan}
 use Rattle.acct_sql.specs.Book.{IsBook, HasSamePlans}
-use Rattle.acct_sql.specs.inner.Inside.{HasSetPlan}
+use Rattle.acct_sql.specs.inner.Inside.{HasMade, HasMadeBare, HasPlanOf, HasSetPlan, with_row}
 use Rattle.acct_sql.specs.declared.statements.TheConstants as texts
 use Rattle.acct_sql.proofs.FindLemmas.{find_has, none_has}
-use Rattle.acct_sql.proofs.MadeLemmas.{made_plan, made_new_plan, same_plans_then}
+use Rattle.acct_sql.proofs.MadeLemmas.{made_plan, made_new_plan, made_with_plan, same_plans_then}
 use Rattle.acct_sql.proofs.PlanReadLemmas.{plan_found}
 
 -- a plan that is kept already is set
@@ -30,6 +31,25 @@ kept_set plans at class kept key = go (same_key at key) refl
     go : (b : Bool) → same_key at key ≡ b → plans key ≡ cond b (Some class) (plans key)
     go true is = ap plans (sym (key_is at key is)) ∙ kept
     go false is = refl
+
+-- a row is set whose plan is kept already
+pub made_with_kept : (row : RowFacts) (old mid : State)
+    → HasMadeBare (λ c. with_row c (without_plan row)) old mid → HasPlanOf row old
+    → HasMade (λ c. with_row c row) old mid
+made_with_kept row old mid first kept = made_with_plan row old mid mid first (record {
+  shows = record {
+    was_open = first.shows.is_open;
+    is_open = first.shows.is_open;
+    now_is = refl;
+    committed_is = refl;
+    mode = first.shows.mode;
+  };
+  book = first.book;
+  content = refl;
+  plans = λ i key. kept_set (plans_in_tables mid.now.trees) (key_of row) row.plan
+      (ap (λ plans. plans (key_of row)) first.plans ∙ kept) key i;
+  same_plans = record { number = refl; prices = refl; counts = refl };
+})
 
 none_mapped : {X Y : Type 0} (f : X → Y) (o : Option X) → option_map f o ≡ None → o ≡ None
 none_mapped f None h = refl

@@ -35,3 +35,4 @@ mod LookLemmas
 mod NumberLemmas
 mod PlanLemmas
 mod AddLemmas
+mod RememberLemmas

@@ -8,3 +8,4 @@ pub mod Adding
 pub mod Looked
 pub mod Next
 pub mod Rising
+pub mod Remembered

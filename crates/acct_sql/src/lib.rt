@@ -24,6 +24,7 @@ mod columns;
 pub mod laws;
 mod listing;
 mod making;
+mod memory;
 mod migrating;
 mod reading;
 mod refused;

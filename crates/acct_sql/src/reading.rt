@@ -1,5 +1,6 @@
 //! The queries, each in a transaction of its own that writes nothing.
-ghost use Rattle.std.specs.Prelude.{◌≡◌, None, Some, IsTrue, IsOk, IfOk, OnOk, option_map};
+ghost use Rattle.std.specs.Prelude.{◌≡◌, None, Some, IsTrue, IsOk, IfOk, OnOk};
+ghost use Rattle.std.specs.Prelude.{IfSome, option_map};
 ghost use Rattle.std.specs.Option.{option_copied};
 ghost use Rattle.sqlite_value.specs.Order.{column};
 ghost use Rattle.sqlite.specs.State.{Shown};
@@ -14,6 +15,7 @@ ghost use Rattle.acct_sql.specs.Columns.{session_in_columns, topup_in_columns};
 ghost use Rattle.acct_sql.specs.Book.{content_at, is_sound_at, is_open_at};
 ghost use Rattle.acct_sql.specs.inner.Columns.{account_in_columns};
 ghost use Rattle.acct_sql.specs.inner.Inside.{HoldsBook, HasMade, RunsInside, HasFinished};
+ghost use Rattle.acct_sql.specs.inner.Inside.{HasPlanOf};
 ghost use Rattle.acct_sql.specs.inner.AtRest.{IsAtRest, ReadsAtRest, HasShown, HasFirst};
 ghost use Rattle.acct_sql.specs.inner.AtRest.{HasFirstSession, HasPlan, plans_at};
 
@@ -111,6 +113,8 @@ pub(crate) fn session_with_plan<S: Alter>(
     ensures read { ReadsAtRest S.Store conn.old conn.new result }
     ensures found { is_open_at S.Store conn.new → IfOk result
         (HasPlan (plans_at S.Store conn.old) (session_in_columns (column columns.now))) }
+    ensures plan { is_open_at S.Store conn.new → IfOk result
+        (λ row. HasPlanOf row (state S.Store conn.old)) }
 {
     let mut row = session_at(alloc, columns)?;
     row.plan = plan_of_session(conn, &row)?;
@@ -129,6 +133,8 @@ fn first_session<S: Alter>(
     ensures read { ReadsAtRest S.Store conn.old conn.new result }
     ensures first { is_open_at S.Store conn.new
         → IfOk result (HasFirstSession S.Store conn.old sql.now (bound params.now)) }
+    ensures plan { is_open_at S.Store conn.new → IfOk result
+        (λ row. IfSome row (λ r. HasPlanOf r (state S.Store conn.old))) }
 {
     let rows = ask(conn, sql, params)?;
     match rows.first() {
@@ -188,6 +194,8 @@ pub(crate) fn read_session<S: Alter>(
     ensures read { ReadsAtRest S.Store conn.old conn.new result }
     ensures found { is_open_at S.Store conn.new → IfOk result
         (λ row. row ≡ (content_at S.Store conn.old).rows key.now) }
+    ensures plan { is_open_at S.Store conn.new → IfOk result
+        (λ row. IfSome row (λ r. HasPlanOf r (state S.Store conn.old))) }
 {
     first_session(
         alloc,

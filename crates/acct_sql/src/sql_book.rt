@@ -5,6 +5,7 @@ use crate::adding::add_to_book;
 use crate::adopting::examine;
 use crate::listing::{read_sessions, read_topups};
 use crate::making::{has_nothing, make_book};
+use crate::memory::Memory;
 use crate::migrating::migrate_book;
 use crate::reading::{
     read_balance, read_next_account, read_next_session, read_next_topup, read_session, read_voucher,
@@ -21,18 +22,24 @@ use std::marker::Model;
 pub struct SqlBook<S: Alter> {
     conn: Connection<S>,
     alloc: Global,
+    memory: Memory,
 }
 
 // It is written out, so that a caller does not prove again how each part is dropped.
 impl<S: Alter + Drop> Drop for SqlBook<S> {
     fn drop(self) {
-        let SqlBook { conn: _, alloc: _ } = self;
+        let SqlBook {
+            conn: _,
+            alloc: _,
+            memory: _,
+        } = self;
     }
 }
 
 impl<S: Alter> Model for SqlBook<S> {
     ghost use Rattle.sqlite.specs.Held.{Held, held_code, state};
     ghost use Rattle.acct_sql.specs.Book.{IsResting};
+    ghost use Rattle.acct_sql.specs.inner.Remembered.{Remembers};
 
     ghost Value = { Held S };
 
@@ -40,7 +47,8 @@ impl<S: Alter> Model for SqlBook<S> {
 
     ghost view = { λ book. book.conn };
 
-    ghost invariant = { λ book. IsResting (state S.Store book.conn) };
+    ghost invariant = { λ book. IsResting (state S.Store book.conn)
+        × Remembers (state S.Store book.conn) book.memory };
 }
 
 impl<S: Alter> SqlBook<S> {
@@ -96,7 +104,14 @@ impl<S: Alter> SqlBook<S> {
             return Err((SqlBookError::NotABook, conn));
         }
         match make_book(&mut conn, plans) {
-            Ok(()) => Ok(SqlBook { conn, alloc }),
+            Ok(()) => {
+                let memory = Memory::none();
+                Ok(SqlBook {
+                    conn,
+                    alloc,
+                    memory,
+                })
+            }
             Err(_) => Err((SqlBookError::Unavailable, conn)),
         }
     }
@@ -136,7 +151,14 @@ impl<S: Alter> SqlBook<S> {
         let is_idle = conn.is_autocommit();
         prove!(is_idle);
         match examine(&mut conn, plans) {
-            Ok(()) => Ok(SqlBook { conn, alloc }),
+            Ok(()) => {
+                let memory = Memory::none();
+                Ok(SqlBook {
+                    conn,
+                    alloc,
+                    memory,
+                })
+            }
             Err(error) => Err((error, conn)),
         }
     }
@@ -183,7 +205,14 @@ impl<S: Alter> SqlBook<S> {
         let is_idle = conn.is_autocommit();
         prove!(is_idle);
         match migrate_book(&mut conn, plans) {
-            Ok(()) => Ok(SqlBook { conn, alloc }),
+            Ok(()) => {
+                let memory = Memory::none();
+                Ok(SqlBook {
+                    conn,
+                    alloc,
+                    memory,
+                })
+            }
             Err(error) => Err((error, conn)),
         }
     }
@@ -235,7 +264,15 @@ impl<S: Alter> SqlBook<S> {
         prove!(is_idle);
         plans.have_no_fault();
         match add_to_book(&mut conn, plans) {
-            Ok(added) => Ok((SqlBook { conn, alloc }, added)),
+            Ok(added) => {
+                let memory = Memory::none();
+                let book = SqlBook {
+                    conn,
+                    alloc,
+                    memory,
+                };
+                Ok((book, added))
+            }
             Err(error) => Err((error, conn)),
         }
     }
@@ -251,7 +288,11 @@ impl<S: Alter> SqlBook<S> {
     pub fn into_connection(self) -> Connection<S>
         ensures { result ≡ self }
     {
-        let SqlBook { conn, alloc: _ } = self;
+        let SqlBook {
+            conn,
+            alloc: _,
+            memory: _,
+        } = self;
         conn
     }
 }
@@ -287,6 +328,7 @@ impl<S: Alter> Book for SqlBook<S> {
             Ok(row) => row,
             Err(_) => return Err(Unavailable),
         };
+        self.memory.keep_read(self.alloc, row.as_ref());
         Ok(row)
     }
 
@@ -322,7 +364,9 @@ impl<S: Alter> Book for SqlBook<S> {
             (λ content. with_session content row.now balance) result }
         ensures plans { LeavesPlans (state S.Store self.old) (state S.Store self.new) }
     {
-        match write_session(&mut self.conn, row, balance) {
+        let is_planned = self.memory.has_read(row);
+        self.memory.forget_read();
+        match write_session(&mut self.conn, row, is_planned, balance) {
             Ok(()) => {}
             Err(_) => return Err(Unavailable),
         }
@@ -334,6 +378,7 @@ impl<S: Alter> Book for SqlBook<S> {
             (λ content. with_topup content topup.now balance) result }
         ensures plans { LeavesPlans (state S.Store self.old) (state S.Store self.new) }
     {
+        self.memory.forget_read();
         match write_topup(&mut self.conn, topup, balance) {
             Ok(()) => {}
             Err(_) => return Err(Unavailable),
@@ -346,6 +391,7 @@ impl<S: Alter> Book for SqlBook<S> {
             (λ content. with_closed content client.now) result }
         ensures plans { LeavesPlans (state S.Store self.old) (state S.Store self.new) }
     {
+        self.memory.forget_read();
         match close_sessions(&mut self.conn, client) {
             Ok(()) => {}
             Err(_) => return Err(Unavailable),

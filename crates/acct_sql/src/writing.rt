@@ -4,9 +4,10 @@ ghost use Rattle.sqlite.specs.Held.{state};
 ghost use Rattle.sqlite.specs.Values.{bound};
 ghost use Rattle.acct_book.specs.Content.{key_of, with_session, with_topup, with_closed};
 ghost use Rattle.acct_sql.specs.inner.Inside.{HoldsBook, HasMade, HasPut, RunsInside, HasFinished};
+ghost use Rattle.acct_sql.specs.Book.{is_open_at};
 ghost use Rattle.acct_sql.specs.Content.{without_plan};
 ghost use Rattle.acct_sql.specs.inner.Inside.{with_row, with_balance, with_voucher};
-ghost use Rattle.acct_sql.specs.inner.Inside.{HasMadeBare, HasSetPlan, Holds};
+ghost use Rattle.acct_sql.specs.inner.Inside.{HasMadeBare, HasPlanOf, HasSetPlan, Holds};
 ghost use Rattle.acct_sql.specs.inner.AtRest.{IsAtRest, WritesAtRest};
 
 use crate::adopting::has_blob;
@@ -69,12 +70,21 @@ fn set_plan<S: Alter>(tx: &mut Transaction<'_, S>, row: &Row) -> Result<(), Refu
     Ok(())
 }
 
-fn set_row<S: Alter>(tx: &mut Transaction<'_, S>, row: &Row) -> Result<(), Refused>
-    requires { HoldsBook S.Store tx.old.conn.now }
+// Sets the columns of a session, and its plan where that is not known to be kept.
+fn set_row<S: Alter>(
+    tx: &mut Transaction<'_, S>,
+    row: &Row,
+    is_planned: bool,
+) -> Result<(), Refused>
+    requires book { HoldsBook S.Store tx.old.conn.now }
+    requires planned { IsTrue is_planned → Holds S.Store (HasPlanOf row.now) tx.old.conn.now }
     ensures { RunsInside S.Store tx.old.conn tx.new.conn
         (HasMade (λ c. with_row c row.now)) result }
 {
     set_columns(tx, row)?;
+    if is_planned {
+        return Ok(());
+    }
     set_plan(tx, row)
 }
 
@@ -124,13 +134,15 @@ fn set_topup<S: Alter>(tx: &mut Transaction<'_, S>, topup: &TopUp) -> Result<(),
 fn set_session<S: Alter>(
     tx: &mut Transaction<'_, S>,
     row: &Row,
+    is_planned: bool,
     balance: i64,
 ) -> Result<(), Refused>
-    requires { HoldsBook S.Store tx.old.conn.now }
+    requires book { HoldsBook S.Store tx.old.conn.now }
+    requires planned { IsTrue is_planned → Holds S.Store (HasPlanOf row.now) tx.old.conn.now }
     ensures { RunsInside S.Store tx.old.conn tx.new.conn
         (HasMade (λ c. with_session c row.now balance)) result }
 {
-    set_row(tx, row)?;
+    set_row(tx, row, is_planned)?;
     set_balance(tx, row.account.as_slice(), balance)
 }
 
@@ -147,17 +159,21 @@ fn set_credit<S: Alter>(
     set_balance(tx, topup.account.as_slice(), balance)
 }
 
-/// Sets a row and the balance of its account in one transaction.
+/// Sets a row and the balance of its account in one transaction. Where the session is known to have
+/// the row's plan, the plan is not looked for.
 pub(crate) fn write_session<S: Alter>(
     conn: &mut Connection<S>,
     row: &Row,
+    is_planned: bool,
     balance: i64,
 ) -> Result<(), Refused>
-    requires { IsAtRest S.Store conn.old }
+    requires resting { IsAtRest S.Store conn.old }
+    requires planned { IsTrue is_planned → is_open_at S.Store conn.old
+        → HasPlanOf row.now (state S.Store conn.old) }
     ensures { WritesAtRest S.Store conn.old conn.new (λ c. with_session c row.now balance) result }
 {
     let mut tx = conn.transaction();
-    let done = set_session(&mut tx, row, balance);
+    let done = set_session(&mut tx, row, is_planned, balance);
     finish(tx, done)
 }
 

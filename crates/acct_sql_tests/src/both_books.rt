@@ -33,6 +33,9 @@ static ROWS: [Put; 3] = [
     (S1, b"al", LATER, -(1 << 62)),
 ];
 
+// The plan of the first row, and another.
+static PLANNED: [Usage; 2] = [STOPPED, LATER];
+
 // A top-up of `al` as (number, sum, moment), and the balance.
 type Credit = (&'static str, u64, u32, i64);
 
@@ -210,6 +213,24 @@ fn tell_closed_rows(alloc: Global, books: &mut Books) -> Result<bool, Fail> {
 #[test]
 fn tables_tell_of_rows_what_memory_tells(rt: HostRuntime) -> Result<(), Fail> {
     assert!(rt; tell_closed_rows(rt.alloc(), &mut Books::new(rt.alloc())?)?);
+    Ok(())
+}
+
+// A row of a session that was read is set with the plan that it has, and then with another.
+fn tell_reports(alloc: Global, books: &mut Books) -> Result<bool, Fail> {
+    books.put_rows(alloc, &[ROWS[0]])?;
+    for i in 0..PLANNED.len() {
+        if !books.tell_session(&key(alloc, &S1)?)?.0 {
+            return Ok(false);
+        }
+        books.put_rows(alloc, &[(S1, b"al", PLANNED[i], 0)])?;
+    }
+    Ok(books.tell_session(&key(alloc, &S1)?)?.0)
+}
+
+#[test]
+fn a_report_keeps_the_plan_that_it_has(rt: HostRuntime) -> Result<(), Fail> {
+    assert!(rt; tell_reports(rt.alloc(), &mut Books::new(rt.alloc())?)?);
     Ok(())
 }
 

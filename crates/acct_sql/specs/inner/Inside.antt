@@ -68,6 +68,10 @@ pub record HasMadeBare (change : Content → Content) (old new : State) : Type 0
   pub plans : plans_in_tables new.now.trees ≡ plans_in_tables old.now.trees
   pub same_plans : HasSamePlans old.now.trees new.now.trees
 
+-- the plan of this row is kept for its session
+abbrev pub HasPlanOf : RowFacts → State → Type 0
+HasPlanOf row s = plans_in_tables s.now.trees (key_of row) ≡ Some row.plan
+
 -- the plan of a session was set, nothing else was changed, and nothing was committed
 pub record HasSetPlan (key : Key) (class : List ℕ) (old new : State) : Type 0 where
   pub shows : Shows old new new.now old.committed true

@@ -4,6 +4,7 @@ use Rattle.sqlite.specs.Held.{state}
 use Rattle.acct_sql.proofs.ReadLemmas.{answered}
 use Rattle.acct_sql.proofs.StepLemmas.{quiet_then}
 use Rattle.acct_sql.proofs.MadeLemmas.{made_with_plan}
+use Rattle.acct_sql.proofs.KeptPlanLemmas.{made_with_kept}
 use Rattle.acct_sql.proofs.writing.set_row.Goals as goal
 
 pub set_plan-requires-clause-book : goal.set_plan-requires-clause-book
@@ -12,6 +13,17 @@ set_plan-requires-clause-book g c = λ clean o. (c.in_ok-set_columns.ensures.don
 pub set_plan-requires-clause-inside : goal.set_plan-requires-clause-inside
 set_plan-requires-clause-inside g c = λ clean o.
     (c.in_ok-set_columns.ensures.done clean).shows.mode
+
+pub returns-then-is_planned : goal.returns-then-is_planned
+returns-then-is_planned g c = record {
+  quiet = c.set_columns.ensures.quiet;
+  done = λ clean.
+      let early : HasCleanDisk (state g.S.Store c.args.tx.now.conn.now) = omega
+      (arith, c.set_columns.ensures.quiet.survives.clean, clean) in
+      let first = c.in_ok-set_columns.ensures.done clean in
+      made_with_kept c.args.row.now (state g.S.Store c.args.tx.now.conn.now) _ first
+      (c.requires.planned c.if-is_planned.true early first.shows.was_open);
+}
 
 pub returns : goal.returns
 returns g c = record {

@@ -18,5 +18,5 @@ returns g c =
     let made = rw (c.transaction-tx.ensures.begun, back) at c.set_session-done.ensures in
     subst (λ h. WritesAtRest g.S.Store old h change c.finish.result) same
     (writes_at_rest g.S.Store old end mid change c.set_session-done.result c.finish.result
-    c.requires
+    c.requires.resting
     made.quiet.kept made.done made.quiet.survives c.finish.ensures)

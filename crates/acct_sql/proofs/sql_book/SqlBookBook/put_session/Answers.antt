@@ -1,9 +1,15 @@
 use Rattle.std.proofs.Common.{w64}
 use Rattle.std.proofs.lemmas.Int.{to_z-of_z}
+use Rattle.sqlite.specs.Held.{state}
 use Rattle.acct_book.specs.Content.{with_session}
 use Rattle.acct_sql.specs.Book.{Wrote}
 use Rattle.acct_sql.proofs.CommitLemmas.{wrote_told}
+use Rattle.acct_sql.proofs.RememberLemmas.{planned}
 use Rattle.acct_sql.proofs.sql_book.SqlBookBook.put_session.Goals as goal
+
+pub write_session-requires-clause-planned : goal.write_session-requires-clause-planned
+write_session-requires-clause-planned g c = λ is o. planned (state g.S.Store c.self.inside.conn)
+    c.self.inside.memory c.args.row.now c.self.invariant.1 (c.has_read-is_planned.ensures is) o
 
 pub returns-in-Err-clause-writes : goal.returns-in-Err-clause-writes
 returns-in-Err-clause-writes g c =
