@@ -1,17 +1,34 @@
 -- What a book remembers stays true of its tables.
-use Rattle.std.proofs.Common.{◌≡◌, Option, Some, None, IfSome, Result, ap, sym, ◌∙◌}
+use Rattle.std.proofs.Common.{◌≡◌, ◌≢◌, ◌⊎◌, inl, inr, ℕ, ℤ, List, [], ◌∷◌, ◌++◌, Bool, true, false, cond}
+use Rattle.std.proofs.Common.{Option, Some, None, option_map, Ok, Err, Result, OnOk, OnErr, IfSome}
+use Rattle.std.proofs.Common.{IsTrue, refl, sym, ap, subst, ◌∙◌, true≢false, bytes_eq}
+use Rattle.std.specs.Map.{update}
+use Rattle.std.proofs.lemmas.Slice.Eq.{bytes_eq-Decides}
 use Rattle.sqlite.specs.Store.{Ghosts}
 use Rattle.sqlite.specs.Held.{Held, state}
 use Rattle.sqlite.specs.Effect.{Database}
 use Rattle.sqlite.specs.State.{State}
+use Rattle.sqlite_rules.specs.Lists.{Has}
+use Rattle.sqlite_rules.proofs.ListLemmas.{has_either, has_filtered, some_has}
+use Rattle.std.specs.List.{list_any}
+use Rattle.std.proofs.Common.{not, filter}
+use Rattle.acct_model.specs.Vouchers.{TopUpFacts}
+use Rattle.acct_book.specs.declared.key.Key.{Key}
+use Rattle.acct_book.specs.declared.row.SessionState.{SessionState}
+use Rattle.acct_book.specs.declared.row.SessionState.TheVariants.{Live, Closed, Stopped}
 use Rattle.acct_book.specs.Row.{RowFacts}
+use Rattle.acct_book.specs.Content.{Content, same_key, key_of, with_session, with_topup, with_closed}
+use Rattle.acct_book.specs.Content.{closed_by, closed_row}
 use Rattle.acct_sql.specs.declared.memory.ReadSession.{ReadSession}
 use Rattle.acct_sql.specs.declared.memory.Memory.{Memory}
-use Rattle.acct_sql.specs.Content.{plans_in_tables}
-use Rattle.acct_sql.specs.Book.{IsOpenBook}
-use Rattle.acct_sql.specs.inner.AtRest.{ReadsAtRest}
+use Rattle.acct_sql.specs.Content.{content_in_tables, plans_in_tables}
+use Rattle.acct_sql.specs.Book.{IsOpenBook, Wrote, content_at, is_open_at}
+use Rattle.acct_sql.specs.inner.AtRest.{ReadsAtRest, WritesAtRest}
+use Rattle.acct_sql.specs.inner.Remembered.{IsReadOf, IsLastRead, IsRowOf, KeepsPlan, HasEnded}
+use Rattle.acct_sql.specs.inner.Remembered.{AreEndedAfter, Remembers}
 use Rattle.acct_sql.specs.inner.Inside.{HasPlanOf}
-use Rattle.acct_sql.specs.inner.Remembered.{IsLastRead, IsRowOf, KeepsPlan, Remembers}
+
+-- ---- a read
 
 plan_after : {S T E : Type 0} (g : Ghosts S) (old new : Held S) (result : Result T E)
     → ReadsAtRest g old new result → (read : Option ReadSession)
@@ -28,6 +45,8 @@ pub remembers_read : {S T E : Type 0} (g : Ghosts S) (old new : Held S) (result 
     → Remembers (state g new) memory
 remembers_read g old new result memory reads was = record {
   read = plan_after g old new result reads memory.last_read was.read;
+  ended = λ client there o. subst (λ content. HasEnded content client)
+      (sym (reads.read.same o)) (was.ended client there (reads.read.was_open o));
 }
 
 -- the plan of a row that was read last is kept
@@ -40,3 +59,260 @@ planned s memory row was is o = go memory.last_read was.read is
     go None kept never = absurd never
     go (Some read) kept is = ap (plans_in_tables s.now.trees) (sym is.key_is) ∙ (kept o
         ∙ ap Some is.plan_is)
+
+-- ---- a write
+
+-- a row that stands after a live session was closed is live only if it was before
+live_closed : (client : List ℕ) (row : RowFacts) → (closed_by client row).state ≡ Live
+    → row.state ≡ Live
+live_closed client row = go (bytes_eq client row.client) row.state refl
+  where
+    go : (b : Bool) (s : SessionState) → row.state ≡ s
+        → (cond b (closed_row row s) row).state ≡ Live → row.state ≡ Live
+    go false s is live = live
+    go true Live is live = is
+    go true Closed is live = live
+    go true Stopped is live = live
+
+-- a session keeps its client
+client_closed : (client : List ℕ) (row : RowFacts) → (closed_by client row).client ≡ row.client
+client_closed client row = go (bytes_eq client row.client) row.state
+  where
+    go : (b : Bool) (s : SessionState) → (cond b (closed_row row s) row).client ≡ row.client
+    go false s = refl
+    go true Live = refl
+    go true Closed = refl
+    go true Stopped = refl
+
+-- no session of the client is live once they were closed
+not_live : (row : RowFacts) → (closed_row row row.state).state ≢ Live
+not_live row = go row.state refl
+  where
+    go : (s : SessionState) → row.state ≡ s → (closed_row row s).state ≢ Live
+    go Live is = λ live. absurd cc
+    go Closed is = λ live. let no : Closed ≡ Live = sym is ∙ live in absurd cc
+    go Stopped is = λ live. let no : Stopped ≡ Live = sym is ∙ live in absurd cc
+
+was_row : (client : List ℕ) (o : Option RowFacts) (row : RowFacts)
+    → option_map (closed_by client) o ≡ Some row → (was : RowFacts) × (o ≡ Some was)
+    × (row ≡ closed_by client was)
+was_row client None row h = absurd cc
+was_row client (Some was) row h = let same : closed_by client was ≡ row = cc in
+    (was, refl, sym same)
+
+pub closes : (content : Content) (client : List ℕ) → HasEnded (with_closed content client) client
+closes content client key row is mine =
+    let was = was_row client (content.rows key) row is in
+    let yours : was.0.client ≡ client = sym (client_closed client was.0)
+    ∙ (ap (λ (r : RowFacts). r.client) (sym was.2) ∙ mine) in
+    let same : bytes_eq client was.0.client ≡ true = (bytes_eq-Decides client was.0.client).1
+    (sym yours) in
+    λ live. not_live was.0 (ap (λ b. (cond b (closed_row was.0 was.0.state) was.0).state)
+    (sym same) ∙ (ap (λ (r : RowFacts). r.state) (sym was.2) ∙ live))
+
+pub closes_others : (content : Content) (client other : List ℕ) → HasEnded content other
+    → HasEnded (with_closed content client) other
+closes_others content client other ended key row is mine live =
+    let was = was_row client (content.rows key) row is in
+    ended key was.0 was.1 (sym (client_closed client was.0)
+    ∙ (ap (λ (r : RowFacts). r.client) (sym was.2) ∙ mine))
+    (live_closed client was.0 (ap (λ (r : RowFacts). r.state) (sym was.2) ∙ live))
+
+-- nothing is to be closed of a client that has no live session
+pub closes_none : (content : Content) (client : List ℕ) → HasEnded content client
+    → with_closed content client ≡ content
+closes_none content client ended = λ i. record {
+  rows = λ key. stays (content.rows key) (ended key) i;
+  balances = content.balances;
+  topups = content.topups;
+}
+  where
+    as_it_is : (row : RowFacts) (b : Bool) (s : SessionState) → bytes_eq client row.client ≡ b
+        → row.state ≡ s → (row.client ≡ client → row.state ≢ Live)
+        → cond b (closed_row row s) row ≡ row
+    as_it_is row false s mine is ended = refl
+    as_it_is row true Live mine is ended = absurd
+        (ended (sym ((bytes_eq-Decides client row.client).0 mine)) is)
+    as_it_is row true Closed mine is ended = refl
+    as_it_is row true Stopped mine is ended = refl
+
+    stays : (o : Option RowFacts)
+        → ((row : RowFacts) → o ≡ Some row → row.client ≡ client → row.state ≢ Live)
+        → option_map (closed_by client) o ≡ o
+    stays None ended = refl
+    stays (Some row) ended = ap Some (as_it_is row (bytes_eq client row.client) row.state refl refl
+        (ended row refl))
+
+pub sets_none : (content : Content) (row : RowFacts) (balance : ℤ) (client : List ℕ)
+    → (row.client ≡ client → row.state ≢ Live) → HasEnded content client
+    → HasEnded (with_session content row balance) client
+sets_none content row balance client calm ended key found is mine =
+    go (same_key (key_of row) key) is
+  where
+    go : (b : Bool) → cond b (Some row) (content.rows key) ≡ Some found → found.state ≢ Live
+    go true here = let same : row ≡ found = cc in
+        λ live. calm (ap (λ (r : RowFacts). r.client) same ∙ mine)
+        (ap (λ (r : RowFacts). r.state) same ∙ live)
+    go false there = ended key found there mine
+
+-- what held of the content before and holds of what was written holds after
+pub holds_after : {S T E : Type 0} (g : Ghosts S) (old new : Held S) (change : Content → Content)
+    (P : Content → Type 0) (result : Result T E) → Wrote g old new change result
+    → (is_open_at g old → P (content_at g old))
+    → (P (content_at g old) → P (change (content_at g old)))
+    → is_open_at g new → P (content_at g new)
+holds_after g old new change P (Ok x) w was then o = subst P (sym (w.ok o)) (then (was (w.was_open o)))
+holds_after g old new change P (Err e) w was then o = subst P (sym (w.err o)) (was (w.was_open o))
+
+told : {T E P : Type 0} (r : Result T E) → P → OnOk r P
+told (Ok x) p = p
+told (Err e) p = tt
+
+untold : {T E P : Type 0} (r : Result T E) → P → OnErr r P
+untold (Ok x) p = tt
+untold (Err e) p = p
+
+-- a read is a write of what is there already
+pub read_writes : {S T E : Type 0} (g : Ghosts S) (old new : Held S) (change : Content → Content)
+    (result : Result T E) → ReadsAtRest g old new result
+    → (is_open_at g old → change (content_at g old) ≡ content_at g old)
+    → WritesAtRest g old new change result
+read_writes g old new change result reads same = record {
+  resting = reads.resting;
+  wrote = record {
+    was_sound = reads.read.was_sound;
+    was_open = reads.read.was_open;
+    keeps_steady = reads.read.keeps_steady;
+    answers = reads.read.answers;
+    ok = λ o. told result (reads.read.same o ∙ sym (same (reads.read.was_open o)));
+    err = λ o. untold result (reads.read.same o);
+    adds_written = λ clean c left. inl (reads.read.adds_none clean c left);
+  };
+  plans = reads.plans;
+}
+
+not_true : (b : Bool) → not b ≡ true → b ≡ false
+not_true false is = refl
+not_true true is = absurd (true≢false (sym is))
+
+none_read : (P : ReadSession → Type 0) (read : Option ReadSession) → read ≡ None → IfSome read P
+none_read P read is = subst (λ r. IfSome r P) (sym is) tt
+
+module _ {S T E : Type 0} (g : Ghosts S) (old new : Held S) (before after : Memory)
+    (result : Result T E) (was : Remembers (state g old) before) where
+  -- a session that was read is remembered
+  pub remembers_session : (row : Option RowFacts) → ReadsAtRest g old new result
+      → IsReadOf row after.last_read → after.ended.items ≡ before.ended.items
+      → (is_open_at g new → IfSome row (λ r. HasPlanOf r (state g old)))
+      → Remembers (state g new) after
+  remembers_session row reads is same kept = record {
+    read = go row after.last_read is kept;
+    ended = λ client there o. subst (λ content. HasEnded content client)
+        (sym (reads.read.same o)) (was.ended client (subst (λ names. Has names client) same there)
+        (reads.read.was_open o));
+  }
+    where
+      go : (row : Option RowFacts) (read : Option ReadSession) → IsReadOf row read
+          → (is_open_at g new → IfSome row (λ r. HasPlanOf r (state g old)))
+          → IfSome read (λ r. KeepsPlan (state g new) r.key r.plan)
+      go row None is kept = tt
+      go None (Some read) never kept = absurd never
+      go (Some row) (Some read) is kept = λ o.
+          ap (λ (d : Database). plans_in_tables d.trees read.key) (reads.tables o)
+          ∙ (ap (plans_in_tables (state g old).now.trees) is.key_is ∙ (kept o
+          ∙ ap Some (sym is.plan_is)))
+
+  -- a row was set
+  pub remembers_set : (row : RowFacts) (balance : ℤ) → after.last_read ≡ None
+      → AreEndedAfter row before.ended.items after.ended.items
+      → Wrote g old new (λ content. with_session content row balance) result
+      → Remembers (state g new) after
+  remembers_set row balance none ended w = record {
+    read = none_read (λ r. KeepsPlan (state g new) r.key r.plan) after.last_read none;
+    ended = λ client there o.
+        let it = ended client there in
+        holds_after g old new (λ content. with_session content row balance)
+        (λ content. HasEnded content client) result w (was.ended client it.0)
+        (sets_none (content_at g old) row balance client it.1) o;
+  }
+
+  -- a top-up was set
+  pub remembers_credit : (topup : TopUpFacts) (balance : ℤ) → after.last_read ≡ None
+      → after.ended.items ≡ before.ended.items
+      → Wrote g old new (λ content. with_topup content topup balance) result
+      → Remembers (state g new) after
+  remembers_credit topup balance none same w = record {
+    read = none_read (λ r. KeepsPlan (state g new) r.key r.plan) after.last_read none;
+    ended = λ client there o. holds_after g old new
+        (λ content. with_topup content topup balance) (λ content. HasEnded content client)
+        result w (was.ended client (subst (λ names. Has names client) same there))
+        (λ ended. ended) o;
+  }
+
+  -- the live sessions of a client were closed
+  pub remembers_close : (client : List ℕ) → after.last_read ≡ None
+      → after.ended.items ≡ before.ended.items
+      → Wrote g old new (λ content. with_closed content client) result
+      → Remembers (state g new) after
+  remembers_close client none same w = record {
+    read = none_read (λ r. KeepsPlan (state g new) r.key r.plan) after.last_read none;
+    ended = λ other there o. holds_after g old new
+        (λ content. with_closed content client) (λ content. HasEnded content other)
+        result w (was.ended other (subst (λ names. Has names other) same there))
+        (closes_others (content_at g old) client other) o;
+  }
+
+-- the client has no live session then
+pub closed_now : {S T E : Type 0} (g : Ghosts S) (old new : Held S) (client : List ℕ)
+    (result : Result T E) (x : T) → result ≡ Ok x
+    → Wrote g old new (λ content. with_closed content client) result → is_open_at g new
+    → HasEnded (content_at g new) client
+closed_now g old new client result x is w o =
+    let v = subst (λ r. Wrote g old new (λ content. with_closed content client) r) is w in
+    subst (λ content. HasEnded content client) (sym (v.ok o)) (closes (content_at g old) client)
+
+-- one client more is remembered, or none
+pub remembers_more : (s : State) (before after : Memory) (client : List ℕ) → Remembers s before
+    → after.last_read ≡ before.last_read
+    → (after.ended.items ≡ before.ended.items)
+    ⊎ (after.ended.items ≡ before.ended.items ++ client ∷ [])
+    → (IsOpenBook s → HasEnded (content_in_tables s.now.trees) client) → Remembers s after
+remembers_more s before after client was same more ended = record {
+  read = subst (λ r. IfSome r (λ read. KeepsPlan s read.key read.plan)) (sym same) was.read;
+  ended = λ other there. go more other there;
+}
+  where
+    go : (after.ended.items ≡ before.ended.items)
+        ⊎ (after.ended.items ≡ before.ended.items ++ client ∷ []) → (other : List ℕ)
+        → Has after.ended.items other → IsOpenBook s
+        → HasEnded (content_in_tables s.now.trees) other
+    go (inl is) other there = was.ended other (subst (λ names. Has names other) is there)
+    go (inr is) other there = elim (has_either before.ended.items (client ∷ []) other
+        (subst (λ names. Has names other) is there)) [
+          | inl before ↦ was.ended other before
+          | inr last ↦ elim last [
+            | inl same ↦ λ o. subst (HasEnded (content_in_tables s.now.trees)) (sym same) (ended o)
+            | inr none ↦ absurd none
+          ]
+        ]
+
+-- a client that is remembered has no live session
+pub has_ended : (s : State) (memory : Memory) (client : List ℕ) → Remembers s memory
+    → list_any (bytes_eq client) memory.ended.items ≡ true → IsOpenBook s
+    → HasEnded (content_in_tables s.now.trees) client
+has_ended s memory client was known o =
+    let name = some_has (bytes_eq client) memory.ended.items known in
+    subst (HasEnded (content_in_tables s.now.trees))
+    (sym ((bytes_eq-Decides client name.0).0 name.2)) (was.ended name.0 name.1 o)
+
+-- a client that is live is none of those that are left
+pub ended_after : (row : RowFacts) (client : List ℕ) (old new : List (List ℕ))
+    → client ≡ row.client → new ≡ filter (λ name. not (bytes_eq client name)) old
+    → AreEndedAfter row old new
+ended_after row client old new same is other there =
+    let it = has_filtered (λ name. not (bytes_eq client name)) old other
+    (subst (λ names. Has names other) is there) in (
+      it.0,
+      λ mine live. true≢false (sym ((bytes_eq-Decides client other).1 (same ∙ mine))
+          ∙ not_true (bytes_eq client other) it.1),
+    )

@@ -23,8 +23,8 @@ use crate::columns::{account_at, balance_at, plan_class_at, session_at, topup_at
 use crate::refused::Refused;
 use crate::statements::{
     ACCOUNT_AFTER, BALANCE_OF_ACCOUNT, FIRST_ACCOUNT, FIRST_SESSION, FIRST_TOPUP,
-    LATER_SESSION_OF_CLIENT, PLAN_OF_SESSION, SESSION_OF_KEY, SESSION_OF_LATER_CLIENT, TOPUP_AFTER,
-    TOPUP_OF_NUMBER,
+    LATER_SESSION_OF_CLIENT, PLAN_OF_SESSION, SCHEMA_NUMBER, SESSION_OF_KEY,
+    SESSION_OF_LATER_CLIENT, TOPUP_AFTER, TOPUP_OF_NUMBER,
 };
 use acct_book::{Key, Row};
 use acct_model::{Octets, TopUp};
@@ -82,6 +82,17 @@ pub(crate) fn ask<S: Alter>(
     let mut tx = conn.transaction();
     let rows = look(&mut tx, sql, params);
     finish_rows(tx, rows)
+}
+
+/// Whether the book is open, by the query for its schema number.
+pub(crate) fn check_open<S: Alter>(conn: &mut Connection<S>) -> Result<(), Refused>
+    requires { IsAtRest S.Store conn.old }
+    ensures { ReadsAtRest S.Store conn.old conn.new result }
+{
+    match ask(conn, SCHEMA_NUMBER, &[]) {
+        Ok(_) => Ok(()),
+        Err(refused) => Err(refused),
+    }
 }
 
 // The class of the plan of a session that the table `session` shows. Where none is kept, the

@@ -11,7 +11,7 @@ use crate::reading::{
     read_balance, read_next_account, read_next_session, read_next_topup, read_session, read_voucher,
 };
 use crate::sql_book_error::SqlBookError;
-use crate::writing::{close_sessions, write_session, write_topup};
+use crate::writing::{close_client, write_session, write_topup};
 use acct_book::{Book, Key, Row, Unavailable};
 use acct_model::{Plans, TopUp};
 use sqlite::{Alter, Connection};
@@ -105,7 +105,7 @@ impl<S: Alter> SqlBook<S> {
         }
         match make_book(&mut conn, plans) {
             Ok(()) => {
-                let memory = Memory::none();
+                let memory = Memory::new(alloc);
                 Ok(SqlBook {
                     conn,
                     alloc,
@@ -152,7 +152,7 @@ impl<S: Alter> SqlBook<S> {
         prove!(is_idle);
         match examine(&mut conn, plans) {
             Ok(()) => {
-                let memory = Memory::none();
+                let memory = Memory::new(alloc);
                 Ok(SqlBook {
                     conn,
                     alloc,
@@ -206,7 +206,7 @@ impl<S: Alter> SqlBook<S> {
         prove!(is_idle);
         match migrate_book(&mut conn, plans) {
             Ok(()) => {
-                let memory = Memory::none();
+                let memory = Memory::new(alloc);
                 Ok(SqlBook {
                     conn,
                     alloc,
@@ -265,7 +265,7 @@ impl<S: Alter> SqlBook<S> {
         plans.have_no_fault();
         match add_to_book(&mut conn, plans) {
             Ok(added) => {
-                let memory = Memory::none();
+                let memory = Memory::new(alloc);
                 let book = SqlBook {
                     conn,
                     alloc,
@@ -366,6 +366,7 @@ impl<S: Alter> Book for SqlBook<S> {
     {
         let is_planned = self.memory.has_read(row);
         self.memory.forget_read();
+        self.memory.forget_ended(row);
         match write_session(&mut self.conn, row, is_planned, balance) {
             Ok(()) => {}
             Err(_) => return Err(Unavailable),
@@ -392,10 +393,12 @@ impl<S: Alter> Book for SqlBook<S> {
         ensures plans { LeavesPlans (state S.Store self.old) (state S.Store self.new) }
     {
         self.memory.forget_read();
-        match close_sessions(&mut self.conn, client) {
+        let has_ended = self.memory.has_ended(client);
+        match close_client(&mut self.conn, client, has_ended) {
             Ok(()) => {}
             Err(_) => return Err(Unavailable),
         }
+        self.memory.keep_ended(self.alloc, client);
         Ok(())
     }
 

@@ -4,14 +4,16 @@ ghost use Rattle.sqlite.specs.Held.{state};
 ghost use Rattle.sqlite.specs.Values.{bound};
 ghost use Rattle.acct_book.specs.Content.{key_of, with_session, with_topup, with_closed};
 ghost use Rattle.acct_sql.specs.inner.Inside.{HoldsBook, HasMade, HasPut, RunsInside, HasFinished};
-ghost use Rattle.acct_sql.specs.Book.{is_open_at};
+ghost use Rattle.acct_sql.specs.Book.{is_open_at, content_at};
 ghost use Rattle.acct_sql.specs.Content.{without_plan};
 ghost use Rattle.acct_sql.specs.inner.Inside.{with_row, with_balance, with_voucher};
 ghost use Rattle.acct_sql.specs.inner.Inside.{HasMadeBare, HasPlanOf, HasSetPlan, Holds};
 ghost use Rattle.acct_sql.specs.inner.AtRest.{IsAtRest, WritesAtRest};
+ghost use Rattle.acct_sql.specs.inner.Remembered.{HasEnded};
 
 use crate::adopting::has_blob;
 use crate::columns::{session_plan_values, session_values, topup_values};
+use crate::reading::check_open;
 use crate::refused::Refused;
 use crate::session_classes::show;
 use crate::statements::{
@@ -191,11 +193,25 @@ pub(crate) fn write_topup<S: Alter>(
     finish(tx, done)
 }
 
-/// Closes each live session of a client in one transaction.
-pub(crate) fn close_sessions<S: Alter>(
+/// Closes each live session of a client in one transaction. Where it is known to have none, nothing
+/// is written, once the book has told that it is open.
+pub(crate) fn close_client<S: Alter>(
     conn: &mut Connection<S>,
     client: &str,
+    has_ended: bool,
 ) -> Result<(), Refused>
+    requires resting { IsAtRest S.Store conn.old }
+    requires ended { IsTrue has_ended → is_open_at S.Store conn.old
+        → HasEnded (content_at S.Store conn.old) client.now }
+    ensures { WritesAtRest S.Store conn.old conn.new (λ c. with_closed c client.now) result }
+{
+    if has_ended {
+        return check_open(conn);
+    }
+    close_sessions(conn, client)
+}
+
+fn close_sessions<S: Alter>(conn: &mut Connection<S>, client: &str) -> Result<(), Refused>
     requires { IsAtRest S.Store conn.old }
     ensures { WritesAtRest S.Store conn.old conn.new (λ c. with_closed c client.now) result }
 {

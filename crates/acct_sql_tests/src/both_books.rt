@@ -234,6 +234,36 @@ fn a_report_keeps_the_plan_that_it_has(rt: HostRuntime) -> Result<(), Fail> {
     Ok(())
 }
 
+// Rows of two clients that are live, and one of the first that is set live after its restart.
+static LIVE_ROWS: [Put; 2] = [(S1, b"al", LATER, 3), (("ap2", b"s1"), b"al", LATER, 4)];
+
+static NEW_ROW: [Put; 1] = [(("ap1", b"s0"), b"al", LATER, 5)];
+
+// Whether both tell the same of `al` after a restart of the client.
+fn tell_restart(books: &mut Books, client: &str) -> Result<bool, Fail> {
+    books.tables.close_client(client)?;
+    books.memory.close_client(client)?;
+    books.tell_sessions_of(b"al")
+}
+
+// A restart is told twice, then a session comes, and then there is another restart.
+fn tell_restarts(alloc: Global, books: &mut Books) -> Result<bool, Fail> {
+    books.put_rows(alloc, &LIVE_ROWS)?;
+    let first = tell_restart(books, "ap1")? && tell_restart(books, "ap1")?;
+    books.put_rows(alloc, &NEW_ROW)?;
+    let second = books.tell_first_session()? && tell_restart(books, "ap1")?;
+    let state = books.tell_session(&key(alloc, &NEW_ROW[0].0)?)?;
+    let other = books.tell_session(&key(alloc, &LIVE_ROWS[1].0)?)?;
+    let closed = (true, Some(SessionState::Closed));
+    Ok(first && second && state == closed && other == (true, Some(SessionState::Live)))
+}
+
+#[test]
+fn each_restart_closes_the_live_sessions(rt: HostRuntime) -> Result<(), Fail> {
+    assert!(rt; tell_restarts(rt.alloc(), &mut Books::new(rt.alloc())?)?);
+    Ok(())
+}
+
 // Whether both tell the same of balances and top-ups.
 fn tell_money(alloc: Global, books: &mut Books) -> Result<bool, Fail> {
     books.put_topups(alloc, &TOP_UPS)?;

@@ -1,10 +1,11 @@
-use Rattle.std.proofs.Common.{w64}
+use Rattle.std.proofs.Common.{w64, subst, ◌∙◌}
 use Rattle.std.proofs.lemmas.Int.{to_z-of_z}
 use Rattle.sqlite.specs.Held.{state}
 use Rattle.acct_book.specs.Content.{with_session}
 use Rattle.acct_sql.specs.Book.{Wrote}
 use Rattle.acct_sql.proofs.CommitLemmas.{wrote_told}
-use Rattle.acct_sql.proofs.RememberLemmas.{planned}
+use Rattle.acct_sql.specs.inner.Remembered.{AreEndedAfter}
+use Rattle.acct_sql.proofs.RememberLemmas.{planned, remembers_set}
 use Rattle.acct_sql.proofs.sql_book.SqlBookBook.put_session.Goals as goal
 
 pub write_session-requires-clause-planned : goal.write_session-requires-clause-planned
@@ -19,3 +20,33 @@ returns-in-Err-clause-writes g c =
     wrote_told g.S.Store c.args.self.now c.self.inside.conn c.write_session.new.conn
     (λ content. with_session content c.args.row.now c.args.balance) c.write_session.result _
     c.self.view_is c.in-Err.is w
+
+pub invariant_of-self : goal.invariant_of-self
+invariant_of-self g c =
+    let w : Wrote g.S.Store c.self.inside.conn c.write_session.new.conn
+    (λ content. with_session content c.args.row.now c.args.balance) c.write_session.result = rw
+    (to_z-of_z w64 c.args.balance c.ranges.balance) at c.write_session.ensures.wrote in
+    let after = c.forget_ended.new.self in (
+      c.write_session.ensures.resting,
+      remembers_set g.S.Store c.self.inside.conn c.write_session.new.conn
+          c.self.inside.memory after c.write_session.result c.self.invariant.1
+          c.args.row.now c.args.balance
+          (c.forget_ended.ensures.read ∙ c.forget_read.ensures.read)
+          (subst (λ names. AreEndedAfter c.args.row.now names after.ended.items)
+          c.forget_read.ensures.ended c.forget_ended.ensures.ended) w,
+    )
+
+pub invariant_of-self-2 : goal.invariant_of-self-2
+invariant_of-self-2 g c =
+    let w : Wrote g.S.Store c.self.inside.conn c.write_session.new.conn
+    (λ content. with_session content c.args.row.now c.args.balance) c.write_session.result = rw
+    (to_z-of_z w64 c.args.balance c.ranges.balance) at c.write_session.ensures.wrote in
+    let after = c.forget_ended.new.self in (
+      c.write_session.ensures.resting,
+      remembers_set g.S.Store c.self.inside.conn c.write_session.new.conn
+          c.self.inside.memory after c.write_session.result c.self.invariant.1
+          c.args.row.now c.args.balance
+          (c.forget_ended.ensures.read ∙ c.forget_read.ensures.read)
+          (subst (λ names. AreEndedAfter c.args.row.now names after.ended.items)
+          c.forget_read.ensures.ended c.forget_ended.ensures.ended) w,
+    )

@@ -3,6 +3,7 @@ use Rattle.std.proofs.lemmas.Int.{to_z-of_z}
 use Rattle.acct_book.specs.Content.{with_topup}
 use Rattle.acct_sql.specs.Book.{Wrote}
 use Rattle.acct_sql.proofs.CommitLemmas.{wrote_told}
+use Rattle.acct_sql.proofs.RememberLemmas.{remembers_credit}
 use Rattle.acct_sql.proofs.sql_book.SqlBookBook.put_topup.Goals as goal
 
 pub returns-in-Err-clause-writes : goal.returns-in-Err-clause-writes
@@ -13,3 +14,27 @@ returns-in-Err-clause-writes g c =
     wrote_told g.S.Store c.args.self.now c.self.inside.conn c.write_topup.new.conn
     (λ content. with_topup content c.args.topup.now c.args.balance) c.write_topup.result _
     c.self.view_is c.in-Err.is w
+
+pub invariant_of-self : goal.invariant_of-self
+invariant_of-self g c =
+    let w : Wrote g.S.Store c.self.inside.conn c.write_topup.new.conn
+    (λ content. with_topup content c.args.topup.now c.args.balance) c.write_topup.result = rw
+    (to_z-of_z w64 c.args.balance c.ranges.balance) at c.write_topup.ensures.wrote in (
+      c.write_topup.ensures.resting,
+      remembers_credit g.S.Store c.self.inside.conn c.write_topup.new.conn
+          c.self.inside.memory c.forget_read.new.self c.write_topup.result
+          c.self.invariant.1 c.args.topup.now c.args.balance c.forget_read.ensures.read
+          c.forget_read.ensures.ended w,
+    )
+
+pub invariant_of-self-2 : goal.invariant_of-self-2
+invariant_of-self-2 g c =
+    let w : Wrote g.S.Store c.self.inside.conn c.write_topup.new.conn
+    (λ content. with_topup content c.args.topup.now c.args.balance) c.write_topup.result = rw
+    (to_z-of_z w64 c.args.balance c.ranges.balance) at c.write_topup.ensures.wrote in (
+      c.write_topup.ensures.resting,
+      remembers_credit g.S.Store c.self.inside.conn c.write_topup.new.conn
+          c.self.inside.memory c.forget_read.new.self c.write_topup.result
+          c.self.invariant.1 c.args.topup.now c.args.balance c.forget_read.ensures.read
+          c.forget_read.ensures.ended w,
+    )
