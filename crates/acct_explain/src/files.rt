@@ -1,0 +1,122 @@
+//! Why a file cannot be read or opened.
+use acct_feed::MOST_OCTETS;
+use std::fs::{File, Files, OpenOptions, metadata};
+use std::io::{ErrorKind, Read};
+use std::os::unix::fs::MetadataExt;
+
+// The most octets of the name of a book's file: beside it stands one of a longer name.
+const LONGEST_NAME: usize = 247;
+// The octets of the header of a SQLite database.
+const HEADER_OCTETS: u64 = 100;
+// The octets with which a SQLite database begins.
+const MAGIC: &[u8; 16] = b"SQLite format 3\0";
+
+// Why the file of a configuration cannot be read.
+pub(crate) fn why_unread<R: Files>(runtime: &R, file: &str) -> &'static str {
+    match metadata(runtime, file) {
+        Err(error) => why_unseen(error.kind()),
+        Ok(found) if !found.is_file() => "it is no regular file",
+        Ok(found) if found.len() > MOST_OCTETS as u64 => "it has more than 16777216 octets",
+        Ok(_) => match File::open(runtime, file) {
+            Err(error) if error.kind() == ErrorKind::PermissionDenied => {
+                "this user may not read it"
+            }
+            _ => "the disk refused",
+        },
+    }
+}
+
+// Why nothing is known of what stands at a path.
+fn why_unseen(kind: ErrorKind) -> &'static str {
+    match kind {
+        ErrorKind::NotFound | ErrorKind::NotADirectory => "there is no such file",
+        ErrorKind::PermissionDenied => "this user may not look into its folder",
+        _ => "the disk refused",
+    }
+}
+
+// Why the file of a book that is to be there cannot be opened.
+pub(crate) fn why_unopened<R: Files>(runtime: &R, file: &str) -> &'static str {
+    match metadata(runtime, file) {
+        Err(error) if is_missing(error.kind()) => "there is no such file, and init makes one",
+        Err(error) => why_unseen(error.kind()),
+        Ok(found) if found.is_file() && found.len() < HEADER_OCTETS => {
+            "it has fewer than 100 octets, so it is no book, and init makes one"
+        }
+        Ok(found) => why_shut(runtime, file, found.is_file(), found.nlink()),
+    }
+}
+
+// Why the file of a book that is to be made cannot be opened.
+pub(crate) fn why_unmade<R: Files>(runtime: &R, file: &str) -> &'static str {
+    match metadata(runtime, file) {
+        Err(error) if is_missing(error.kind()) => why_not_made(runtime, file),
+        Err(error) => why_unseen(error.kind()),
+        Ok(found) => why_shut(runtime, file, found.is_file(), found.nlink()),
+    }
+}
+
+fn is_missing(kind: ErrorKind) -> bool {
+    kind == ErrorKind::NotFound || kind == ErrorKind::NotADirectory
+}
+
+// Why a file that isn't there cannot be made.
+fn why_not_made<R: Files>(runtime: &R, file: &str) -> &'static str {
+    if name_of(file).len() > LONGEST_NAME {
+        return "its name has more than 247 octets";
+    }
+    match metadata(runtime, folder_of(file)) {
+        Ok(found) if found.is_dir() => "this user may not make it in its folder",
+        _ => "its folder is missing",
+    }
+}
+
+// Why a file that is there, with so many names, cannot be opened.
+fn why_shut<R: Files>(runtime: &R, file: &str, is_file: bool, names: u64) -> &'static str {
+    if !is_file {
+        return "it is no regular file";
+    }
+    if name_of(file).len() > LONGEST_NAME {
+        return "its name has more than 247 octets";
+    }
+    if names > 1 {
+        return "it has a second name (a hard link)";
+    }
+    match OpenOptions::new()
+        .read(true)
+        .write(true)
+        .open(runtime, file)
+    {
+        Ok(mut opened) => why_refused(&mut opened),
+        Err(error) if error.kind() == ErrorKind::PermissionDenied => {
+            "this user may not read and write it"
+        }
+        Err(_) => "the disk refused",
+    }
+}
+
+// Why a file is no book that could be opened.
+fn why_refused<F: Read>(file: &mut F) -> &'static str {
+    let mut octets = [0; 16];
+    if file.read_exact(&mut octets).is_ok() && octets != *MAGIC {
+        return "it is no SQLite database";
+    }
+    "another program has it, this user may not write in its folder, or it is damaged"
+}
+
+// The name of a file in its folder.
+fn name_of(file: &str) -> &str {
+    match file.rsplit_once('/') {
+        Some((_, name)) => name,
+        None => file,
+    }
+}
+
+// The folder of a file.
+fn folder_of(file: &str) -> &str {
+    match file.rsplit_once('/') {
+        Some(("", _)) => "/",
+        Some((folder, _)) => folder,
+        None => ".",
+    }
+}

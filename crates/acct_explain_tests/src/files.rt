@@ -1,0 +1,135 @@
+//! What is said of files that cannot be read or opened, and of wrong words.
+use acct_explain::{Explained, explain, explain_words};
+use acct_files::{ConfigError, ConfigKind, ConfigTable};
+use acct_model::Text;
+use std::test::Fail;
+use std::{fs, str};
+
+const FOLDER: &str = "acct_explain_test";
+
+// What is asked of a file.
+#[derive(Clone, Copy)]
+enum Asked {
+    Config,
+    Unread,
+    Unopened,
+    Unmade,
+}
+
+// What is asked of which file, and what is said.
+type Row = (Asked, &'static str, &'static str);
+
+static ROWS: [Row; 9] = [
+    (
+        Asked::Config,
+        "acct_explain_test/site",
+        "explained: acct_explain_test/site line 2: unit of this [[plan]] is a whole number from 0 \
+         to 1000000000, without quotes\n",
+    ),
+    (
+        Asked::Unread,
+        "acct_explain_test/none",
+        "explained: acct_explain_test/none: there is no such file\n",
+    ),
+    (
+        Asked::Unread,
+        "acct_explain_test",
+        "explained: acct_explain_test: it is no regular file\n",
+    ),
+    (
+        Asked::Unopened,
+        "acct_explain_test/none",
+        "explained: acct_explain_test/none: there is no such file, and init makes one\n",
+    ),
+    (
+        Asked::Unopened,
+        "acct_explain_test/site",
+        "explained: acct_explain_test/site: it has fewer than 100 octets, so it is no book, and \
+         init makes one\n",
+    ),
+    (
+        Asked::Unopened,
+        "acct_explain_test/text",
+        "explained: acct_explain_test/text: it is no SQLite database\n",
+    ),
+    (
+        Asked::Unopened,
+        "acct_explain_test/two",
+        "explained: acct_explain_test/two: it has a second name (a hard link)\n",
+    ),
+    (
+        Asked::Unmade,
+        "acct_explain_test/none/book",
+        "explained: acct_explain_test/none/book: its folder is missing\n",
+    ),
+    (
+        Asked::Unmade,
+        "acct_explain_test",
+        "explained: acct_explain_test: it is no regular file\n",
+    ),
+];
+
+#[test]
+fn says_why_a_file_is_refused(rt: HostRuntime) -> Result<(), Fail> {
+    let _ = fs::remove_dir_all(&rt, FOLDER);
+    fs::create_dir(&rt, FOLDER)?;
+    fs::write(
+        &rt,
+        "acct_explain_test/site",
+        "# plans\n[[plan]]\nclass = 'a'\nblock = 1\nunit = -1\n",
+    )?;
+    fs::write(&rt, "acct_explain_test/text", [b'-'; 200].as_slice())?;
+    fs::write(&rt, "acct_explain_test/two", [b'-'; 200].as_slice())?;
+    fs::hard_link(&rt, "acct_explain_test/two", "acct_explain_test/three")?;
+    for (asked, file, wanted) in ROWS {
+        let file = Text::from_str(rt.alloc(), file)?;
+        let mut written = Vec::new(rt.alloc());
+        explain(&rt, rt.alloc(), explained(asked, &file), &mut written);
+        let said = str::from_utf8(&written).unwrap_or("");
+        assert_eq!(rt; said, wanted);
+    }
+    fs::remove_dir_all(&rt, FOLDER)?;
+    Ok(())
+}
+
+// What is to be explained of a file.
+fn explained(asked: Asked, file: &Text) -> Explained<'_> {
+    match asked {
+        Asked::Config => Explained::Config {
+            file,
+            error: ConfigError {
+                kind: ConfigKind::BadPlan,
+                table: ConfigTable::Plan,
+                index: 0,
+            },
+        },
+        Asked::Unread => Explained::Unread { file },
+        Asked::Unopened => Explained::Unopened { file },
+        Asked::Unmade => Explained::Unmade { file },
+    }
+}
+
+// The words of a command line, and what is said of them.
+static WORDS: [([&str; 4], &str); 4] = [
+    (
+        ["radacctd", "export", "--explain", "money"],
+        "explained: WHAT is sessions, balances, topups or overruns\n",
+    ),
+    (["radacctd", "export", "--explain", "topups"], ""),
+    (["radacctd", "export", "--db", "money"], ""),
+    (["radacctd", "import", "--explain", "money"], ""),
+];
+
+#[test]
+fn says_which_words_an_export_takes(rt: HostRuntime) -> Result<(), Fail> {
+    for (words, wanted) in WORDS {
+        let mut owned = Vec::new(rt.alloc());
+        for word in words {
+            owned.push(String::from_str(rt.alloc(), word)?)?;
+        }
+        let mut written = Vec::new(rt.alloc());
+        explain_words(&owned, &mut written);
+        assert_eq!(rt; str::from_utf8(&written).unwrap_or(""), wanted);
+    }
+    Ok(())
+}

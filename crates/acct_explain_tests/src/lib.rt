@@ -1,0 +1,7 @@
+//! Tests of `acct_explain`, of its public calls alone.
+#![tactic(auto)]
+
+#[cfg(test)]
+mod configurations;
+#[cfg(test)]
+mod files;
