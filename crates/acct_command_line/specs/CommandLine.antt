@@ -1,18 +1,8 @@
--- The command line as a simple command of clap, and what its subcommands ask for.
-use Rattle.std.specs.Prelude.{◌≡◌, ◌≤◌, ◌<◌, ◌^◌, ⊤, ℕ, pos, Bool, true, false, List, [], ◌∷◌}
-use Rattle.std.specs.Prelude.{Option, Some, None, codes}
-use Rattle.clap.specs.Words.{App, Row, Rule, Text, first_of, one_of, new_app, new_rule, with_rule}
-use Rattle.clap.specs.Words.{with_subcommand}
+-- The command line as a simple command of clap.
+use Rattle.std.specs.Prelude.{ℕ, pos, true, [], ◌∷◌, Some, codes}
+use Rattle.clap.specs.Words.{App, Rule, Text, new_app, new_rule, with_rule, with_subcommand}
 use Rattle.clap.specs.declared.builder.action.ArgAction.TheVariants as action
 use Rattle.clap.specs.declared.builder.value_parser.ValueParser.TheVariants as parser
-use Rattle.acct_feed.specs.Numbers.{number_up_to}
-use Rattle.acct_command_line.specs.declared.job.Job.{Job}
-use Rattle.acct_command_line.specs.declared.job.Job.TheVariants as job
-use Rattle.acct_command_line.specs.declared.job.Export.{Export}
-use Rattle.acct_command_line.specs.declared.job.Export.TheVariants.{Sessions, Balances, TopUps}
-use Rattle.acct_command_line.specs.declared.job.Export.TheVariants.{Overruns}
-use Rattle.acct_command_line.specs.declared.job.Listening.{Listening}
-use Rattle.acct_command_line.specs.declared.job.Paths.{Paths}
 
 -- an option of one value
 abbrev pub option_rule : Text → Rule
@@ -34,51 +24,66 @@ database_rule = option_rule (codes "db")
 abbrev pub what_rule : Rule
 what_rule = record (new_rule (codes "what")) { value_names = 1 }
 
--- `--bind A.B.C.D`
+-- a flag
+abbrev pub flag_rule : Text → Rule
+flag_rule id = record (new_rule id) { long = Some id; action = Some action.SetTrue }
+
+-- an option that has this value where it isn't given
+abbrev pub default_rule : Text → Text → Rule
+default_rule id value = record (option_rule id) { defaults = value ∷ [] }
+
+-- `--bind A.B.C.D`, which may be given more than once
 abbrev pub bind_rule : Rule
-bind_rule = record (option_rule (codes "bind")) { defaults = codes "127.0.0.1" ∷ [] }
+bind_rule =
+    record (default_rule (codes "bind") (codes "127.0.0.1")) { action = Some action.Append }
+
+-- an option of a number, from 1 to the given one
+abbrev pub number_rule : Text → ℕ → Text → Rule
+number_rule id most value =
+    record (default_rule id value) { parser = Some (parser.Signed (pos 1) (pos most)) }
 
 -- an option for a port
 abbrev pub port_rule : Text → Text → Rule
-port_rule id default_port = record (option_rule id) {
-  parser = Some (parser.Signed (pos 1) (pos 65535));
-  defaults = default_port ∷ [];
-}
+port_rule id default_port = number_rule id 65535 default_port
 
 -- `--turns N`
 abbrev pub turns_rule : Rule
-turns_rule = record (option_rule (codes "turns")) {
-  parser = Some (parser.Signed (pos 1) (pos 9223372036854775807));
-  defaults = codes "9223372036854775807" ∷ [];
-}
+turns_rule = number_rule (codes "turns") 9223372036854775807 (codes "9223372036854775807")
 
--- `--quiet`
-abbrev pub quiet_rule : Rule
-quiet_rule = record (new_rule (codes "quiet")) {
-  long = Some (codes "quiet");
-  action = Some action.SetTrue;
-}
+-- `--sync HOW`
+abbrev pub sync_rule : Rule
+sync_rule = default_rule (codes "sync") (codes "twice")
 
--- `feed [--config FILE]`
+-- `--balances-every SECONDS`
+abbrev pub balances_every_rule : Rule
+balances_every_rule = number_rule (codes "balances-every") 86400 (codes "60")
+
+-- a command that has a configuration: `--explain`
+abbrev pub explained : App → App
+explained a = with_rule a (flag_rule (codes "explain"))
+
+-- `feed [--config FILE] [--explain]`
 abbrev pub feed_app : App
-feed_app = with_rule (new_app (codes "feed")) config_rule
+feed_app = explained (with_rule (new_app (codes "feed")) config_rule)
 
--- `check --config FILE`
+-- `check --config FILE [--db FILE] [--explain]`
 abbrev pub check_app : App
-check_app = with_rule (new_app (codes "check")) (required config_rule)
+check_app =
+    explained (with_rule (with_rule (new_app (codes "check")) (required config_rule)) database_rule)
 
--- a command that keeps a book: `--config FILE --db FILE`
+-- a command that keeps a book: `--config FILE --db FILE [--explain]`
 abbrev pub book_app : Text → App
-book_app name =
-    with_rule (with_rule (new_app name) (required config_rule)) (required database_rule)
+book_app name = explained
+    (with_rule (with_rule (new_app name) (required config_rule)) (required database_rule))
 
--- `export --config FILE --db FILE WHAT`
+-- the same with `WHAT`, of `export`
 abbrev pub export_app : App
 export_app = with_rule (book_app (codes "export")) (required what_rule)
 
--- `serve --config FILE --db FILE [--bind A.B.C.D]`
+-- the same with `[--bind A.B.C.D].. [--desk-bind A.B.C.D]`, of `serve`
 abbrev pub addressed_app : App
-addressed_app = with_rule (book_app (codes "serve")) bind_rule
+addressed_app =
+    with_rule (with_rule (book_app (codes "serve")) bind_rule) (option_rule (codes "desk-bind"))
 
 -- the same with `[--radius-port PORT] [--desk-port PORT]`
 abbrev pub listening_app : App
@@ -86,9 +91,18 @@ listening_app =
     with_rule (with_rule addressed_app (port_rule (codes "radius-port") (codes "1813")))
     (port_rule (codes "desk-port") (codes "8066"))
 
--- the same with `[--turns N] [--quiet]`
+-- the same with `[--turns N] [--sync HOW]`
+abbrev pub running_app : App
+running_app = with_rule (with_rule listening_app turns_rule) sync_rule
+
+-- the same with `[--quiet] [--status FILE]`
+abbrev pub telling_app : App
+telling_app =
+    with_rule (with_rule running_app (flag_rule (codes "quiet"))) (option_rule (codes "status"))
+
+-- the same with `[--balances FILE] [--balances-every SECONDS]`
 abbrev pub serve_app : App
-serve_app = with_rule (with_rule listening_app turns_rule) quiet_rule
+serve_app = with_rule (with_rule telling_app (option_rule (codes "balances"))) balances_every_rule
 
 -- a command that has a version
 abbrev pub has_version : App → App
@@ -117,73 +131,3 @@ abbrev pub app : App
 app =
     with_subcommand (with_subcommand working_app (book_app (codes "migrate")).top)
     (book_app (codes "plans")).top
-
--- the option has this number, from 1 to the given one
-abbrev pub IsNumber : Text → List Row → ℕ → ℕ → Type 0
-IsNumber id rows most number =
-    (text : Text) × (first_of id rows ≡ Some text) × (number_up_to most text ≡ Some number)
-    × (1 ≤ number) × (number ≤ most)
-
--- whether a flag was given
-abbrev pub IsFlag : Text → List Row → Bool → Type 0
-IsFlag id rows is_given =
-    (one_of id rows ≡ Some (codes "true") → is_given ≡ true)
-    × (one_of id rows ≡ Some (codes "false") → is_given ≡ false)
-    × (one_of id rows ≡ None → is_given ≡ false)
-
--- where the options say that a server listens
-abbrev pub IsListening : List Row → Listening → Type 0
-IsListening rows listening =
-    (first_of (codes "bind") rows ≡ Some listening.address)
-    × IsNumber (codes "radius-port") rows 65535 listening.radius_port
-    × IsNumber (codes "desk-port") rows 65535 listening.desk_port
-
--- the files that the options name
-abbrev pub ArePaths : List Row → Paths → Type 0
-ArePaths rows paths =
-    (first_of (codes "config") rows ≡ Some paths.config)
-    × (first_of (codes "db") rows ≡ Some paths.database)
-
--- the name of what is written
-abbrev pub export_name : Export → Text
-export_name Sessions = codes "sessions"
-export_name Balances = codes "balances"
-export_name TopUps = codes "topups"
-export_name Overruns = codes "overruns"
-
--- the options name what is to be written
-abbrev pub IsExport : List Row → Export → Type 0
-IsExport rows what = first_of (codes "what") rows ≡ Some (export_name what)
-
--- what the rows of a subcommand's options ask for
-abbrev pub WordsAskFor : Text → List Row → Job → Type 0
-WordsAskFor name rows (job.Feed config) =
-    (name ≡ codes "feed") × (first_of (codes "config") rows ≡ config)
-WordsAskFor name rows (job.Check config) =
-    (name ≡ codes "check") × (first_of (codes "config") rows ≡ Some config)
-WordsAskFor name rows (job.Init paths) = (name ≡ codes "init") × ArePaths rows paths
-WordsAskFor name rows (job.Serve paths listening turns is_quiet) =
-    (name ≡ codes "serve") × ArePaths rows paths
-    × IsListening rows listening × IsNumber (codes "turns") rows 9223372036854775807 turns
-    × IsFlag (codes "quiet") rows is_quiet
-WordsAskFor name rows (job.Import paths) = (name ≡ codes "import") × ArePaths rows paths
-WordsAskFor name rows (job.Export paths what) =
-    (name ≡ codes "export") × ArePaths rows paths × IsExport rows what
-WordsAskFor name rows (job.Migrate paths) = (name ≡ codes "migrate") × ArePaths rows paths
-WordsAskFor name rows (job.AddPlans paths) = (name ≡ codes "plans") × ArePaths rows paths
-
--- the job is that of the subcommand that the words name
-abbrev pub NamesJob : Option (Text × List Row) → Job → Type 0
-NamesJob None job = ⊥
-NamesJob (Some p) job = WordsAskFor p.0 p.1 job
-
--- a server makes fewer than 2^63 turns
-abbrev pub HasTurns : Job → Type 0
-HasTurns (job.Feed config) = ⊤
-HasTurns (job.Check config) = ⊤
-HasTurns (job.Init paths) = ⊤
-HasTurns (job.Serve paths listening turns is_quiet) = turns < 2 ^ 63
-HasTurns (job.Import paths) = ⊤
-HasTurns (job.Export paths what) = ⊤
-HasTurns (job.Migrate paths) = ⊤
-HasTurns (job.AddPlans paths) = ⊤

@@ -1,8 +1,14 @@
 //! The command line: the job that its words name, and what is told where they name none.
 #![tactic(auto)]
 
+mod args;
+mod commands;
 mod job;
+mod options;
+mod serving;
 mod telling;
+mod words;
 
-pub use job::{Export, Job, Listening, Paths, job_of};
+pub use job::{BalancesFile, Export, Job, Listening, Order, Paths, Serving, Syncs, Telling};
 pub use telling::tell;
+pub use words::job_of;

@@ -1,5 +1,5 @@
 -- An end over an exchange is one over any other that counts and tells the same.
-use Rattle.std.specs.Prelude.{◌≡◌, ℕ, List, Option}
+use Rattle.std.specs.Prelude.{◌≡◌, ℕ, List, Option, None}
 use Rattle.std.proofs.Common.{◌∙◌, refl}
 use Rattle.acct_book.specs.declared.book.Book as book
 use Rattle.acct_site.specs.declared.config.Config.{Config}
@@ -20,8 +20,9 @@ pub record Agrees {X Y : Type 0} (x : exchange.Ghosts X) (y : exchange.Ghosts Y)
 module _ {B X Y : Type 0} (b : book.Ghosts B) (x : exchange.Ghosts X) (y : exchange.Ghosts Y)
     (config : Config) (turns : ℕ) (old new : B) (first last : X) (given back : Y)
     (starts : Agrees x y first given) (stops : Agrees x y last back) where
-  ran_so : (served : Served) (why : Until) → Ran b x config turns old new first last served why
-      → Ran b y config turns old new given back served why
+  ran_so : (served : Served) (why : Until)
+      → Ran b x config turns None None old new first last served why
+      → Ran b y config turns None None old new given back served why
   ran_so served why ran = record {
     turns_made = rw (starts.turns, stops.turns) ran.turns_made;
     shut = ran.shut;
@@ -32,7 +33,7 @@ module _ {B X Y : Type 0} (b : book.Ghosts B) (x : exchange.Ghosts X) (y : excha
 
   pub ends_so : (before after : Option (List ℕ)) (ended : Ended)
       → x.turn_count first ≡ 0 → x.failure_count first ≡ 0
-      → Ends b x config turns old new first last before after ended
+      → Ends b x config turns None None old new first last before after ended
       → EndsAfresh b y config turns old new back before after ended
   ends_so before after (how.Told served why) fresh faultless (ran, printed) = record {
     first = given;

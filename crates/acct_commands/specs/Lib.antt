@@ -1,9 +1,14 @@
+pub mod BookClock
 pub mod Checks
 pub mod Counts
 pub mod Drops
 pub mod Endings
 pub mod Exports
+pub mod Figures
+pub mod Fresh
 pub mod Imports
 pub mod Serving
+pub mod SiteFile
+pub mod Tally
 pub mod Told
 pub mod inner

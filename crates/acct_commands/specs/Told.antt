@@ -7,7 +7,7 @@ use Rattle.acct_wire.specs.Reasons.{reason_number, reason_name}
 use Rattle.acct_wire.specs.declared.reason.Reason.{Reason}
 use Rattle.acct_commands.specs.Drops.{Log, KeepsBack, TellsDrop}
 use Rattle.acct_commands.specs.declared.told.ToldDrop.{ToldDrop}
-use Rattle.acct_commands.specs.declared.told.Minute.{Minute}
+use Rattle.acct_commands.specs.declared.tally.Tally.{Tally}
 
 -- `, N more`, where there are some
 abbrev pub more_text : ℕ → List ℕ
@@ -21,11 +21,11 @@ told_drop_text drop =
     ++ more_text drop.more
 
 -- `minute: events E, replies R, drops D, mute M, faults F`
-abbrev pub minute_text : Minute → List ℕ
-minute_text minute =
-    codes "minute: events " ++ decimal minute.events ++ codes ", replies "
-    ++ decimal minute.replies ++ codes ", drops " ++ decimal minute.drops ++ codes ", mute "
-    ++ decimal minute.mute ++ codes ", faults " ++ decimal minute.faults
+abbrev pub minute_text : Tally → List ℕ
+minute_text tally =
+    codes "minute: events " ++ decimal tally.events ++ codes ", replies "
+    ++ decimal tally.replies ++ codes ", drops " ++ decimal tally.drops ++ codes ", mute "
+    ++ decimal tally.mute ++ codes ", faults " ++ decimal tally.faults
 
 -- A drop at a moment was written, and nothing else, where it is to be told; else nothing was.
 abbrev pub WritesDrop : Log → Log → List ℕ → ℕ → Reason → ℕ → Option (List ℕ) → Option (List ℕ)

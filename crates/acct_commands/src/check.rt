@@ -51,12 +51,26 @@ pub fn check_from<R: Read, W: Write>(
     ensures refused { IfErr result (IsUnchecked (R.remaining reader.old)) }
 {
     let config = config_from(alloc, reader)?;
-    write_sizes(output, &config)?;
+    write_sizes(output, &config)
+}
+
+/// Says how many clients, plans and keys a configuration has.
+///
+/// # Errors
+///
+/// `CannotWrite`.
+pub fn write_sizes<W: Write>(output: &mut W, config: &Config) -> Result<Status, Fault>
+    ensures done { IfOk result (λ status. status ≡ Status.Done) }
+    ensures sizes { OnOk result (Appends (W.contents output.old) (W.contents output.new)
+        (sizes_line config.now)) }
+    ensures why { IfErr result (λ told. told ≡ Fault.CannotWrite) }
+{
+    write_line(output, config)?;
     output.flush()?;
     Ok(Status::Done)
 }
 
-fn write_sizes<W: Write>(output: &mut W, config: &Config) -> io::Result<()>
+fn write_line<W: Write>(output: &mut W, config: &Config) -> io::Result<()>
     ensures { OnOk result (Appends (W.contents output.old) (W.contents output.new)
         (sizes_line config.now)) }
 {

@@ -1,6 +1,8 @@
 //! The commands of the program over any book: what each does, prints and ends with.
 #![tactic(auto)]
 
+mod balances_file;
+mod book_clock;
 mod check;
 mod config_file;
 mod counts;
@@ -8,18 +10,32 @@ mod drop_log;
 mod ended;
 mod exporting;
 mod fault;
+mod figures;
+mod fresh_file;
 mod importing;
+mod rounds;
 mod serving;
+mod shared;
+mod site_file;
+mod status_file;
+mod tally;
 mod told;
 mod watching;
 
-pub use check::{check_from, run_check};
+pub use balances_file::KeptBalances;
+pub use book_clock::note_clock;
+pub use check::{check_from, run_check, write_sizes};
 pub use config_file::{config_from, read_config};
 pub use drop_log::{DropLog, Pair};
 pub use ended::Ended;
 pub use exporting::run_export;
 pub use fault::{Fault, StoreFault, end};
+pub use figures::{Figures, write_figures};
 pub use importing::run_import;
-pub use serving::{run_serve, serve_exchange, serve_sockets};
+pub use rounds::FileRounds;
+pub use serving::{Errors, run_serve, serve_exchange};
+pub use site_file::SiteFile;
+pub use status_file::StatusFile;
+pub use tally::Tally;
 pub use told::{Minute, ToldDrop};
 pub use watching::{Watch, Watched};

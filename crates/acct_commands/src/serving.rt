@@ -5,51 +5,69 @@ ghost use Rattle.std.specs.Io.KnownBytes.{Appends};
 ghost use Rattle.acct_commands.specs.Serving.{Ends, EndsAfresh, RunsServer, IsUnbound};
 ghost use Rattle.acct_commands.specs.Serving.{ended_of, drops_line, drops_lines, served_text};
 
+use crate::balances_file::KeptBalances;
 use crate::counts::{Counts, Drops};
 use crate::ended::Ended;
 use crate::fault::{Fault, StoreFault};
+use crate::rounds::FileRounds;
+use crate::shared::Shared;
+use crate::site_file::SiteFile;
+use crate::status_file::StatusFile;
 use crate::watching::{Watch, Watched};
 use acct_book::Book;
-use acct_command_line::Listening;
+use acct_command_line::{Listening, Serving, Telling};
 use acct_feed::Status;
-use acct_model::address_of;
-use acct_service::{Exchange, Served, Until, serve_while_open};
+use acct_model::{Text, address_of};
+use acct_service::{Exchange, Rounds, Served, Until, serve_in_slices};
 use acct_site::Config;
-use acct_sockets::Sockets;
-use std::alloc::Global;
+use acct_sockets::{Sockets, moment_of};
+use std::alloc::{AllocError, Global};
+use std::cell::RefCell;
+use std::fs::Files;
 use std::io;
 use std::io::{ErrorKind, Write};
 use std::net::Net;
 use std::time::Clock;
 
-/// Serves a configuration over a book for this many turns, at an address and two ports. It says so
-/// once both sockets are bound, and what came at the end: `serve_exchange` over sockets. While it
-/// runs it tells on `errors`, if it has that, what it drops and how much comes: `Watched`.
+/// Where a server tells what the caller of the program should see.
+#[derive(Drop)]
+pub struct Errors<E: Drop> {
+    /// The drops and the counts of each minute, if these are told.
+    pub drops: Option<E>,
+    /// What became of its files.
+    pub site: E,
+}
+
+/// Serves a configuration over a book for so many turns, at the addresses and the ports that
+/// `serving` has. It says so once all sockets are bound, and what came at the end: `serve_exchange`
+/// over sockets.
+///
+/// While it runs it tells on `errors`, if it may, what it drops and how much comes: `Watched`. It
+/// keeps the files up that `serving` names, and reads the configuration's file again where that
+/// changed, for the turns that follow: `FileRounds`.
 ///
 /// # Errors
 ///
-/// `CannotBind`, and `NoMemory` where there is no room for datagrams; the book and the output are
-/// then as they were. `Store(Unavailable)` where the book was found shut, which ends the turns:
-/// whoever started the program is to start it again. `CannotWrite` where the output failed: before
-/// the first turn, or after the last one.
-pub fn run_serve<'r, R: Net + Clock, B: Book, W: Write, E: Write + Drop>(
+/// `CannotBind`, and `NoMemory` where there is no room for datagrams or names; the book and the
+/// output are then as they were. `Store(Unavailable)` where the book was found shut, which ends the
+/// turns: whoever started the program is to start it again. `CannotWrite` where the output failed:
+/// before the first turn, or after the last one.
+pub fn run_serve<'r, R: Net + Clock + Files, B: Book, W: Write, E: Write + Drop>(
     runtime: &'r R,
     alloc: Global,
     config: &Config,
+    file: &Text,
     book: &mut B,
-    listening: &Listening,
-    turns: u64,
+    serving: &Serving,
     output: &mut W,
-    errors: Option<E>,
+    errors: Errors<E>,
 ) -> Result<Status, Fault>
-    requires { turns < 2 ^ 63 }
+    requires { serving.now.turns < 2 ^ 63 }
     ensures done { IfOk result (λ status. status ≡ Status.Done) }
-    ensures serves { RunsServer B.Book ⟦<Sockets<'r, R> as Exchange>⟧ config.now turns
+    ensures serves { RunsServer B.Book ⟦<Sockets<'r, R> as Exchange>⟧ config.now serving.now.turns
         (W.contents output.old) (W.contents output.new) result book.old book.new }
 {
-    let served = serve_sockets(
-        runtime, alloc, config, book, listening, turns, output, errors,
-    );
+    let served = serve_sockets(runtime, alloc, config, file, book, serving, output, errors);
     match served {
         Ok((_sockets, ended)) => status_of(ended),
         Err(fault) => Err(fault),
@@ -70,71 +88,118 @@ fn status_of(ended: Ended) -> Result<Status, Fault>
     }
 }
 
-/// Binds both sockets at an address and two ports, and is then `serve_exchange` over them, watched
-/// where there are `errors`. They are handed back as the last turn left them.
-///
-/// # Errors
-///
-/// `CannotBind`, and `NoMemory` where there is no room for datagrams. The book and the output are
-/// then as they were.
-pub fn serve_sockets<'r, R: Net + Clock, B: Book, W: Write, E: Write + Drop>(
+// Binds all sockets, and is then `serve_exchange` over them, watched. They are handed back as the
+// last turn left them.
+fn serve_sockets<'r, R: Net + Clock + Files, B: Book, W: Write, E: Write + Drop>(
     runtime: &'r R,
     alloc: Global,
     config: &Config,
+    file: &Text,
     book: &mut B,
-    listening: &Listening,
-    turns: u64,
+    serving: &Serving,
     output: &mut W,
-    errors: Option<E>,
+    errors: Errors<E>,
 ) -> Result<(Sockets<'r, R>, Ended), Fault>
-    requires { turns < 2 ^ 63 }
+    requires { serving.now.turns < 2 ^ 63 }
     ensures serves { IfOk result (λ done. EndsAfresh B.Book ⟦<Sockets<'r, R> as Exchange>⟧
-        config.now turns book.old book.new done.0 (W.contents output.old) (W.contents output.new)
-        done.1) }
+        config.now serving.now.turns book.old book.new done.0 (W.contents output.old)
+        (W.contents output.new) done.1) }
     ensures unbound { OnErr result ((book.new ≡ book.old) × (output.new ≡ output.old)) }
     ensures why { IfErr result IsUnbound }
 {
-    let sockets = bound(runtime, alloc, listening)?;
-    let watch = match errors {
-        Some(writer) => Some(Watch::new(runtime, writer)),
-        None => None,
-    };
-    let mut watched = Watched::new(sockets, watch);
-    let ended = serve_exchange(alloc, config, book, &mut watched, turns, output);
-    let (sockets, _errors) = watched.finish();
+    let Errors { drops, site } = errors;
+    let site = RefCell::new(site);
+    let mut rounds = rounds_of(runtime, alloc, file, &serving.telling, Shared::new(&site))?;
+    let status = status_file(runtime, alloc, &serving.telling, Shared::new(&site))?;
+    let sockets = bound(runtime, alloc, &serving.listening)?;
+    let mut watched = Watched::new(runtime, sockets, watch_on(drops), status);
+    let turns = serving.turns;
+    let ended = serve_exchange(
+        alloc,
+        config,
+        book,
+        &mut watched,
+        &mut rounds,
+        turns,
+        output,
+    );
+    let (sockets, _drops) = watched.finish();
     Ok((sockets, ended))
 }
 
-/// Makes this many turns of an exchange over a book, fewer only where the book is found shut, and
-/// says how far it came. `serving` is printed and flushed before the first turn, and what was
-/// counted after the last one, flushed too.
+// What tells on a writer what is dropped and how much comes, if that is told.
+fn watch_on<E: Write + Drop>(drops: Option<E>) -> Option<Watch<E>> {
+    match drops {
+        Some(writer) => Some(Watch::new(writer)),
+        None => None,
+    }
+}
+
+// The file of the counts, if one is named, of a server that starts now.
+fn status_file<'r, R: Clock + Files, E: Write + Drop>(
+    runtime: &'r R,
+    alloc: Global,
+    telling: &Telling,
+    errors: E,
+) -> Result<Option<StatusFile<'r, R, E>>, AllocError> {
+    match &telling.status {
+        Some(name) => {
+            let started_at = moment_of(runtime);
+            let status = StatusFile::new(runtime, alloc, name, started_at, errors)?;
+            Ok(Some(status))
+        }
+        None => Ok(None),
+    }
+}
+
+// What is done between the slices of turns.
+fn rounds_of<'r, R: Clock + Files, E: Write + Drop>(
+    runtime: &'r R,
+    alloc: Global,
+    file: &Text,
+    telling: &Telling,
+    errors: E,
+) -> Result<FileRounds<'r, R, E>, AllocError> {
+    let site = SiteFile::new(runtime, alloc, file)?;
+    let balances = match &telling.balances {
+        Some(balances) => Some(KeptBalances::new(runtime, alloc, balances)?),
+        None => None,
+    };
+    Ok(FileRounds::new(runtime, site, balances, errors))
+}
+
+/// Makes this many turns of an exchange over a book in slices, between which `rounds` looks round;
+/// fewer only where the book is found shut. It says how far it came. `serving` is printed and
+/// flushed before the first turn, and what was counted after the last one, flushed too.
 ///
-/// What comes in the turns is answered whatever the output does then: a run of `serve`, which says
-/// what that is.
-pub fn serve_exchange<B: Book, X: Exchange, W: Write>(
+/// What comes in the turns is answered whatever the output does then: a run of `serve_in_slices`,
+/// which says what that is.
+pub fn serve_exchange<B: Book, X: Exchange, G: Rounds, W: Write>(
     alloc: Global,
     config: &Config,
     book: &mut B,
     exchange: &mut X,
+    rounds: &mut G,
     turns: u64,
     output: &mut W,
 ) -> Ended
     requires turns { X.turn_count exchange.old + turns ≤ 2 ^ 64 - 1 }
     requires failures { X.failure_count exchange.old + turns ≤ 2 ^ 64 - 1 }
-    ensures { Ends B.Book X.Exchange config.now turns book.old book.new exchange.old exchange.new
-        (W.contents output.old) (W.contents output.new) result }
+    ensures { Ends B.Book X.Exchange config.now turns (G.given rounds.old) (G.given rounds.new)
+        book.old book.new exchange.old exchange.new (W.contents output.old) (W.contents output.new)
+        result }
 {
     let Ok(()) = write_serving(output) else {
         return Ended::NotBegun;
     };
-    let (served, until) = serve_while_open(alloc, config, book, exchange, turns);
+    let (served, until) = serve_in_slices(alloc, config, book, exchange, rounds, turns);
     match write_counts(output, &served) {
         Ok(()) => Ended::Told(served, until),
         Err(_) => Ended::Untold(served, until),
     }
 }
 
-// The sockets at the address and the ports that were asked for.
+// The sockets at the addresses and the ports that were asked for.
 fn bound<'r, R: Net + Clock>(
     runtime: &'r R,
     alloc: Global,
@@ -143,15 +208,32 @@ fn bound<'r, R: Net + Clock>(
     ensures fresh { IfOk result (λ s. (s.turns ≡ 0) × (s.failures ≡ 0)) }
     ensures why { IfErr result IsUnbound }
 {
-    let Some(address) = address_of(listening.address.as_str()) else {
+    let addresses = addresses_of(alloc, &listening.addresses)?;
+    let Some(desk) = address_of(listening.desk_address.as_str()) else {
         return Err(Fault::CannotBind);
     };
-    let (radius, desk) = (listening.radius_port, listening.desk_port);
-    match Sockets::bind(runtime, alloc, address, radius, desk) {
+    let (radius_port, desk_port) = (listening.radius_port, listening.desk_port);
+    match Sockets::bind(runtime, alloc, &addresses, desk, radius_port, desk_port) {
         Ok(sockets) => Ok(sockets),
         Err(error) if error.kind() == ErrorKind::OutOfMemory => Err(Fault::NoMemory),
         Err(_) => Err(Fault::CannotBind),
     }
+}
+
+// The addresses that these texts spell.
+fn addresses_of(alloc: Global, texts: &[Text]) -> Result<Vec<[u8; 4]>, Fault>
+    ensures why { IfErr result IsUnbound }
+{
+    let mut addresses = Vec::new(alloc);
+    for text in texts {
+        let Some(address) = address_of(text.as_str()) else {
+            return Err(Fault::CannotBind);
+        };
+        if addresses.push(address).is_err() {
+            return Err(Fault::NoMemory);
+        }
+    }
+    Ok(addresses)
 }
 
 // Says that what comes will be answered from now on.

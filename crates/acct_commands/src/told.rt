@@ -2,6 +2,7 @@
 ghost use Rattle.std.specs.Prelude.{Some};
 ghost use Rattle.acct_commands.specs.Told.{told_drop_text, more_text, minute_text};
 
+use crate::tally::Tally;
 use acct_wire::Reason;
 use std::fmt;
 use std::net::Ipv4Addr;
@@ -48,27 +49,20 @@ impl fmt::Display for More {
     }
 }
 
-/// What came to a server in a minute, counted.
-#[derive(Clone, Copy, PartialEq, Eq)]
+/// What came to a server in a minute.
+#[derive(Clone, Copy)]
 pub struct Minute {
-    /// Datagrams and requests that came.
-    pub events: u64,
-    /// Replies and responses that were taken.
-    pub replies: u64,
-    /// Datagrams that were dropped.
-    pub drops: u64,
-    /// Requests that got no response for want of memory.
-    pub mute: u64,
-    /// Turns and replies that failed.
-    pub faults: u64,
+    /// What came.
+    pub tally: Tally,
 }
 
 impl fmt::Display for Minute {
-    ghost output = { λ minute. Some (minute_text minute) };
+    ghost output = { λ minute. Some (minute_text minute.tally) };
 
     fn fmt<W: fmt::Write>(&self, f: &mut fmt::Formatter<W>) -> fmt::Result {
-        let (events, replies, drops) = (self.events, self.replies, self.drops);
-        let (mute, faults) = (self.mute, self.faults);
+        let tally = self.tally;
+        let (events, replies, drops) = (tally.events, tally.replies, tally.drops);
+        let (mute, faults) = (tally.mute, tally.faults);
         write!(f, "minute: events {events}, replies {replies}")?;
         write!(f, ", drops {drops}, mute {mute}, faults {faults}")
     }

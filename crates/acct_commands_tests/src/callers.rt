@@ -7,10 +7,12 @@ use std::net::{Shutdown, TcpStream, UdpSocket};
 use std::test::Fail;
 use std::time::{Duration, Instant};
 
+const LOOPBACK: [u8; 4] = [127, 0, 0, 1];
+
 const REQUEST: &[u8] = b"GET /me/balance HTTP/1.1\r\nDesk-Key: al-key-0000000001\r\n\r\n";
 
 fn bound<'r>(rt: &'r HostRuntime) -> Result<Sockets<'r, HostRuntime>, Fail> {
-    match Sockets::bind(rt, rt.alloc(), [127, 0, 0, 1], 0, 0) {
+    match Sockets::bind(rt, rt.alloc(), &[LOOPBACK], LOOPBACK, 0, 0) {
         Ok(sockets) => Ok(sockets),
         Err(_) => Err("no sockets".into()),
     }
@@ -37,16 +39,20 @@ fn turn(sockets: &mut Sockets<'_, HostRuntime>) -> Result<Option<Event>, Fault> 
     sockets.next()
 }
 
-// Sends a reply, unless there were as many failures as can be counted.
-fn reply(sockets: &mut Sockets<'_, HostRuntime>, event: &Event, bytes: &[u8]) -> Result<(), Fault> {
+/// Sends a reply, unless there were as many failures as can be counted.
+pub fn reply(
+    sockets: &mut Sockets<'_, HostRuntime>,
+    event: &Event,
+    bytes: &[u8],
+) -> Result<(), Fault> {
     if sockets.failures() == u64::MAX {
         return Err(Fault);
     }
     sockets.reply(event, bytes)
 }
 
-// What comes in at most so many turns.
-fn next(sockets: &mut Sockets<'_, HostRuntime>, turns: u32) -> Result<Option<Event>, Fault> {
+/// What comes in at most so many turns.
+pub fn next(sockets: &mut Sockets<'_, HostRuntime>, turns: u32) -> Result<Option<Event>, Fault> {
     for _ in 0..turns {
         if let Some(event) = turn(sockets)? {
             return Ok(Some(event));
@@ -55,8 +61,13 @@ fn next(sockets: &mut Sockets<'_, HostRuntime>, turns: u32) -> Result<Option<Eve
     Ok(None)
 }
 
-// Answers what comes in at most so many turns by its own octets, and says whether these are wanted.
-fn echoes(sockets: &mut Sockets<'_, HostRuntime>, turns: u32, wanted: &[u8]) -> Result<bool, Fail> {
+/// Answers what comes in at most so many turns by its own octets, and says whether these are the
+/// wanted ones.
+pub fn echoes(
+    sockets: &mut Sockets<'_, HostRuntime>,
+    turns: u32,
+    wanted: &[u8],
+) -> Result<bool, Fail> {
     let Ok(Some(event)) = next(sockets, turns) else {
         return Ok(false);
     };
@@ -67,8 +78,8 @@ fn echoes(sockets: &mut Sockets<'_, HostRuntime>, turns: u32, wanted: &[u8]) -> 
     Ok(reply(sockets, &event, bytes.as_slice()).is_ok() && is_wanted)
 }
 
-// Whether a caller gets just these octets, and then the end.
-fn gets<R: Read>(alloc: Global, stream: &mut R, wanted: &[u8]) -> Result<bool, Fail> {
+/// Whether a caller gets just these octets, and then the end.
+pub fn gets<R: Read>(alloc: Global, stream: &mut R, wanted: &[u8]) -> Result<bool, Fail> {
     let mut response = Vec::new(alloc);
     stream.read_to_end(&mut response)?;
     Ok(response.as_slice() == wanted)

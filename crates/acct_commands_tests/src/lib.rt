@@ -2,13 +2,23 @@
 #![tactic(auto)]
 
 #[cfg(test)]
+mod addresses;
+#[cfg(test)]
+mod balances;
+#[cfg(test)]
 mod callers;
 #[cfg(test)]
 mod checking;
 #[cfg(test)]
 mod loopback;
 #[cfg(test)]
+mod rounds;
+#[cfg(test)]
 mod serving;
+#[cfg(test)]
+mod site;
+#[cfg(test)]
+mod status;
 #[cfg(test)]
 mod watching;
 #[cfg(test)]

@@ -77,7 +77,8 @@ const RESPONSE: &[u8] = b"HTTP/1.1 200 OK\r\nContent-Type: application/json\r\n\
 fn serves_both(rt: &HostRuntime) -> Result<bool, Fail> {
     let config = loopback_site(rt.alloc())?;
     let mut book = MemBook::new(rt.alloc());
-    let Ok(mut sockets) = Sockets::bind(rt, rt.alloc(), [127, 0, 0, 1], 0, 0) else {
+    let here = [127, 0, 0, 1];
+    let Ok(mut sockets) = Sockets::bind(rt, rt.alloc(), &[here], here, 0, 0) else {
         return Err("no sockets".into());
     };
     let (radius, desk) = sockets.ports()?;

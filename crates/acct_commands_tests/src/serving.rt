@@ -5,7 +5,7 @@ use acct_commands::{Ended, serve_exchange};
 use acct_model::Octets;
 use acct_samples::sample_config;
 use acct_service::lists::{ListExchange, Planned};
-use acct_service::{Event, Exchange, Served, Until, What};
+use acct_service::{Event, Exchange, NoRounds, Served, Until, What};
 use std::alloc::Global;
 use std::io;
 use std::io::{ErrorKind, Write};
@@ -37,7 +37,16 @@ fn ended<W: Write>(alloc: Global, output: &mut W) -> Result<(Ended, u64), Fail> 
     let config = sample_config(alloc)?;
     let mut book = MemBook::new(alloc);
     let mut exchange = ListExchange::new(alloc, turns(alloc)?);
-    let ended = serve_exchange(alloc, &config, &mut book, &mut exchange, 3, output);
+    let mut rounds = NoRounds;
+    let ended = serve_exchange(
+        alloc,
+        &config,
+        &mut book,
+        &mut exchange,
+        &mut rounds,
+        3,
+        output,
+    );
     Ok((ended, exchange.turns()))
 }
 
@@ -129,7 +138,15 @@ fn shuts(alloc: Global, writes: u64) -> Result<(Ended, u64, Vec<u8>), Fail> {
     let mut book = ShutBook::new(alloc, writes);
     let mut exchange = ListExchange::new(alloc, starts(alloc)?);
     let mut output = Vec::new(alloc);
-    let ended = serve_exchange(alloc, &config, &mut book, &mut exchange, 1000, &mut output);
+    let ended = serve_exchange(
+        alloc,
+        &config,
+        &mut book,
+        &mut exchange,
+        &mut NoRounds,
+        1000,
+        &mut output,
+    );
     Ok((ended, exchange.turns(), output))
 }
 

@@ -2,7 +2,7 @@
 ghost use Rattle.std.specs.Prelude.{◌<◌, ◌^◌};
 
 use acct_book::MemBook;
-use acct_commands::{DropLog, Watch, Watched};
+use acct_commands::{DropLog, StatusFile, Watch, Watched};
 use acct_model::Octets;
 use acct_samples::sample_config;
 use acct_service::lists::{ListExchange, Planned};
@@ -88,16 +88,21 @@ const TOLD: &str = "drop 1 UnknownClient from 10.0.0.9:1813\n\
     minute: events 2, replies 1, drops 0, mute 0, faults 1\n\
     minute: events 0, replies 0, drops 0, mute 0, faults 1\n";
 
+// No file of its counts, which would have had such a writer.
+fn no_status<'r>(_rt: &'r HostRuntime) -> Option<StatusFile<'r, HostRuntime, Vec<u8>>> {
+    None
+}
+
 // What a server of the flood counts, how many calls its exchange had, and what it told here.
-fn watched<'r, W: Write + Drop>(
-    rt: &'r HostRuntime,
-    watch: Option<Watch<'r, HostRuntime, W>>,
+fn watched<W: Write + Drop>(
+    rt: &HostRuntime,
+    watch: Option<Watch<W>>,
 ) -> Result<(Served, usize, Option<W>), Fail> {
     let alloc = rt.alloc();
     let config = sample_config(alloc)?;
     let mut book = MemBook::new(alloc);
     let exchange = ListExchange::new(alloc, flood(alloc)?);
-    let mut watched = Watched::new(exchange, watch);
+    let mut watched = Watched::new(rt, exchange, watch, no_status(rt));
     let served = serve(alloc, &config, &mut book, &mut watched, TURNS);
     let (exchange, writer) = watched.finish();
     Ok((served, exchange.calls().len(), writer))
@@ -116,7 +121,7 @@ fn counted() -> Served {
 
 #[test]
 fn tells_drops_and_minutes(rt: HostRuntime) -> Result<(), Fail> {
-    let watch = Watch::new(&rt, Vec::new(rt.alloc()));
+    let watch = Watch::new(Vec::new(rt.alloc()));
     let (served, calls, told) = watched(&rt, Some(watch))?;
     assert_eq!(rt; served, counted());
     assert!(rt; calls == 92);
@@ -142,16 +147,16 @@ impl Write for Full {
 }
 
 // No watch, which would have had such a writer.
-fn no_watch<'r>(_rt: &'r HostRuntime) -> Option<Watch<'r, HostRuntime, Full>> {
+fn no_watch() -> Option<Watch<Full>> {
     None
 }
 
 // Who can't be told anything is served as well, and who is to be told nothing.
 #[test]
 fn serves_whoever_watches(rt: HostRuntime) -> Result<(), Fail> {
-    let (served, calls, _) = watched(&rt, Some(Watch::new(&rt, Full)))?;
+    let (served, calls, _) = watched(&rt, Some(Watch::new(Full)))?;
     assert_eq!(rt; (served, calls), (counted(), 92));
-    let (served, calls, told) = watched(&rt, no_watch(&rt))?;
+    let (served, calls, told) = watched(&rt, no_watch())?;
     assert_eq!(rt; (served, calls), (counted(), 92));
     assert!(rt; told.is_none());
     Ok(())
@@ -162,7 +167,8 @@ fn serves_whoever_watches(rt: HostRuntime) -> Result<(), Fail> {
 fn counts_as_the_watched_one(rt: HostRuntime) -> Result<(), Fail> {
     let alloc = rt.alloc();
     let exchange = ListExchange::new(alloc, flood(alloc)?);
-    let mut watched = Watched::new(exchange, Some(Watch::new(&rt, Vec::new(alloc))));
+    let watch = Watch::new(Vec::new(alloc));
+    let mut watched = Watched::new(&rt, exchange, Some(watch), no_status(&rt));
     let Ok(Some(event)) = watched.next() else {
         return Err("no event".into());
     };

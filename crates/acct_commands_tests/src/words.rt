@@ -1,7 +1,8 @@
 //! Words of the command line, and where their texts go.
-use acct_command_line::{Job, job_of, tell};
+use acct_command_line::{Job, Listening, Order, Paths, Serving, Telling, job_of, tell};
 use acct_feed::Status;
 use acct_feed::Status::{Done, WrongWords};
+use acct_model::Text;
 use std::alloc::{AllocError, Global};
 use std::cell::Cell;
 use std::fmt::Display;
@@ -56,41 +57,220 @@ const WORDS: [(&[&str], Status, (u32, u32)); 9] = [
 
 #[test]
 fn reads_command_lines(rt: HostRuntime) -> Result<(), Fail> {
-    assert!(rt; names_feed(rt.alloc())?);
     for (words, status, texts) in WORDS {
         assert_eq!(rt; told(rt.alloc(), words)?, Some((status, texts)));
     }
     Ok(())
 }
 
-// Whether words are of a server that is quiet, if they are of one.
-fn is_quiet(alloc: Global, words: &[&str]) -> Result<Option<bool>, AllocError> {
-    match job_of(alloc, words_of(alloc, words)?) {
-        Ok(Job::Serve { is_quiet, .. }) => Ok(Some(is_quiet)),
-        _ => Ok(None),
-    }
-}
+// Words after the program's name, and what they ask for: the job, its files, and of a server its
+// addresses, the desk's, both ports, turns, syncs, what it tells, and the two files; a plus where
+// more is told of a fault. None where they name no job.
+const ORDERS: [(&str, Option<&str>); 43] = [
+    ("feed", Some("feed none")),
+    ("feed --config a", Some("feed a")),
+    ("feed --explain", Some("feed none +")),
+    ("check", None),
+    ("check --config a", Some("check a none")),
+    ("check --db b --config a", Some("check a b")),
+    ("check --config a --explain", Some("check a none +")),
+    ("init --config a --db b", Some("init a b")),
+    ("init --config a --db b --explain", Some("init a b +")),
+    ("init --config a", None),
+    ("import --config a --db b", Some("import a b")),
+    ("import --explain --config a --db b", Some("import a b +")),
+    ("import --config a --db b --quiet", None),
+    ("export --config a --db b topups", Some("export a b TopUps")),
+    (
+        "export --config a --db b --explain balances",
+        Some("export a b Balances +"),
+    ),
+    ("export --config a --db b vouchers", None),
+    ("migrate --config a --db b", Some("migrate a b")),
+    ("migrate --config a --db b --explain", Some("migrate a b +")),
+    ("migrate --config a --db b --sync once", None),
+    ("plans --config a --db b", Some("plans a b")),
+    ("plans --config a --db b --explain", Some("plans a b +")),
+    (
+        "serve --config a --db b",
+        Some(
+            "serve a b at 127.0.0.1 desk 127.0.0.1 1813 8066 9223372036854775807 Twice loud none \
+             none",
+        ),
+    ),
+    (
+        "serve --config a --db b --explain --quiet",
+        Some(
+            "serve a b at 127.0.0.1 desk 127.0.0.1 1813 8066 9223372036854775807 Twice quiet none \
+             none +",
+        ),
+    ),
+    (
+        "serve --config a --db b --bind 10.0.0.5 --turns 7",
+        Some("serve a b at 10.0.0.5 desk 10.0.0.5 1813 8066 7 Twice loud none none"),
+    ),
+    (
+        "serve --config a --db b --turns 7 --desk-bind 10.0.0.6",
+        Some("serve a b at 127.0.0.1 desk 10.0.0.6 1813 8066 7 Twice loud none none"),
+    ),
+    (
+        "serve --config a --db b --bind 10.0.0.5 --turns 7 --bind 10.0.1.5",
+        Some("serve a b at 10.0.0.5 10.0.1.5 desk 10.0.0.5 1813 8066 7 Twice loud none none"),
+    ),
+    (
+        "serve --config a --db b --bind 1 --desk-bind 9 --bind 2 --radius-port 3 --desk-port 4 \
+         --turns 5 --quiet --sync once --status c --balances d --balances-every 6",
+        Some("serve a b at 1 2 desk 9 3 4 5 Once quiet c d/6"),
+    ),
+    (
+        "serve --config a --db b --turns 7 --sync twice",
+        Some("serve a b at 127.0.0.1 desk 127.0.0.1 1813 8066 7 Twice loud none none"),
+    ),
+    ("serve --config a --db b --turns 7 --sync thrice", None),
+    (
+        "serve --config a --db b --turns 7 --sync once --sync once",
+        None,
+    ),
+    (
+        "serve --config a --db b --turns 7 --status c",
+        Some("serve a b at 127.0.0.1 desk 127.0.0.1 1813 8066 7 Twice loud c none"),
+    ),
+    (
+        "serve --config a --db b --turns 7 --balances d",
+        Some("serve a b at 127.0.0.1 desk 127.0.0.1 1813 8066 7 Twice loud none d/60"),
+    ),
+    (
+        "serve --config a --db b --turns 7 --balances d --balances-every 1",
+        Some("serve a b at 127.0.0.1 desk 127.0.0.1 1813 8066 7 Twice loud none d/1"),
+    ),
+    (
+        "serve --config a --db b --turns 7 --balances-every 86400 --balances d",
+        Some("serve a b at 127.0.0.1 desk 127.0.0.1 1813 8066 7 Twice loud none d/86400"),
+    ),
+    (
+        "serve --config a --db b --turns 7 --balances-every 86400",
+        Some("serve a b at 127.0.0.1 desk 127.0.0.1 1813 8066 7 Twice loud none none"),
+    ),
+    (
+        "serve --config a --db b --turns 7 --balances d --balances-every 0",
+        None,
+    ),
+    (
+        "serve --config a --db b --turns 7 --balances d --balances-every 86401",
+        None,
+    ),
+    ("serve --config a --db b --turns 0", None),
+    ("serve --config a --db b --turns 7 --quiet --quiet", None),
+    (
+        "serve --config a --db b --turns 7 --desk-bind 1 --desk-bind 2",
+        None,
+    ),
+    ("serve --config a --db b --turns 7 --radius-port 0", None),
+    (
+        "serve --config a --db b --turns 7 --bind 1 --bind 2 --bind 3 --bind 4 --bind 5 --bind 6 \
+         --bind 7 --bind 8 --bind 9 --bind 10 --bind 11 --bind 12 --bind 13 --bind 14 --bind 15 \
+         --bind 16",
+        Some(
+            "serve a b at 1 2 3 4 5 6 7 8 9 10 11 12 13 14 15 16 desk 1 1813 8066 7 Twice loud \
+             none none",
+        ),
+    ),
+    (
+        "serve --config a --db b --turns 7 --bind 1 --bind 2 --bind 3 --bind 4 --bind 5 --bind 6 \
+         --bind 7 --bind 8 --bind 9 --bind 10 --bind 11 --bind 12 --bind 13 --bind 14 --bind 15 \
+         --bind 16 --bind 17",
+        None,
+    ),
+];
 
 #[test]
-fn is_quiet_where_it_is_told(rt: HostRuntime) -> Result<(), Fail> {
-    let loud = ["radacctd", "serve", "--config", "a", "--db", "b"];
-    let quiet = ["radacctd", "serve", "--quiet", "--config", "a", "--db", "b"];
-    let twice = [
-        "radacctd", "serve", "--config", "a", "--db", "b", "--quiet", "--quiet",
-    ];
-    let import = [
-        "radacctd", "import", "--config", "a", "--db", "b", "--quiet",
-    ];
-    assert!(rt; is_quiet(rt.alloc(), &loud)? == Some(false));
-    assert!(rt; is_quiet(rt.alloc(), &quiet)? == Some(true));
-    assert!(rt; is_quiet(rt.alloc(), &twice)?.is_none());
-    assert!(rt; is_quiet(rt.alloc(), &import)?.is_none());
+fn asks_for_what_the_words_say(rt: HostRuntime) -> Result<(), Fail> {
+    for (words, wanted) in ORDERS {
+        if !asks_for(rt.alloc(), words, wanted)? {
+            return Err(words.into());
+        }
+    }
     Ok(())
 }
 
-fn names_feed(alloc: Global) -> Result<bool, AllocError> {
-    let words = words_of(alloc, &["radacctd", "feed"])?;
-    Ok(matches!(&job_of(alloc, words), Ok(Job::Feed { config: None })))
+// Whether words ask for this.
+fn asks_for(alloc: Global, words: &str, wanted: Option<&str>) -> Result<bool, Fail> {
+    let mut list = words_of(alloc, &["radacctd"])?;
+    for word in words.split_ascii_whitespace() {
+        list.push(String::from_str(alloc, word)?)?;
+    }
+    match job_of(alloc, list) {
+        Ok(order) => Ok(Some(shown(alloc, &order)?.as_str()) == wanted),
+        Err(_) => Ok(wanted.is_none()),
+    }
+}
+
+// An order in words of these tests.
+fn shown(alloc: Global, order: &Order) -> Result<String, Fail> {
+    let mark = if order.explains { " +" } else { "" };
+    let job = shown_job(alloc, &order.job)?;
+    Ok(format!(in alloc; "{job}{mark}")?)
+}
+
+fn shown_job(alloc: Global, job: &Job) -> Result<String, Fail> {
+    match job {
+        Job::Feed { config } => Ok(format!(in alloc; "feed {}", name_of(config))?),
+        Job::Check { config, database } => {
+            Ok(format!(in alloc; "check {} {}", config.as_str(), name_of(database))?)
+        }
+        Job::Init { paths } => shown_paths(alloc, "init", paths),
+        Job::Serve { paths, serving } => shown_serving(alloc, paths, serving),
+        Job::Import { paths } => shown_paths(alloc, "import", paths),
+        Job::Export { paths, what } => {
+            let paths = shown_paths(alloc, "export", paths)?;
+            Ok(format!(in alloc; "{paths} {what:?}")?)
+        }
+        Job::Migrate { paths } => shown_paths(alloc, "migrate", paths),
+        Job::AddPlans { paths } => shown_paths(alloc, "plans", paths),
+    }
+}
+
+fn shown_paths(alloc: Global, command: &str, paths: &Paths) -> Result<String, Fail> {
+    let (config, database) = (paths.config.as_str(), paths.database.as_str());
+    Ok(format!(in alloc; "{command} {config} {database}")?)
+}
+
+fn shown_serving(alloc: Global, paths: &Paths, serving: &Serving) -> Result<String, Fail> {
+    let paths = shown_paths(alloc, "serve", paths)?;
+    let listening = shown_listening(alloc, &serving.listening)?;
+    let telling = shown_telling(alloc, &serving.telling)?;
+    let (turns, syncs) = (serving.turns, serving.syncs);
+    Ok(format!(in alloc; "{paths} at{listening} {turns} {syncs:?} {telling}")?)
+}
+
+fn shown_listening(alloc: Global, listening: &Listening) -> Result<String, Fail> {
+    let mut addresses = String::new(alloc);
+    for address in &listening.addresses {
+        addresses.push_str(" ")?;
+        addresses.push_str(address.as_str())?;
+    }
+    let (desk, radius_port) = (listening.desk_address.as_str(), listening.radius_port);
+    let desk_port = listening.desk_port;
+    Ok(format!(in alloc; "{addresses} desk {desk} {radius_port} {desk_port}")?)
+}
+
+fn shown_telling(alloc: Global, telling: &Telling) -> Result<String, Fail> {
+    let mark = if telling.is_quiet { "quiet" } else { "loud" };
+    let status = name_of(&telling.status);
+    match &telling.balances {
+        Some(balances) => {
+            let (file, seconds) = (balances.file.as_str(), balances.seconds);
+            Ok(format!(in alloc; "{mark} {status} {file}/{seconds}")?)
+        }
+        None => Ok(format!(in alloc; "{mark} {status} none")?),
+    }
+}
+
+fn name_of(file: &Option<Text>) -> &str {
+    match file {
+        Some(file) => file.as_str(),
+        None => "none",
+    }
 }
 
 // How the program ends by words that name no job, and the texts that it prints.

@@ -9,7 +9,6 @@ use Rattle.acct_model.proofs.KeptLaws.{before-added}
 use Rattle.acct_model.proofs.SamePlans.{SamePlans, same-plan_for, same-before}
 use Rattle.acct_book.specs.Effect.{Effect, added, repeated, differs, limited, failed, looked}
 use Rattle.acct_book.specs.Effect.{passed, unasked, after_effect}
-use Rattle.acct_site.specs.declared.config.Config.{Config}
 use Rattle.acct_files.specs.declared.import_report.Outcome.{Outcome}
 use Rattle.acct_files.specs.Vouchers.{Fields}
 use Rattle.acct_files.specs.Importing.{Imported}
@@ -71,12 +70,12 @@ effect_stays old looked = stays old old refl
 effect_stays old passed = stays old old refl
 effect_stays old unasked = stays old old refl
 
-run_stays : (config : Config) (old new : History) (visits : List Visit)
-    → Run config old visits new → Stays old new
-run_stays config old new [] is = stays old new is
-run_stays config old new (visit ∷ visits) (mid, step, rest) =
+run_stays : (plans : List Plan) (old new : History) (visits : List Visit)
+    → Run plans old visits new → Stays old new
+run_stays plans old new [] is = stays old new is
+run_stays plans old new (visit ∷ visits) (mid, step, rest) =
     stays_both old mid new (subst (Stays old) (sym step.leads) (effect_stays old visit.effect))
-    (run_stays config mid new visits rest)
+    (run_stays plans mid new visits rest)
 
 lines_stay : (plans : List Plan) (moment : ℕ) (old new : History) (rows : List Fields)
     (outcomes : List Outcome) → Imported plans moment old rows outcomes new → Stays old new
@@ -122,8 +121,8 @@ tells_both first second third old mid new (newer, is, same) (newest, was, also) 
 
 goes_tells : (plans : List Plan) (old new : History) (span : Span) → Goes plans old span new
     → Tells plans old (plans_after plans span) new
-goes_tells plans old new (served config visits) (alike, run) =
-    stays_tells plans old new (run_stays config old new visits run)
+goes_tells plans old new (served those visits) (alike, run) =
+    stays_tells plans old new (run_stays those old new visits run)
 goes_tells plans old new (imported config moment rows outcomes tried) (alike, run) =
     stays_tells plans old new (lines_stay config.plans moment old new rows outcomes run)
 goes_tells plans old new (extended more) (may, is) = (

@@ -15,7 +15,6 @@ use Rattle.acct_model.specs.Claims.{OfTopUp, topup_claim, claim_in, claims}
 use Rattle.acct_model.proofs.Lists.{here, nowhere, front_or_behind}
 use Rattle.acct_book.specs.Effect.{Effect, added, repeated, differs, limited, failed, looked}
 use Rattle.acct_book.specs.Effect.{passed, unasked, after_effect, Holds}
-use Rattle.acct_site.specs.declared.config.Config.{Config}
 use Rattle.acct_files.specs.declared.import_report.Cause.{Cause}
 use Rattle.acct_files.specs.declared.import_report.Outcome.{Outcome}
 use Rattle.acct_files.specs.declared.import_report.Outcome.TheVariants as outcome
@@ -134,17 +133,17 @@ effect_kept plans old unasked is_taken h = same_kept old
 
 -- ---- spans
 
-visit_kept : (config : Config)
-    → Keeps (λ old visit new. Step config old visit new) (λ history. history) acknowledged_at
-visit_kept config old new visit step =
+visit_kept : (plans : List Plan)
+    → Keeps (λ old visit new. Step plans old visit new) (λ history. history) acknowledged_at
+visit_kept plans old new visit step =
     subst (λ es. HasKept old (acknowledged_at visit) es) (sym step.leads)
-    (effect_kept config.plans old visit.effect (is_replied visit) step.holds)
+    (effect_kept plans old visit.effect (is_replied visit) step.holds)
 
-pub run_chain : (config : Config) (old new : History) (visits : List Visit)
-    → Run config old visits new → Chain (λ old visit new. Step config old visit new) old visits new
-run_chain config old new [] is = is
-run_chain config old new (visit ∷ visits) (mid, step, rest) =
-    (mid, step, run_chain config mid new visits rest)
+pub run_chain : (plans : List Plan) (old new : History) (visits : List Visit)
+    → Run plans old visits new → Chain (λ old visit new. Step plans old visit new) old visits new
+run_chain plans old new [] is = is
+run_chain plans old new (visit ∷ visits) (mid, step, rest) =
+    (mid, step, run_chain plans mid new visits rest)
 
 line_kept : (plans : List Plan) (old : History) (asked : Result TopUpFacts Cause)
     (told : Outcome) (effect : Effect) → Becomes asked told effect → Holds plans old effect
@@ -190,9 +189,9 @@ stop_kept plans span history left may =
 
 goes_kept : (plans : List Plan) (old new : History) (span : Span) → Goes plans old span new
     → HasKept old (acknowledged_in span) new
-goes_kept plans old new (served config visits) (alike, run) =
-    chain_kept (λ old visit new. Step config old visit new) (λ history. history) acknowledged_at
-    (visit_kept config) old new visits (run_chain config old new visits run)
+goes_kept plans old new (served those visits) (alike, run) =
+    chain_kept (λ old visit new. Step those old visit new) (λ history. history) acknowledged_at
+    (visit_kept those) old new visits (run_chain those old new visits run)
 goes_kept plans old new (imported config moment rows outcomes tried) (alike, run) =
     lines_kept config.plans moment old new rows outcomes run
 goes_kept plans old new (extended more) (may, is) = record {

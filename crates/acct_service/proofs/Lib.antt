@@ -1,5 +1,6 @@
 mod Steps
 mod Visits
+mod Sliced
 mod WorkedCalls
 mod Lives
 mod Kept

@@ -25,7 +25,6 @@ use Rattle.acct_model.proofs.TopUps.{Fits}
 use Rattle.acct_book.specs.Effect.{Effect, added, repeated, differs, limited, failed, looked}
 use Rattle.acct_book.specs.Effect.{passed, unasked, after_effect, Holds}
 use Rattle.acct_book.specs.Outcome.{IsRepeated}
-use Rattle.acct_site.specs.declared.config.Config.{Config}
 use Rattle.acct_files.specs.declared.import_report.Outcome.{Outcome}
 use Rattle.acct_files.specs.Vouchers.{Fields}
 use Rattle.acct_files.specs.Importing.{Imported}
@@ -183,11 +182,11 @@ chain_invariant Step P each old new [] is h = subst P (sym is) h
 chain_invariant Step P each old new (step ∷ steps) (mid, first, rest) h =
     chain_invariant Step P each mid new steps rest (each old mid step first h)
 
-visit_orderly : (config : Config) (old new : History) (visit : Visit)
-    → Step config old visit new → IsOrderly config.plans old → IsOrderly config.plans new
-visit_orderly config old new visit step h =
-    subst (IsOrderly config.plans) (sym step.leads)
-    (effect_orderly config.plans old visit.effect step.holds h)
+visit_orderly : (plans : List Plan) (old new : History) (visit : Visit)
+    → Step plans old visit new → IsOrderly plans old → IsOrderly plans new
+visit_orderly plans old new visit step h =
+    subst (IsOrderly plans) (sym step.leads)
+    (effect_orderly plans old visit.effect step.holds h)
 
 lines_orderly : (plans : List Plan) (moment : ℕ) (old new : History) (rows : List Fields)
     (outcomes : List Outcome) → Imported plans moment old rows outcomes new
@@ -211,11 +210,11 @@ more_orderly plans more old may h = record {
 
 goes_orderly : (plans : List Plan) (old new : History) (span : Span)
     → Goes plans old span new → IsOrderly plans old → IsOrderly (plans_after plans span) new
-goes_orderly plans old new (served config visits) (alike, run) h =
-    orderly_alike config.plans plans new alike
-    (chain_invariant (λ old visit new. Step config old visit new) (IsOrderly config.plans)
-    (visit_orderly config) old new visits (run_chain config old new visits run)
-    (orderly_alike plans config.plans old (λ class. sym (alike class)) h))
+goes_orderly plans old new (served those visits) (alike, run) h =
+    orderly_alike those plans new alike
+    (chain_invariant (λ old visit new. Step those old visit new) (IsOrderly those)
+    (visit_orderly those) old new visits (run_chain those old new visits run)
+    (orderly_alike plans those old (λ class. sym (alike class)) h))
 goes_orderly plans old new (imported config moment rows outcomes tried) (alike, run) h =
     orderly_alike config.plans plans new alike
     (lines_orderly config.plans moment old new rows outcomes run

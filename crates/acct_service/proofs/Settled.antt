@@ -41,17 +41,28 @@ record AddsIn (config : Config) (older : History) (e : Entry) : Type 0 where
 served_in : (config : Config) (older : History) (e : Entry)
     → Holds config.plans older (added e) → CanBeServed config e → AddsIn config older e
 served_in config older e holds (event, octets, answers) =
-    let visit : Visit =
-    record { event = event; answer = replied octets; effect = added e; is_taken = true } in
+    let visit : Visit = record {
+      site = config;
+      event = event;
+      answer = replied octets;
+      effect = added e;
+      is_taken = true;
+    } in
     record {
-      span = served config (visit ∷ []);
+      span = served config.plans (visit ∷ []);
       lives = (
         Accepted e ∷ older,
         (
           λ class. refl,
           (
             Accepted e ∷ older,
-            record { answers = answers; holds = holds; tells = λ is. cc; leads = refl },
+            record {
+              under = refl;
+              answers = answers;
+              holds = holds;
+              tells = λ is. cc;
+              leads = refl;
+            },
             refl,
           ),
         ),

@@ -56,14 +56,14 @@ may_leave config moment rows outcomes (Some topup) after c may =
     ]
 
 module _ {B : Type 0} (b : Ghosts B) where
-  served_lives : (config : Config) (visits : List Visit) (old new : B) (history : History)
-      → LeavesOnly b config.plans old history → Leads b config visits old new history
-      → LivesOnBy b config.plans history (served config visits) new
-  served_lives config visits old new history only leads c may =
-      lived config.plans history leads.after (served config visits) c (λ class. refl, leads.run)
+  served_lives : (plans : List Plan) (visits : List Visit) (old new : B) (history : History)
+      → LeavesOnly b plans old history → Leads b plans visits old new history
+      → LivesOnBy b plans history (served plans visits) new
+  served_lives plans visits old new history only leads c may =
+      lived plans history leads.after (served plans visits) c (λ class. refl, leads.run)
       (elim (leads.leaves c may) [
         | inl left ↦ left
-        | inr (same, was) ↦ inl (subst (Stands config.plans c) (sym same) (only c was))
+        | inr (same, was) ↦ inl (subst (Stands plans c) (sym same) (only c was))
       ])
 
   imported_lives : (config : Config) (moment : ℕ) (text : Option (List ℕ))

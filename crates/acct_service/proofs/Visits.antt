@@ -24,24 +24,24 @@ use Rattle.acct_site.specs.declared.config.Config.{Config}
 use Rattle.acct_service.specs.declared.event.Event.{Event}
 use Rattle.acct_service.specs.declared.exchange.Call.{Call}
 use Rattle.acct_service.specs.declared.server.Served.{Served}
-use Rattle.acct_service.specs.Machine.{Answer, replied, Visit, Run, TakesStep, AnswersEvent}
+use Rattle.acct_service.specs.Machine.{Answer, replied, Visit, Run, TakesStep, IsAnswered}
 use Rattle.acct_service.specs.Machine.{AsksBalance}
 use Rattle.acct_service.specs.Told.{Grows}
 use Rattle.acct_service.specs.Serving.{calls_of, is_replied, is_dropped_for, is_mute}
 use Rattle.acct_service.specs.Serving.{Counts, CountsMore, HasFailed, MayLeave, Leads, Attends}
-use Rattle.acct_service.specs.Serving.{TakesTurn, TakesTurns, Serves, Keeps, AtMost}
+use Rattle.acct_service.specs.Serving.{TakesTurn, TakesTurns, Serves, Keeps, AtMost, AreUnder}
 
 -- two runs are one
-run_join : (config : Config) (history mid after : History) (visits more : List Visit)
-    → Run config history visits mid → Run config mid more after
-    → Run config history (visits ++ more) after
-run_join config history mid after [] more is run =
-    subst (λ h. Run config h more after) is run
-run_join config history mid after (visit ∷ visits) more (next, step, rest) run =
-    (next, step, run_join config next mid after visits more rest run)
+run_join : (plans : List Plan) (history mid after : History) (visits more : List Visit)
+    → Run plans history visits mid → Run plans mid more after
+    → Run plans history (visits ++ more) after
+run_join plans history mid after [] more is run =
+    subst (λ h. Run plans h more after) is run
+run_join plans history mid after (visit ∷ visits) more (next, step, rest) run =
+    (next, step, run_join plans next mid after visits more rest run)
 
 -- what is told grows twice
-pub grows_twice : (a b c : Option (List Call)) (calls later : List Call) → Grows a calls b
+pub grows_twice : {C : Type 0} (a b c : Option (List C)) (calls later : List C) → Grows a calls b
     → Grows b later c → Grows a (calls ++ later) c
 grows_twice a b None calls later g h = tt
 grows_twice a None (Some c) calls later g h = absurd h
@@ -50,7 +50,7 @@ grows_twice (Some a) (Some b) (Some c) calls later g h =
     h ∙ ap (λ cs. cs ++ later) g ∙ append_assoc a calls later
 
 -- a turn may tell nothing more
-pub grows_none : (a : Option (List Call)) → Grows a [] a
+pub grows_none : {C : Type 0} (a : Option (List C)) → Grows a [] a
 grows_none None = tt
 grows_none (Some a) = sym (append-nil a)
 
@@ -165,10 +165,21 @@ of_one P only visit holds at =
       | inr is ↦ subst P is holds
     ]
 
-module _ {B : Type 0} (b : Ghosts B) (config : Config) where
+-- no visit, one, and those of two lists are under one configuration
+pub under_none : (config : Config) → AreUnder config []
+under_none config visit at = absurd (nowhere visit at)
+
+under_one : (config : Config) (only : Visit) → only.site ≡ config → AreUnder config (only ∷ [])
+under_one config only is visit = of_one (λ v. v.site ≡ config) only visit is
+
+under_both : (config : Config) (visits more : List Visit) → AreUnder config visits
+    → AreUnder config more → AreUnder config (visits ++ more)
+under_both config visits more = of_both (λ v. v.site ≡ config) visits more
+
+module _ {B : Type 0} (b : Ghosts B) (plans : List Plan) where
   -- no visit
   pub attends_none : (book : B) (old_told new_told : Option (List Call))
-      → Grows old_told [] new_told → Attends b config [] book book old_told new_told
+      → Grows old_told [] new_told → Attends b plans [] book book old_told new_told
   attends_none book old_told new_told grows = record {
     answered = λ visit at. absurd (nowhere visit at);
     leads = λ sound history stood. record {
@@ -188,14 +199,14 @@ module _ {B : Type 0} (b : Ghosts B) (config : Config) where
 
   -- what a crash leaves after one visit
   left_by_one : (old new : B) (history : History) (visit : Visit)
-      → Leaves b config.plans old new history visit.effect → (c : Content) → b.left new c
-      → MayLeave config.plans (after_effect history visit.effect) (HasFailed (visit ∷ [])) c
+      → Leaves b plans old new history visit.effect → (c : Content) → b.left new c
+      → MayLeave plans (after_effect history visit.effect) (HasFailed (visit ∷ [])) c
       ⊎ ((after_effect history visit.effect ≡ history) × b.left old c)
   left_by_one old new history visit step c may = elim (step c may) [
     | inl stands ↦ inl (inl stands)
     | inr (same, inl was) ↦ inr (same, was)
     | inr (same, inr (asked, is, adds)) ↦ inl (subst
-        (λ h. MayLeave config.plans h (HasFailed (visit ∷ [])) c) (sym same)
+        (λ h. MayLeave plans h (HasFailed (visit ∷ [])) c) (sym same)
         (inr (
           asked,
           subst (λ e. Contains (visit.effect ∷ []) e) is (Contains-push [] visit.effect),
@@ -203,67 +214,21 @@ module _ {B : Type 0} (b : Ghosts B) (config : Config) where
         )))
   ]
 
-  -- one visit, whose event was answered so
-  pub attends_one : (old new : B) (old_told new_told : Option (List Call)) (event : Event)
-      (answer : Answer) (is_taken : Bool)
-      (t : TakesStep b config event.moment event.what old new answer)
-      → (let visit : Visit = record {
-        event = event;
-        answer = answer;
-        effect = t.effect;
-        is_taken = is_taken;
-      } in
-      Grows old_told (calls_of visit) new_told → Attends b config (visit ∷ []) old new old_told
-      new_told)
-  attends_one old new old_told new_told event answer is_taken t grows =
-      let visit : Visit =
-      record { event = event; answer = answer; effect = t.effect; is_taken = is_taken } in
-      record {
-        answered = λ v. of_one
-            (λ v. AnswersEvent config v.event.moment v.event.what v.answer v.effect) visit v
-            t.answers;
-        leads = λ sound history stood. record {
-          after = after_effect history t.effect;
-          run = (
-            after_effect history t.effect,
-            record {
-              answers = t.answers;
-              holds = t.does.holds sound history stood;
-              tells = t.tells sound history stood;
-              leads = refl;
-            },
-            refl,
-          );
-          stands = t.does.stands sound history stood;
-          leaves = left_by_one old new history visit
-              (left_by b config.plans old new t.effect t.does sound history stood);
-        };
-        keeps = record {
-          was_sound = t.does.was_sound;
-          was_open = t.does.was_open;
-          keeps_steady = t.does.keeps_steady;
-        };
-        steady = λ steady v. of_one
-            (λ v. AsksBalance config v.event.moment v.event.what
-            → v.answer ≢ replied unavailable_response) visit v (t.steady steady);
-        told = subst (λ cs. Grows old_told cs new_told) (sym (append-nil (calls_of visit))) grows;
-      }
-
   leads_join : (visits more : List Visit) (old mid new : B) (history : History)
-      (first : Leads b config visits old mid history)
-      → Leads b config more mid new first.after
-      → Leads b config (visits ++ more) old new history
+      (first : Leads b plans visits old mid history)
+      → Leads b plans more mid new first.after
+      → Leads b plans (visits ++ more) old new history
   leads_join visits more old mid new history first second = record {
     after = second.after;
-    run = run_join config history first.after second.after visits more first.run second.run;
+    run = run_join plans history first.after second.after visits more first.run second.run;
     stands = second.stands;
     leaves = λ c may. elim (second.leaves c may) [
-      | inl left ↦ inl (may_leave config.plans second.after (HasFailed more)
+      | inl left ↦ inl (may_leave plans second.after (HasFailed more)
           (HasFailed (visits ++ more)) c (failed_after visits more) left)
       | inr (same, was) ↦ elim (first.leaves c was) [
         | inl left ↦ inl (subst
-            (λ h. MayLeave config.plans h (HasFailed (visits ++ more)) c) (sym same)
-            (may_leave config.plans first.after (HasFailed visits) (HasFailed (visits ++ more)) c
+            (λ h. MayLeave plans h (HasFailed (visits ++ more)) c) (sym same)
+            (may_leave plans first.after (HasFailed visits) (HasFailed (visits ++ more)) c
             (failed_before visits more) left))
         | inr (none, start) ↦ inr (same ∙ none, start)
       ]
@@ -272,18 +237,17 @@ module _ {B : Type 0} (b : Ghosts B) (config : Config) where
 
   -- the visits of two runs, one after the other, are those of one
   pub attends_join : (visits more : List Visit) (old mid new : B)
-      (told later last : Option (List Call)) → Attends b config visits old mid told later
-      → Attends b config more mid new later last
-      → Attends b config (visits ++ more) old new told last
+      (told later last : Option (List Call)) → Attends b plans visits old mid told later
+      → Attends b plans more mid new later last
+      → Attends b plans (visits ++ more) old new told last
   attends_join visits more old mid new told later last first second = record {
-    answered = of_both (λ v. AnswersEvent config v.event.moment v.event.what v.answer v.effect)
-        visits more first.answered second.answered;
+    answered = of_both IsAnswered visits more first.answered second.answered;
     leads = λ sound history stood.
         let one = first.leads (second.keeps.was_sound sound) history stood in
         leads_join visits more old mid new history one (second.leads sound one.after one.stands);
     keeps = keeps_then b old mid new first.keeps second.keeps;
     steady = λ steady. of_both
-        (λ v. AsksBalance config v.event.moment v.event.what
+        (λ v. AsksBalance v.site v.event.moment v.event.what
         → v.answer ≢ replied unavailable_response) visits more (first.steady steady)
         (second.steady (first.keeps.keeps_steady steady));
     told =
@@ -292,12 +256,89 @@ module _ {B : Type 0} (b : Ghosts B) (config : Config) where
         second.told);
   }
 
+  -- after a look at the book
+  pub attends_looked : (visits : List Visit) (old mid new : B) (told later : Option (List Call))
+      → Attends b plans visits old mid told later → OnlyLooks b mid new
+      → Attends b plans visits old new told later
+  attends_looked visits old mid new told later a looks = record {
+    answered = a.answered;
+    leads = λ sound history stood.
+        let it = a.leads (looks.was_sound sound) history stood in
+        record {
+          after = it.after;
+          run = it.run;
+          stands = λ still. subst (λ c. Stands plans c it.after) (sym (looks.same still))
+              (it.stands (looks.was_open still));
+          leaves = λ c may. it.leaves c (looks.adds_none sound c may);
+        };
+    keeps = record {
+      was_sound = λ sound. a.keeps.was_sound (looks.was_sound sound);
+      was_open = λ still. a.keeps.was_open (looks.was_open still);
+      keeps_steady = λ steady. looks.keeps_steady (a.keeps.keeps_steady steady);
+    };
+    steady = a.steady;
+    told = a.told;
+  }
+
+module _ {B : Type 0} (b : Ghosts B) (config : Config) where
+  -- one visit, whose event was answered so
+  pub attends_one : (old new : B) (old_told new_told : Option (List Call)) (event : Event)
+      (answer : Answer) (is_taken : Bool)
+      (t : TakesStep b config event.moment event.what old new answer)
+      → (let visit : Visit = record {
+        site = config;
+        event = event;
+        answer = answer;
+        effect = t.effect;
+        is_taken = is_taken;
+      } in
+      Grows old_told (calls_of visit) new_told
+      → Attends b config.plans (visit ∷ []) old new old_told new_told)
+  attends_one old new old_told new_told event answer is_taken t grows =
+      let visit : Visit = record {
+        site = config;
+        event = event;
+        answer = answer;
+        effect = t.effect;
+        is_taken = is_taken;
+      } in
+      record {
+        answered = λ v. of_one IsAnswered visit v t.answers;
+        leads = λ sound history stood. record {
+          after = after_effect history t.effect;
+          run = (
+            after_effect history t.effect,
+            record {
+              under = refl;
+              answers = t.answers;
+              holds = t.does.holds sound history stood;
+              tells = t.tells sound history stood;
+              leads = refl;
+            },
+            refl,
+          );
+          stands = t.does.stands sound history stood;
+          leaves = left_by_one b config.plans old new history visit
+              (left_by b config.plans old new t.effect t.does sound history stood);
+        };
+        keeps = record {
+          was_sound = t.does.was_sound;
+          was_open = t.does.was_open;
+          keeps_steady = t.does.keeps_steady;
+        };
+        steady = λ steady v. of_one
+            (λ v. AsksBalance v.site v.event.moment v.event.what
+            → v.answer ≢ replied unavailable_response) visit v (t.steady steady);
+        told = subst (λ cs. Grows old_told cs new_told) (sym (append-nil (calls_of visit))) grows;
+      }
+
   -- no turn
   pub turns_none : (book : B) (told : Option (List Call)) (served : Served)
       → TakesTurns b config book book told told served served
   turns_none book told served = record {
     visits = [];
-    attends = attends_none book told told (grows_none told);
+    under = under_none config;
+    attends = attends_none b config.plans book told told (grows_none told);
     counts = record {
       events = omega arith;
       replies = omega arith;
@@ -313,7 +354,8 @@ module _ {B : Type 0} (b : Ghosts B) (config : Config) where
       → TakesTurns b config old new told last was is
   turns_more old mid new told later last was now is turns turn = record {
     visits = turns.visits ++ turn.visits;
-    attends = attends_join turns.visits turn.visits old mid new told later last turns.attends
+    under = under_both config turns.visits turn.visits turns.under turn.under;
+    attends = attends_join b config.plans turns.visits turn.visits old mid new told later last turns.attends
         turn.attends;
     counts = counts_more turns.visits turn.visits was now is turns.counts turn.counts;
   }
@@ -323,7 +365,8 @@ module _ {B : Type 0} (b : Ghosts B) (config : Config) where
       → Serves b config book book told told served
   serves_first book told served counts = record {
     visits = [];
-    attends = attends_none book told told (grows_none told);
+    under = under_none config;
+    attends = attends_none b config.plans book told told (grows_none told);
     counts = counts;
   }
 
@@ -333,40 +376,11 @@ module _ {B : Type 0} (b : Ghosts B) (config : Config) where
       → Serves b config old new told last is
   serves_more old mid new told later last was is s turns = record {
     visits = s.visits ++ turns.visits;
-    attends = attends_join s.visits turns.visits old mid new told later last s.attends
+    under = under_both config s.visits turns.visits s.under turns.under;
+    attends = attends_join b config.plans s.visits turns.visits old mid new told later last s.attends
         turns.attends;
     counts = counts_join s.visits turns.visits was is s.counts turns.counts;
   }
-
-  -- after a look at the book
-  pub serves_looked : (old mid new : B) (told later : Option (List Call)) (served : Served)
-      → Serves b config old mid told later served → OnlyLooks b mid new
-      → Serves b config old new told later served
-  serves_looked old mid new told later served s looks =
-      let a = s.attends in
-      record {
-        visits = s.visits;
-        attends = record {
-          answered = a.answered;
-          leads = λ sound history stood.
-              let it = a.leads (looks.was_sound sound) history stood in
-              record {
-                after = it.after;
-                run = it.run;
-                stands = λ still. subst (λ c. Stands config.plans c it.after)
-                    (sym (looks.same still)) (it.stands (looks.was_open still));
-                leaves = λ c may. it.leaves c (looks.adds_none sound c may);
-              };
-          keeps = record {
-            was_sound = λ sound. a.keeps.was_sound (looks.was_sound sound);
-            was_open = λ still. a.keeps.was_open (looks.was_open still);
-            keeps_steady = λ steady. looks.keeps_steady (a.keeps.keeps_steady steady);
-          };
-          steady = a.steady;
-          told = a.told;
-        };
-        counts = s.counts;
-      }
 
   -- a turn in which nothing came
   pub turn_none : (book : B) (told later : Option (List Call)) (was is : Served)
@@ -374,7 +388,8 @@ module _ {B : Type 0} (b : Ghosts B) (config : Config) where
   turn_none book told later was is grows counts = record {
     visits = [];
     at_most_one = omega arith;
-    attends = attends_none book told later grows;
+    under = under_none config;
+    attends = attends_none b config.plans book told later grows;
     counts = counts;
   }
 
@@ -383,6 +398,7 @@ module _ {B : Type 0} (b : Ghosts B) (config : Config) where
       (event : Event) (answer : Answer) (is_taken : Bool)
       (t : TakesStep b config event.moment event.what old new answer)
       → (let visit : Visit = record {
+        site = config;
         event = event;
         answer = answer;
         effect = t.effect;
@@ -391,11 +407,17 @@ module _ {B : Type 0} (b : Ghosts B) (config : Config) where
       Grows told (calls_of visit) later × CountsMore (visit ∷ []) was is)
       → TakesTurn b config old new told later was is
   turn_one old new told later was is event answer is_taken t (grows, counts) =
-      let visit : Visit =
-      record { event = event; answer = answer; effect = t.effect; is_taken = is_taken } in
+      let visit : Visit = record {
+        site = config;
+        event = event;
+        answer = answer;
+        effect = t.effect;
+        is_taken = is_taken;
+      } in
       record {
         visits = visit ∷ [];
         at_most_one = omega arith;
+        under = under_one config visit refl;
         attends = attends_one old new told later event answer is_taken t grows;
         counts = counts;
       }

@@ -31,6 +31,7 @@ event = record { moment = 1000; what = Desk []; moment_fits = omega arith }
 
 abbrev visit : Answer → Effect → Bool → Visit
 visit answer effect is_taken = record {
+  site = site;
   event = event;
   answer = answer;
   effect = effect;
@@ -39,14 +40,14 @@ visit answer effect is_taken = record {
 
 -- A voucher whose 201 is lost is not acknowledged. Its 200, when it comes again and that is taken,
 -- acknowledges it.
-a_lost_response : acknowledged (served site (
+a_lost_response : acknowledged (served [] (
     visit (replied (codes "201")) (added v1) false
     ∷ visit (replied (codes "200")) (repeated v1) true ∷ []
     ) ∷ []) ≡ v1 ∷ []
 a_lost_response = refl
 
 -- nor does one count that was refused, that failed, or that had no response
-no_success : acknowledged (served site (
+no_success : acknowledged (served [] (
     visit (replied (codes "409")) (differs v1 (record {
       voucher = codes "V-1";
       account = codes "bo";

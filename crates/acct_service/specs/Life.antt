@@ -23,8 +23,9 @@ use Rattle.acct_service.specs.Serving.{HasFailed, is_replied}
 -- ---- spans
 
 pub data Span : Type 0 where
-  -- turns of the server under a configuration, as far as they came: each visit with what it did
-  served : Config → List Visit → Span
+  -- turns of the server under configurations with these plans, as far as they came: each visit with
+  -- what it did
+  served : List Plan → List Visit → Span
   -- an import under a configuration at this moment, as far as it came: its records, what became of
   -- each, and the voucher whose call was answered Unavailable, if it stopped for one
   imported : Config → ℕ → List Fields → List Outcome → Option TopUpFacts → Span
@@ -53,14 +54,13 @@ pub record MayExtend (old new : List Plan) : Type 0 where
 
 -- the plans in force after a span, by those before it
 abbrev pub plans_after : List Plan → Span → List Plan
-plans_after plans (served config visits) = plans
+plans_after plans (served those visits) = plans
 plans_after plans (imported config moment rows outcomes tried) = plans
 plans_after plans (extended new) = new
 
 -- from a history to the one after it, with no stop yet, by the plans in force before the span
 abbrev pub Goes : List Plan → History → Span → History → Type 0
-Goes plans old (served config visits) new =
-    PriceAlike config.plans plans × Run config old visits new
+Goes plans old (served those visits) new = PriceAlike those plans × Run those old visits new
 Goes plans old (imported config moment rows outcomes tried) new =
     PriceAlike config.plans plans × Imported config.plans moment old rows outcomes new
 Goes plans old (extended more) new =
@@ -69,7 +69,7 @@ Goes plans old (extended more) new =
 -- The entry's call was answered Unavailable in the span. The call in which the stop falls counts as
 -- one that was.
 abbrev pub HasTried : Span → Entry → Type 0
-HasTried (served config visits) asked = HasFailed visits asked
+HasTried (served those visits) asked = HasFailed visits asked
 HasTried (imported config moment rows outcomes tried) asked =
     (topup : TopUpFacts) × (tried ≡ Some topup) × (asked ≡ TopUp topup)
 HasTried (extended plans) asked = ⊥
@@ -127,7 +127,7 @@ acknowledged_lines moment (fields ∷ rows) (told ∷ outcomes) =
     ++ acknowledged_lines moment rows outcomes
 
 abbrev pub acknowledged_in : Span → List Entry
-acknowledged_in (served config visits) = flat_map acknowledged_at visits
+acknowledged_in (served those visits) = flat_map acknowledged_at visits
 acknowledged_in (imported config moment rows outcomes tried) =
     acknowledged_lines moment rows outcomes
 acknowledged_in (extended plans) = []

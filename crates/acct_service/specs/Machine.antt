@@ -1,7 +1,9 @@
 -- The machine: what an event may be answered, and what becomes of the history. A history has the
 -- newest first; lists of events and visits have the oldest first. The plans of a configuration are
--- those in force at the end of the history: while events come none are added.
+-- those in force at the end of the history: while events come none are added. Clients and keys may
+-- change between two events, so each visit has the configuration that it was answered under.
 use Rattle.std.specs.Prelude.{◌≡◌, ◌≢◌, ℕ, Bool, List, [], ◌∷◌}
+use Rattle.acct_model.specs.declared.plan.Plan.{Plan}
 use Rattle.acct_model.specs.History.{History}
 use Rattle.acct_book.specs.declared.book.Book.{Ghosts}
 use Rattle.acct_book.specs.Effect.{Effect, looked, after_effect, Holds}
@@ -72,28 +74,37 @@ IsPage config history moment what answer = ⊥
 
 -- ---- steps
 
--- An event that came, its answer, what that did, and whether the reply was taken, if it has one.
+-- An event that came, under which configuration it was answered, its answer, what that did, and
+-- whether the reply was taken, if it has one.
 pub record Visit : Type 0 where
+  pub site : Config
   pub event : Event
   pub answer : Answer
   pub effect : Effect
   pub is_taken : Bool
 
--- One step, from a history to the next: the event is answered so, what that does is true of the
--- history, what was looked up is told of it, and the effect says which history comes after.
-pub record Step (config : Config) (history : History) (visit : Visit) (after : History)
+-- the event is answered so under the configuration that it came under
+abbrev pub IsAnswered : Visit → Type 0
+IsAnswered visit =
+    AnswersEvent visit.site visit.event.moment visit.event.what visit.answer visit.effect
+
+-- One step, from a history to the next, under a configuration with these plans: the event is
+-- answered so, what that does is true of the history, what was looked up is told of it, and the
+-- effect says which history comes after.
+pub record Step (plans : List Plan) (history : History) (visit : Visit) (after : History)
     : Type 0 where
-  pub answers : AnswersEvent config visit.event.moment visit.event.what visit.answer visit.effect
-  pub holds : Holds config.plans history visit.effect
+  pub under : visit.site.plans ≡ plans
+  pub answers : IsAnswered visit
+  pub holds : Holds plans history visit.effect
   pub tells : visit.effect ≡ looked
-      → IsPage config history visit.event.moment visit.event.what visit.answer
+      → IsPage visit.site history visit.event.moment visit.event.what visit.answer
   pub leads : after ≡ after_effect history visit.effect
 
 -- step after step, each from the history that the one before it left
-abbrev pub Run : Config → History → List Visit → History → Type 0
-Run config history [] after = after ≡ history
-Run config history (visit ∷ visits) after =
-    (next : History) × Step config history visit next × Run config next visits after
+abbrev pub Run : List Plan → History → List Visit → History → Type 0
+Run plans history [] after = after ≡ history
+Run plans history (visit ∷ visits) after =
+    (next : History) × Step plans history visit next × Run plans next visits after
 
 -- ---- a step over a book
 

@@ -19,7 +19,7 @@ use Rattle.acct_service.specs.declared.event.Event.{Event}
 use Rattle.acct_service.specs.declared.exchange.Call.{Call}
 use Rattle.acct_service.specs.declared.exchange.Call.TheVariants as call
 use Rattle.acct_service.specs.declared.server.Served.{Served}
-use Rattle.acct_service.specs.Machine.{Answer, replied, dropped, mute, AnswersEvent, AsksBalance}
+use Rattle.acct_service.specs.Machine.{Answer, replied, dropped, mute, AsksBalance, IsAnswered}
 use Rattle.acct_service.specs.Machine.{Visit, Run}
 use Rattle.acct_service.specs.Told.{Grows, reply_asked, drop_told}
 
@@ -114,56 +114,62 @@ pub record Keeps {B : Type 0} (b : Ghosts B) (old new : B) : Type 0 where
 
 -- ---- the headline
 
--- What the visits made of a history, over a book whose content stood for it.
-pub record Leads {B : Type 0} (b : Ghosts B) (config : Config) (visits : List Visit) (old new : B)
+-- What the visits made of a history, over a book whose content stood for it by these plans.
+pub record Leads {B : Type 0} (b : Ghosts B) (plans : List Plan) (visits : List Visit) (old new : B)
     (history : History) : Type 0 where
   pub after : History
   -- they are a run of the machine, from this history to the one after it
-  pub run : Run config history visits after
+  pub run : Run plans history visits after
   -- the book's content stands for the history after the run, while it tells one
-  pub stands : StoodFor b config.plans new after
+  pub stands : StoodFor b plans new after
   -- What a crash leaves now stands for the history after the run, or for that with the entry of a
   -- visit whose call failed: what was answered stays. While nothing was accepted it may also be
   -- what a crash could leave before.
   pub leaves : (c : Content) → b.left new c
-      → MayLeave config.plans after (HasFailed visits) c ⊎ ((after ≡ history) × b.left old c)
+      → MayLeave plans after (HasFailed visits) c ⊎ ((after ≡ history) × b.left old c)
 
--- What these visits are of a server's turns over a book.
-pub record Attends {B : Type 0} (b : Ghosts B) (config : Config) (visits : List Visit) (old new : B)
-    (old_told new_told : Option (List Call)) : Type 0 where
+-- What these visits are of a server's turns over a book, under configurations with these plans.
+pub record Attends {B : Type 0} (b : Ghosts B) (plans : List Plan) (visits : List Visit)
+    (old new : B) (old_told new_told : Option (List Call)) : Type 0 where
   -- each event is answered as the machine may answer it, whatever the book held
-  pub answered : (visit : Visit) → Contains visits visit
-      → AnswersEvent config visit.event.moment visit.event.what visit.answer visit.effect
+  pub answered : (visit : Visit) → Contains visits visit → IsAnswered visit
   -- from each history for which the content stood
-  pub leads : b.is_sound new → (history : History) → StoodFor b config.plans old history
-      → Leads b config visits old new history
+  pub leads : b.is_sound new → (history : History) → StoodFor b plans old history
+      → Leads b plans visits old new history
   pub keeps : Keeps b old new
   -- over a steady book nobody is told that his balance is unavailable
   pub steady : b.is_steady old → (visit : Visit) → Contains visits visit
-      → AsksBalance config visit.event.moment visit.event.what
+      → AsksBalance visit.site visit.event.moment visit.event.what
       → visit.answer ≢ replied unavailable_response
   -- the exchange gave these events, was asked for these replies and told of these drops, and of no
   -- others, each of them between its own event and the next
   pub told : Grows old_told (flat_map calls_of visits) new_told
+
+-- all were answered under this configuration
+abbrev pub AreUnder : Config → List Visit → Type 0
+AreUnder config visits = (visit : Visit) → Contains visits visit → visit.site ≡ config
 
 -- a turn: one visit, or none where nothing came
 pub record TakesTurn {B : Type 0} (b : Ghosts B) (config : Config) (old new : B)
     (old_told new_told : Option (List Call)) (old_served new_served : Served) : Type 0 where
   pub visits : List Visit
   pub at_most_one : length visits ≤ 1
-  pub attends : Attends b config visits old new old_told new_told
+  pub under : AreUnder config visits
+  pub attends : Attends b config.plans visits old new old_told new_told
   pub counts : CountsMore visits old_served new_served
 
 -- turns, and what was counted in them beside what was counted before
 pub record TakesTurns {B : Type 0} (b : Ghosts B) (config : Config) (old new : B)
     (old_told new_told : Option (List Call)) (old_served new_served : Served) : Type 0 where
   pub visits : List Visit
-  pub attends : Attends b config visits old new old_told new_told
+  pub under : AreUnder config visits
+  pub attends : Attends b config.plans visits old new old_told new_told
   pub counts : CountsMore visits old_served new_served
 
 -- turns, as many as there were
 pub record Serves {B : Type 0} (b : Ghosts B) (config : Config) (old new : B)
     (old_told new_told : Option (List Call)) (served : Served) : Type 0 where
   pub visits : List Visit
-  pub attends : Attends b config visits old new old_told new_told
+  pub under : AreUnder config visits
+  pub attends : Attends b config.plans visits old new old_told new_told
   pub counts : Counts visits served

@@ -26,10 +26,10 @@ module _ {B : Type 0} (b : Ghosts B) where
 
   -- where it began so that a crash left only what stood for its history
   pub record StopsAreLived : Type 0 where
-    pub served_so_far : (config : Config) (visits : List Visit) (old new : B)
-        (history : History) → LeavesOnly config.plans old history
-        → Leads b config visits old new history
-        → LivesOnBy config.plans history (served config visits) new
+    pub served_so_far : (plans : List Plan) (visits : List Visit) (old new : B)
+        (history : History) → LeavesOnly plans old history
+        → Leads b plans visits old new history
+        → LivesOnBy plans history (served plans visits) new
     pub imported_so_far : (config : Config) (moment : ℕ) (text : Option (List ℕ))
         (history : History) (stopped : Option Stopped) (report : ImportReport) (old new : B)
         → LeavesOnly config.plans old history

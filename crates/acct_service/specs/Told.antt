@@ -8,9 +8,8 @@ use Rattle.acct_service.specs.declared.exchange.Asked.{Asked}
 use Rattle.acct_service.specs.declared.exchange.Call.{Call}
 use Rattle.acct_service.specs.declared.exchange.Call.TheVariants as call
 
--- The list of calls grew by these at its end, where it is still told. An exchange that told none
--- begins with none.
-abbrev pub Grows : Option (List Call) → List Call → Option (List Call) → Type 0
+-- The list of calls grew by these at its end, where it is still told. What told none tells none.
+abbrev pub Grows : {C : Type 0} → Option (List C) → List C → Option (List C) → Type 0
 Grows old calls None = ⊤
 Grows None calls (Some new) = ⊥
 Grows (Some old) calls (Some new) = new ≡ old ++ calls

@@ -1,6 +1,6 @@
 //! Laws above the definitions: functions without effect, whose contracts are the laws.
 ghost use Rattle.std.specs.Prelude.{◌++◌, List, Option};
-ghost use Rattle.acct_site.specs.declared.config.Config.{Config};
+ghost use Rattle.acct_model.specs.declared.plan.Plan.{Plan};
 ghost use Rattle.acct_service.specs.declared.exchange.Call.{Call};
 ghost use Rattle.acct_service.specs.Machine.{Visit};
 ghost use Rattle.acct_service.specs.Serving.{Attends};
@@ -25,11 +25,12 @@ pub fn stops_are_lived<B: Book>()
 {}
 
 /// Turns after turns are turns: what `serve` says of two runs over one book and exchange holds of
-/// both together, and what `take_turn` says of each turn holds of all of them.
+/// both together, also where clients and keys changed in between, and what `take_turn` says of each
+/// turn holds of all of them.
 pub fn turns_join<B: Book>()
-    ensures { (config : Config) (visits more : List Visit) (old mid new : B)
+    ensures { (plans : List Plan) (visits more : List Visit) (old mid new : B)
         (told later last : Option (List Call))
-        → Attends B.Book config visits old mid told later
-        → Attends B.Book config more mid new later last
-        → Attends B.Book config (visits ++ more) old new told last }
+        → Attends B.Book plans visits old mid told later
+        → Attends B.Book plans more mid new later last
+        → Attends B.Book plans (visits ++ more) old new told last }
 {}

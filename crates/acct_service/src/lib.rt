@@ -7,7 +7,8 @@
 //! 3. `serve` makes a number of turns over a book and an exchange. What it does is a run of that
 //!    machine: every balance and every reply is the one that the entries accepted before it
 //!    determine, whatever comes, repeated, reordered or failing (`specs/Serving.antt`).
-//!    `serve_while_open` also ends where its book is found shut.
+//!    `serve_in_slices` also ends where its book is found shut, and takes other clients and keys
+//!    in between (`specs/Slices.antt`).
 //! 4. A fault of the exchange is counted, and the next turn follows. An entry that was recorded
 //!    stays recorded when its reply fails.
 #![tactic(auto)]
@@ -17,6 +18,7 @@ mod event;
 mod exchange;
 pub mod laws;
 pub mod lists;
+mod rounds;
 mod server;
 mod slices;
 mod stepping;
@@ -24,6 +26,7 @@ mod stepping;
 pub use answering::Outbox;
 pub use event::{Event, What};
 pub use exchange::{Asked, Call, Exchange, Fault};
+pub use rounds::{NoRounds, Rounds};
 pub use server::{Served, serve, take_turn, take_turns};
-pub use slices::{Until, serve_while_open};
+pub use slices::{Until, serve_in_slices};
 pub use stepping::{Turn, step};

@@ -1,12 +1,13 @@
-//! Turns in slices, after each of which the server looks whether its book still tells what it
-//! holds.
+//! Turns in slices, after each of which the server looks round: whether clients and keys have
+//! changed, and whether its book still tells what it holds.
 ghost use Rattle.std.specs.Prelude.{◌≡◌, ◌+◌, ◌-◌, ◌^◌, ◌<◌, ◌≤◌, false, IsTrue};
 ghost use Rattle.acct_book.specs.inner.Step.{OnlyLooks};
-ghost use Rattle.acct_service.specs.Serving.{Serves, AtMost};
-ghost use Rattle.acct_service.specs.Slices.{MakesTurns};
+ghost use Rattle.acct_service.specs.Serving.{AtMost};
+ghost use Rattle.acct_service.specs.Slices.{MakesTurns, ServesInSlices};
 
 use crate::answering::Outbox;
 use crate::exchange::Exchange;
+use crate::rounds::Rounds;
 use crate::server::{Served, take_turns};
 use acct_book::Book;
 use acct_site::Config;
@@ -26,17 +27,21 @@ pub enum Until {
     Shut,
 }
 
-/// Makes `limit` turns, as `serve` does, but ends where its book refuses to tell a balance after a
-/// slice of them: a book that is shut would answer nobody any more, and is to be opened again.
+/// Makes `limit` turns, as `serve` does, in slices, after each of which `rounds` looks round. The
+/// turns that follow have the configuration that it gives, if it gives one. It ends early where the
+/// book refuses to tell a balance after a slice: a book that is shut would answer nobody any more,
+/// and is to be opened again.
 ///
-/// What `serve` says of its turns holds of those that were made.
+/// What `serve` says of its turns holds of those that were made, each under the configuration that
+/// its slice had (`ServesInSlices`).
 ///
-/// It costs one search of the book in 256 turns besides what `serve` costs.
-pub fn serve_while_open<B: Book, X: Exchange>(
+/// It costs a round and one search of the book in 256 turns besides what `serve` costs.
+pub fn serve_in_slices<B: Book, X: Exchange, G: Rounds>(
     alloc: Global,
     config: &Config,
     book: &mut B,
     exchange: &mut X,
+    rounds: &mut G,
     limit: u64,
 ) -> (Served, Until)
     requires turns { X.turn_count exchange.old + limit ≤ 2 ^ 64 - 1 }
@@ -46,8 +51,8 @@ pub fn serve_while_open<B: Book, X: Exchange>(
     ensures faults { X.failure_count exchange.new
         ≡ X.failure_count exchange.old + result.0.faults }
     ensures within { AtMost limit result.0 }
-    ensures serves { Serves B.Book config.now book.old book.new (X.told exchange.old)
-        (X.told exchange.new) result.0 }
+    ensures serves { ServesInSlices B.Book config.now book.old book.new (X.told exchange.old)
+        (X.told exchange.new) (G.given rounds.old) (G.given rounds.new) result.0 }
     // A book that never refuses to tell a balance ends no run.
     ensures shut { result.1 ≡ Until.Shut → B.is_steady book.old → ⊥ }
     // One that is shut ends it: after all turns a sound book is open.
@@ -55,11 +60,14 @@ pub fn serve_while_open<B: Book, X: Exchange>(
 {
     let mut out = Outbox::new();
     let mut served = Served::none();
+    let mut changed: Option<Config> = None;
     let mut left = limit;
     while left > 0 {
         let slice = left.min(SLICE);
-        take_turns(alloc, config, book, exchange, slice, &mut out, &mut served);
+        let site = changed.as_ref().unwrap_or(config);
+        take_turns(alloc, site, book, exchange, slice, &mut out, &mut served);
         left -= slice;
+        changed = rounds.go_round(alloc, site, book).or(changed);
         if is_shut(book) {
             return (served, Until::Shut);
         }

@@ -3,6 +3,7 @@
 
 mod caller;
 mod clock;
+mod datagrams;
 mod desk;
 mod readiness;
 mod request;

@@ -5,10 +5,13 @@
 //! 2. Datagrams and callers take turns: after a datagram callers are heard first, and after a
 //!    request or a fault of a caller a datagram goes first.
 //! 3. A wait in which nothing came is a turn without an event. Every other fault is counted.
-//! 4. Room for a datagram is made once, and not for each turn.
+//! 4. A reply to a datagram leaves from the address that was asked, and the sockets at several
+//!    addresses take turns.
+//! 5. Room for a datagram is made once, and not for each turn.
 ghost use Rattle.std.specs.Prelude.{◌≡◌, None, IfOk};
 
 use crate::clock::moment_of;
+use crate::datagrams::Datagrams;
 use crate::desk::{Desk, PLACES};
 use crate::readiness::Readiness;
 use acct_model::Octets;
@@ -17,19 +20,17 @@ use acct_wire::Reason;
 use std::alloc::Global;
 use std::io;
 use std::io::ErrorKind;
-use std::net::{Ipv4Addr, Net, OpenListener, SocketAddr, TcpListener, UdpSocket};
+use std::net::{Ipv4Addr, Net, OpenListener, SocketAddrV4, TcpListener};
 use std::time::{Clock, Duration, Instant};
 
 /// The most octets of a datagram.
 const LONGEST_DATAGRAM: usize = 65_535;
 /// The most milliseconds that a turn waits.
 const PATIENCE: u64 = 20;
-/// The number under which datagrams are watched. Those below are the places of callers.
-const DATAGRAMS: usize = PLACES;
-/// The number under which the desk's listener is watched.
-const LISTENER: usize = PLACES + 1;
-/// How many sockets are watched at the most.
-const WATCHED: usize = PLACES + 2;
+/// The number under which the desk's listener is watched. Those below are the places of callers.
+const LISTENER: usize = PLACES;
+/// The number under which the first socket for datagrams is watched. Those above are of the others.
+const DATAGRAMS: usize = PLACES + 1;
 
 /// The sockets of a server, with the callers that are connected.
 pub struct Sockets<'r, R: Net> {
@@ -50,40 +51,55 @@ impl<'r, R: Net> Drop for Sockets<'r, R> {
 }
 
 impl<'r, R: Net + Clock> Sockets<'r, R> {
-    /// Binds a socket for datagrams and one for callers at an IPv4 address. At port 0 the system
-    /// chooses one.
+    /// Binds a socket for datagrams at each of these IPv4 addresses, and one for callers at the
+    /// desk's. At port 0 the system chooses one for each.
     ///
     /// # Errors
     ///
     /// Those of the system: a port is taken or needs a right that the program hasn't, or the
-    /// machine hasn't the address. `OutOfMemory` where there is no room for a datagram and for
-    /// callers.
+    /// machine hasn't the address. `InvalidInput` where there is no address for datagrams, and
+    /// `OutOfMemory` where there is no room for the sockets, for a datagram and for callers.
     pub fn bind(
         runtime: &'r R,
         alloc: Global,
-        address: [u8; 4],
-        radius: u16,
-        desk: u16,
+        addresses: &[[u8; 4]],
+        desk_address: [u8; 4],
+        radius_port: u16,
+        desk_port: u16,
     ) -> io::Result<Sockets<'r, R>>
         ensures fresh { IfOk result (λ s. (s.turns ≡ 0) × (s.failures ≡ 0)) }
     {
+        if addresses.is_empty() {
+            return Err(io::Error::from(ErrorKind::InvalidInput));
+        }
+        let datagrams = Datagrams::bind(runtime, alloc, addresses, radius_port)?;
+        let listener = TcpListener::bind(runtime, (Ipv4Addr::from(desk_address), desk_port))?;
         Ok(Sockets {
-            ports: Ports::bind(runtime, alloc, address, radius, desk)?,
+            ports: Ports::new(runtime, alloc, datagrams, Desk::new(alloc, listener)?)?,
             turns: 0,
             failures: 0,
         })
     }
 
-    /// The ports of datagrams and of callers.
+    /// The ports of datagrams, at the first address, and of callers.
     ///
     /// # Errors
     ///
     /// Those of the system.
     pub fn ports(&self) -> io::Result<(u16, u16)> {
         Ok((
-            self.ports.radius.local_addr()?.port(),
+            self.radius_port(0)?,
             self.ports.desk.listener().local_addr()?.port(),
         ))
+    }
+
+    /// The port of datagrams at the address with this place among those that were bound, from 0 on.
+    ///
+    /// # Errors
+    ///
+    /// Those of the system, and `NotFound` where there is no such address.
+    pub fn radius_port(&self, place: usize) -> io::Result<u16> {
+        self.ports.datagrams.port(place)
     }
 }
 
@@ -124,13 +140,12 @@ impl<'r, R: Net + Clock> Exchange for Sockets<'r, R> {
     }
 }
 
-// Both sockets, with the callers that are connected.
+// All sockets, with the callers that are connected.
 struct Ports<'r, R: Net> {
     runtime: &'r R,
     alloc: Global,
     readiness: Readiness,
-    radius: UdpSocket,
-    may_receive: bool,
+    datagrams: Datagrams,
     desk: Desk<R>,
     are_callers_first: bool,
     room: Vec<u8>,
@@ -143,8 +158,7 @@ impl<'r, R: Net> Drop for Ports<'r, R> {
             runtime: _,
             alloc: _,
             readiness: _,
-            radius: _,
-            may_receive: _,
+            datagrams: _,
             desk: _,
             are_callers_first: _,
             room: _,
@@ -153,28 +167,22 @@ impl<'r, R: Net> Drop for Ports<'r, R> {
 }
 
 impl<'r, R: Net + Clock> Ports<'r, R> {
-    // Binds both sockets, and watches them.
-    fn bind(
+    // Watches the sockets.
+    fn new(
         runtime: &'r R,
         alloc: Global,
-        address: [u8; 4],
-        radius: u16,
-        desk: u16,
+        datagrams: Datagrams,
+        desk: Desk<R>,
     ) -> io::Result<Ports<'r, R>> {
-        let address = Ipv4Addr::from(address);
-        let readiness = Readiness::new(runtime, alloc, WATCHED)?;
-        let radius = UdpSocket::bind(runtime, (address, radius))?;
-        radius.set_nonblocking(true)?;
-        readiness.watch(&radius, DATAGRAMS)?;
-        let listener = TcpListener::bind(runtime, (address, desk))?;
-        let desk = Desk::new(alloc, listener)?;
+        let watched = DATAGRAMS.saturating_add(datagrams.count());
+        let readiness = Readiness::new(runtime, alloc, watched)?;
+        datagrams.watch(&readiness, DATAGRAMS)?;
         readiness.watch(desk.listener(), LISTENER)?;
         Ok(Ports {
             runtime,
             alloc,
             readiness,
-            radius,
-            may_receive: true,
+            datagrams,
             desk,
             are_callers_first: true,
             room: vec![in alloc; 0; LONGEST_DATAGRAM]?,
@@ -203,19 +211,19 @@ impl<'r, R: Net + Clock> Ports<'r, R> {
     // Looks which sockets are ready, and waits for one where none was left. Each is tried again
     // after a wait in which none was: so nobody waits for long whom the system did not tell of.
     fn look(&mut self) -> Result<(), Fault> {
-        let is_busy = self.may_receive || self.desk.is_busy();
+        let is_busy = self.datagrams.may_receive() || self.desk.is_busy();
         let patience = if is_busy { 0 } else { PATIENCE };
         let waited = self.readiness.wait(Duration::from_millis(patience));
         waited.map_err(|_| Fault)?;
         if !is_busy && self.readiness.events().is_empty() {
-            self.may_receive = true;
+            self.datagrams.rouse_all();
             self.desk.rouse();
         }
         for event in self.readiness.events() {
             match event.token().0 {
-                DATAGRAMS => self.may_receive = true,
                 LISTENER => self.desk.rouse(),
-                place => self.desk.rouse_caller(place),
+                place if place < LISTENER => self.desk.rouse_caller(place),
+                number => self.datagrams.rouse(number - DATAGRAMS),
             }
         }
         Ok(())
@@ -232,26 +240,15 @@ impl<'r, R: Net + Clock> Ports<'r, R> {
 
     // The datagram that waits, if one does.
     fn receive(&mut self) -> Result<Option<Event>, Fault> {
-        if !self.may_receive {
+        let Some((size, source)) = self.datagrams.receive(self.room.as_mut_slice())? else {
             return Ok(None);
-        }
-        match self.radius.recv_from(self.room.as_mut_slice()) {
-            Ok((size, SocketAddr::V4(source))) => {
-                let bytes = self.copy(size)?;
-                let what = What::Datagram {
-                    source: source.ip().octets(),
-                    port: source.port(),
-                    bytes,
-                };
-                Ok(Some(self.event(what)))
-            }
-            Err(error) if error.kind() == ErrorKind::WouldBlock => {
-                self.may_receive = false;
-                Ok(None)
-            }
-            Err(error) if error.kind() == ErrorKind::Interrupted => Ok(None),
-            Ok((_, SocketAddr::V6(_))) | Err(_) => Err(Fault),
-        }
+        };
+        let what = What::Datagram {
+            source: source.ip().octets(),
+            port: source.port(),
+            bytes: self.copy(size)?,
+        };
+        Ok(Some(self.event(what)))
     }
 
     // The octets that the last datagram left at the front of the room.
@@ -270,28 +267,13 @@ impl<'r, R: Net + Clock> Ports<'r, R> {
     fn send(&mut self, what: &What, bytes: &[u8]) -> Result<(), Fault> {
         match what {
             What::Datagram { source, port, .. } => {
-                match self.send_datagram(bytes, (Ipv4Addr::from(*source), *port)) {
-                    Ok(count) if count == bytes.len() => Ok(()),
-                    _ => Err(Fault),
-                }
+                let to = SocketAddrV4::new(Ipv4Addr::from(*source), *port);
+                self.datagrams.reply(bytes, to)
             }
             What::Desk { .. } => {
                 let now = Instant::now(self.runtime).map_err(|_| Fault)?;
                 self.desk.answer(bytes, now)
             }
-        }
-    }
-
-    // Sends a datagram. Where the system has no room for it now, this waits until it has.
-    fn send_datagram(&self, bytes: &[u8], to: (Ipv4Addr, u16)) -> io::Result<usize> {
-        match self.radius.send_to(bytes, to) {
-            Err(error) if error.kind() == ErrorKind::WouldBlock => {
-                self.radius.set_nonblocking(false)?;
-                let sent = self.radius.send_to(bytes, to);
-                self.radius.set_nonblocking(true)?;
-                sent
-            }
-            sent => sent,
         }
     }
 }

@@ -14,7 +14,7 @@ use Rattle.radacctd.specs.declared.left.Left.{Left}
 use Rattle.radacctd.specs.declared.left.Left.TheVariants as left
 use Rattle.radacctd.specs.Files.{IsRefused, IsUnclosed, Copies}
 use Rattle.radacctd.specs.Commands.{Worked, Closes, Fails, FailsToExport}
-use Rattle.radacctd.specs.Jobs.{ClosesOrFails}
+use Rattle.radacctd.specs.Jobs.{ClosesOrFails, IsUnchecked}
 
 -- what holds with one configuration holds with some
 pub with_config : {A E : Type 0} (P : Config → A → Type 0) (config : Config) (result : Result A E)
@@ -102,3 +102,12 @@ module _ {D : Type 0} {g : disk.Ghosts D} (image : Image) (plans : List Plan) wh
   refused_unexported b told (left.Open last) h = inl h
   refused_unexported b told (left.Unclosed it) h = absurd h
   refused_unexported b told (left.Closed files) h = absurd h
+
+  -- and for a check
+  pub refused_unchecked : (told : Fault) (rest : Left D g) → IsRefused image plans told rest
+      → IsUnchecked image plans told rest
+  refused_unchecked told left.Nothing h = h
+  refused_unchecked told (left.Unopened it) h = h
+  refused_unchecked told (left.Open last) h = inl h
+  refused_unchecked told (left.Unclosed it) h = absurd h
+  refused_unchecked told (left.Closed files) h = absurd h

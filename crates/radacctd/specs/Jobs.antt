@@ -21,7 +21,8 @@ use Rattle.acct_feed.specs.declared.status.Status.TheVariants as status
 use Rattle.acct_command_line.specs.declared.job.Job.{Job}
 use Rattle.acct_command_line.specs.declared.job.Job.TheVariants as job
 use Rattle.acct_command_line.specs.declared.job.Export.{Export}
-use Rattle.acct_commands.specs.Checks.{IsNoConfig, IsUnchecked, TellsSizes}
+use Rattle.acct_commands.specs.Checks.{IsNoConfig, TellsSizes, sizes_line}
+use Rattle.acct_commands.specs.Checks as check
 use Rattle.acct_commands.specs.Imports.{Runs}
 use Rattle.acct_commands.specs.Serving.{RunsServer}
 use Rattle.acct_commands.specs.declared.fault.Fault.{Fault}
@@ -29,7 +30,7 @@ use Rattle.acct_commands.specs.declared.fault.Fault.TheVariants as fault
 use Rattle.radacctd.specs.declared.left.Left.{Left}
 use Rattle.radacctd.specs.declared.left.Left.TheVariants as left
 use Rattle.radacctd.specs.Files.{IsMadeIn, HasNotMade, IsMigratedIn, HasNotMigrated, IsUnclosed}
-use Rattle.radacctd.specs.Files.{IsAddedIn, HasNotAdded, Copies}
+use Rattle.radacctd.specs.Files.{IsAddedIn, HasNotAdded, IsBookOf, IsOther, IsUnread, Copies}
 use Rattle.radacctd.specs.Commands.{Worked, Closes, Fails, WritesOut, FailsToExport}
 
 -- what a command printed, where its output was not lost
@@ -55,7 +56,7 @@ added_line count = codes "added " ++ decimal count ++ 10 ∷ []
 pub record ChecksConfig (before after : Option (List ℕ)) (ended : Result Status Fault)
     : Type 0 where
   pub sizes : OnOk ended (TellsSizes None before after)
-  pub refused : IfErr ended (IsUnchecked None)
+  pub refused : IfErr ended (check.IsUnchecked None)
 
 -- the site of `feed`: that of a file, or the sample's clients and plans
 abbrev pub IsSiteOf : Option (List ℕ) → Config → Type 0
@@ -160,6 +161,40 @@ module _ {D : Type 0} {g : disk.Ghosts D} where
       FailsAtWork told rest = HasNoConfig told rest
           ⊎ ((config : Config) × Fails image config.plans (Did config) told rest)
 
+    -- the book in the files keeps the plans of a configuration, whose sizes were told
+    pub record IsChecked (before after : Option (List ℕ)) (last : Held (FileStore D g)) : Type 0
+      where
+        pub config : Config
+        pub adopted : HasCleanDisk (file_state last) → IsBookOf image config.plans last
+        pub told : Appends before after (sizes_line config)
+
+    -- why that was not told: there is no such book in the files, or its line could not be written
+    abbrev pub IsUnchecked : List Plan → Fault → Left D g → Type 0
+    IsUnchecked plans told (left.Open last) =
+        IsOther image plans told last
+        ⊎ ((told ≡ fault.CannotWrite)
+        × (HasCleanDisk (file_state last) → IsBookOf image plans last))
+    IsUnchecked plans told rest = IsUnread image told rest
+
+    abbrev pub FailsToCheck : Fault → Left D g → Type 0
+    FailsToCheck told rest =
+        HasNoConfig told rest ⊎ ((config : Config) × IsUnchecked config.plans told rest)
+
+    -- `check` with a book
+    abbrev pub ChecksBook : Option (List ℕ) → Option (List ℕ) → Result Status Fault → Left D g
+        → Type 0
+    ChecksBook before after ended rest =
+        ((last : Held (FileStore D g)) × (ended ≡ Ok status.Done) × (rest ≡ left.Open last)
+        × IsChecked before after last)
+        ⊎ ((told : Fault) × (ended ≡ Err told) × FailsToCheck told rest)
+
+    -- `check`: of a configuration alone, or of one and the book of a file
+    abbrev pub DoesCheck : Option (List ℕ) → Option (List ℕ) → Option (List ℕ)
+        → Result Status Fault → Left D g → Type 0
+    DoesCheck None before after ended rest =
+        ChecksConfig before after ended × (rest ≡ left.Nothing)
+    DoesCheck (Some file) before after ended rest = ChecksBook before after ended rest
+
     module _ (b : book.Ghosts (Held (FileStore D g))) where
       -- `init`, `migrate` and `plans` ended well
       abbrev pub MakesNew : Option (List ℕ) → Option (List ℕ) → Status → Files D → Type 0
@@ -211,13 +246,13 @@ module _ {D : Type 0} {g : disk.Ghosts D} where
       DoesJob (job.Feed file) ended rest =
           (ended ≡ Ok status.Done
           → (config : Config) × IsSiteOf file config × FeedsScript m config text before after)
-          × IfErr ended (IsUnchecked None) × (rest ≡ left.Nothing)
-      DoesJob (job.Check file) ended rest = ChecksConfig before after ended × (rest ≡ left.Nothing)
+          × IfErr ended (check.IsUnchecked None) × (rest ≡ left.Nothing)
+      DoesJob (job.Check file database) ended rest = DoesCheck database before after ended rest
       DoesJob (job.Init paths) ended rest =
           ClosesOrFails (MakesNew b before after) FailsToMakeNew ended rest
-      DoesJob (job.Serve paths listening turns is_quiet) ended rest =
-          ClosesOrFails (WorksAndCloses (HasServed turns)) (FailsAtWork (HasServed turns)) ended
-          rest
+      DoesJob (job.Serve paths serving) ended rest =
+          ClosesOrFails (WorksAndCloses (HasServed serving.turns))
+          (FailsAtWork (HasServed serving.turns)) ended rest
       DoesJob (job.Import paths) ended rest = (moment : ℕ) × (moment < 2 ^ 53)
           × ClosesOrFails (WorksAndCloses (HasImported moment)) (FailsAtWork (HasImported moment))
           ended rest

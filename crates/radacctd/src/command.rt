@@ -8,7 +8,7 @@ ghost use Rattle.std.specs.Prelude.{true, false, None, Some};
 ghost use Rattle.std.specs.Io.KnownBytes.{Appends};
 ghost use Rattle.sqlite_wal.specs.Files.{image_at};
 ghost use Rattle.acct_site.specs.declared.config.Config.{Config};
-ghost use Rattle.acct_command_line.specs.CommandLine.{HasTurns};
+ghost use Rattle.acct_command_line.specs.Orders.{HasBounds};
 ghost use Rattle.radacctd.specs.Commands.{Closes, Fails, Worked, WritesOut, FailsToExport};
 ghost use Rattle.radacctd.specs.Files.{Copies, IsUnclosed};
 ghost use Rattle.radacctd.specs.Jobs.{DoesJob, HasNoConfig, WorksAndCloses, FailsAtWork};
@@ -16,16 +16,17 @@ ghost use Rattle.radacctd.specs.Jobs.{ExportsBook, ExportsNothing, FeedsScript};
 ghost use Rattle.radacctd.specs.Jobs.{text_of, IsSiteOf};
 ghost use Rattle.acct_commands.specs.Checks.{IsUnchecked};
 ghost use Rattle.std.specs.Option.{option_copied};
-ghost use Rattle.acct_commands.specs.Serving.{RunsServer};
 ghost use Rattle.acct_commands.specs.Imports.{Runs};
 
+use crate::checking::check;
 use crate::database::{FileBook, adopted, close};
 use crate::feed::run_feed;
 use crate::left::Left;
 use crate::making::{add_plans, init, migrate};
+use crate::serving::serve;
 use acct_book::Book;
-use acct_command_line::{Export, Job, Listening, Paths};
-use acct_commands::{Fault, read_config, run_check, run_export, run_import, run_serve};
+use acct_command_line::{Export, Job, Paths};
+use acct_commands::{Errors, Fault, read_config, run_export, run_import};
 use acct_feed::Status;
 use acct_model::Text;
 use acct_samples::sample_config;
@@ -48,20 +49,20 @@ pub struct Outcome<W, D: Disk> {
     pub left: Left<D>,
 }
 
-// The end of a command that closes its book, or what a fault left.
+/// The end of a command that closes its book, or what a fault left.
 pub(crate) type Ending<S> = Result<(Status, Files<FileFrom<S>>), (Fault, Left<FileFrom<S>>)>;
 
 /// Does a job over these streams, and says how it ended. The book's files held what `S` says. What
-/// a server tells while it runs goes to `errors`.
+/// a server tells while it runs goes to `errors`, its drops and counts only where it isn't quiet.
 pub fn run<S: Start, I: Read + Drop, W: Write + Drop, E: Write + Drop>(
     runtime: &HostRuntime,
     job: &Job,
     input: I,
     mut output: W,
-    errors: E,
+    errors: Errors<E>,
     start: S,
 ) -> Outcome<W, FileFrom<S>>
-    requires { HasTurns job.now }
+    requires { HasBounds job.now }
     ensures other { IfOk result.ended (λ status. status ≢ Status.WrongWords) }
     ensures does { DoesJob (image_at S.Start) ⟦<SqlBook<FileStore<FileFrom<S>>> as Book>⟧
         ⟦<Sockets<'static, HostRuntime> as Exchange>⟧ ⟦<SqlBook<MemStore> as Book>⟧
@@ -73,30 +74,15 @@ pub fn run<S: Start, I: Read + Drop, W: Write + Drop, E: Write + Drop>(
             let ended = feed(runtime, config.as_ref(), input, &mut output);
             without_book(ended, output)
         }
-        Job::Check { config } => {
-            let ended = run_check(runtime, runtime.alloc(), config, &mut output);
-            without_book(ended, output)
+        Job::Check { config, database } => {
+            check(runtime, config, database.as_ref(), output, start)
         }
         Job::Init { paths } => {
             let ending = init(runtime, paths, &mut output, start);
             with_book(ending, output)
         }
-        Job::Serve {
-            paths,
-            listening,
-            turns,
-            is_quiet,
-        } => {
-            let errors = told_to(errors, *is_quiet);
-            let ending = serve(
-                runtime,
-                paths,
-                listening,
-                *turns,
-                &mut output,
-                errors,
-                start,
-            );
+        Job::Serve { paths, serving } => {
+            let ending = serve(runtime, paths, serving, &mut output, errors, start);
             with_book(ending, output)
         }
         Job::Import { paths } => {
@@ -116,8 +102,11 @@ pub fn run<S: Start, I: Read + Drop, W: Write + Drop, E: Write + Drop>(
     }
 }
 
-// The outcome of a command that has no book.
-fn without_book<W: Write, D: Disk>(ended: Result<Status, Fault>, output: W) -> Outcome<W, D>
+/// The outcome of a command that has no book.
+pub(crate) fn without_book<W: Write, D: Disk>(
+    ended: Result<Status, Fault>,
+    output: W,
+) -> Outcome<W, D>
     requires { IfOk ended (λ status. status ≢ Status.WrongWords) }
     ensures same { result.ended ≡ ended }
     ensures output { text_of W.contents result.output ≡ W.contents output }
@@ -186,8 +175,8 @@ fn feed<I: Read + Drop, W: Write + Drop>(
     Ok(run_feed(alloc, config, input, output))
 }
 
-// Closes the book of a command that ends so.
-fn finished<S: Start>(book: FileBook<S>, status: Status) -> Ending<S>
+/// Closes the book of a command that ends so.
+pub(crate) fn finished<S: Start>(book: FileBook<S>, status: Status) -> Ending<S>
     ensures closed { IfOk result (λ done. (done.0 ≡ status) × Copies book done.1) }
     ensures failed { IfErr result (λ e. IsUnclosed book e.0 e.1) }
 {
@@ -197,91 +186,16 @@ fn finished<S: Start>(book: FileBook<S>, status: Status) -> Ending<S>
     }
 }
 
-// The configuration of a command that keeps a book, before any file of the book is opened.
+/// The configuration of a command that keeps a book, before any file of the book is opened.
 pub(crate) fn config_of<D: Disk>(
     runtime: &HostRuntime,
-    paths: &Paths,
+    file: &Text,
 ) -> Result<Config, (Fault, Left<D>)>
     ensures { IfErr result (λ e. HasNoConfig e.0 e.1) }
 {
-    match read_config(runtime, runtime.alloc(), &paths.config) {
+    match read_config(runtime, runtime.alloc(), file) {
         Ok(config) => Ok(config),
         Err(fault) => Err((fault, Left::Nothing)),
-    }
-}
-
-// Where a server tells what it drops: nowhere, if it is to be quiet.
-fn told_to<E: Drop>(errors: E, is_quiet: bool) -> Option<E>
-    ensures quiet { is_quiet ≡ true → result ≡ None }
-    ensures other { is_quiet ≡ false → result ≡ Some errors }
-{
-    if is_quiet { None } else { Some(errors) }
-}
-
-// `serve` over the book of a file. It tells on `errors`, if it has that, what it drops.
-fn serve<S: Start, W: Write, E: Write + Drop>(
-    runtime: &HostRuntime,
-    paths: &Paths,
-    listening: &Listening,
-    turns: u64,
-    output: &mut W,
-    errors: Option<E>,
-    start: S,
-) -> Ending<S>
-    requires { turns < 2 ^ 63 }
-    ensures other { IfOk result (λ done. done.0 ≢ Status.WrongWords) }
-    ensures closed { IfOk result (λ done. WorksAndCloses (image_at S.Start)
-        (λ config. RunsServer ⟦<SqlBook<FileStore<FileFrom<S>>> as Book>⟧
-        ⟦<Sockets<'static, HostRuntime> as Exchange>⟧ config turns (W.contents output.old)
-        (W.contents output.new)) done.0 done.1) }
-    ensures failed { IfErr result (λ e. FailsAtWork (image_at S.Start)
-        (λ config. RunsServer ⟦<SqlBook<FileStore<FileFrom<S>>> as Book>⟧
-        ⟦<Sockets<'static, HostRuntime> as Exchange>⟧ config turns (W.contents output.old)
-        (W.contents output.new)) e.0 e.1) }
-{
-    let config = config_of(runtime, paths)?;
-    served(
-        runtime,
-        &config,
-        &paths.database,
-        listening,
-        turns,
-        output,
-        errors,
-        start,
-    )
-}
-
-// The same with this configuration.
-fn served<S: Start, W: Write, E: Write + Drop>(
-    runtime: &HostRuntime,
-    config: &Config,
-    file: &Text,
-    listening: &Listening,
-    turns: u64,
-    output: &mut W,
-    errors: Option<E>,
-    start: S,
-) -> Ending<S>
-    requires { turns < 2 ^ 63 }
-    ensures done { IfOk result (λ done. done.0 ≡ Status.Done) }
-    ensures closed { IfOk result (λ done. Closes (image_at S.Start) config.now.plans
-        (RunsServer ⟦<SqlBook<FileStore<FileFrom<S>>> as Book>⟧
-        ⟦<Sockets<'static, HostRuntime> as Exchange>⟧ config.now turns (W.contents output.old)
-        (W.contents output.new)) done.0 done.1) }
-    ensures failed { IfErr result (λ e. Fails (image_at S.Start) config.now.plans
-        (RunsServer ⟦<SqlBook<FileStore<FileFrom<S>>> as Book>⟧
-        ⟦<Sockets<'static, HostRuntime> as Exchange>⟧ config.now turns (W.contents output.old)
-        (W.contents output.new)) e.0 e.1) }
-{
-    let mut book = adopted(runtime, file, &config.plans, start)?;
-    let alloc = runtime.alloc();
-    let ended = run_serve(
-        runtime, alloc, config, &mut book, listening, turns, output, errors,
-    );
-    match ended {
-        Ok(status) => finished(book, status),
-        Err(fault) => Err((fault, Left::Open(book.into_connection()))),
     }
 }
 
@@ -305,7 +219,7 @@ fn import<S: Start, I: Read + Drop, W: Write>(
         config.plans moment (I.remaining input) first last (W.contents output.old)
         (W.contents output.new) ended) e.0 e.1) }
 {
-    let config = config_of(runtime, paths)?;
+    let config = config_of(runtime, &paths.config)?;
     imported(
         runtime,
         &config,

@@ -20,7 +20,8 @@ use acct_sql::{SqlBook, SqlBookError};
 use sqlite::{Connection, FileFrom, FileStore, Files, Start};
 use sqlite_disk::Disk;
 use std::alloc::Global;
-use std::fs::metadata;
+use std::fs::{OpenOptions, metadata};
+use std::os::unix::fs::OpenOptionsExt;
 
 // The octets of the header of a SQLite database: no database has fewer.
 const HEADER_OCTETS: u64 = 100;
@@ -28,7 +29,8 @@ const HEADER_OCTETS: u64 = 100;
 /// A book in a file that held what `S` says.
 pub type FileBook<S> = SqlBook<FileStore<FileFrom<S>>>;
 
-/// Makes an empty book in a file, and the file too where it isn't there.
+/// Makes an empty book in a file, and the file too where it isn't there, which then its owner alone
+/// can read and write, as its log.
 ///
 /// # Errors
 ///
@@ -44,6 +46,7 @@ pub fn made<S: Start>(
         → IsMadeIn (image_at S.Start) plans.now book) }
     ensures refused { IfErr result (λ e. HasNotMade (image_at S.Start) plans.now e.0 e.1) }
 {
+    keep_private(runtime, file);
     let connection = opened(runtime, file, start)?;
     created(runtime.alloc(), connection, plans)
 }
@@ -136,6 +139,22 @@ pub fn close<S: Start>(book: FileBook<S>) -> Result<Files<FileFrom<S>>, (Fault, 
         Ok(files) => Ok(files),
         Err((_, rest)) => { Err((Fault::Store(StoreFault::Unavailable), Left::Unclosed(rest))) }
     }
+}
+
+// Makes the files of a new book so that no other user can read them: an open would leave that to the
+// umask. Files that are there stay as they are. What can't be made here, the open tells of.
+fn keep_private(runtime: &HostRuntime, file: &Text) {
+    make_private(runtime, file.as_str());
+    if let Ok(log) = format!(in runtime.alloc(); "{}-wal", file.as_str()) {
+        make_private(runtime, &log);
+    }
+}
+
+// Makes an empty file that its owner alone can read and write, where none is there.
+fn make_private(runtime: &HostRuntime, file: &str) {
+    let mut options = OpenOptions::new();
+    options.write(true).create_new(true).mode(0o600);
+    let _ = options.open(runtime, file);
 }
 
 // Whether a file is there that may be a database: a regular one with room for a header.

@@ -6,20 +6,26 @@
 //! script.
 #![tactic(auto)]
 
-ghost use Rattle.acct_command_line.specs.CommandLine.{HasTurns};
+ghost use Rattle.std.specs.Prelude.{◌≢◌, IfOk};
+ghost use Rattle.acct_command_line.specs.Orders.{HasBounds};
 
+mod checking;
 mod command;
 mod database;
+mod explaining;
 mod feed;
 mod left;
 mod making;
+mod serving;
 
 use crate::command::{Outcome, run};
-use acct_command_line::{Job, job_of, tell};
-use acct_commands::end;
+use crate::explaining::explain_fault;
+use acct_command_line::{Job, Order, Syncs, job_of, tell};
+use acct_commands::{Errors, Fault, end};
+use acct_explain::explain_words;
 use acct_feed::Status;
-use sqlite::Wary;
-use std::io::BufWriter;
+use sqlite::{Start, Unknown, Wary};
+use std::io::{BufWriter, Write};
 use std::process::ExitCode;
 use std::{env, io};
 
@@ -32,8 +38,21 @@ fn main(rt: HostRuntime) -> ExitCode {
         }
     };
     match job_of(rt.alloc(), words) {
-        Ok(job) => ExitCode::from(run_on_standard_streams(&rt, &job)),
-        Err(error) => ExitCode::from(tell(&rt, &error)),
+        Ok(order) => ExitCode::from(run_on_standard_streams(&rt, &order)),
+        Err(error) => {
+            let status = tell(&rt, &error);
+            if status == Status::WrongWords {
+                explain_wrong_words(&rt);
+            }
+            ExitCode::from(status)
+        }
+    }
+}
+
+// Tells more of words that are wrong, where they ask for that.
+fn explain_wrong_words(rt: &HostRuntime) {
+    if let Ok(words) = words_of(rt) {
+        explain_words(&words, &mut rt.stderr());
     }
 }
 
@@ -47,23 +66,70 @@ fn words_of(rt: &HostRuntime) -> io::Result<Vec<String>> {
 }
 
 // Does a job over standard input, output and error, and says how it ended.
-fn run_on_standard_streams(rt: &HostRuntime, job: &Job) -> Status
-    requires { HasTurns job.now }
+fn run_on_standard_streams(rt: &HostRuntime, order: &Order) -> Status
+    requires { HasBounds order.now.job }
 {
     let output = BufWriter::new(rt.alloc(), rt.stdout());
-    let errors = BufWriter::new(rt.alloc(), rt.stderr());
-    match (output, errors) {
-        (Ok(output), Ok(errors)) => {
-            let Outcome {
-                ended,
-                output: _output,
-                left: _left,
-            } = run(rt, job, rt.stdin(), output, errors, Wary);
-            end(&mut rt.stderr(), ended)
+    let drops = BufWriter::new(rt.alloc(), rt.stderr());
+    let site = BufWriter::new(rt.alloc(), rt.stderr());
+    match (output, drops, site) {
+        (Ok(output), Ok(drops), Ok(site)) => {
+            let drops = Some(drops);
+            let ended = run_as_it_syncs(rt, &order.job, output, Errors { drops, site });
+            let status = end(&mut rt.stderr(), ended);
+            if let Err(fault) = ended
+                && order.explains
+            {
+                explain_fault(rt, &order.job, fault, &mut rt.stderr());
+            }
+            status
         }
         _ => {
             let _ = println!(rt; "unavailable");
             Status::Unavailable
         }
     }
+}
+
+// Does a job over files of which is supposed what its syncs want.
+fn run_as_it_syncs<W: Write + Drop, E: Write + Drop>(
+    rt: &HostRuntime,
+    job: &Job,
+    output: W,
+    errors: Errors<E>,
+) -> Result<Status, Fault>
+    requires { HasBounds job.now }
+    ensures other { IfOk result (λ status. status ≢ Status.WrongWords) }
+{
+    match syncs_of(job) {
+        Syncs::Once => run_from(rt, job, output, errors, Unknown),
+        Syncs::Twice => run_from(rt, job, output, errors, Wary),
+    }
+}
+
+// How often a commit of a job's book syncs.
+fn syncs_of(job: &Job) -> Syncs {
+    match job {
+        Job::Serve { serving, .. } => serving.syncs,
+        _ => Syncs::Twice,
+    }
+}
+
+// Does a job over files of which this is supposed.
+fn run_from<S: Start, W: Write + Drop, E: Write + Drop>(
+    rt: &HostRuntime,
+    job: &Job,
+    output: W,
+    errors: Errors<E>,
+    start: S,
+) -> Result<Status, Fault>
+    requires { HasBounds job.now }
+    ensures other { IfOk result (λ status. status ≢ Status.WrongWords) }
+{
+    let Outcome {
+        ended,
+        output: _output,
+        left: _left,
+    } = run(rt, job, rt.stdin(), output, errors, start);
+    ended
 }

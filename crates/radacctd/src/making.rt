@@ -30,7 +30,7 @@ pub(crate) fn init<S: Start, W: Write>(
         (W.contents output.new) done.0 done.1) }
     ensures failed { IfErr result (λ e. FailsToMakeNew (image_at S.Start) e.0 e.1) }
 {
-    let config = config_of(runtime, paths)?;
+    let config = config_of(runtime, &paths.config)?;
     let book = made(runtime, &paths.database, &config.plans, start)?;
     let files = close(book)?;
     match write_made(output) {
@@ -61,7 +61,7 @@ pub(crate) fn migrate<S: Start, W: Write>(
         (W.contents output.new) done.0 done.1) }
     ensures failed { IfErr result (λ e. FailsToMigrate (image_at S.Start) e.0 e.1) }
 {
-    let config = config_of(runtime, paths)?;
+    let config = config_of(runtime, &paths.config)?;
     let book = migrated(runtime, &paths.database, &config.plans, start)?;
     let files = close(book)?;
     match write_schema(output) {
@@ -92,7 +92,7 @@ pub(crate) fn add_plans<S: Start, W: Write>(
         (W.contents output.new) done.0 done.1) }
     ensures failed { IfErr result (λ e. FailsToAdd (image_at S.Start) e.0 e.1) }
 {
-    let config = config_of(runtime, paths)?;
+    let config = config_of(runtime, &paths.config)?;
     let (book, count) = extended(runtime, &paths.database, &config.plans, start)?;
     let files = close(book)?;
     match write_added(output, count) {

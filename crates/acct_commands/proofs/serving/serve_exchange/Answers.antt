@@ -4,7 +4,7 @@ use Rattle.acct_commands.proofs.serving.serve_exchange.Goals as goal
 pub returns-in-Ok-write_counts : goal.returns-in-Ok-write_counts
 returns-in-Ok-write_counts g c =
     let w = g.W.Write.contents in
-    let ran = c.serve_while_open-until.ensures in (
+    let ran = c.serve_in_slices-until.ensures in (
       record {
         turns_made = ran.turns;
         shut = ran.shut;

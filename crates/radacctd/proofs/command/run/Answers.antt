@@ -14,10 +14,7 @@ returns-in-Feed-clause-does g c =
 
 pub returns-in-Check-clause-does : goal.returns-in-Check-clause-does
 returns-in-Check-clause-does g c =
-    let out = c.without_book-in-Check.ensures in
-    let did = c.run_check-ended.ensures in
-    rw (c.in-Check.is, out.output, out.same)
-    (record { sizes = did.sizes; refused = did.refused }, out.left)
+    rw c.in-Check.is (rw c.as_ref-in-Check.ensures.value at c.check.ensures.does)
 
 pub returns-in-Init-clause-does : goal.returns-in-Init-clause-does
 returns-in-Init-clause-does g c =

@@ -1,0 +1,29 @@
+-- The numbers of a job that words ask for are within their bounds.
+use Rattle.std.proofs.Common.{List, Option, Some, None, arith, ◌≤◌}
+use Rattle.std.specs.Prelude.{IfSome}
+use Rattle.clap.specs.Words.{Row, Text}
+use Rattle.acct_command_line.specs.declared.job.Job.{Job}
+use Rattle.acct_command_line.specs.declared.job.Job.TheVariants as job
+use Rattle.acct_command_line.specs.declared.job.BalancesFile.{BalancesFile}
+use Rattle.acct_command_line.specs.Orders.{HasBounds, IsBalances, WordsAskFor}
+
+seconds : (rows : List Row) (balances : Option BalancesFile) → IsBalances rows balances
+    → IfSome balances (λ balances. (1 ≤ balances.seconds) × (balances.seconds ≤ 86400))
+seconds rows None asked = tt
+seconds rows (Some balances) asked = (asked.1.3, asked.1.4)
+
+pub bounded : (name : Text) (rows : List Row) (asked : Job) → WordsAskFor name rows asked
+    → HasBounds asked
+bounded name rows (job.Feed config) asked = tt
+bounded name rows (job.Check config database) asked = tt
+bounded name rows (job.Init paths) asked = tt
+bounded name rows (job.Serve paths serving) asked = record {
+  turns = omega (arith, asked.2.1.4);
+  some_address = asked.2.0.0.1;
+  addresses = asked.2.0.0.2;
+  seconds = seconds rows serving.telling.balances asked.2.3.2;
+}
+bounded name rows (job.Import paths) asked = tt
+bounded name rows (job.Export paths what) asked = tt
+bounded name rows (job.Migrate paths) asked = tt
+bounded name rows (job.AddPlans paths) asked = tt

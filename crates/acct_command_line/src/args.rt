@@ -1,0 +1,155 @@
+//! The options of the commands.
+ghost use Rattle.std.specs.Prelude.{◌≡◌, false, codes};
+ghost use Rattle.clap.specs.Words.{rule_of};
+ghost use Rattle.acct_command_line.specs.CommandLine.{config_rule, database_rule, what_rule};
+ghost use Rattle.acct_command_line.specs.CommandLine.{bind_rule, option_rule, flag_rule, required};
+ghost use Rattle.acct_command_line.specs.CommandLine.{port_rule, turns_rule, sync_rule};
+ghost use Rattle.acct_command_line.specs.CommandLine.{balances_every_rule};
+
+use clap::{Arg, ArgAction};
+use std::alloc::Global;
+
+/// `--config FILE`
+pub fn config_option<'a>(alloc: Global) -> Arg<'a>
+    ensures rule { rule_of result ≡ config_rule }
+    ensures local { result.global ≡ false }
+{
+    valued(alloc, "config", "FILE").help(
+        "The clients, plans and keys, as TOML: /etc/radacctd.toml, say",
+    )
+}
+
+/// `--db FILE`
+pub fn database_option<'a>(alloc: Global) -> Arg<'a>
+    ensures rule { rule_of result ≡ database_rule }
+    ensures local { result.global ≡ false }
+{
+    valued(alloc, "db", "FILE").help("The book, a SQLite database: /var/lib/radacctd/book, say")
+}
+
+/// `WHAT`
+pub fn what_option<'a>(alloc: Global) -> Arg<'a>
+    ensures rule { rule_of result ≡ required what_rule }
+    ensures local { result.global ≡ false }
+{
+    Arg::new(alloc, "what")
+        .value_name("WHAT")
+        .required(true)
+        .help("sessions, balances, topups or overruns")
+}
+
+/// `--explain`
+pub fn explain_flag<'a>(alloc: Global) -> Arg<'a>
+    ensures rule { rule_of result ≡ flag_rule (codes "explain") }
+    ensures local { result.global ≡ false }
+{
+    flag(alloc, "explain").help("Tells more of a fault, in a second line on standard error")
+}
+
+/// `--bind A.B.C.D`
+pub fn bind_option<'a>(alloc: Global) -> Arg<'a>
+    ensures rule { rule_of result ≡ bind_rule }
+    ensures local { result.global ≡ false }
+{
+    valued(alloc, "bind", "A.B.C.D")
+        .action(ArgAction::Append)
+        .default_value("127.0.0.1")
+        .help(
+            "An IPv4 address for accounting reports, up to 16 of them; 0.0.0.0 for each of the \
+             machine's",
+        )
+}
+
+/// `--desk-bind A.B.C.D`
+pub fn desk_bind_option<'a>(alloc: Global) -> Arg<'a>
+    ensures rule { rule_of result ≡ option_rule (codes "desk-bind") }
+    ensures local { result.global ≡ false }
+{
+    valued(alloc, "desk-bind", "A.B.C.D").help(
+        "The IPv4 address of the desk; the first --bind where it isn't given",
+    )
+}
+
+/// An option for a port.
+pub fn port_option<'a>(alloc: Global, id: &'a str, default: &'a str) -> Arg<'a>
+    ensures rule { rule_of result ≡ port_rule id.now default.now }
+    ensures local { result.global ≡ false }
+{
+    valued(alloc, id, "PORT")
+        .value_parser(clap::value_parser!(u16).range(1..))
+        .default_value(default)
+}
+
+/// `--turns N`
+pub fn turns_option<'a>(alloc: Global) -> Arg<'a>
+    ensures rule { rule_of result ≡ turns_rule }
+    ensures local { result.global ≡ false }
+{
+    valued(alloc, "turns", "N")
+        .value_parser(clap::value_parser!(i64).range(1..))
+        .default_value("9223372036854775807")
+        .help("How many turns to make before the end; one takes 20 milliseconds at most to wait")
+}
+
+/// `--sync HOW`
+pub fn sync_option<'a>(alloc: Global) -> Arg<'a>
+    ensures rule { rule_of result ≡ sync_rule }
+    ensures local { result.global ≡ false }
+{
+    valued(alloc, "sync", "HOW").default_value("twice").help(
+        "once or twice: how often a write of the book is synced; once where disks tear no octet",
+    )
+}
+
+/// `--quiet`
+pub fn quiet_flag<'a>(alloc: Global) -> Arg<'a>
+    ensures rule { rule_of result ≡ flag_rule (codes "quiet") }
+    ensures local { result.global ≡ false }
+{
+    flag(alloc, "quiet").help("Tells no drops and no counts on standard error while it runs")
+}
+
+/// `--status FILE`
+pub fn status_option<'a>(alloc: Global) -> Arg<'a>
+    ensures rule { rule_of result ≡ option_rule (codes "status") }
+    ensures local { result.global ≡ false }
+{
+    valued(alloc, "status", "FILE").help(
+        "A file to write the counts of what came into, in Prometheus' text form",
+    )
+}
+
+/// `--balances FILE`
+pub fn balances_option<'a>(alloc: Global) -> Arg<'a>
+    ensures rule { rule_of result ≡ option_rule (codes "balances") }
+    ensures local { result.global ≡ false }
+{
+    valued(alloc, "balances", "FILE").help("A file to write the balances of all accounts into")
+}
+
+/// `--balances-every SECONDS`
+pub fn balances_every_option<'a>(alloc: Global) -> Arg<'a>
+    ensures rule { rule_of result ≡ balances_every_rule }
+    ensures local { result.global ≡ false }
+{
+    valued(alloc, "balances-every", "SECONDS")
+        .value_parser(clap::value_parser!(i64).range(1..=86_400))
+        .default_value("60")
+        .help("The fewest seconds from one writing of the balances to the next, 1 to 86400")
+}
+
+// An option of one value.
+fn valued<'a>(alloc: Global, id: &'a str, value: &'a str) -> Arg<'a>
+    ensures rule { rule_of result ≡ option_rule id.now }
+    ensures local { result.global ≡ false }
+{
+    Arg::new(alloc, id).long(id).value_name(value)
+}
+
+// A flag.
+fn flag<'a>(alloc: Global, id: &'a str) -> Arg<'a>
+    ensures rule { rule_of result ≡ flag_rule id.now }
+    ensures local { result.global ≡ false }
+{
+    Arg::new(alloc, id).long(id).action(ArgAction::SetTrue)
+}

@@ -1,0 +1,140 @@
+//! What the words of the command line ask for.
+ghost use Rattle.std.specs.Prelude.{◌≡◌, IfOk, IfSome, codes, map, string_bytes};
+ghost use Rattle.clap.specs.Words.{first_of, rows_of, found_of, subcommand_of};
+ghost use Rattle.acct_command_line.specs.CommandLine.{app};
+ghost use Rattle.acct_command_line.specs.Orders.{ArePaths, HasBounds, IsExport, NamesJob};
+ghost use Rattle.acct_command_line.specs.Orders.{WordsAskFor, export_name};
+
+use crate::commands::{PROGRAM, command_line};
+use crate::job::{Export, Job, Order, Paths};
+use crate::options::{flag_option, text_option};
+use crate::serving::serving_of;
+use clap::error::ErrorKind;
+use clap::{ArgMatches, Command, Error};
+use std::alloc::{AllocError, Global};
+
+/// The job that the words name, the program's name first.
+///
+/// # Errors
+///
+/// What `clap` says: of wrong words, of help or the version that was asked for, and where memory is
+/// refused.
+pub fn job_of(alloc: Global, words: Vec<String>) -> Result<Order, Error>
+    ensures named { IfOk result (NamesJob (subcommand_of app (map string_bytes words.items))) }
+    ensures bounds { IfOk result (λ order. HasBounds order.job) }
+{
+    let matches = command_line(alloc)?.try_get_matches_from(words.as_slice())?;
+    let Some((name, options)) = matches.subcommand() else {
+        return Err(no_job(alloc));
+    };
+    match asked(alloc, name, options)? {
+        Some(job) => Ok(Order {
+            job,
+            explains: flag_option(options, "explain"),
+        }),
+        None => Err(no_job(alloc)),
+    }
+}
+
+// What the options of a command ask for, if it is one of ours and they fit.
+fn asked(alloc: Global, name: &str, options: &ArgMatches<'_>) -> Result<Option<Job>, AllocError>
+    ensures { IfOk result (λ job. IfSome job
+        (WordsAskFor name.now (rows_of (found_of options.now)))) }
+{
+    let config = text_option(alloc, options, "config")?;
+    if name == "feed" {
+        return Ok(Some(Job::Feed { config }));
+    }
+    let Some(config) = config else {
+        return Ok(None);
+    };
+    let database = text_option(alloc, options, "db")?;
+    if name == "check" {
+        return Ok(Some(Job::Check { config, database }));
+    }
+    let Some(database) = database else {
+        return Ok(None);
+    };
+    asked_of_book(alloc, name, Paths { config, database }, options)
+}
+
+// What the options of a command ask for that keeps a book.
+fn asked_of_book(
+    alloc: Global,
+    name: &str,
+    paths: Paths,
+    options: &ArgMatches<'_>,
+) -> Result<Option<Job>, AllocError>
+    requires { ArePaths (rows_of (found_of options.now)) paths }
+    ensures { IfOk result (λ job. IfSome job
+        (WordsAskFor name.now (rows_of (found_of options.now)))) }
+{
+    match name {
+        "init" => Ok(Some(Job::Init { paths })),
+        "serve" => asked_to_serve(alloc, paths, options),
+        "import" => Ok(Some(Job::Import { paths })),
+        "export" => Ok(asked_to_export(paths, options)),
+        "migrate" => Ok(Some(Job::Migrate { paths })),
+        "plans" => Ok(Some(Job::AddPlans { paths })),
+        _ => Ok(None),
+    }
+}
+
+// What the options of `serve` ask for.
+fn asked_to_serve(
+    alloc: Global,
+    paths: Paths,
+    options: &ArgMatches<'_>,
+) -> Result<Option<Job>, AllocError>
+    requires { ArePaths (rows_of (found_of options.now)) paths }
+    ensures { IfOk result (λ job. IfSome job
+        (WordsAskFor (codes "serve") (rows_of (found_of options.now)))) }
+{
+    match serving_of(alloc, options)? {
+        Some(serving) => Ok(Some(Job::Serve { paths, serving })),
+        None => Ok(None),
+    }
+}
+
+// What the options of `export` ask for.
+fn asked_to_export(paths: Paths, options: &ArgMatches<'_>) -> Option<Job>
+    requires { ArePaths (rows_of (found_of options.now)) paths }
+    ensures { IfSome result (WordsAskFor (codes "export") (rows_of (found_of options.now))) }
+{
+    let what = export_option(options)?;
+    Some(Job::Export { paths, what })
+}
+
+// What the options say that is to be written.
+fn export_option(options: &ArgMatches<'_>) -> Option<Export>
+    ensures { IfSome result (IsExport (rows_of (found_of options.now))) }
+{
+    let text = options.get_str("what")?;
+    export_named(text)
+}
+
+// What of a book has this name.
+fn export_named(name: &str) -> Option<Export>
+    ensures { IfSome result (λ what. name.now ≡ export_name what) }
+{
+    match name {
+        "sessions" => Some(Export::Sessions),
+        "balances" => Some(Export::Balances),
+        "topups" => Some(Export::TopUps),
+        "overruns" => Some(Export::Overruns),
+        _ => None,
+    }
+}
+
+// The error where the words name no command, or an option is missing or out of its range.
+fn no_job(alloc: Global) -> Error {
+    let mut command = Command::new(alloc, PROGRAM);
+    match command.error(
+        ErrorKind::InvalidValue,
+        "a command or an option is missing, a number isn't plain digits, a word isn't one that \
+         help names, or there are more than 16 addresses",
+    ) {
+        Ok(error) => error,
+        Err(error) => Error::from(error),
+    }
+}

@@ -1,0 +1,62 @@
+-- What comes to a server, counted call by call of its exchange.
+use Rattle.std.specs.Prelude.{◌+◌, ◌-◌, ◌^◌, ℕ, min, Bool, true, false, Option, Some, None, Result}
+use Rattle.std.specs.Prelude.{Ok, Err, List, slice_index, slice_set, if◌then◌else◌}
+use Rattle.acct_wire.specs.declared.reason.Reason.{Reason}
+use Rattle.acct_wire.specs.Reasons.{reason_number}
+use Rattle.acct_service.specs.declared.event.Event.{Event}
+use Rattle.acct_service.specs.declared.exchange.Fault.{Fault}
+use Rattle.acct_commands.specs.declared.tally.Tally.{Tally}
+
+-- nothing yet
+abbrev pub no_tally : Tally
+no_tally = record { events = 0; replies = 0; drops = 0; mute = 0; faults = 0 }
+
+-- one more, as far as is counted
+abbrev pub plus_one : ℕ → ℕ
+plus_one count = min (count + 1) (2 ^ 64 - 1)
+
+-- with an event, if there is one that got no answer before the next turn
+abbrev pub with_mute : Bool → Tally → Tally
+with_mute is_unanswered tally =
+    if is_unanswered then record tally { mute = plus_one tally.mute } else tally
+
+-- with a turn or a reply that failed
+abbrev pub with_fault : Tally → Tally
+with_fault tally = record tally { faults = plus_one tally.faults }
+
+-- with what came in a turn
+abbrev pub with_came : Result (Option Event) Fault → Tally → Tally
+with_came (Ok (Some event)) tally = record tally { events = plus_one tally.events }
+with_came (Ok None) tally = tally
+with_came (Err fault) tally = with_fault tally
+
+-- an event came in a turn, which is to be answered
+abbrev pub is_event : Result (Option Event) Fault → Bool
+is_event (Ok (Some event)) = true
+is_event (Ok None) = false
+is_event (Err fault) = false
+
+-- with a reply that was asked for, which was taken or not
+abbrev pub with_reply : Bool → Tally → Tally
+with_reply is_taken tally =
+    if is_taken then record tally { replies = plus_one tally.replies } else with_fault tally
+
+-- with a drop
+abbrev pub with_drop : Tally → Tally
+with_drop tally = record tally { drops = plus_one tally.drops }
+
+-- how many drops are counted for a reason: the reasons stand in the order of their numbers, which
+-- begin at 1
+abbrev pub drops_for : List ℕ → Reason → ℕ
+drops_for dropped reason = slice_index dropped (reason_number reason - 1)
+
+-- with a drop for a reason
+abbrev pub with_drop_for : Reason → List ℕ → List ℕ
+with_drop_for reason dropped =
+    slice_set dropped (reason_number reason - 1) (plus_one (drops_for dropped reason))
+
+-- when the last event came, once this came in a turn
+abbrev pub last_event : Result (Option Event) Fault → ℕ → ℕ
+last_event (Ok (Some event)) last = event.moment
+last_event (Ok None) last = last
+last_event (Err fault) last = last

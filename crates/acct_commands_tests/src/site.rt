@@ -1,0 +1,120 @@
+//! The configuration that is read again while a server runs, and what is told of the clock.
+use acct_commands::{SiteFile, config_from, note_clock};
+use acct_model::Text;
+use acct_site::Config;
+use std::alloc::Global;
+use std::fs;
+use std::fs::{File, OpenFile};
+use std::test::Fail;
+use std::time::{Duration, SystemTime};
+
+const CLIENT: &str = "[[client]]\nname = \"ap1\"\naddress = \"10.0.0.1\"\n\
+    secret = \"xyzzy5461\"\n";
+
+const OTHER_CLIENT: &str = "[[client]]\nname = \"ap2\"\naddress = \"10.0.0.2\"\n\
+    secret = \"another-secret\"\n";
+
+const PLAN: &str = "[[plan]]\nclass = \"default\"\nblock = 1000000\nunit = 5\n";
+
+const OTHER_PLAN: &str = "[[plan]]\nclass = \"default\"\nblock = 1000000\nunit = 6\n";
+
+const KEY: &str = "[[key]]\ntoken = \"al-key-0000000001\"\naccount = \"al\"\n";
+
+const WRONG_KEY: &str = "[[key]]\ntoken = \"al-key\"\naccount = \"al\"\n";
+
+// Writes these parts into the file of a configuration.
+fn write_site(rt: &HostRuntime, name: &str, parts: [&str; 4]) -> Result<(), Fail> {
+    let [first, second, third, fourth] = parts;
+    let text = format!(in rt.alloc(); "{first}{second}{third}{fourth}")?;
+    fs::write(rt, name, text.as_str())?;
+    Ok(())
+}
+
+// The configuration of one client, one plan and one key.
+fn old_site(alloc: Global) -> Result<Config, Fail> {
+    let text = format!(in alloc; "{CLIENT}{PLAN}{KEY}")?;
+    match config_from(alloc, &mut text.as_bytes()) {
+        Ok(config) => Ok(config),
+        Err(_) => Err("no configuration".into()),
+    }
+}
+
+// How many clients and keys a configuration has.
+fn sizes(site: Option<Config>) -> Option<(usize, usize)> {
+    let site = site?;
+    Some((site.clients.list().len(), site.keys.list().len()))
+}
+
+// A change is seen once, taken where it is right and has the same plans, and told.
+#[test]
+fn takes_what_is_right(rt: HostRuntime) -> Result<(), Fail> {
+    let alloc = rt.alloc();
+    let name = "changing-site.toml";
+    write_site(&rt, name, [CLIENT, PLAN, KEY, ""])?;
+    let config = old_site(alloc)?;
+    let mut told = Vec::new(alloc);
+    let mut site = SiteFile::new(&rt, alloc, &Text::from_str(alloc, name)?)?;
+    assert!(rt; sizes(site.look(alloc, &config, 3000, &mut told)).is_none());
+    let changes: [([&str; 4], u32, Option<(usize, usize)>); 5] = [
+        ([CLIENT, OTHER_CLIENT, PLAN, KEY], 3000, Some((2, 1))),
+        ([CLIENT, OTHER_CLIENT, PLAN, WRONG_KEY], 3002, None),
+        ([CLIENT, PLAN, "", ""], 3004, Some((1, 0))),
+        ([CLIENT, OTHER_PLAN, KEY, ""], 3006, None),
+        ([CLIENT, PLAN, OTHER_PLAN, OTHER_CLIENT], 3008, None),
+    ];
+    for (parts, moment, wanted) in changes {
+        let last = u64::from(moment);
+        write_site(&rt, name, parts)?;
+        assert!(rt; site.look(alloc, &config, last, &mut told).is_none());
+        assert!(rt; sizes(site.look(alloc, &config, last + 1, &mut told)) == wanted);
+        assert!(rt; site.look(alloc, &config, last + 2, &mut told).is_none());
+    }
+    fs::remove_file(&rt, name)?;
+    for moment in [4000, 4001] {
+        assert!(rt; site.look(alloc, &config, moment, &mut told).is_none());
+    }
+    assert!(rt; told.as_slice() == TOLD.as_bytes());
+    Ok(())
+}
+
+const TOLD: &str = "config: read again: 2 clients, 1 plans, 1 keys\n\
+    config: BadKey in Key 0; the old one stays\n\
+    config: read again: 1 clients, 1 plans, 0 keys\n\
+    config: PlansDiffer; the old one stays\n\
+    config: TwicePlanned in Plan 1; the old one stays\n\
+    file: cannot read; the old one stays\n";
+
+// Writes a file as if that was so many seconds ago, or in so many.
+fn write_at(rt: &HostRuntime, name: &str, moment: u64) -> Result<(), Fail> {
+    let file = File::create(rt, name)?;
+    let Some(time) = SystemTime::UNIX_EPOCH.checked_add(Duration::from_secs(moment)) else {
+        return Err("no moment".into());
+    };
+    file.set_modified(time)?;
+    Ok(())
+}
+
+// A clock that is before the last change of the book or of its log is told.
+#[test]
+fn tells_a_clock_that_is_late(rt: HostRuntime) -> Result<(), Fail> {
+    let name = "late-book";
+    let file = Text::from_str(rt.alloc(), name)?;
+    let mut told = Vec::new(rt.alloc());
+    note_clock(&rt, &file, &mut told);
+    write_at(&rt, name, 1_000_000_000)?;
+    write_at(&rt, "late-book-wal", 1_000_000_001)?;
+    note_clock(&rt, &file, &mut told);
+    assert!(rt; told.is_empty());
+    write_at(&rt, "late-book-wal", 9_000_000_001)?;
+    note_clock(&rt, &file, &mut told);
+    write_at(&rt, name, 9_000_000_002)?;
+    note_clock(&rt, &file, &mut told);
+    let text = str::from_utf8(&told).unwrap_or("");
+    let (first, second) = text.split_once('\n').unwrap_or(("", ""));
+    assert!(rt; first.starts_with("clock: 1"));
+    assert!(rt; first.ends_with(" is before 9000000001, when the book was last written"));
+    assert!(rt; second.ends_with(" is before 9000000002, when the book was last written\n"));
+    fs::remove_file(&rt, name)?;
+    fs::remove_file(&rt, "late-book-wal")?;
+    Ok(())
+}

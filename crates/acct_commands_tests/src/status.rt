@@ -1,0 +1,164 @@
+//! The file of a server's counts.
+ghost use Rattle.std.specs.Prelude.{◌<◌, ◌^◌};
+
+use acct_commands::{Figures, StatusFile, Tally, Watch, Watched, write_figures};
+use acct_model::{Octets, Text};
+use acct_service::lists::{ListExchange, Planned};
+use acct_service::{Event, Exchange, What};
+use acct_wire::Reason;
+use std::alloc::Global;
+use std::fs;
+use std::os::unix::fs::PermissionsExt;
+use std::test::Fail;
+
+const TEXT: &str = "# HELP radacctd_events_total Datagrams and requests that came.\n\
+    # TYPE radacctd_events_total counter\n\
+    radacctd_events_total 901\n\
+    # HELP radacctd_replies_total Replies and responses that were taken.\n\
+    # TYPE radacctd_replies_total counter\n\
+    radacctd_replies_total 802\n\
+    # HELP radacctd_mute_requests_total Requests that got no response for want of memory.\n\
+    # TYPE radacctd_mute_requests_total counter\n\
+    radacctd_mute_requests_total 4\n\
+    # HELP radacctd_faults_total Turns and replies that failed.\n\
+    # TYPE radacctd_faults_total counter\n\
+    radacctd_faults_total 5\n\
+    # HELP radacctd_drops_total Datagrams that were dropped, for each reason.\n\
+    # TYPE radacctd_drops_total counter\n\
+    radacctd_drops_total{reason=\"1\",name=\"UnknownClient\"} 21\n\
+    radacctd_drops_total{reason=\"2\",name=\"TooShort\"} 22\n\
+    radacctd_drops_total{reason=\"3\",name=\"BadLength\"} 23\n\
+    radacctd_drops_total{reason=\"4\",name=\"WrongCode\"} 24\n\
+    radacctd_drops_total{reason=\"5\",name=\"BadAuthenticator\"} 25\n\
+    radacctd_drops_total{reason=\"6\",name=\"BadAttribute\"} 26\n\
+    radacctd_drops_total{reason=\"7\",name=\"NoStatus\"} 27\n\
+    radacctd_drops_total{reason=\"8\",name=\"UnknownStatus\"} 28\n\
+    radacctd_drops_total{reason=\"9\",name=\"NoSessionId\"} 29\n\
+    radacctd_drops_total{reason=\"10\",name=\"BadField\"} 30\n\
+    radacctd_drops_total{reason=\"11\",name=\"TotalTooLarge\"} 31\n\
+    radacctd_drops_total{reason=\"12\",name=\"BalanceLimit\"} 32\n\
+    radacctd_drops_total{reason=\"13\",name=\"Unavailable\"} 33\n\
+    # HELP radacctd_start_time_seconds When the server started, in seconds since 1970.\n\
+    # TYPE radacctd_start_time_seconds gauge\n\
+    radacctd_start_time_seconds 1700000000\n\
+    # HELP radacctd_last_event_time_seconds \
+    When the last event came, in seconds since 1970, or 0.\n\
+    # TYPE radacctd_last_event_time_seconds gauge\n\
+    radacctd_last_event_time_seconds 1700003600\n";
+
+#[test]
+fn writes_each_figure(rt: HostRuntime) -> Result<(), Fail> {
+    let figures = Figures {
+        tally: Tally {
+            events: 901,
+            replies: 802,
+            drops: 351,
+            mute: 4,
+            faults: 5,
+        },
+        dropped: [21, 22, 23, 24, 25, 26, 27, 28, 29, 30, 31, 32, 33],
+        started_at: 1_700_000_000,
+        last_event_at: 1_700_003_600,
+    };
+    let mut output = Vec::new(rt.alloc());
+    write_figures(&mut output, &figures)?;
+    assert!(rt; output.as_slice() == TEXT.as_bytes());
+    Ok(())
+}
+
+// What a server counted that started at 990 and dropped nothing but datagrams that were too short.
+fn figures(tally: Tally, last_event_at: u64) -> Figures {
+    let mut dropped = [0; Reason::COUNT];
+    dropped[1] = tally.drops;
+    Figures {
+        tally,
+        dropped,
+        started_at: 990,
+        last_event_at,
+    }
+}
+
+// Whether a file has these figures, and is open to everyone.
+fn has(rt: &HostRuntime, name: &str, figures: &Figures) -> Result<bool, Fail> {
+    let mut wanted = Vec::new(rt.alloc());
+    write_figures(&mut wanted, figures)?;
+    let text = fs::read_to_string(rt, name)?;
+    let mode = fs::metadata(rt, name)?.permissions().mode();
+    Ok(text.as_bytes() == wanted.as_slice() && mode & 0o777 == 0o644)
+}
+
+// Datagrams at these moments.
+fn datagrams(alloc: Global, moments: [u32; 3]) -> Result<Vec<Planned>, Fail> {
+    let mut planned = Vec::new(alloc);
+    for moment in moments {
+        let what = What::Datagram {
+            source: [10, 0, 0, 9],
+            port: 1813,
+            bytes: Octets::from_slice(alloc, b"\x04\x07\x00")?,
+        };
+        planned.push(Planned::Comes {
+            event: Event {
+                moment: u64::from(moment),
+                what,
+            },
+            takes_reply: true,
+        })?;
+    }
+    Ok(planned)
+}
+
+// No watch, which would have had such a writer.
+fn no_watch() -> Option<Watch<Vec<u8>>> {
+    None
+}
+
+// The file is written at the first turn, when ten seconds have gone by, and at the end, by an
+// exchange that counts its calls: a drop, a reply, and an event without an answer.
+#[test]
+fn keeps_a_file(rt: HostRuntime) -> Result<(), Fail> {
+    let alloc = rt.alloc();
+    let name = Text::from_str(alloc, "kept-status")?;
+    let status = StatusFile::new(&rt, alloc, &name, 990, Vec::new(alloc))?;
+    let exchange = ListExchange::new(alloc, datagrams(alloc, [1000, 1009, 1010])?);
+    let mut watched = Watched::new(&rt, exchange, no_watch(), Some(status));
+    let Ok(Some(event)) = watched.next() else {
+        return Err("no event".into());
+    };
+    watched.note_drop(&event, Reason::TooShort);
+    let mut tally = Tally::none();
+    assert!(rt; has(&rt, "kept-status", &figures(tally, 0))?);
+    let Ok(Some(event)) = watched.next() else {
+        return Err("no event".into());
+    };
+    assert!(rt; watched.reply(&event, b"yes").is_ok());
+    assert!(rt; has(&rt, "kept-status", &figures(tally, 0))?);
+    assert!(rt; watched.next().is_ok());
+    tally.events = 2;
+    tally.drops = 1;
+    tally.replies = 1;
+    assert!(rt; has(&rt, "kept-status", &figures(tally, 1009))?);
+    watched.finish();
+    tally.events = 3;
+    tally.mute = 1;
+    assert!(rt; has(&rt, "kept-status", &figures(tally, 1010))?);
+    assert!(rt; !fs::exists(&rt, "kept-status.new")?);
+    fs::remove_file(&rt, "kept-status")?;
+    Ok(())
+}
+
+// Where it cannot be written, that is told once, and the exchange gives what it gives.
+#[test]
+fn tells_once_that_it_cannot(rt: HostRuntime) -> Result<(), Fail> {
+    let alloc = rt.alloc();
+    let name = Text::from_str(alloc, "no-folder/status")?;
+    let mut told = Vec::new(alloc);
+    let status = StatusFile::new(&rt, alloc, &name, 990, &mut told)?;
+    let exchange = ListExchange::new(alloc, datagrams(alloc, [1000, 1010, 1020])?);
+    let mut watched = Watched::new(&rt, exchange, no_watch(), Some(status));
+    assert!(rt; matches!(watched.next(), Ok(Some(_))));
+    assert!(rt; matches!(watched.next(), Ok(Some(_))));
+    assert!(rt; matches!(watched.next(), Ok(Some(_))));
+    watched.finish();
+    assert!(rt; told.as_slice() == b"status: cannot write\n".as_slice());
+    Ok(())
+}

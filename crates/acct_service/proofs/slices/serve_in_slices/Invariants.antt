@@ -1,0 +1,23 @@
+use Rattle.std.proofs.Common.{◌≡◌, ◌+◌, ◌<◌, ◌≤◌, ◌-◌}
+use Rattle.std.specs.Prelude.{unwrap_or}
+use Rattle.acct_service.specs.Serving.{AtMost}
+use Rattle.acct_service.proofs.Sliced.{Reached}
+use Rattle.acct_service.proofs.slices.serve_in_slices.Given as goal
+
+abbrev pub invariant-loop-left : goal.invariant-loop-left
+invariant-loop-left g l =
+    let b = g.B.Book in
+    let x = g.X.Exchange in
+    let r = g.G.Rounds in
+    record {
+      left : l.left ≤ l.limit;
+      turns : x.turn_count l.exchange + l.left ≡ x.turn_count l.fn.exchange + l.limit;
+      faults : x.failure_count l.exchange ≡ x.failure_count l.fn.exchange + l.served.faults;
+      open_is : l.left < l.limit → b.is_sound l.book → b.is_open l.book;
+      room : AtMost (l.limit - l.left) l.served;
+      reached : Reached b l.config l.fn.book l.book (x.told l.fn.exchange) (x.told l.exchange)
+          (r.given l.fn.rounds) (r.given l.rounds) (unwrap_or l.changed l.config) l.served;
+    }
+
+abbrev pub decreases-loop-left : goal.decreases-loop-left
+decreases-loop-left g l = l.left
