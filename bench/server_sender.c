@@ -12,8 +12,8 @@
  * FILE holds datagrams, each after its size as two octets, the high one first. The second octet of
  * a datagram is its identifier, the number of the datagram modulo 256; a reply has it at the same
  * place. What no reply came for within a second counts as lost and is not sent again. It prints how
- * many were answered and lost, the seconds from the first sending to the last reply, and the median
- * and the 99th percentile of the time to a reply, in microseconds. */
+ * many were answered and lost, the seconds from the first sending to the last reply, and the
+ * median, the 99th percentile and the longest of the times to a reply, in microseconds. */
 #define _GNU_SOURCE
 #include <arpa/inet.h>
 #include <poll.h>
@@ -133,8 +133,10 @@ static void tell(long answered, long lost, int64_t first, int64_t last) {
     qsort(took, (size_t)answered, sizeof took[0], by_size);
     int64_t median = answered ? took[answered / 2] : 0;
     int64_t late = answered ? took[answered * 99 / 100] : 0;
+    int64_t most = answered ? took[answered - 1] : 0;
     double seconds = (last - first) / 1e9;
-    printf("%ld %ld %.6f %.1f %.1f\n", answered, lost, seconds, median / 1e3, late / 1e3);
+    printf("%ld %ld %.6f %.1f %.1f %.1f\n", answered, lost, seconds, median / 1e3, late / 1e3,
+           most / 1e3);
 }
 
 static FILE *opened(const char *path) {
