@@ -1,7 +1,7 @@
 -- the lines of the drops, one reason more
 pub mod DropLines
--- texts that are no configuration as a whole
-pub mod NoConfigs
+-- what was read of a text
+pub mod Readings
 -- the places of a log of drops
 pub mod Places
 -- an end over an exchange, as one over another that counts and tells the same

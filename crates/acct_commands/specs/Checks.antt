@@ -1,21 +1,44 @@
 -- What a text is as a configuration, and what `check` prints of it.
 use Rattle.std.specs.Prelude.{◌≡◌, ◌⊎◌, ⊤, ℕ, List, [], ◌∷◌, ◌++◌, Option, IfSome, codes, decimal}
-use Rattle.std.specs.Prelude.{length}
+use Rattle.std.specs.Prelude.{length, Result, Ok, Err}
 use Rattle.std.specs.Str.{IsUtf8}
 use Rattle.std.specs.Io.KnownBytes.{Appends}
 use Rattle.acct_site.specs.declared.config.Config.{Config}
 use Rattle.acct_files.specs.Config.{IsConfig, IsConfigError}
 use Rattle.acct_files.specs.Tables.{top_error}
-use Rattle.acct_files.specs.declared.config_error.ConfigKind.TheVariants.{NotToml}
+use Rattle.acct_files.specs.declared.config_error.ConfigError.{ConfigError}
+use Rattle.acct_files.specs.declared.config_error.ConfigKind.TheVariants.{NotToml, Memory}
+use Rattle.acct_feed.specs.declared.input.InputFault.{InputFault}
+use Rattle.acct_feed.specs.declared.input.InputFault.TheVariants as input
+use Rattle.acct_commands.specs.Sights.{Reading}
 use Rattle.acct_commands.specs.declared.fault.Fault.{Fault}
 use Rattle.acct_commands.specs.declared.fault.Fault.TheVariants as fault
 
+-- the first fault of octets that are no configuration; what is not UTF-8 is no TOML
+abbrev pub IsFaultOf : List ℕ → ConfigError → Type 0
+IsFaultOf octets error =
+    ((error ≡ top_error NotToml) × (¬ IsUtf8 octets)) ⊎ IsConfigError octets error
+
+-- why there is no configuration where nothing could be read
+abbrev pub unread : InputFault → Fault
+unread input.TooLong = fault.CannotRead
+unread input.CannotRead = fault.CannotRead
+unread input.NoMemory = fault.Config (top_error Memory)
+
+-- The configuration that the octets of a reading spell, or their first fault, or why there are
+-- none.
+abbrev pub IsRead : Reading → Result Config Fault → Type 0
+IsRead (Ok octets) (Ok config) = IsConfig octets config
+IsRead (Ok octets) (Err told) =
+    (error : ConfigError) × (told ≡ fault.Config error) × IsFaultOf octets error
+IsRead (Err why) (Ok config) = ⊥
+IsRead (Err why) (Err told) = told ≡ unread why
+
 -- Why a text is no configuration, where it is told: it could not be read to its end, or the fault
--- is the first one of the text. What is not UTF-8 is no TOML.
+-- is the first one of the text.
 abbrev pub IsNoConfig : Option (List ℕ) → Fault → Type 0
 IsNoConfig text fault.CannotRead = ⊤
-IsNoConfig text (fault.Config error) = IfSome text (λ octets.
-    ((error ≡ top_error NotToml) × (¬ IsUtf8 octets)) ⊎ IsConfigError octets error)
+IsNoConfig text (fault.Config error) = IfSome text (λ octets. IsFaultOf octets error)
 IsNoConfig text fault.CannotOpen = ⊥
 IsNoConfig text (fault.Store why) = ⊥
 IsNoConfig text fault.StoreMemory = ⊥

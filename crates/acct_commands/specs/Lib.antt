@@ -7,8 +7,9 @@ pub mod Exports
 pub mod Figures
 pub mod Fresh
 pub mod Imports
+pub mod NewSite
 pub mod Serving
-pub mod SiteFile
+pub mod Sights
 pub mod Tally
 pub mod Told
 pub mod inner

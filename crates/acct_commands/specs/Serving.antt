@@ -1,11 +1,11 @@
 -- What `serve` does, and what it prints of it.
 use Rattle.std.specs.Prelude.{◌≡◌, ◌<◌, ℕ, List, [], ◌∷◌, ◌++◌, ◌+◌, ◌==◌, if◌then◌else◌}
-use Rattle.std.specs.Prelude.{Option, None, Result, Ok, Err, ◌⊎◌, codes}
+use Rattle.std.specs.Prelude.{Option, Result, Ok, Err, ◌⊎◌, ⊤, codes}
 use Rattle.std.specs.Io.KnownBytes.{Appends}
 use Rattle.acct_book.specs.declared.book.Book as book
 use Rattle.acct_site.specs.declared.config.Config.{Config}
 use Rattle.acct_service.specs.declared.exchange.Exchange as exchange
-use Rattle.acct_service.specs.Slices.{MakesTurns, ServesInSlices}
+use Rattle.acct_service.specs.Slices.{Slice, MakesTurns, ServesInSlices}
 use Rattle.acct_service.specs.declared.server.Served.{Served}
 use Rattle.acct_service.specs.declared.slices.Until.{Until}
 use Rattle.acct_service.specs.declared.slices.Until.TheVariants as until
@@ -60,46 +60,41 @@ ended_of how.NotBegun = Err fault.CannotWrite
 abbrev pub IsUnbound : Fault → Type 0
 IsUnbound told = (told ≡ fault.CannotBind) ⊎ (told ≡ fault.NoMemory)
 
--- what the rounds between slices gave, where they tell it
-abbrev pub Given : Type 0
-Given = Option (List (Option Config))
-
 -- A run of a server over a book and an exchange, from its first turn to its last.
 module _ {B X : Type 0} (b : book.Ghosts B) (x : exchange.Ghosts X) where
   -- It made so many turns of the exchange: all, or as many as there were until the book was found
   -- shut, which a steady book never is; a sound book that is not open was found so. They are a run
   -- of the machine in slices, each under the configuration that it had, and these are the counts of
-  -- that run.
-  pub record Ran (config : Config) (turns : ℕ) (old_given new_given : Given) (old new : B)
+  -- that run. Between the slices the rounds went so.
+  pub record Ran (config : Config) (turns : ℕ) (Went : List Slice → Type 0) (old new : B)
       (first last : X) (served : Served) (why : Until) : Type 0 where
     pub turns_made : MakesTurns turns (x.turn_count first) (x.turn_count last) why
     pub shut : why ≡ until.Shut → b.is_steady old → ⊥
     pub open_is : why ≡ until.AllMade → 0 < turns → b.is_sound new → b.is_open new
     pub faults : x.failure_count last ≡ x.failure_count first + served.faults
-    pub run : ServesInSlices b config old new (x.told first) (x.told last) old_given new_given
-        served
+    pub run : ServesInSlices b config old new (x.told first) (x.told last) Went served
 
   -- How a server ended. Once it has begun its turns are a run, whatever the output does. What it
   -- then printed is `serving` and the counts of that run, and nothing else. Before that it does
   -- nothing.
-  abbrev pub Ends : Config → ℕ → Given → Given → B → B → X → X → Option (List ℕ) → Option (List ℕ)
-      → Ended → Type 0
-  Ends config turns old_given new_given old new first last before after (how.Told served why) =
-      Ran config turns old_given new_given old new first last served why
+  abbrev pub Ends : Config → ℕ → (List Slice → Type 0) → B → B → X → X → Option (List ℕ)
+      → Option (List ℕ) → Ended → Type 0
+  Ends config turns Went old new first last before after (how.Told served why) =
+      Ran config turns Went old new first last served why
       × Appends before after (whole_text served)
-  Ends config turns old_given new_given old new first last before after (how.Untold served why) =
-      Ran config turns old_given new_given old new first last served why
-  Ends config turns old_given new_given old new first last before after how.NotBegun =
+  Ends config turns Went old new first last before after (how.Untold served why) =
+      Ran config turns Went old new first last served why
+  Ends config turns Went old new first last before after how.NotBegun =
       (new ≡ old) × (last ≡ first)
 
-  -- The same from an exchange that had made no turn and no fault. Nobody tells what the rounds
-  -- gave: they read the file of the configuration, which no contract can name.
+  -- The same from an exchange that had made no turn and no fault. How the rounds went is not said
+  -- here: the file that they look at is one that no contract can name.
   pub record EndsAfresh (config : Config) (turns : ℕ) (old new : B) (last : X)
       (before after : Option (List ℕ)) (ended : Ended) : Type 0 where
     pub first : X
     pub fresh : x.turn_count first ≡ 0
     pub faultless : x.failure_count first ≡ 0
-    pub ends : Ends config turns None None old new first last before after ended
+    pub ends : Ends config turns (λ _. ⊤) old new first last before after ended
 
   -- The command: the sockets could not be bound, and nothing was done; or a server ended so over an
   -- exchange that had made no turn and no fault.

@@ -2,12 +2,12 @@
 ghost use Rattle.std.specs.Prelude.{◌≡◌, IfOk, IfErr, IfSome, None};
 ghost use Rattle.acct_files.specs.Config.{IsConfig};
 ghost use Rattle.acct_files.specs.Tables.{top_error};
-ghost use Rattle.acct_commands.specs.Checks.{IsNoConfig};
+ghost use Rattle.acct_commands.specs.Checks.{IsNoConfig, IsRead};
 
 use crate::fault::Fault;
 use acct_feed::{InputFault, read_input};
 use acct_files::{ConfigError, ConfigKind, ConfigTable, config_of};
-use acct_model::Text;
+use acct_model::{Octets, Text};
 use acct_site::Config;
 use std::alloc::Global;
 use std::fs::{File, Files};
@@ -23,10 +23,7 @@ use std::str;
 pub fn read_config<R: Files>(runtime: &R, alloc: Global, file: &Text) -> Result<Config, Fault>
     ensures refused { IfErr result (IsNoConfig None) }
 {
-    match File::open(runtime, file.as_str()) {
-        Ok(mut reader) => config_from(alloc, &mut reader),
-        Err(_) => Err(Fault::CannotRead),
-    }
+    config_in(alloc, read_file(runtime, alloc, file))
 }
 
 /// The configuration that a reader has.
@@ -39,12 +36,47 @@ pub fn config_from<R: Read>(alloc: Global, reader: &mut R) -> Result<Config, Fau
         IfSome (R.remaining reader.old) (λ text. IsConfig text config)) }
     ensures refused { IfErr result (IsNoConfig (R.remaining reader.old)) }
 {
-    let octets = match read_input(alloc, reader) {
+    config_in(alloc, octets_of(alloc, reader))
+}
+
+/// All octets of a file.
+///
+/// # Errors
+///
+/// `CannotRead` where it cannot be opened, and those of `read_input`.
+pub(crate) fn read_file<R: Files>(
+    runtime: &R,
+    alloc: Global,
+    file: &Text,
+) -> Result<Octets, InputFault> {
+    match File::open(runtime, file.as_str()) {
+        Ok(mut reader) => octets_of(alloc, &mut reader),
+        Err(_) => Err(InputFault::CannotRead),
+    }
+}
+
+// All octets that a reader has left.
+fn octets_of<R: Read>(alloc: Global, reader: &mut R) -> Result<Octets, InputFault>
+    ensures { IfOk result (λ octets. IfSome (R.remaining reader.old) (λ all. octets ≡ all)) }
+{
+    let octets = read_input(alloc, reader)?;
+    Ok(Octets { octets })
+}
+
+/// The configuration that was read.
+///
+/// # Errors
+///
+/// As those of `read_config`.
+pub fn config_in(alloc: Global, read: Result<Octets, InputFault>) -> Result<Config, Fault>
+    ensures { IsRead read result }
+{
+    let octets = match read {
         Ok(octets) => octets,
         Err(InputFault::TooLong | InputFault::CannotRead) => return Err(Fault::CannotRead),
         Err(InputFault::NoMemory) => return Err(wrong(ConfigKind::Memory)),
     };
-    let Ok(text) = str::from_utf8(&octets) else {
+    let Ok(text) = str::from_utf8(octets.as_slice()) else {
         return Err(wrong(ConfigKind::NotToml));
     };
     match config_of(alloc, text) {

@@ -1,10 +1,12 @@
 //! What the program's server does between its slices of turns: it keeps the file of balances up,
-//! and reads its configuration again where that changed.
-ghost use Rattle.std.specs.Prelude.{◌≡◌, None, IfSome};
+//! and takes another configuration where the text of that changed.
+ghost use Rattle.std.specs.Prelude.{◌≡◌};
 ghost use Rattle.acct_book.specs.inner.Step.{OnlyLooks};
+ghost use Rattle.acct_commands.specs.NewSite.{LooksAndTakes};
 
 use crate::balances_file::KeptBalances;
-use crate::site_file::SiteFile;
+use crate::new_site::take_site;
+use crate::site_source::SiteSource;
 use acct_book::Book;
 use acct_service::Rounds;
 use acct_site::Config;
@@ -14,35 +16,50 @@ use std::fs::Files;
 use std::io::Write;
 use std::time::Clock;
 
-/// A look at the files of a server: that of its configuration, and that of all balances, if it has
-/// one. What it tells goes to a writer. The clock is asked once in a round.
-#[derive(Drop)]
-pub struct FileRounds<'r, R, E: Drop> {
+/// A look at what belongs to a server: the text of its configuration, and the file of all balances,
+/// if it has one. What it tells goes to a writer. The clock is asked once in a round.
+pub struct FileRounds<'r, R, S: Drop, E: Drop> {
     runtime: &'r R,
-    site: SiteFile<'r, R>,
+    source: S,
     balances: Option<KeptBalances<'r, R>>,
     errors: E,
 }
 
-impl<'r, R: Files + Clock, E: Write + Drop> FileRounds<'r, R, E> {
+// It is written out, so that a caller does not prove again how each part is dropped.
+impl<'r, R, S: Drop, E: Drop> Drop for FileRounds<'r, R, S, E> {
+    fn drop(self) {
+        let FileRounds {
+            runtime: _,
+            source: _,
+            balances: _,
+            errors: _,
+        } = self;
+    }
+}
+
+impl<'r, R: Files + Clock, S: SiteSource + Drop, E: Write + Drop> FileRounds<'r, R, S, E> {
     /// Rounds of which none was made.
     pub fn new(
         runtime: &'r R,
-        site: SiteFile<'r, R>,
+        source: S,
         balances: Option<KeptBalances<'r, R>>,
         errors: E,
-    ) -> FileRounds<'r, R, E> {
+    ) -> FileRounds<'r, R, S, E>
+        ensures { result.source ≡ source }
+    {
         FileRounds {
             runtime,
-            site,
+            source,
             balances,
             errors,
         }
     }
 }
 
-impl<'r, R: Files + Clock, E: Write + Drop> Rounds for FileRounds<'r, R, E> {
-    ghost given = { λ _. None };
+impl<'r, R: Files + Clock, S: SiteSource + Drop, E: Write + Drop> Rounds
+    for FileRounds<'r, R, S, E> {
+    ghost goes = { λ old config gave new.
+        LooksAndTakes config.plans (S.sights old.source) gave (S.sights new.source) };
 
     fn go_round<B: Book>(
         &mut self,
@@ -54,6 +71,7 @@ impl<'r, R: Files + Clock, E: Write + Drop> Rounds for FileRounds<'r, R, E> {
         if let Some(balances) = &mut self.balances {
             balances.keep(alloc, &config.plans, book, moment, &mut self.errors);
         }
-        self.site.look(alloc, config, moment, &mut self.errors)
+        let read = self.source.look(alloc, moment)?;
+        take_site(alloc, read, &config.plans, &mut self.errors)
     }
 }

@@ -4,6 +4,7 @@ ghost use Rattle.std.specs.Prelude.{IfOk, IfErr, OnOk, OnErr};
 ghost use Rattle.std.specs.Io.KnownBytes.{Appends};
 ghost use Rattle.acct_commands.specs.Serving.{Ends, EndsAfresh, RunsServer, IsUnbound};
 ghost use Rattle.acct_commands.specs.Serving.{ended_of, drops_line, drops_lines, served_text};
+ghost use Rattle.acct_service.specs.Slices.{GoRounds};
 
 use crate::balances_file::KeptBalances;
 use crate::counts::{Counts, Drops};
@@ -11,7 +12,7 @@ use crate::ended::Ended;
 use crate::fault::{Fault, StoreFault};
 use crate::rounds::FileRounds;
 use crate::shared::Shared;
-use crate::site_file::SiteFile;
+use crate::site_source::SiteSource;
 use crate::status_file::StatusFile;
 use crate::watching::{Watch, Watched};
 use acct_book::Book;
@@ -43,8 +44,8 @@ pub struct Errors<E: Drop> {
 /// over sockets.
 ///
 /// While it runs it tells on `errors`, if it may, what it drops and how much comes: `Watched`. It
-/// keeps the files up that `serving` names, and reads the configuration's file again where that
-/// changed, for the turns that follow: `FileRounds`.
+/// keeps the files up that `serving` names, and takes the configuration that `source` has, where
+/// that changed, for the turns that follow: `FileRounds`.
 ///
 /// # Errors
 ///
@@ -52,11 +53,18 @@ pub struct Errors<E: Drop> {
 /// output are then as they were. `Store(Unavailable)` where the book was found shut, which ends the
 /// turns: whoever started the program is to start it again. `CannotWrite` where the output failed:
 /// before the first turn, or after the last one.
-pub fn run_serve<'r, R: Net + Clock + Files, B: Book, W: Write, E: Write + Drop>(
+pub fn run_serve<
+    'r,
+    R: Net + Clock + Files,
+    S: SiteSource + Drop,
+    B: Book,
+    W: Write,
+    E: Write + Drop,
+>(
     runtime: &'r R,
     alloc: Global,
     config: &Config,
-    file: &Text,
+    source: S,
     book: &mut B,
     serving: &Serving,
     output: &mut W,
@@ -67,7 +75,9 @@ pub fn run_serve<'r, R: Net + Clock + Files, B: Book, W: Write, E: Write + Drop>
     ensures serves { RunsServer B.Book ⟦<Sockets<'r, R> as Exchange>⟧ config.now serving.now.turns
         (W.contents output.old) (W.contents output.new) result book.old book.new }
 {
-    let served = serve_sockets(runtime, alloc, config, file, book, serving, output, errors);
+    let served = serve_sockets(
+        runtime, alloc, config, source, book, serving, output, errors,
+    );
     match served {
         Ok((_sockets, ended)) => status_of(ended),
         Err(fault) => Err(fault),
@@ -90,11 +100,18 @@ fn status_of(ended: Ended) -> Result<Status, Fault>
 
 // Binds all sockets, and is then `serve_exchange` over them, watched. They are handed back as the
 // last turn left them.
-fn serve_sockets<'r, R: Net + Clock + Files, B: Book, W: Write, E: Write + Drop>(
+fn serve_sockets<
+    'r,
+    R: Net + Clock + Files,
+    S: SiteSource + Drop,
+    B: Book,
+    W: Write,
+    E: Write + Drop,
+>(
     runtime: &'r R,
     alloc: Global,
     config: &Config,
-    file: &Text,
+    source: S,
     book: &mut B,
     serving: &Serving,
     output: &mut W,
@@ -109,7 +126,8 @@ fn serve_sockets<'r, R: Net + Clock + Files, B: Book, W: Write, E: Write + Drop>
 {
     let Errors { drops, site } = errors;
     let site = RefCell::new(site);
-    let mut rounds = rounds_of(runtime, alloc, file, &serving.telling, Shared::new(&site))?;
+    let balances = balances_file(runtime, alloc, &serving.telling)?;
+    let mut rounds = FileRounds::new(runtime, source, balances, Shared::new(&site));
     let status = status_file(runtime, alloc, &serving.telling, Shared::new(&site))?;
     let sockets = bound(runtime, alloc, &serving.listening)?;
     let mut watched = Watched::new(runtime, sockets, watch_on(drops), status);
@@ -152,20 +170,16 @@ fn status_file<'r, R: Clock + Files, E: Write + Drop>(
     }
 }
 
-// What is done between the slices of turns.
-fn rounds_of<'r, R: Clock + Files, E: Write + Drop>(
+// The file of all balances, if one is named.
+fn balances_file<'r, R: Files>(
     runtime: &'r R,
     alloc: Global,
-    file: &Text,
     telling: &Telling,
-    errors: E,
-) -> Result<FileRounds<'r, R, E>, AllocError> {
-    let site = SiteFile::new(runtime, alloc, file)?;
-    let balances = match &telling.balances {
-        Some(balances) => Some(KeptBalances::new(runtime, alloc, balances)?),
-        None => None,
-    };
-    Ok(FileRounds::new(runtime, site, balances, errors))
+) -> Result<Option<KeptBalances<'r, R>>, AllocError> {
+    match &telling.balances {
+        Some(balances) => Ok(Some(KeptBalances::new(runtime, alloc, balances)?)),
+        None => Ok(None),
+    }
 }
 
 /// Makes this many turns of an exchange over a book in slices, between which `rounds` looks round;
@@ -185,9 +199,9 @@ pub fn serve_exchange<B: Book, X: Exchange, G: Rounds, W: Write>(
 ) -> Ended
     requires turns { X.turn_count exchange.old + turns ≤ 2 ^ 64 - 1 }
     requires failures { X.failure_count exchange.old + turns ≤ 2 ^ 64 - 1 }
-    ensures { Ends B.Book X.Exchange config.now turns (G.given rounds.old) (G.given rounds.new)
-        book.old book.new exchange.old exchange.new (W.contents output.old) (W.contents output.new)
-        result }
+    ensures { Ends B.Book X.Exchange config.now turns
+        (λ slices. GoRounds G.Rounds rounds.old slices rounds.new) book.old book.new exchange.old
+        exchange.new (W.contents output.old) (W.contents output.new) result }
 {
     let Ok(()) = write_serving(output) else {
         return Ended::NotBegun;

@@ -30,12 +30,23 @@ use std::time::Clock;
 const MINUTE: u64 = 60;
 
 /// What is told on a writer while a server runs.
-#[derive(Drop)]
 pub struct Watch<W: Write> {
     writer: W,
     log: DropLog,
     meter: Meter,
     began_at: u64,
+}
+
+// It is written out, so that a caller does not prove again how each part is dropped.
+impl<W: Write + Drop> Drop for Watch<W> {
+    fn drop(self) {
+        let Watch {
+            writer: _,
+            log: _,
+            meter: _,
+            began_at: _,
+        } = self;
+    }
 }
 
 impl<W: Write> Watch<W> {
@@ -108,7 +119,13 @@ impl<W: Write> Watch<W> {
         if self.meter.tally != Tally::none() {
             self.tell_minute();
         }
-        self.writer
+        let Watch {
+            writer,
+            log: _,
+            meter: _,
+            began_at: _,
+        } = self;
+        writer
     }
 }
 
@@ -159,12 +176,23 @@ fn moment_of_turn<R: Clock>(clock: &R, came: &Result<Option<Event>, Fault>) -> u
 /// An exchange that hands each call on to another one, and tells on a writer, if it has one, what
 /// is dropped and how much comes; it keeps a file of its counts, if it has one. Its turns, its
 /// faults and the list of its calls are those of the other one.
-#[derive(Drop)]
 pub struct Watched<'r, R, X: Exchange, W: Write, E: Drop> {
     clock: &'r R,
     exchange: X,
     watch: Option<Watch<W>>,
     status: Option<StatusFile<'r, R, E>>,
+}
+
+// It is written out, so that a caller does not prove again how each part is dropped.
+impl<'r, R, X: Exchange + Drop, W: Write + Drop, E: Drop> Drop for Watched<'r, R, X, W, E> {
+    fn drop(self) {
+        let Watched {
+            clock: _,
+            exchange: _,
+            watch: _,
+            status: _,
+        } = self;
+    }
 }
 
 impl<'r, R: Clock + Files, X: Exchange, W: Write, E: Write + Drop> Watched<'r, R, X, W, E> {

@@ -80,7 +80,8 @@ fn answers_by_what_is_new(rt: HostRuntime) -> Result<(), Fail> {
     let alloc = rt.alloc();
     let name = "new-clients.toml";
     fs::write(&rt, name, OLD)?;
-    let site = SiteFile::new(&rt, alloc, &Text::from_str(alloc, name)?)?;
+    let file = Text::from_str(alloc, name)?;
+    let site = SiteFile::new(&rt, &file);
     fs::write(&rt, name, NEW)?;
     let mut told = Vec::new(alloc);
     let mut rounds = FileRounds::new(&rt, site, None, &mut told);

@@ -1,5 +1,5 @@
 //! The configuration that is read again while a server runs, and what is told of the clock.
-use acct_commands::{SiteFile, config_from, note_clock};
+use acct_commands::{SiteFile, SiteSource, config_from, note_clock, take_site};
 use acct_model::Text;
 use acct_site::Config;
 use std::alloc::Global;
@@ -45,6 +45,18 @@ fn sizes(site: Option<Config>) -> Option<(usize, usize)> {
     Some((site.clients.list().len(), site.keys.list().len()))
 }
 
+// What is taken of a look at a file at a moment, in place of a configuration.
+fn taken(
+    rt: &HostRuntime,
+    site: &mut SiteFile<'_, HostRuntime>,
+    config: &Config,
+    moment: u64,
+    told: &mut Vec<u8>,
+) -> Option<Config> {
+    let read = site.look(rt.alloc(), moment)?;
+    take_site(rt.alloc(), read, &config.plans, told)
+}
+
 // A change is seen once, taken where it is right and has the same plans, and told.
 #[test]
 fn takes_what_is_right(rt: HostRuntime) -> Result<(), Fail> {
@@ -53,8 +65,9 @@ fn takes_what_is_right(rt: HostRuntime) -> Result<(), Fail> {
     write_site(&rt, name, [CLIENT, PLAN, KEY, ""])?;
     let config = old_site(alloc)?;
     let mut told = Vec::new(alloc);
-    let mut site = SiteFile::new(&rt, alloc, &Text::from_str(alloc, name)?)?;
-    assert!(rt; sizes(site.look(alloc, &config, 3000, &mut told)).is_none());
+    let file = Text::from_str(alloc, name)?;
+    let mut site = SiteFile::new(&rt, &file);
+    assert!(rt; taken(&rt, &mut site, &config, 3000, &mut told).is_none());
     let changes: [([&str; 4], u32, Option<(usize, usize)>); 5] = [
         ([CLIENT, OTHER_CLIENT, PLAN, KEY], 3000, Some((2, 1))),
         ([CLIENT, OTHER_CLIENT, PLAN, WRONG_KEY], 3002, None),
@@ -65,13 +78,13 @@ fn takes_what_is_right(rt: HostRuntime) -> Result<(), Fail> {
     for (parts, moment, wanted) in changes {
         let last = u64::from(moment);
         write_site(&rt, name, parts)?;
-        assert!(rt; site.look(alloc, &config, last, &mut told).is_none());
-        assert!(rt; sizes(site.look(alloc, &config, last + 1, &mut told)) == wanted);
-        assert!(rt; site.look(alloc, &config, last + 2, &mut told).is_none());
+        assert!(rt; taken(&rt, &mut site, &config, last, &mut told).is_none());
+        assert!(rt; sizes(taken(&rt, &mut site, &config, last + 1, &mut told)) == wanted);
+        assert!(rt; taken(&rt, &mut site, &config, last + 2, &mut told).is_none());
     }
     fs::remove_file(&rt, name)?;
     for moment in [4000, 4001] {
-        assert!(rt; site.look(alloc, &config, moment, &mut told).is_none());
+        assert!(rt; taken(&rt, &mut site, &config, moment, &mut told).is_none());
     }
     assert!(rt; told.as_slice() == TOLD.as_bytes());
     Ok(())

@@ -7,17 +7,17 @@ use Rattle.std.proofs.lemmas.List.{map-append, append-nil}
 use Rattle.std.proofs.lemmas.List.Elements.{Contains-push_cases}
 use Rattle.std.proofs.lemmas.Grind.{flat_map-append}
 use Rattle.acct_model.specs.declared.plan.Plan.{Plan}
-use Rattle.acct_book.specs.declared.book.Book.{Ghosts}
+use Rattle.acct_book.specs.declared.book.Book as book
 use Rattle.acct_book.specs.inner.Step.{OnlyLooks}
 use Rattle.acct_site.specs.declared.config.Config.{Config}
 use Rattle.acct_service.specs.declared.exchange.Call.{Call}
+use Rattle.acct_service.specs.declared.rounds.Rounds as rounds
 use Rattle.acct_service.specs.declared.server.Served.{Served}
-use Rattle.acct_service.specs.Told.{Grows}
 use Rattle.acct_service.specs.Serving.{Attends, AreUnder, Counts, TakesTurns}
 use Rattle.acct_service.specs.Slices.{Slice, site_then, Follow, visits_in, given_in}
-use Rattle.acct_service.specs.Slices.{ServesInSlices}
+use Rattle.acct_service.specs.Slices.{GoRounds, ServesInSlices}
 use Rattle.acct_service.proofs.Visits.{attends_none, attends_join, attends_looked, counts_join}
-use Rattle.acct_service.proofs.Visits.{grows_none, grows_twice}
+use Rattle.acct_service.proofs.Visits.{grows_none}
 
 -- the configuration after the last of the rounds
 abbrev pub site_after : Config → List Slice → Config
@@ -68,25 +68,33 @@ given_same plans site None other is all same = cc
 given_same plans site (Some this) other is all same =
     let it : this ≡ other = cc in subst (λ (c : Config). c.plans ≡ plans) it (all ∙ is)
 
-module _ {B : Type 0} (b : Ghosts B) (config : Config) where
+-- one round more
+rounds_more : {R : Type 0} (r : rounds.Ghosts R) (first then last : R) (slices : List Slice)
+    (slice : Slice) → GoRounds r first slices then → r.goes then slice.site slice.given last
+    → GoRounds r first (slices ++ slice ∷ []) last
+rounds_more r first then last [] slice same goes =
+    (last, subst (λ it. r.goes it slice.site slice.given last) (sym same) goes, refl)
+rounds_more r first then last (one ∷ later) slice (next, went, rest) goes =
+    (next, went, rounds_more r next then last later slice rest goes)
+
+module _ {B R : Type 0} (b : book.Ghosts B) (r : rounds.Ghosts R) (config : Config) where
   -- how far the slices came: the run so far, and the configuration for the turns that follow
-  pub record Reached (old new : B) (old_told new_told : Option (List Call))
-      (old_given new_given : Option (List (Option Config))) (site : Config) (served : Served)
-      : Type 0 where
-    pub so_far : ServesInSlices b config old new old_told new_told old_given new_given served
+  pub record Reached (old new : B) (old_told new_told : Option (List Call)) (first last : R)
+      (site : Config) (served : Served) : Type 0 where
+    pub so_far : ServesInSlices b config old new old_told new_told
+        (λ slices. GoRounds r first slices last) served
     pub site_is : site ≡ site_after config so_far.slices
     pub plans_are : site.plans ≡ config.plans
 
   -- before the first slice
-  pub reached_none : (book : B) (told : Option (List Call)) (given : Option (List (Option Config)))
-      (served : Served) → Counts [] served
-      → Reached book book told told given given config served
-  reached_none book told given served counts = record {
+  pub reached_none : (book : B) (told : Option (List Call)) (first : R) (served : Served)
+      → Counts [] served → Reached book book told told first first config served
+  reached_none book told first served counts = record {
     so_far = record {
       slices = [];
       follow = tt;
       same_plans = λ site (place, within, is). absurd (omega (arith, within));
-      given = grows_none given;
+      went = refl;
       attends = attends_none b config.plans book told told (grows_none told);
       counts = counts;
     };
@@ -96,14 +104,13 @@ module _ {B : Type 0} (b : Ghosts B) (config : Config) where
 
   -- one slice more, and the round after it
   pub reached_more : (old mid looked new : B) (told later last : Option (List Call))
-      (given before after : Option (List (Option Config))) (site : Config) (was is : Served)
-      (gave : Option Config)
-      → Reached old mid told later given before site was
+      (first before after : R) (site : Config) (was is : Served) (gave : Option Config)
+      → Reached old mid told later first before site was
       → TakesTurns b site mid looked later last was is → OnlyLooks b looked new
-      → IfSome gave (λ other. other.plans ≡ site.plans) → Grows before (gave ∷ []) after
-      → Reached old new told last given after (site_then site gave) is
-  reached_more old mid looked new told later last given before after site was is gave reached
-      turns looks plans grows =
+      → IfSome gave (λ other. other.plans ≡ site.plans) → r.goes before site gave after
+      → Reached old new told last first after (site_then site gave) is
+  reached_more old mid looked new told later last first before after site was is gave reached
+      turns looks plans goes =
       let so_far = reached.so_far in
       let slice : Slice = record { site = site; visits = turns.visits; given = gave } in
       let visits_are : visits_in so_far.slices ++ turns.visits
@@ -123,9 +130,7 @@ module _ {B : Type 0} (b : Ghosts B) (config : Config) where
                 | inl earlier ↦ so_far.same_plans other earlier
                 | inr same ↦ given_same config.plans site gave other reached.plans_are plans same
               ];
-          given = subst (λ gs. Grows given gs after) given_are
-              (grows_twice given before after (given_in so_far.slices) (gave ∷ []) so_far.given
-              grows);
+          went = rounds_more r first before after so_far.slices slice so_far.went goes;
           attends = subst (λ vs. Attends b config.plans vs old new told last) visits_are
               (attends_looked b config.plans (visits_in so_far.slices ++ turns.visits) old looked
               new told last
@@ -142,18 +147,18 @@ module _ {B : Type 0} (b : Ghosts B) (config : Config) where
       }
 
   -- after a look at the book
-  pub reached_looked : (old mid new : B) (told later : Option (List Call))
-      (given after : Option (List (Option Config))) (site : Config) (served : Served)
-      → Reached old mid told later given after site served → OnlyLooks b mid new
-      → Reached old new told later given after site served
-  reached_looked old mid new told later given after site served reached looks =
+  pub reached_looked : (old mid new : B) (told later : Option (List Call)) (first last : R)
+      (site : Config) (served : Served)
+      → Reached old mid told later first last site served → OnlyLooks b mid new
+      → Reached old new told later first last site served
+  reached_looked old mid new told later first last site served reached looks =
       let so_far = reached.so_far in
       record {
         so_far = record {
           slices = so_far.slices;
           follow = so_far.follow;
           same_plans = so_far.same_plans;
-          given = so_far.given;
+          went = so_far.went;
           attends = attends_looked b config.plans (visits_in so_far.slices) old mid new told later
               so_far.attends looks;
           counts = so_far.counts;
@@ -164,20 +169,20 @@ module _ {B : Type 0} (b : Ghosts B) (config : Config) where
 
   -- a slice, the round after it, and a look at the book after that
   pub reached_slice : (old mid turned looked new : B) (told later last : Option (List Call))
-      (given before after : Option (List (Option Config))) (changed gave : Option Config)
+      (first before after : R) (changed gave : Option Config)
       (site : Config) (was is : Served) → site ≡ unwrap_or changed config
-      → Reached old mid told later given before (unwrap_or changed config) was
+      → Reached old mid told later first before (unwrap_or changed config) was
       → TakesTurns b site mid turned later last was is → OnlyLooks b turned looked
-      → IfSome gave (λ other. other.plans ≡ site.plans) → Grows before (gave ∷ []) after
+      → IfSome gave (λ other. other.plans ≡ site.plans) → r.goes before site gave after
       → OnlyLooks b looked new
-      → Reached old new told last given after (unwrap_or (option_or gave changed) config) is
-  reached_slice old mid turned looked new told later last given before after changed gave site was
-      is found reached turns looks plans grows again =
-      let then = site_then (unwrap_or changed config) gave in
-      subst (λ c. Reached old new told last given after c is) (sym (site_kept config changed gave))
-      (reached_looked old looked new told last given after then is
-      (reached_more old mid turned looked told later last given before after
-      (unwrap_or changed config) was is gave reached
+      → Reached old new told last first after (unwrap_or (option_or gave changed) config) is
+  reached_slice old mid turned looked new told later last first before after changed gave site was
+      is found reached turns looks plans goes again =
+      let now = unwrap_or changed config in
+      let then = site_then now gave in
+      subst (λ c. Reached old new told last first after c is) (sym (site_kept config changed gave))
+      (reached_looked old looked new told last first after then is
+      (reached_more old mid turned looked told later last first before after now was is gave reached
       (subst (λ c. TakesTurns b c mid turned later last was is) found turns) looks
-      (subst (λ (c : Config). IfSome gave (λ other. other.plans ≡ c.plans)) found plans) grows)
-      again)
+      (subst (λ (c : Config). IfSome gave (λ other. other.plans ≡ c.plans)) found plans)
+      (subst (λ c. r.goes before c gave after) found goes)) again)

@@ -3,14 +3,14 @@
 use Rattle.std.specs.Prelude.{◌≡◌, ◌+◌, ◌<◌, ◌≤◌, ⊤, ℕ, List, [], ◌∷◌, Option, None, Some, map}
 use Rattle.std.specs.Prelude.{Contains}
 use Rattle.std.specs.List.{flat_map}
-use Rattle.acct_book.specs.declared.book.Book.{Ghosts}
+use Rattle.acct_book.specs.declared.book.Book as book
 use Rattle.acct_site.specs.declared.config.Config.{Config}
 use Rattle.acct_service.specs.declared.exchange.Call.{Call}
+use Rattle.acct_service.specs.declared.rounds.Rounds as rounds
 use Rattle.acct_service.specs.declared.server.Served.{Served}
 use Rattle.acct_service.specs.declared.slices.Until.{Until}
 use Rattle.acct_service.specs.declared.slices.Until.TheVariants as until
 use Rattle.acct_service.specs.Machine.{Visit}
-use Rattle.acct_service.specs.Told.{Grows}
 use Rattle.acct_service.specs.Serving.{Attends, AreUnder, Counts}
 
 -- so many turns were made of those that were allowed: all, or as many as there were, some at least,
@@ -46,17 +46,23 @@ visits_in slices = flat_map (λ (slice : Slice). slice.visits) slices
 abbrev pub given_in : List Slice → List (Option Config)
 given_in slices = map (λ (slice : Slice). slice.given) slices
 
+-- Who looked round went so after each of these slices, from first to last.
+abbrev pub GoRounds : {R : Type 0} → rounds.Ghosts R → R → List Slice → R → Type 0
+GoRounds r first [] last = first ≡ last
+GoRounds r first (slice ∷ later) last =
+    (next : _) × r.goes first slice.site slice.given next × GoRounds r next later last
+
 -- Turns in slices, each under the configuration that it had; together they are what turns under one
--- configuration are, since all have the same plans.
-pub record ServesInSlices {B : Type 0} (b : Ghosts B) (config : Config) (old new : B)
-    (old_told new_told : Option (List Call)) (old_given new_given : Option (List (Option Config)))
-    (served : Served) : Type 0 where
+-- configuration are, since all have the same plans. Of the slices is also said how the rounds after
+-- them went.
+pub record ServesInSlices {B : Type 0} (b : book.Ghosts B) (config : Config) (old new : B)
+    (old_told new_told : Option (List Call)) (Went : List Slice → Type 0) (served : Served)
+    : Type 0 where
   pub slices : List Slice
   pub follow : Follow config slices
   -- no round gave other plans
   pub same_plans : (site : Config) → Contains (given_in slices) (Some site)
       → site.plans ≡ config.plans
-  -- the rounds gave these configurations, and no others
-  pub given : Grows old_given (given_in slices) new_given
+  pub went : Went slices
   pub attends : Attends b config.plans (visits_in slices) old new old_told new_told
   pub counts : Counts (visits_in slices) served

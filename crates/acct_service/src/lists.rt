@@ -32,7 +32,6 @@ pub enum Planned {
 /// events that it gave, the replies that it was asked for and the drops that it was told, in their
 /// order. A growth that is refused in it is a fault where the call can say so, and from then on it
 /// tells nothing.
-#[derive(Drop)]
 pub struct ListExchange {
     alloc: Global,
     planned: Vec<Planned>,
@@ -42,6 +41,22 @@ pub struct ListExchange {
     failures: u64,
     tells: bool,
     calls: Vec<Call>,
+}
+
+// It is written out, so that a caller does not prove again how each part is dropped.
+impl Drop for ListExchange {
+    fn drop(self) {
+        let ListExchange {
+            alloc: _,
+            planned: _,
+            place: _,
+            takes_reply: _,
+            turns: _,
+            failures: _,
+            tells: _,
+            calls: _,
+        } = self;
+    }
 }
 
 impl ListExchange {

@@ -3,7 +3,7 @@
 ghost use Rattle.std.specs.Prelude.{◌≡◌, ◌+◌, ◌-◌, ◌^◌, ◌<◌, ◌≤◌, false, IsTrue};
 ghost use Rattle.acct_book.specs.inner.Step.{OnlyLooks};
 ghost use Rattle.acct_service.specs.Serving.{AtMost};
-ghost use Rattle.acct_service.specs.Slices.{MakesTurns, ServesInSlices};
+ghost use Rattle.acct_service.specs.Slices.{MakesTurns, ServesInSlices, GoRounds};
 
 use crate::answering::Outbox;
 use crate::exchange::Exchange;
@@ -33,7 +33,8 @@ pub enum Until {
 /// and is to be opened again.
 ///
 /// What `serve` says of its turns holds of those that were made, each under the configuration that
-/// its slice had (`ServesInSlices`).
+/// its slice had (`ServesInSlices`), and each round went as `rounds` says that its rounds go
+/// (`GoRounds`).
 ///
 /// It costs a round and one search of the book in 256 turns besides what `serve` costs.
 pub fn serve_in_slices<B: Book, X: Exchange, G: Rounds>(
@@ -52,7 +53,8 @@ pub fn serve_in_slices<B: Book, X: Exchange, G: Rounds>(
         ≡ X.failure_count exchange.old + result.0.faults }
     ensures within { AtMost limit result.0 }
     ensures serves { ServesInSlices B.Book config.now book.old book.new (X.told exchange.old)
-        (X.told exchange.new) (G.given rounds.old) (G.given rounds.new) result.0 }
+        (X.told exchange.new) (λ slices. GoRounds G.Rounds rounds.old slices rounds.new)
+        result.0 }
     // A book that never refuses to tell a balance ends no run.
     ensures shut { result.1 ≡ Until.Shut → B.is_steady book.old → ⊥ }
     // One that is shut ends it: after all turns a sound book is open.

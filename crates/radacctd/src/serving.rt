@@ -11,7 +11,7 @@ use crate::database::adopted;
 use crate::left::Left;
 use acct_book::Book;
 use acct_command_line::{Paths, Serving};
-use acct_commands::{Errors, note_clock, run_serve};
+use acct_commands::{Errors, SiteFile, note_clock, run_serve};
 use acct_feed::Status;
 use acct_service::Exchange;
 use acct_site::Config;
@@ -20,8 +20,8 @@ use acct_sql::SqlBook;
 use sqlite::{FileFrom, FileStore, Start};
 use std::io::Write;
 
-/// `serve` over the book of a file. While it runs it tells on `errors` what it drops, if it isn't to
-/// be quiet, and what is to be told of its site.
+/// `serve` over the book of a file. While it runs it tells on `errors` what it drops, if it isn't
+/// to be quiet, and what is to be told of its site.
 pub(crate) fn serve<S: Start, W: Write, E: Write + Drop>(
     runtime: &HostRuntime,
     paths: &Paths,
@@ -41,9 +41,13 @@ pub(crate) fn serve<S: Start, W: Write, E: Write + Drop>(
         ⟦<Sockets<'static, HostRuntime> as Exchange>⟧ config serving.now.turns
         (W.contents output.old) (W.contents output.new)) e.0 e.1) }
 {
+    // Before the configuration is read, so that no change of it is missed.
+    let site = SiteFile::new(runtime, &paths.config);
     let config = config_of(runtime, &paths.config)?;
     let errors = told_to(errors, serving.telling.is_quiet);
-    served(runtime, &config, paths, serving, output, errors, start)
+    served(
+        runtime, &config, site, paths, serving, output, errors, start,
+    )
 }
 
 // Where a server tells what it drops: nowhere, if it is to be quiet.
@@ -63,6 +67,7 @@ fn told_to<E: Drop>(errors: Errors<E>, is_quiet: bool) -> Errors<E>
 fn served<S: Start, W: Write, E: Write + Drop>(
     runtime: &HostRuntime,
     config: &Config,
+    site: SiteFile<'_, HostRuntime>,
     paths: &Paths,
     serving: &Serving,
     output: &mut W,
@@ -87,7 +92,7 @@ fn served<S: Start, W: Write, E: Write + Drop>(
         runtime,
         runtime.alloc(),
         config,
-        &paths.config,
+        site,
         &mut book,
         serving,
         output,

@@ -7,7 +7,7 @@ returns-clause-serves g c =
     let begun = c.new-watched.ensures in
     let done = c.finish-sockets.ensures in
     let bound = c.in_ok-sockets.ensures.fresh in
-    ends_so _ _ _ _ _ _ _ c.new-watched.result _ c.in_ok-sockets.sockets _ (record {
+    ends_so _ _ _ _ _ _ _ _ c.new-watched.result _ c.in_ok-sockets.sockets _ (record {
       turns = sym begun.turns;
       failures = sym begun.failures;
       told = sym begun.told;

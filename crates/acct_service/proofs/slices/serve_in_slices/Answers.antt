@@ -14,9 +14,8 @@ loop-left-init g c =
       open_is = λ less. absurd (omega (arith, less));
       room = at_most_greater 0 _ c.none-served.result (omega arith)
           (none_at_most c.none-served.result none.counts none.faults);
-      reached = reached_none g.B.Book c.args.config.now c.args.book.now
-          (x.told c.args.exchange.now) (g.G.Rounds.given c.args.rounds.now) c.none-served.result
-          none.counts;
+      reached = reached_none g.B.Book g.G.Rounds c.args.config.now c.args.book.now
+          (x.told c.args.exchange.now) c.args.rounds.now c.none-served.result none.counts;
     }
 
 pub returns-then-is_shut-clause-within : goal.returns-then-is_shut-clause-within
@@ -31,13 +30,13 @@ returns-then-is_shut-clause-serves g c =
     let r = g.G.Rounds in
     let found = ap (λ (s : _). s.now) c.unwrap_or-site.ensures
     ∙ site_found c.args.config c.loop-left.changed c.as_ref.result c.as_ref.ensures.value in
-    (reached_slice b c.args.config.now c.args.book.now c.loop-left.book c.take_turns.new.book
+    (reached_slice b r c.args.config.now c.args.book.now c.loop-left.book c.take_turns.new.book
     c.go_round.new.book c.is_shut.new.book (x.told c.args.exchange.now)
     (x.told c.loop-left.exchange) (x.told c.take_turns.new.exchange)
-    (r.given c.args.rounds.now) (r.given c.loop-left.rounds) (r.given c.go_round.new.self)
+    c.args.rounds.now c.loop-left.rounds c.go_round.new.self
     c.loop-left.changed c.go_round.result c.unwrap_or-site.result.now c.loop-left.served
     c.take_turns.new.served found c.loop-left.invariant.reached c.take_turns.ensures.taken
-    c.go_round.ensures.looks c.go_round.ensures.plans c.go_round.ensures.given
+    c.go_round.ensures.looks c.go_round.ensures.plans c.go_round.ensures.goes
     c.is_shut.ensures.looks).so_far
 
 pub loop-left-preserved : goal.loop-left-preserved
@@ -49,13 +48,13 @@ loop-left-preserved g c =
     let turns = c.take_turns.ensures in
     let found = ap (λ (s : _). s.now) c.unwrap_or-site.ensures
     ∙ site_found c.args.config c.loop-left.changed c.as_ref.result c.as_ref.ensures.value in
-    let reached = reached_slice b c.args.config.now c.args.book.now c.loop-left.book
+    let reached = reached_slice b r c.args.config.now c.args.book.now c.loop-left.book
     c.take_turns.new.book c.go_round.new.book c.is_shut.new.book (x.told c.args.exchange.now)
     (x.told c.loop-left.exchange) (x.told c.take_turns.new.exchange)
-    (r.given c.args.rounds.now) (r.given c.loop-left.rounds) (r.given c.go_round.new.self)
+    c.args.rounds.now c.loop-left.rounds c.go_round.new.self
     c.loop-left.changed c.go_round.result c.unwrap_or-site.result.now c.loop-left.served
     c.take_turns.new.served found before.reached turns.taken c.go_round.ensures.looks
-    c.go_round.ensures.plans c.go_round.ensures.given c.is_shut.ensures.looks in
+    c.go_round.ensures.plans c.go_round.ensures.goes c.is_shut.ensures.looks in
     record {
       left = omega (arith, before.left);
       turns = omega (arith, before.turns, before.left, turns.turns, c.min-slice.ensures);

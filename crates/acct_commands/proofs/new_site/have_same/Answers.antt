@@ -2,7 +2,7 @@ use Rattle.std.proofs.Common.{◌≡◌, ◌<◌, ◌≤◌, ◌+◌, ◌++◌, 
 use Rattle.std.proofs.Common.{get_or, arith, rules}
 use Rattle.std.proofs.lemmas.List.{take_more, take_all, get_or_read}
 use Rattle.std.proofs.lemmas.Bool.{false≢true}
-use Rattle.acct_commands.proofs.site_file.have_same.Goals as goal
+use Rattle.acct_commands.proofs.new_site.have_same.Goals as goal
 
 pub loop-place-preserved : goal.loop-place-preserved
 loop-place-preserved c =

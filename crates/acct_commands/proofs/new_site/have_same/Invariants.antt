@@ -1,6 +1,6 @@
 -- The plans so far are the same.
 use Rattle.std.proofs.Common.{◌≡◌, length, take}
-use Rattle.acct_commands.proofs.site_file.have_same.Given as goal
+use Rattle.acct_commands.proofs.new_site.have_same.Given as goal
 
 abbrev pub invariant-loop-place : goal.invariant-loop-place
 invariant-loop-place l =
