@@ -90,6 +90,27 @@ class Server:
             ["sqlite3", "-csv", self.book, text], capture_output=True, text=True
         ).stdout.split()
 
+    def roots(self):
+        """The first page of each table of the book."""
+        rows = self.sqlite("SELECT name, rootpage FROM sqlite_schema WHERE type = 'table'")
+        return {name: int(page) for name, page in (row.split(",") for row in rows)}
+
+    def written(self):
+        """The pages that the last commit wrote, as the log of the book has them."""
+        with open(self.book + "-wal", "rb") as file:
+            log = file.read()
+        size, salt = int.from_bytes(log[8:12], "big"), log[16:24]
+        last, pages = set(), set()
+        for at in range(32, len(log) - size - 23, 24 + size):
+            frame = log[at : at + 24]
+            if frame[8:16] != salt:
+                break
+            pages.add(int.from_bytes(frame[:4], "big"))
+            # The last frame of a commit tells how many pages the book then has.
+            if any(frame[4:8]):
+                last, pages = pages, set()
+        return last
+
     def start(self, turns, more=(), stderr=None):
         """Serves; standard error goes to a file of its own, unless another is given."""
         with open(self.errors, "wb") as errors:
