@@ -281,14 +281,14 @@ module _ (a b c d : State) (prices counts : List Row) (plans : List Plan)
   pub fit_among : AnswersFit plans prices counts → AreAmong plans a.now.trees
   fit_among fit = record {
     prices = prices_shown a b prices plans (inl has) one fit.of_prices;
-    counts = λ row there. all_counts_shown c d counts plans has_then two fit.of_counts row
+    counts = λ row there. all_counts_shown c d counts plans (inl has_then) two fit.of_counts row
         (subst (λ rows. Has rows row) (sym rows_then) there);
     both = λ p there.
         let it = all_has (λ p. IsShownIn Prices prices p ↔ IsShownIn Counts counts p) plans p
         fit.both there in (
-          λ r. counted_then p (count_of_shown c d counts plans has_then two p
+          λ r. counted_then p (count_of_shown c d counts plans (inl has_then) two p
               (it.0 ((prices_told p).1 r))),
-          λ r. (prices_told p).0 (it.1 (shown_of_count c d counts plans has_then two p
+          λ r. (prices_told p).0 (it.1 (shown_of_count c d counts plans (inl has_then) two p
               (counted_before p r))),
         );
   }
@@ -296,14 +296,14 @@ module _ (a b c d : State) (prices counts : List Row) (plans : List Plan)
   pub among_fit : AreAmong plans a.now.trees → AnswersFit plans prices counts
   among_fit among = record {
     of_prices = shown_prices a b prices plans (inl has) one among.prices;
-    of_counts = all_shown_counts c d counts plans has_then two
+    of_counts = all_shown_counts c d counts plans (inl has_then) two
         (λ row there. among.counts row (subst (λ rows. Has rows row) rows_then there));
     both = all_from (λ p. IsShownIn Prices prices p ↔ IsShownIn Counts counts p) plans
         (λ p there. (
-          λ shown. shown_of_count c d counts plans has_then two p (counted_before p
+          λ shown. shown_of_count c d counts plans (inl has_then) two p (counted_before p
               ((among.both p there).0 ((prices_told p).0 shown))),
           λ shown. (prices_told p).1 ((among.both p there).1 (counted_then p
-              (count_of_shown c d counts plans has_then two p shown))),
+              (count_of_shown c d counts plans (inl has_then) two p shown))),
         ));
   }
 

@@ -19,7 +19,8 @@ use Rattle.sqlite_rules.proofs.ListLemmas.{has_either, has_left, has_right}
 use Rattle.acct_model.specs.declared.plan.Plan.{Plan}
 use Rattle.acct_book.specs.Content.{empty_content}
 use Rattle.acct_sql.specs.Tables.{book_schema, no_schema, meta, price_plan, account, voucher}
-use Rattle.acct_sql.specs.Tables.{session, plan_count, session_plan, first_schema, own_number}
+use Rattle.acct_sql.specs.Tables.{session, plan_count, session_plan, first_schema, second_schema}
+use Rattle.acct_sql.specs.Tables.{own_number}
 use Rattle.acct_sql.specs.Tidy.{IsTidy}
 use Rattle.acct_sql.specs.Columns.{int_in, session_in_columns, topup_in_columns, columns}
 use Rattle.sqlite_value.specs.Order.{bytes}
@@ -32,6 +33,7 @@ use Rattle.acct_sql.specs.inner.Columns.{plan_columns, count_columns}
 use Rattle.acct_sql.specs.inner.Inside.{HasFinished}
 use Rattle.acct_sql.specs.inner.NewBook.{HasRun, GoesOn, HasFirstTables, HasPlanTables}
 use Rattle.acct_sql.specs.inner.NewBook.{HasTables, HasPlansSoFar, HasPlans, IsNewBook}
+use Rattle.acct_sql.specs.inner.Migrating.{HasSessionPlans}
 use Rattle.acct_sql.specs.declared.statements.TheConstants as texts
 use Rattle.acct_sql.proofs.MakeLemmas as m
 use Rattle.acct_sql.proofs.TextLemmas.{number_terms, number_is, number_plain, plan_terms}
@@ -75,6 +77,20 @@ plan_tables_made a b c one two has =
       is_open = two.1.1.is_open;
       mode = two.1.1.mode;
       committed_is = two.1.1.committed_is ∙ one.1.1.committed_is;
+    }
+
+pub session_plans_made : (a b : State) → HasRun texts.SESSION_PLAN_TABLE.now a b
+    → a.now.schema ≡ second_schema → HasSessionPlans a b
+session_plans_made a b one has =
+    let x = m.session_plans_defined a b one.0 has one.1.0 in
+    record {
+      schema = x.0.listed;
+      sound = x.0.sound;
+      session_plans = x.1;
+      others = x.0.others;
+      is_open = one.1.1.is_open;
+      mode = one.1.1.mode;
+      committed_is = one.1.1.committed_is;
     }
 
 pub tables_made : (c : Database) (mid new : State) → HasFirstTables c mid

@@ -15,7 +15,8 @@ use Rattle.sqlite.specs.Listing.{understood}
 use Rattle.sqlite.specs.State.{State, mode_of, Writes, Executes}
 use Rattle.sqlite.proofs.Callers.{IsPlain, command_of, statement_of, runs_as}
 use Rattle.acct_sql.specs.Tables.{book_schema, no_schema, meta, price_plan, account, voucher}
-use Rattle.acct_sql.specs.Tables.{session, plan_count, session_plan, first_schema, index_of}
+use Rattle.acct_sql.specs.Tables.{session, plan_count, session_plan, first_schema, second_schema}
+use Rattle.acct_sql.specs.Tables.{index_of}
 use Rattle.acct_sql.specs.inner.NewBook.{AreFirstEmpty}
 use Rattle.acct_sql.specs.declared.statements.TheConstants as texts
 use Rattle.acct_sql.proofs.StatementLemmas.{went, same_value}
@@ -31,14 +32,6 @@ stage n = record {
 -- and with the first of the two other indexes
 abbrev pub six : Schema
 six = record first_schema { indexes = take 6 book_schema.indexes }
-
--- the first tables and what each plan counts
-abbrev pub with_counts : Schema
-with_counts = record {
-  tables = take 6 book_schema.tables;
-  indexes = take 8 book_schema.indexes;
-  views = [];
-}
 
 -- what CREATE TABLE did
 pub record HasDefined (schema after : Schema) (old new : Database) : Type 0 where
@@ -225,21 +218,21 @@ pub count_plain : IsPlain (understood first_schema texts.PLAN_COUNT_TABLE.now)
 unfolding understood everything
 count_plain = (refl, refl)
 
-pub count_next : created first_schema (record plan_count { tree = 0 }) ≡ with_counts
+pub count_next : created first_schema (record plan_count { tree = 0 }) ≡ second_schema
 count_next = let one : decimal 1 ≡ codes "1" = decimal_digit 1 (omega arith) in rw one refl
 
-pub kept_is : (command_of (understood with_counts texts.SESSION_PLAN_TABLE.now) ≡ CreateTable)
-    × (statement_of texts.SESSION_PLAN_TABLE.now (understood with_counts
+pub kept_is : (command_of (understood second_schema texts.SESSION_PLAN_TABLE.now) ≡ CreateTable)
+    × (statement_of texts.SESSION_PLAN_TABLE.now (understood second_schema
     texts.SESSION_PLAN_TABLE.now) ≡ texts.SESSION_PLAN_TABLE.now)
     × (table_defined_by texts.SESSION_PLAN_TABLE.now ≡ Ok (record session_plan { tree = 0 }))
 unfolding understood everything
 kept_is = (refl, refl, refl)
 
-pub kept_plain : IsPlain (understood with_counts texts.SESSION_PLAN_TABLE.now)
+pub kept_plain : IsPlain (understood second_schema texts.SESSION_PLAN_TABLE.now)
 unfolding understood everything
 kept_plain = (refl, refl)
 
-pub kept_next : created with_counts (record session_plan { tree = 0 }) ≡ book_schema
+pub kept_next : created second_schema (record session_plan { tree = 0 }) ≡ book_schema
 kept_next = let one : decimal 1 ≡ codes "1" = decimal_digit 1 (omega arith) in rw one refl
 
 -- what the two tables of plans are made in, and what they leave of the others
@@ -254,9 +247,9 @@ pub plans_defined : (a b c : State) (i j : ℕ) → a.now.schema ≡ first_schem
     → Executes texts.PLAN_COUNT_TABLE.now [] a b (Ok i)
     → Executes texts.SESSION_PLAN_TABLE.now [] b c (Ok j) → HasDefinedPlans a.now c.now
 plans_defined a b c i j has one two =
-    let x = defines first_schema with_counts texts.PLAN_COUNT_TABLE.now
+    let x = defines first_schema second_schema texts.PLAN_COUNT_TABLE.now
     (record plan_count { tree = 0 }) a b i count_is count_plain count_next refl has one in
-    let y = defines with_counts book_schema texts.SESSION_PLAN_TABLE.now
+    let y = defines second_schema book_schema texts.SESSION_PLAN_TABLE.now
     (record session_plan { tree = 0 }) b c j kept_is kept_plain kept_next refl x.listed two in
     record {
       schema = y.listed;
@@ -277,6 +270,15 @@ plans_defined a b c i j has one two =
         ),
       );
     }
+
+pub session_plans_defined : (a b : State) (i : ℕ) → a.now.schema ≡ second_schema
+    → Executes texts.SESSION_PLAN_TABLE.now [] a b (Ok i)
+    → HasDefined second_schema book_schema a.now b.now
+    × (b.now.trees session_plan.tree ≡ [])
+session_plans_defined a b i has one =
+    let x = defines second_schema book_schema texts.SESSION_PLAN_TABLE.now
+    (record session_plan { tree = 0 }) a b i kept_is kept_plain kept_next refl has one in
+    (x, x.empty)
 
 -- ---- the first tables
 

@@ -24,14 +24,16 @@ use Rattle.acct_sql.specs.Tidy.{IsTidy}
 use Rattle.acct_sql.specs.Columns.{columns, int_in, session_in_columns, topup_in_columns}
 use Rattle.acct_sql.specs.Content.{content_in_tables, plans_in_tables, with_plan, is_session}
 use Rattle.acct_sql.specs.Content.{is_account, is_voucher}
-use Rattle.acct_sql.specs.Make.{HasNumber, IsCountRow}
+use Rattle.acct_sql.specs.Make.{HasNumber, IsCountRow, KeepsPrices}
 use Rattle.acct_sql.specs.Look.{HasNumberAlone}
-use Rattle.acct_sql.specs.Migrate.{migrated, with_own_plan, first_number}
+use Rattle.acct_sql.specs.Migrate.{migrated, with_own_plan, number_of, KeepsOlderPlans}
 use Rattle.acct_sql.specs.inner.Columns.{count_columns}
 use Rattle.acct_sql.specs.inner.NewBook.{HasPlanTables}
-use Rattle.acct_sql.specs.inner.Migrating.{IsFirst, IsFirstBook, IsAfter, ShowsNext}
-use Rattle.acct_sql.specs.inner.Migrating.{IsClassRow, HaveClasses, HasPlanTablesOver, HasWritten}
-use Rattle.acct_sql.specs.inner.Migrating.{HasMigrated}
+use Rattle.acct_sql.specs.declared.older_schema.OlderSchema.{OlderSchema}
+use Rattle.acct_sql.specs.declared.older_schema.OlderSchema.TheVariants.{First, Second}
+use Rattle.acct_sql.specs.inner.Migrating.{HasOlderRows, IsOlderBook, IsAfter, ShowsNext}
+use Rattle.acct_sql.specs.inner.Migrating.{IsClassRow, HaveClasses, HasTablesOver, HasWritten}
+use Rattle.acct_sql.specs.inner.Migrating.{HasSessionPlans, HasMigrated}
 use Rattle.acct_sql.specs.declared.statements.TheConstants as texts
 use Rattle.acct_sql.proofs.TextLemmas as t
 use Rattle.acct_sql.proofs.QueryLemmas.{meets}
@@ -50,14 +52,14 @@ int_is m n e = cc
 -- ---- the tables of plans
 
 pub plan_tables_over : (plans : List Plan) (old new : State) → HasPlanTables old new
-    → old.now ≡ old.committed → IsFirstBook plans old.now → HasPlanTablesOver plans new
+    → old.now ≡ old.committed → IsOlderBook First plans old.now → HasTablesOver First plans [] new
 plan_tables_over plans old new made settled first =
     let now : old.now ≡ new.committed = settled ∙ sym made.committed_is in
     let same = λ (tree : ℕ). ap (λ (d : Database). d.trees tree) now in
     record {
       schema = made.schema;
       sound = made.sound;
-      counts = made.counts;
+      counts_kept = no_counts new.now.trees made.counts;
       session_plans = made.session_plans;
       others = (
         made.others.0 ∙ same meta.tree,
@@ -72,8 +74,42 @@ plan_tables_over plans old new made settled first =
           ),
         ),
       );
-      first = subst (λ (d : Database). IsFirst plans d.trees) now first.rows;
+      was = subst (λ (d : Database). HasOlderRows First plans d.trees) now first.rows;
     }
+
+pub session_plans_over : (plans : List Plan) (old new : State) → HasSessionPlans old new
+    → old.now ≡ old.committed → IsOlderBook Second plans old.now
+    → HasTablesOver Second plans plans new
+session_plans_over plans old new made settled second =
+    let now : old.now ≡ new.committed = settled ∙ sym made.committed_is in
+    let same = λ (tree : ℕ). ap (λ (d : Database). d.trees tree) now in
+    record {
+      schema = made.schema;
+      sound = made.sound;
+      counts_kept = counts_same plans old.now.trees new.now.trees made.others.1.1.1.1.1.0
+          second.rows.plans_kept.counts;
+      session_plans = made.session_plans;
+      others = (
+        made.others.0 ∙ same meta.tree,
+        (
+          made.others.1.0 ∙ same price_plan.tree,
+          (
+            made.others.1.1.0 ∙ same account.tree,
+            (
+              made.others.1.1.1.0 ∙ same voucher.tree,
+              (made.others.1.1.1.1.0 ∙ same session.tree, tt),
+            ),
+          ),
+        ),
+      );
+      was = subst (λ (d : Database). HasOlderRows Second plans d.trees) now second.rows;
+    }
+
+-- the prices of older plans
+older_prices : (older : OlderSchema) (plans : List Plan) (db : Trees)
+    → KeepsOlderPlans older plans db → KeepsPrices plans db
+older_prices First plans db kept = kept.prices
+older_prices Second plans db kept = kept.prices
 
 -- ---- the schema number
 
@@ -145,11 +181,11 @@ alone_same n old new same was = record {
   alone = λ m it. was.alone m (has_same m new old (sym same) it);
 }
 
-pub number_written : (plans : List Plan) (old new : State) (n : ℕ)
-    → ExecutesInside 0 texts.SET_SCHEMA_NUMBER.now [] old new (Ok n) → HasPlanTablesOver plans old
-    → HasWritten plans [] None new
-number_written plans old new n h over =
-    let first = over.first in
+pub number_written : (older : OlderSchema) (plans counts : List Plan) (old new : State) (n : ℕ)
+    → ExecutesInside 0 texts.SET_SCHEMA_NUMBER.now [] old new (Ok n)
+    → HasTablesOver older plans counts old → HasWritten plans counts None new
+number_written older plans counts old new n h over =
+    let first = over.was in
     let tidy : IsTidy (old.now.trees meta.tree) = subst IsTidy (sym over.others.0)
     first.tidy.metas in
     let done = updates 0 meta.name meta.tree meta.columns (1 ∷ []) refl (λ db. refl)
@@ -166,7 +202,7 @@ number_written plans old new n h over =
     let sessions : new.now.trees session.tree ≡ new.committed.trees session.tree =
     done.applies.tables.1.1.1.1.0 (λ e. absurd (omega (arith, e)))
     ∙ (over.others.1.1.1.1.0 ∙ as_before session.tree) in
-    let counts = done.applies.tables.1.1.1.1.1.0 (λ e. absurd (omega (arith, e))) in
+    let modes = done.applies.tables.1.1.1.1.1.0 (λ e. absurd (omega (arith, e))) in
     let session_plans = done.applies.tables.1.1.1.1.1.1.0 (λ e. absurd (omega (arith, e))) in
     let tidy_now = λ (tree : ℕ). λ (same : new.now.trees tree ≡ new.committed.trees tree).
     λ (was : IsTidy (old.committed.trees tree)).
@@ -182,14 +218,16 @@ number_written plans old new n h over =
         sessions = tidy_now session.tree sessions first.tidy.sessions;
         plans = no_rows _ (session_plans ∙ over.session_plans);
       };
-      number = raised_number old new n over.schema tidy done first_number
-          (alone_same first_number old.committed.trees old.now.trees over.others.0 first.number);
+      number = raised_number old new n over.schema tidy done (number_of older)
+          (alone_same (number_of older) old.committed.trees old.now.trees over.others.0
+          first.number);
       accounts = accounts;
       vouchers = vouchers;
       sessions = sessions;
       prices_kept = prices_same plans old.committed.trees new.now.trees
-          (prices ∙ over.others.1.0) first.plans_kept.prices;
-      counts_kept = no_counts new.now.trees (counts ∙ over.counts);
+          (prices ∙ over.others.1.0) (older_prices older plans old.committed.trees
+          first.plans_kept);
+      counts_kept = counts_same counts old.now.trees new.now.trees modes over.counts_kept;
       classes = λ s there none. absurd (none tt);
     }
 

@@ -14,17 +14,17 @@ use Rattle.std.specs.List.{AllByRecursion}
 use Rattle.sqlite_rules.specs.Lists.{Has}
 use Rattle.sqlite_rules.proofs.ListLemmas.{all_has, all_from}
 use Rattle.acct_model.specs.declared.plan.Plan.{Plan}
-use Rattle.acct_sql.specs.Tables.{book_schema, price_plan, plan_count}
+use Rattle.acct_sql.specs.Tables.{price_plan, plan_count}
 use Rattle.acct_sql.specs.Make.{KeepsPrices, KeepsCounts, IsPlanRow, IsCountRow}
 use Rattle.acct_sql.specs.Look.{IsIdle, LooksAtTables}
-use Rattle.acct_sql.specs.inner.Looked.{IsKnown, ShowsPlan, ShowsCount, IsShownIn, IsPlanIn}
-use Rattle.acct_sql.specs.inner.Looked.{AreShown}
+use Rattle.acct_sql.specs.inner.Looked.{IsKnown, HasCounts, ShowsPlan, ShowsCount, IsShownIn}
+use Rattle.acct_sql.specs.inner.Looked.{IsPlanIn, AreShown}
 use Rattle.acct_sql.specs.inner.Adding.{IsPriced, IsCounted}
 use Rattle.acct_sql.specs.declared.adopting.PlanTable.TheVariants.{Prices, Counts}
 use Rattle.acct_sql.specs.declared.statements.TheConstants as texts
 use Rattle.acct_sql.proofs.QueryLemmas.{over_table, all_rows, shown_has, has_shown, answer_of}
-use Rattle.acct_sql.proofs.TextLemmas.{plan_shown, count_shown, count_rows}
-use Rattle.acct_sql.proofs.OlderLemmas.{prices}
+use Rattle.acct_sql.proofs.TextLemmas.{plan_shown, count_shown}
+use Rattle.acct_sql.proofs.OlderLemmas.{prices, counts}
 
 module _ (old new : State) (rows : List Row) (plans : List Plan) (known : IsKnown old.now.schema)
     (h : Shown texts.PLANS.now [] old new rows) where
@@ -87,11 +87,11 @@ module _ (old new : State) (rows : List Row) (plans : List Plan) (known : IsKnow
 
 -- ---- what the plans count
 
-module _ (old new : State) (rows : List Row) (plans : List Plan) (has : old.now.schema
-    ≡ book_schema) (h : Shown texts.PLAN_COUNTS.now [] old new rows) where
+module _ (old new : State) (rows : List Row) (plans : List Plan) (has : HasCounts old.now.schema)
+    (h : Shown texts.PLAN_COUNTS.now [] old new rows) where
   count_answer : IsAnswerAs Null (over_table plan_count.tree [] count_shown [] all_rows)
       old.now.trees [] rows
-  count_answer = answer_of count_rows [] old new rows has h
+  count_answer = answer_of (counts old.now.schema has) [] old new rows refl h
 
   counts_so : (plan : Plan) (r : Row) → ShowsCount plan (eval_all count_shown ([] ∷ r ∷ []))
       → IsCountRow plan r

@@ -109,5 +109,13 @@ first_schema = record {
   views = [];
 }
 
+-- the tables of a book of schema number 2: those of number 1, and what each plan counts
+abbrev pub second_schema : Schema
+second_schema = record {
+  tables = take 6 book_schema.tables;
+  indexes = take 8 book_schema.indexes;
+  views = [];
+}
+
 abbrev pub no_schema : Schema
 no_schema = record { tables = []; indexes = []; views = [] }

@@ -15,6 +15,7 @@ ghost use Rattle.acct_sql.specs.Book.{is_sound_at};
 ghost use Rattle.acct_sql.specs.Make.{KeepsPlans, KeepsPrices, KeepsCounts};
 ghost use Rattle.acct_sql.specs.Look.{IsIdle, LooksAtTables, HasNumberAlone, IsRefusedAs};
 ghost use Rattle.acct_sql.specs.inner.Looked.{IsIdleBook, IsIdleKnown, IsBookWith, HasRowsOf};
+ghost use Rattle.acct_sql.specs.inner.Looked.{IsIdleCounting};
 ghost use Rattle.acct_sql.specs.inner.Looked.{tables_at, IsNumberFault, IsUnknownFault};
 ghost use Rattle.acct_sql.specs.inner.Looked.{Peeks, Examines, ShowsPlan, ShowsCount, Says};
 ghost use Rattle.acct_sql.specs.inner.Looked.{IsShownIn, IsPlanIn};
@@ -151,9 +152,12 @@ fn fault_of_many(rows: &[sqlite::Row]) -> SqlBookError
     }
 }
 
-// Refuses a book that was made with other plans.
-fn check_plans<S: Alter>(conn: &mut Connection<S>, plans: &[Plan]) -> Result<(), SqlBookError>
-    requires { IsIdleBook S.Store conn.old }
+/// Refuses a book, be it one of schema number 2, that was made with other plans.
+pub(crate) fn check_plans<S: Alter>(
+    conn: &mut Connection<S>,
+    plans: &[Plan],
+) -> Result<(), SqlBookError>
+    requires { IsIdleCounting S.Store conn.old }
     ensures plans { Examines S.Store conn.old conn.new (KeepsPlans plans.now) result }
     ensures fault { is_sound_at S.Store conn.new → IfErr result
         (IsPlanFault (KeepsPlans plans.now (tables_at S.Store conn.old).trees)) }
@@ -181,7 +185,7 @@ pub(crate) fn check_prices<S: Alter>(
 }
 
 fn check_counts<S: Alter>(conn: &mut Connection<S>, plans: &[Plan]) -> Result<(), SqlBookError>
-    requires { IsIdleBook S.Store conn.old }
+    requires { IsIdleCounting S.Store conn.old }
     ensures counts { Examines S.Store conn.old conn.new (KeepsCounts plans.now) result }
     ensures fault { is_sound_at S.Store conn.new → IfErr result
         (IsPlanFault (KeepsCounts plans.now (tables_at S.Store conn.old).trees)) }

@@ -2,7 +2,7 @@
 ghost use Rattle.std.specs.Prelude.{◌≡◌, ◌↔◌, None, true, false, [], ◌∷◌, IsTrue, drop};
 ghost use Rattle.sqlite_value.specs.Keys.{plain};
 ghost use Rattle.acct_sql.specs.Tables.{book_schema, meta, price_plan, account, voucher, session};
-ghost use Rattle.acct_sql.specs.Tables.{plan_count, session_plan, first_schema};
+ghost use Rattle.acct_sql.specs.Tables.{plan_count, session_plan, first_schema, second_schema};
 ghost use Rattle.acct_sql.specs.Tables.{column_of, table_of, index_of};
 
 use sqlite_items::Items;
@@ -28,6 +28,15 @@ pub(crate) fn is_first_schema(schema: &Schema) -> bool
         && are_first_indexes(schema.indexes.as_slice())
 }
 
+/// Whether the schema is that of a book of schema number 2, and nothing besides.
+pub(crate) fn is_second_schema(schema: &Schema) -> bool
+    ensures { IsTrue result ↔ (schema.now ≡ second_schema) }
+{
+    schema.views.is_empty()
+        && are_second_tables(schema.tables.as_slice())
+        && are_second_indexes(schema.indexes.as_slice())
+}
+
 fn are_first_tables(tables: &[Table]) -> bool
     ensures only { IsTrue result → tables.now ≡ first_schema.tables }
     ensures each { tables.now ≡ first_schema.tables → IsTrue result }
@@ -49,6 +58,29 @@ fn are_voucher_and_session(tables: &[Table]) -> bool
         return false;
     };
     is_voucher(voucher) && is_session(session)
+}
+
+fn are_second_tables(tables: &[Table]) -> bool
+    ensures only { IsTrue result → tables.now ≡ second_schema.tables }
+    ensures each { tables.now ≡ second_schema.tables → IsTrue result }
+{
+    let [meta, price_plan, account, later @ ..] = tables else {
+        return false;
+    };
+    is_meta(meta)
+        && is_price_plan(price_plan)
+        && is_account(account)
+        && are_voucher_to_plan_count(later)
+}
+
+fn are_voucher_to_plan_count(tables: &[Table]) -> bool
+    ensures only { IsTrue result → tables.now ≡ drop 3 second_schema.tables }
+    ensures each { tables.now ≡ drop 3 second_schema.tables → IsTrue result }
+{
+    let [voucher, session, plan_count] = tables else {
+        return false;
+    };
+    is_voucher(voucher) && is_session(session) && is_plan_count(plan_count)
 }
 
 fn are_tables(tables: &[Table]) -> bool
@@ -316,6 +348,43 @@ fn are_first_indexes(indexes: &[Index]) -> bool
         && is_key_index(price_plan, b"sqlite_autoindex_price_plan_1", 3, 2, &[1])
         && is_key_index(account, b"sqlite_autoindex_account_1", 5, 4, &[1])
         && are_voucher_and_session_indexes(later)
+}
+
+fn are_second_indexes(indexes: &[Index]) -> bool
+    ensures only { IsTrue result → indexes.now ≡ second_schema.indexes }
+    ensures each { indexes.now ≡ second_schema.indexes → IsTrue result }
+{
+    let [meta, price_plan, account, later @ ..] = indexes else {
+        return false;
+    };
+    is_key_index(meta, b"sqlite_autoindex_meta_1", 1, 0, &[1])
+        && is_key_index(price_plan, b"sqlite_autoindex_price_plan_1", 3, 2, &[1])
+        && is_key_index(account, b"sqlite_autoindex_account_1", 5, 4, &[1])
+        && are_voucher_to_plan_count_indexes(later)
+}
+
+fn are_voucher_to_plan_count_indexes(indexes: &[Index]) -> bool
+    ensures only { IsTrue result → indexes.now ≡ drop 3 second_schema.indexes }
+    ensures each { indexes.now ≡ drop 3 second_schema.indexes → IsTrue result }
+{
+    let [voucher, session, later @ ..] = indexes else {
+        return false;
+    };
+    is_key_index(voucher, b"sqlite_autoindex_voucher_1", 7, 6, &[1])
+        && is_key_index(session, b"sqlite_autoindex_session_1", 9, 8, &[1, 2])
+        && are_search_to_plan_count_indexes(later)
+}
+
+fn are_search_to_plan_count_indexes(indexes: &[Index]) -> bool
+    ensures only { IsTrue result → indexes.now ≡ drop 5 second_schema.indexes }
+    ensures each { indexes.now ≡ drop 5 second_schema.indexes → IsTrue result }
+{
+    let [session_account, voucher_account, plan_count] = indexes else {
+        return false;
+    };
+    is_search_index(session_account, b"session_account", 10, 8, &[3])
+        && is_search_index(voucher_account, b"voucher_account", 11, 6, &[2])
+        && is_key_index(plan_count, b"sqlite_autoindex_plan_count_1", 13, 12, &[1])
 }
 
 fn are_voucher_and_session_indexes(indexes: &[Index]) -> bool

@@ -26,6 +26,7 @@ mod listing;
 mod making;
 mod memory;
 mod migrating;
+mod older_schema;
 mod reading;
 mod refused;
 mod rowids;

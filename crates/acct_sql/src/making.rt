@@ -6,12 +6,13 @@ ghost use Rattle.sqlite.specs.Held.{state};
 ghost use Rattle.sqlite.specs.Tree.{Trees};
 ghost use Rattle.sqlite.specs.Effect.{Database};
 ghost use Rattle.acct_model.specs.declared.plan.Plan.{Plan};
-ghost use Rattle.acct_sql.specs.Tables.{no_schema, first_schema};
+ghost use Rattle.acct_sql.specs.Tables.{no_schema, first_schema, second_schema};
 ghost use Rattle.acct_sql.specs.Book.{is_sound_at};
 ghost use Rattle.acct_sql.specs.Make.{IsNew};
 ghost use Rattle.acct_sql.specs.inner.Inside.{RunsInside};
 ghost use Rattle.acct_sql.specs.inner.NewBook.{HasRun, HasFirstTables, HasPlanTables, HasTables};
 ghost use Rattle.acct_sql.specs.inner.NewBook.{HasPlans, HasPlansOver, HasPlansSoFar, IsNewBook};
+ghost use Rattle.acct_sql.specs.inner.Migrating.{HasSessionPlans};
 ghost use Rattle.acct_sql.specs.inner.Looked.{tables_at};
 
 use crate::columns::{count_values, plan_values};
@@ -92,6 +93,14 @@ pub(crate) fn define_plan_tables<S: Alter>(tx: &mut Transaction<'_, S>) -> Resul
         (λ old new. old.now.schema ≡ first_schema → HasPlanTables old new) result }
 {
     define(tx, PLAN_COUNT_TABLE)?;
+    define(tx, SESSION_PLAN_TABLE)
+}
+
+/// Makes the one table that the schema number 3 has beside those of number 2.
+pub(crate) fn define_session_plans<S: Alter>(tx: &mut Transaction<'_, S>) -> Result<(), Refused>
+    ensures { RunsInside S.Store tx.old.conn tx.new.conn
+        (λ old new. old.now.schema ≡ second_schema → HasSessionPlans old new) result }
+{
     define(tx, SESSION_PLAN_TABLE)
 }
 

@@ -58,7 +58,8 @@ impl<S: Alter> SqlBook<S> {
     ghost use Rattle.acct_sql.specs.Tables.{no_schema, own_number};
     ghost use Rattle.acct_sql.specs.Make.{IsNew, KeepsPlans};
     ghost use Rattle.acct_sql.specs.Look.{LooksAtTables, HasNumberAlone, IsRefusedAs};
-    ghost use Rattle.acct_sql.specs.Migrate.{IsMigrated, IsNotMigratedAs, StoodFor};
+    ghost use Rattle.acct_sql.specs.declared.older_schema.OlderSchema.{OlderSchema};
+    ghost use Rattle.acct_sql.specs.Migrate.{IsMigrated, IsNotMigratedAs, IsOlder, StoodFor};
     ghost use Rattle.acct_sql.specs.Content.{content_in_tables, content_without_plans};
     ghost use Rattle.acct_sql.specs.Book.{IsOpenBook, IsResting, IsBookOver};
     ghost use Rattle.acct_book.specs.Stands.{Stands};
@@ -163,18 +164,18 @@ impl<S: Alter> SqlBook<S> {
         }
     }
 
-    /// Makes a book of schema number 1 one of today's, in one transaction: it adds the two tables
-    /// of plans, where each plan counts both directions and each session has the plan of its class,
-    /// else `default`. The database is handed back on an error, as it was. It reads each rowid of
-    /// the older tables once, and holds one session at a time.
+    /// Makes a book of schema number 1 or 2 one of today's, in one transaction: it adds the tables
+    /// that it lacks, where each session has the plan of its class, else `default`. A plan of
+    /// number 1 counts both directions, and one of number 2 what it counted. The database is handed
+    /// back on an error, as it was. It reads each rowid of the older tables once, and holds one
+    /// session at a time.
     ///
     /// # Errors
     ///
-    /// `WrongSchema` where a schema number is read that is not 1, `NotABook` where none is or the
-    /// tables and indices are not exactly those of such a book, and `PlansDiffer` where it was made
-    /// with other plans or one of these counts one direction alone, in this order. `Unavailable`
-    /// where the store or memory refused, or where two rows have one rowid or both the schema
-    /// number.
+    /// `WrongSchema` where a schema number is read that is neither 1 nor 2, `NotABook` where none
+    /// is or the tables and indices are not exactly those of a book of this number, and
+    /// `PlansDiffer` where it was made with other plans, in this order. `Unavailable` where the
+    /// store or memory refused, or where two rows have one rowid or both the schema number.
     pub fn migrate(
         alloc: Global,
         mut conn: Connection<S>,
@@ -184,6 +185,8 @@ impl<S: Alter> SqlBook<S> {
         ensures migrated { IfOk result (λ book. HasCleanDisk (state S.Store book)
             → IsOpenBook (state S.Store book) × IsMigrated plans.now
             (state S.Store conn).now.trees (state S.Store book).now.trees) }
+        ensures older { IfOk result (λ book. HasCleanDisk (state S.Store book)
+            → (older : OlderSchema) × IsOlder older plans.now (state S.Store conn).now) }
         ensures stands { IfOk result (λ book. HasCleanDisk (state S.Store book)
             → (history : History)
             → StoodFor plans.now (content_without_plans (state S.Store conn).now.trees) history

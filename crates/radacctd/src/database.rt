@@ -76,7 +76,7 @@ pub fn adopted<S: Start>(
     taken(runtime.alloc(), connection, plans)
 }
 
-/// The book of schema number 1 in a file that is there, as one of today's.
+/// The book of schema number 1 or 2 in a file that is there, as one of today's.
 ///
 /// # Errors
 ///

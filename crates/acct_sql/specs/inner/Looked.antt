@@ -19,7 +19,8 @@ use Rattle.acct_sql.specs.declared.sql_book_error.SqlBookError.{SqlBookError}
 use Rattle.acct_sql.specs.declared.sql_book_error.SqlBookError.TheVariants.{NotABook, PlansDiffer}
 use Rattle.acct_sql.specs.declared.sql_book_error.SqlBookError.TheVariants.{WrongSchema}
 use Rattle.acct_sql.specs.declared.sql_book_error.SqlBookError.TheVariants.{Unavailable}
-use Rattle.acct_sql.specs.Tables.{book_schema, first_schema, account, voucher, session}
+use Rattle.acct_sql.specs.declared.older_schema.OlderSchema.{OlderSchema}
+use Rattle.acct_sql.specs.Tables.{book_schema, second_schema, account, voucher, session}
 use Rattle.acct_sql.specs.Tables.{session_plan, own_number}
 use Rattle.acct_sql.specs.Tidy.{IsTidy}
 use Rattle.acct_sql.specs.Book.{IsBook}
@@ -27,14 +28,19 @@ use Rattle.acct_sql.specs.declared.adopting.PlanTable.{PlanTable}
 use Rattle.acct_sql.specs.declared.adopting.PlanTable.TheVariants.{Prices, Counts}
 use Rattle.acct_sql.specs.Make.{HasNumber, KeepsPlans, mode_of}
 use Rattle.acct_sql.specs.Look.{IsIdle, LooksAtTables, HasNumberAlone}
+use Rattle.acct_sql.specs.Migrate.{schema_of}
 
 -- it has the tables of a book
 abbrev pub HasSchema : State → Type 0
 HasSchema s = HasCleanDisk s → s.now.schema ≡ book_schema
 
--- the tables are those of a book, or of one of schema number 1
+-- the tables are those of a book, or of an older one
 abbrev pub IsKnown : Schema → Type 0
-IsKnown schema = (schema ≡ book_schema) ⊎ (schema ≡ first_schema)
+IsKnown schema = (schema ≡ book_schema) ⊎ ((older : OlderSchema) × (schema ≡ schema_of older))
+
+-- the tables have what each plan counts
+abbrev pub HasCounts : Schema → Type 0
+HasCounts schema = (schema ≡ book_schema) ⊎ (schema ≡ second_schema)
 
 -- the rowids of its accounts, vouchers, sessions and their plans tell their rows apart
 pub record AreTidy (db : Trees) : Type 0 where
@@ -71,6 +77,16 @@ module _ {S : Type 0} (g : Ghosts S) where
   pub record IsIdleKnown (conn : Held S) : Type 0 where
     pub idle : IsIdle (state g conn)
     pub has : HasCleanDisk (state g conn) → IsKnown (tables_at conn).schema
+
+  -- outside a transaction, over a database whose tables have what each plan counts
+  pub record IsIdleCounting (conn : Held S) : Type 0 where
+    pub idle : IsIdle (state g conn)
+    pub has : HasCleanDisk (state g conn) → HasCounts (tables_at conn).schema
+
+  -- outside a transaction, over a database that has the tables of an older book
+  pub record IsIdleOlder (older : OlderSchema) (conn : Held S) : Type 0 where
+    pub idle : IsIdle (state g conn)
+    pub has : HasCleanDisk (state g conn) → (tables_at conn).schema ≡ schema_of older
 
   -- a look that changes nothing: where it succeeds, the database is open
   pub record Peeks {T E : Type 0} (old new : Held S) (result : Result T E) : Type 0 where

@@ -1,5 +1,5 @@
 -- The making of an older book one of today's, in a transaction over what was committed before.
-use Rattle.std.specs.Prelude.{◌≡◌, ◌≢◌, ℤ, true, List, [], ◌∷◌, Option, Some, None, IsTrue}
+use Rattle.std.specs.Prelude.{◌≡◌, ◌≢◌, ◌⊎◌, ℤ, true, List, [], ◌∷◌, Option, Some, None, IsTrue}
 use Rattle.std.specs.Ordering.{int_cmp}
 use Rattle.std.specs.declared.cmp.Ordering.TheVariants.{Less, Greater}
 use Rattle.sqlite.specs.declared.types.Value.TheVariants.{Blob}
@@ -18,13 +18,15 @@ use Rattle.acct_sql.specs.declared.sql_book_error.SqlBookError.{SqlBookError}
 use Rattle.acct_sql.specs.declared.sql_book_error.SqlBookError.TheVariants.{NotABook, PlansDiffer}
 use Rattle.acct_sql.specs.declared.sql_book_error.SqlBookError.TheVariants.{WrongSchema}
 use Rattle.acct_sql.specs.declared.sql_book_error.SqlBookError.TheVariants.{Unavailable}
-use Rattle.acct_sql.specs.Tables.{book_schema, first_schema, meta, account, voucher, session}
-use Rattle.acct_sql.specs.Tables.{plan_count, session_plan, own_number}
+use Rattle.acct_sql.specs.Tables.{book_schema, first_schema, second_schema, meta, account, voucher}
+use Rattle.acct_sql.specs.Tables.{session, session_plan, own_number}
 use Rattle.acct_sql.specs.Tidy.{IsTidy}
 use Rattle.acct_sql.specs.Book.{IsBook}
 use Rattle.acct_sql.specs.Make.{HasNumber, KeepsPrices, KeepsCounts}
 use Rattle.acct_sql.specs.Look.{HasNumberAlone}
-use Rattle.acct_sql.specs.Migrate.{first_number, KeepsFirstPlans, IsMigrated}
+use Rattle.acct_sql.specs.declared.older_schema.OlderSchema.{OlderSchema}
+use Rattle.acct_sql.specs.Migrate.{number_of, other_number, schema_of, KeepsOlderPlans}
+use Rattle.acct_sql.specs.Migrate.{IsMigrated}
 use Rattle.acct_sql.specs.inner.Inside.{HasBecome, IsBookOf}
 
 -- ---- an older book
@@ -36,23 +38,45 @@ pub record AreFirstTidy (db : Trees) : Type 0 where
   pub vouchers : IsTidy (db voucher.tree)
   pub sessions : IsTidy (db session.tree)
 
--- the rows of the first tables are those of an older book of these plans
-pub record IsFirst (plans : List Plan) (db : Trees) : Type 0 where
-  pub number : HasNumberAlone first_number db
-  pub plans_kept : KeepsFirstPlans plans db
+-- The rows are those of an older book of these plans. Those of the first tables are told apart by
+-- their rowids.
+pub record HasOlderRows (older : OlderSchema) (plans : List Plan) (db : Trees) : Type 0 where
+  pub number : HasNumberAlone (number_of older) db
+  pub plans_kept : KeepsOlderPlans older plans db
   pub tidy : AreFirstTidy db
 
--- it is an older book of these plans
-pub record IsFirstBook (plans : List Plan) (db : Database) : Type 0 where
-  pub schema : db.schema ≡ first_schema
-  pub rows : IsFirst plans db.trees
+-- it is an older book of these plans, whose rowids tell its rows apart
+pub record IsOlderBook (older : OlderSchema) (plans : List Plan) (db : Database) : Type 0 where
+  pub schema : db.schema ≡ schema_of older
+  pub rows : HasOlderRows older plans db.trees
+
+-- the number is none that older books have
+abbrev pub IsNoOlder : ℤ → Type 0
+IsNoOlder n = (older : OlderSchema) → n ≢ number_of older
+
+-- what the older tables have instead of their number
+abbrev pub IsOlderNumberFault : OlderSchema → Trees → SqlBookError → Type 0
+IsOlderNumberFault older db NotABook = ((n : ℤ) → ¬ (HasNumber n db))
+    ⊎ HasNumberAlone (other_number older) db
+IsOlderNumberFault older db (WrongSchema n) = IsNoOlder n × HasNumberAlone n db
+IsOlderNumberFault older db PlansDiffer = ⊥
+IsOlderNumberFault older db Unavailable = Unit {0}
 
 -- why the rows are not those of an older book
-abbrev pub IsFirstFault : List Plan → Trees → SqlBookError → Type 0
-IsFirstFault plans db NotABook = (n : ℤ) → ¬ (HasNumber n db)
-IsFirstFault plans db (WrongSchema n) = (n ≢ first_number) × HasNumberAlone n db
-IsFirstFault plans db PlansDiffer = HasNumberAlone first_number db × ¬ (KeepsFirstPlans plans db)
-IsFirstFault plans db Unavailable = Unit {0}
+abbrev pub IsOlderFault : OlderSchema → List Plan → Trees → SqlBookError → Type 0
+IsOlderFault older plans db NotABook = ((n : ℤ) → ¬ (HasNumber n db))
+    ⊎ HasNumberAlone (other_number older) db
+IsOlderFault older plans db (WrongSchema n) = IsNoOlder n × HasNumberAlone n db
+IsOlderFault older plans db PlansDiffer = HasNumberAlone (number_of older) db
+    × ¬ (KeepsOlderPlans older plans db)
+IsOlderFault older plans db Unavailable = Unit {0}
+
+-- why tables that are no older book's are refused
+abbrev pub IsNoOlderFault : SqlBookError → Type 0
+IsNoOlderFault NotABook = Unit {0}
+IsNoOlderFault (WrongSchema n) = IsNoOlder n
+IsNoOlderFault PlansDiffer = ⊥
+IsNoOlderFault Unavailable = Unit {0}
 
 -- ---- a walk through the sessions by their rowids
 
@@ -89,14 +113,25 @@ HaveClasses plans last db = (s : Row) → Has (db session.tree) s → ¬ IsAfter
 
 -- ---- the transaction
 
--- the tables of plans were made beside those of an older book of these plans
-pub record HasPlanTablesOver (plans : List Plan) (s : State) : Type 0 where
+-- the table of the sessions' plans was made beside those of schema number 2
+pub record HasSessionPlans (old new : State) : Type 0 where
+  pub schema : new.now.schema ≡ book_schema
+  pub sound : IsDatabase new.now
+  pub session_plans : new.now.trees session_plan.tree ≡ []
+  pub others : KeepsRows second_schema.tables old.now.trees new.now.trees
+  pub is_open : IsTrue new.is_open
+  pub mode : new.in_transaction ≡ true
+  pub committed_is : new.committed ≡ old.committed
+
+-- the tables that an older book of these plans lacks were made beside its own, and these counts are
+-- kept
+pub record HasTablesOver (older : OlderSchema) (plans counts : List Plan) (s : State) : Type 0 where
   pub schema : s.now.schema ≡ book_schema
   pub sound : IsDatabase s.now
-  pub counts : s.now.trees plan_count.tree ≡ []
+  pub counts_kept : KeepsCounts counts s.now.trees
   pub session_plans : s.now.trees session_plan.tree ≡ []
   pub others : KeepsRows first_schema.tables s.committed.trees s.now.trees
-  pub first : IsFirst plans s.committed.trees
+  pub was : HasOlderRows older plans s.committed.trees
 
 -- the number, these counts and the plans of the sessions up to a rowid were written
 pub record HasWritten (plans counts : List Plan) (last : Option ℤ) (s : State) : Type 0 where

@@ -1,18 +1,14 @@
 use Rattle.std.proofs.Common.{rules, arith, subst, sym, ◌∙◌, true≢false}
 use Rattle.sqlite.specs.State.{HasCleanDisk}
-use Rattle.sqlite.specs.Given.{IsPlain}
-use Rattle.sqlite.specs.Listing.{understood}
-use Rattle.acct_sql.specs.declared.statements.TheConstants as texts
 use Rattle.sqlite.specs.Held.{state}
 use Rattle.acct_sql.specs.inner.Looked.{AreShown}
 use Rattle.acct_sql.specs.declared.adopting.PlanTable.TheVariants.{Counts}
 use Rattle.acct_sql.proofs.PlanLemmas.{counts_shown, shown_counts}
-use Rattle.acct_sql.proofs.TextLemmas as t
+use Rattle.acct_sql.proofs.OlderLemmas.{counts}
 use Rattle.acct_sql.proofs.adopting.check_counts.Goals as goal
 
 pub peek-requires-clause-plain : goal.peek-requires-clause-plain
-peek-requires-clause-plain g c = λ clean. subst (λ s. IsPlain (understood s
-    texts.PLAN_COUNTS.now)) (sym (c.requires.has clean)) t.count_rows.plain
+peek-requires-clause-plain g c = λ clean. (counts _ (c.requires.has clean)).plain
 
 pub returns-then-are_kept-clause-counts : goal.returns-then-are_kept-clause-counts
 returns-then-are_kept-clause-counts g c = record {
