@@ -18,7 +18,7 @@ use Rattle.acct_sql.specs.Book.{IsOpenBook}
 use Rattle.acct_sql.specs.Look.{HasNumberAlone, IsRefusedAs}
 use Rattle.acct_sql.specs.Tables.{own_number}
 use Rattle.acct_sql.specs.Make.{IsNew, KeepsPlans}
-use Rattle.acct_sql.specs.Migrate.{IsMigrated, IsNotMigratedAs}
+use Rattle.acct_sql.specs.Migrate.{IsOlder, IsMigrated, IsNotMigratedAs}
 use Rattle.acct_sql.specs.Add.{AreExtended, HasAdded, IsNotAddedAs}
 use Rattle.acct_sql.specs.Tables.{no_schema}
 use Rattle.acct_commands.specs.declared.fault.Fault.{Fault}
@@ -66,6 +66,7 @@ module _ {D : Type 0} {g : Ghosts D} where
       pub settled : IsOpenBook (file_state book)
       pub held : Database
       pub was_held : WasHeldIn image held
+      pub was_older : (older : _) × IsOlder older plans held
       pub migrated : IsMigrated plans held.trees (file_state book).now.trees
 
   -- the book that the files held, with so many plans added to those that it kept, which are then

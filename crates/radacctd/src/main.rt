@@ -7,7 +7,7 @@
 #![tactic(auto)]
 
 ghost use Rattle.std.specs.Prelude.{◌≢◌, IfOk};
-ghost use Rattle.acct_command_line.specs.Orders.{HasBounds};
+ghost use Rattle.acct_command_line.specs.Orders.{HasBounds, IsBounded};
 
 mod checking;
 mod command;
@@ -20,11 +20,12 @@ mod serving;
 
 use crate::command::{Outcome, run};
 use crate::explaining::explain_fault;
-use acct_command_line::{Job, Order, Syncs, job_of, tell};
+use crate::serving::serve;
+use acct_command_line::{Job, Order, Paths, Serving, Syncs, job_of, tell};
 use acct_commands::{Errors, Fault, end};
 use acct_explain::explain_words;
 use acct_feed::Status;
-use sqlite::{Start, Unknown, Wary};
+use sqlite::{Unknown, Wary};
 use std::io::{BufWriter, Write};
 use std::process::ExitCode;
 use std::{env, io};
@@ -91,7 +92,8 @@ fn run_on_standard_streams(rt: &HostRuntime, order: &Order) -> Status
     }
 }
 
-// Does a job over files of which is supposed what its syncs want.
+// Does a job over files of which is supposed what its syncs want: of all but a server that syncs
+// once the least. So no other job stands in the program a second time.
 fn run_as_it_syncs<W: Write + Drop, E: Write + Drop>(
     rt: &HostRuntime,
     job: &Job,
@@ -101,27 +103,38 @@ fn run_as_it_syncs<W: Write + Drop, E: Write + Drop>(
     requires { HasBounds job.now }
     ensures other { IfOk result (λ status. status ≢ Status.WrongWords) }
 {
-    match syncs_of(job) {
-        Syncs::Once => run_from(rt, job, output, errors, Unknown),
-        Syncs::Twice => run_from(rt, job, output, errors, Wary),
-    }
-}
-
-// How often a commit of a job's book syncs.
-fn syncs_of(job: &Job) -> Syncs {
     match job {
-        Job::Serve { serving, .. } => serving.syncs,
-        _ => Syncs::Twice,
+        Job::Serve { paths, serving } => match serving.syncs {
+            Syncs::Once => serve_syncing_once(rt, paths, serving, output, errors),
+            Syncs::Twice => run_syncing_twice(rt, job, output, errors),
+        },
+        _ => run_syncing_twice(rt, job, output, errors),
     }
 }
 
-// Does a job over files of which this is supposed.
-fn run_from<S: Start, W: Write + Drop, E: Write + Drop>(
+// `serve` over files of which a torn write is supposed to leave each octet old or new.
+fn serve_syncing_once<W: Write + Drop, E: Write + Drop>(
+    rt: &HostRuntime,
+    paths: &Paths,
+    serving: &Serving,
+    mut output: W,
+    errors: Errors<E>,
+) -> Result<Status, Fault>
+    requires { IsBounded serving.now }
+    ensures other { IfOk result (λ status. status ≢ Status.WrongWords) }
+{
+    match serve(rt, paths, serving, &mut output, errors, Unknown) {
+        Ok((status, _files)) => Ok(status),
+        Err((fault, _left)) => Err(fault),
+    }
+}
+
+// Does a job over files of which nothing is supposed of a torn write.
+fn run_syncing_twice<W: Write + Drop, E: Write + Drop>(
     rt: &HostRuntime,
     job: &Job,
     output: W,
     errors: Errors<E>,
-    start: S,
 ) -> Result<Status, Fault>
     requires { HasBounds job.now }
     ensures other { IfOk result (λ status. status ≢ Status.WrongWords) }
@@ -130,6 +143,6 @@ fn run_from<S: Start, W: Write + Drop, E: Write + Drop>(
         ended,
         output: _output,
         left: _left,
-    } = run(rt, job, rt.stdin(), output, errors, start);
+    } = run(rt, job, rt.stdin(), output, errors, Wary);
     ended
 }

@@ -17,6 +17,7 @@ returns-in-Ok-clause-migrated g c image found clean =
       settled = it.0;
       held = (file_state first).now;
       was_held = was_held image first found early;
+      was_older = c.in-Ok.ensures.older clean;
       migrated = it.1;
     }
 
