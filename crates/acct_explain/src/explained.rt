@@ -53,10 +53,12 @@ pub fn explain<R: Files, E: Write>(
             tell(file.as_str(), why_unread(runtime, file.as_str()), errors);
         }
         Explained::Unopened { file } => {
-            tell(file.as_str(), why_unopened(runtime, file.as_str()), errors);
+            let why = why_unopened(runtime, alloc, file.as_str());
+            tell(file.as_str(), why, errors);
         }
         Explained::Unmade { file } => {
-            tell(file.as_str(), why_unmade(runtime, file.as_str()), errors);
+            let why = why_unmade(runtime, alloc, file.as_str());
+            tell(file.as_str(), why, errors);
         }
     }
 }

@@ -1,6 +1,8 @@
 //! Why a file cannot be read or opened.
+use crate::locks::is_locked;
 use acct_feed::MOST_OCTETS;
-use std::fs::{File, Files, OpenOptions, metadata};
+use std::alloc::Global;
+use std::fs::{File, Files, Metadata, OpenOptions, metadata};
 use std::io::{ErrorKind, Read};
 use std::os::unix::fs::MetadataExt;
 
@@ -36,23 +38,23 @@ fn why_unseen(kind: ErrorKind) -> &'static str {
 }
 
 // Why the file of a book that is to be there cannot be opened.
-pub(crate) fn why_unopened<R: Files>(runtime: &R, file: &str) -> &'static str {
+pub(crate) fn why_unopened<R: Files>(runtime: &R, alloc: Global, file: &str) -> &'static str {
     match metadata(runtime, file) {
         Err(error) if is_missing(error.kind()) => "there is no such file, and init makes one",
         Err(error) => why_unseen(error.kind()),
         Ok(found) if found.is_file() && found.len() < HEADER_OCTETS => {
             "it has fewer than 100 octets, so it is no book, and init makes one"
         }
-        Ok(found) => why_shut(runtime, file, found.is_file(), found.nlink()),
+        Ok(found) => why_shut(runtime, alloc, file, &found),
     }
 }
 
 // Why the file of a book that is to be made cannot be opened.
-pub(crate) fn why_unmade<R: Files>(runtime: &R, file: &str) -> &'static str {
+pub(crate) fn why_unmade<R: Files>(runtime: &R, alloc: Global, file: &str) -> &'static str {
     match metadata(runtime, file) {
         Err(error) if is_missing(error.kind()) => why_not_made(runtime, file),
         Err(error) => why_unseen(error.kind()),
-        Ok(found) => why_shut(runtime, file, found.is_file(), found.nlink()),
+        Ok(found) => why_shut(runtime, alloc, file, &found),
     }
 }
 
@@ -71,15 +73,15 @@ fn why_not_made<R: Files>(runtime: &R, file: &str) -> &'static str {
     }
 }
 
-// Why a file that is there, with so many names, cannot be opened.
-fn why_shut<R: Files>(runtime: &R, file: &str, is_file: bool, names: u64) -> &'static str {
-    if !is_file {
+// Why a file that is there, as it was found, cannot be opened.
+fn why_shut<R: Files>(runtime: &R, alloc: Global, file: &str, found: &Metadata) -> &'static str {
+    if !found.is_file() {
         return "it is no regular file";
     }
     if name_of(file).len() > LONGEST_NAME {
         return "its name has more than 247 octets";
     }
-    if names > 1 {
+    if found.nlink() > 1 {
         return "it has a second name (a hard link)";
     }
     match OpenOptions::new()
@@ -87,21 +89,36 @@ fn why_shut<R: Files>(runtime: &R, file: &str, is_file: bool, names: u64) -> &'s
         .write(true)
         .open(runtime, file)
     {
-        Ok(mut opened) => why_refused(&mut opened),
-        Err(error) if error.kind() == ErrorKind::PermissionDenied => {
-            "this user may not read and write it"
-        }
+        Ok(mut opened) => why_refused(runtime, alloc, &mut opened, found),
+        Err(error) if error.kind() == ErrorKind::PermissionDenied => why_denied(found.uid()),
         Err(_) => "the disk refused",
     }
 }
 
 // Why a file is no book that could be opened.
-fn why_refused<F: Read>(file: &mut F) -> &'static str {
+fn why_refused<R: Files, F: Read>(
+    runtime: &R,
+    alloc: Global,
+    file: &mut F,
+    found: &Metadata,
+) -> &'static str {
     let mut octets = [0; 16];
     if file.read_exact(&mut octets).is_ok() && octets != *MAGIC {
         return "it is no SQLite database";
     }
+    if is_locked(runtime, alloc, found.dev(), found.ino()) {
+        return "another program has it";
+    }
     "another program has it, this user may not write in its folder, or it is damaged"
+}
+
+// Why a file of this user may not be opened.
+fn why_denied(owner: u32) -> &'static str {
+    if owner == 0 {
+        "root made it, and this user may not read and write it"
+    } else {
+        "this user may not read and write it"
+    }
 }
 
 // The name of a file in its folder.

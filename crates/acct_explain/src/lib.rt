@@ -10,6 +10,7 @@ mod fields;
 mod files;
 mod finding;
 mod headers;
+mod locks;
 mod tables;
 
 pub use config::explain_config;
