@@ -203,3 +203,21 @@ wrote_told {E = E} g old inside new change r e same is w =
       err = v.err;
       adds_written = v.adds_written;
     }
+
+pub wrote_done : {S T E : Type 0} (g : Ghosts S) (old inside new : Held S)
+    (change : Content → Content) (r : Result T E) (x : T) → inside ≡ old → r ≡ Ok x
+    → Wrote g inside new change r
+    → Writes {T = T} {E = Unavailable} (content_at g) (is_sound_at g) (is_open_at g)
+    (is_steady_at g) (left_at g) old new (change (content_at g old)) (Ok x)
+wrote_done {T = T} {E = E} g old inside new change r x same is w =
+    let v = subst (λ k. Wrote g {T = T} {E = E} k new change (Ok x)) same
+    (subst (λ (k : Result T E). Wrote g inside new change k) is w) in
+    record {
+      was_sound = v.was_sound;
+      was_open = v.was_open;
+      keeps_steady = v.keeps_steady;
+      answers = v.answers;
+      ok = v.ok;
+      err = λ o. tt;
+      adds_written = v.adds_written;
+    }

@@ -302,6 +302,34 @@ read_told {U = U} g old inside new r same w =
       adds_none = h.adds_none;
     }
 
+-- and of one that succeeded, whatever its answer is told as
+pub read_done : {S T U E : Type 0} (g : Ghosts S) (old inside new : Held S) (r : Result T E) (x : T)
+    (told : U) → inside ≡ old → r ≡ Ok x → HasReadBook g inside new r
+    → Reads {T = U} {E = Unavailable} (content_at g) (is_sound_at g) (is_open_at g)
+    (is_steady_at g) (left_at g) old new (Ok told)
+read_done {T = T} {E = E} g old inside new r x told same is w =
+    let h = subst (λ k. HasReadBook g {T = T} {E = E} k new (Ok x)) same
+    (subst (λ (k : Result T E). HasReadBook g inside new k) is w) in
+    record {
+      was_sound = h.was_sound;
+      was_open = h.was_open;
+      keeps_steady = h.keeps_steady;
+      answers = h.answers;
+      same = h.same;
+      adds_none = h.adds_none;
+    }
+
+-- what a read found, told of the book that the connection is
+pub found_told : {S T E Q : Type 0} (P : S → T → Type 0) (old inside : S) (r : Result T E) (x : T)
+    → inside ≡ old → r ≡ Ok x → (Q → IfOk r (P inside)) → Q → P old x
+found_told P old inside r x same is found q =
+    subst (λ k. P k x) same (subst (λ k. IfOk k (P inside)) is (found q))
+
+pub leaves_told : {S : Type 0} (g : Ghosts S) (old inside new : Held S) → inside ≡ old
+    → LeavesPlans (state g inside) (state g new) → LeavesPlans (state g old) (state g new)
+leaves_told g old inside new same leaves =
+    subst (λ k. LeavesPlans (state g k) (state g new)) same leaves
+
 pub if_same : {T E : Type 0} (r d : Result T E) (P : T → Type 0) → OnOk r (r ≡ d) → IfOk d P
     → IfOk r P
 if_same (Ok x) d P same h = subst (λ q. IfOk q P) (sym same) h

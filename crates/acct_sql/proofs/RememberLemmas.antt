@@ -1,8 +1,7 @@
 -- What a book remembers stays true of its tables.
 use Rattle.std.proofs.Common.{◌≡◌, ◌≢◌, ◌⊎◌, inl, inr, ℕ, ℤ, List, [], ◌∷◌, ◌++◌, Bool, true, false, cond}
 use Rattle.std.proofs.Common.{Option, Some, None, option_map, Ok, Err, Result, OnOk, OnErr, IfSome}
-use Rattle.std.proofs.Common.{IsTrue, refl, sym, ap, subst, ◌∙◌, true≢false, bytes_eq}
-use Rattle.std.specs.Map.{update}
+use Rattle.std.proofs.Common.{refl, sym, ap, subst, ◌∙◌, true≢false, bytes_eq}
 use Rattle.std.proofs.lemmas.Slice.Eq.{bytes_eq-Decides}
 use Rattle.sqlite.specs.Store.{Ghosts}
 use Rattle.sqlite.specs.Held.{Held, state}
@@ -13,7 +12,6 @@ use Rattle.sqlite_rules.proofs.ListLemmas.{has_either, has_filtered, some_has}
 use Rattle.std.specs.List.{list_any}
 use Rattle.std.proofs.Common.{not, filter}
 use Rattle.acct_model.specs.Vouchers.{TopUpFacts}
-use Rattle.acct_book.specs.declared.key.Key.{Key}
 use Rattle.acct_book.specs.declared.row.SessionState.{SessionState}
 use Rattle.acct_book.specs.declared.row.SessionState.TheVariants.{Live, Closed, Stopped}
 use Rattle.acct_book.specs.Row.{RowFacts}
@@ -24,7 +22,7 @@ use Rattle.acct_sql.specs.declared.memory.Memory.{Memory}
 use Rattle.acct_sql.specs.Content.{content_in_tables, plans_in_tables}
 use Rattle.acct_sql.specs.Book.{IsOpenBook, Wrote, content_at, is_open_at}
 use Rattle.acct_sql.specs.inner.AtRest.{ReadsAtRest, WritesAtRest}
-use Rattle.acct_sql.specs.inner.Remembered.{IsReadOf, IsLastRead, IsRowOf, KeepsPlan, HasEnded}
+use Rattle.acct_sql.specs.inner.Remembered.{IsReadOf, IsLastRead, KeepsPlan, HasEnded}
 use Rattle.acct_sql.specs.inner.Remembered.{AreEndedAfter, Remembers}
 use Rattle.acct_sql.specs.inner.Inside.{HasPlanOf}
 

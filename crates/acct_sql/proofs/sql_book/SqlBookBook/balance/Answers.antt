@@ -1,6 +1,48 @@
-use Rattle.acct_sql.proofs.ReadLemmas.{read_told}
+use Rattle.acct_sql.proofs.ReadLemmas.{read_told, read_done, leaves_told}
+use Rattle.acct_sql.proofs.RememberLemmas.{remembers_read}
 use Rattle.acct_sql.proofs.sql_book.SqlBookBook.balance.Goals as goal
+
+pub read_balance-requires : goal.read_balance-requires
+read_balance-requires g c = c.self.invariant.0
+
+pub invariant_of-self : goal.invariant_of-self
+invariant_of-self g c = (
+  c.read_balance.ensures.read.resting,
+  remembers_read g.S.Store c.self.inside.conn c.read_balance.new.conn c.read_balance.result
+      c.self.inside.memory
+      c.read_balance.ensures.read c.self.invariant.1,
+)
+
+pub returns-in-Err-clause-found : goal.returns-in-Err-clause-found
+returns-in-Err-clause-found g c = λ _. tt
+
+pub returns-in-Err-clause-steady : goal.returns-in-Err-clause-steady
+returns-in-Err-clause-steady g c = λ none. absurd none
 
 pub returns-in-Err-clause-reads : goal.returns-in-Err-clause-reads
 returns-in-Err-clause-reads g c = read_told g.S.Store c.args.self.now c.self.inside.conn
     c.read_balance.new.conn c.read_balance.result c.self.view_is c.read_balance.ensures.read.read
+
+pub returns-in-Err-clause-plans : goal.returns-in-Err-clause-plans
+returns-in-Err-clause-plans g c = leaves_told g.S.Store c.args.self.now c.self.inside.conn
+    c.read_balance.new.conn c.self.view_is c.read_balance.ensures.read.plans
+
+pub invariant_of-self-2 : goal.invariant_of-self-2
+invariant_of-self-2 g c = (
+  c.read_balance.ensures.read.resting,
+  remembers_read g.S.Store c.self.inside.conn c.read_balance.new.conn c.read_balance.result
+      c.self.inside.memory
+      c.read_balance.ensures.read c.self.invariant.1,
+)
+
+pub returns-clause-steady : goal.returns-clause-steady
+returns-clause-steady g c = λ none. absurd none
+
+pub returns-clause-reads : goal.returns-clause-reads
+returns-clause-reads g c = read_done g.S.Store c.args.self.now c.self.inside.conn
+    c.read_balance.new.conn c.read_balance.result c.in-Ok.balance _ c.self.view_is c.in-Ok.is
+    c.read_balance.ensures.read.read
+
+pub returns-clause-plans : goal.returns-clause-plans
+returns-clause-plans g c = leaves_told g.S.Store c.args.self.now c.self.inside.conn
+    c.read_balance.new.conn c.self.view_is c.read_balance.ensures.read.plans

@@ -3,8 +3,9 @@ use Rattle.std.specs.List.{list_any}
 use Rattle.sqlite.specs.Held.{state}
 use Rattle.acct_book.specs.Content.{with_closed}
 use Rattle.acct_sql.specs.Book.{Wrote}
-use Rattle.acct_sql.proofs.CommitLemmas.{wrote_told}
+use Rattle.acct_sql.proofs.CommitLemmas.{wrote_told, wrote_done}
 use Rattle.acct_sql.proofs.RememberLemmas.{has_ended, remembers_close, remembers_more, closed_now}
+use Rattle.acct_sql.proofs.ReadLemmas.{leaves_told}
 use Rattle.acct_sql.proofs.sql_book.SqlBookBook.close_client.Goals as goal
 
 pub returns-in-Err-clause-writes : goal.returns-in-Err-clause-writes
@@ -43,3 +44,22 @@ invariant_of-self-2 g c =
           (closed_now g.S.Store c.self.inside.conn c.close_client.new.conn c.args.client.now
           c.close_client.result _ c.in-Ok.is c.close_client.ensures.wrote),
     )
+
+pub close_client-requires-clause-resting : goal.close_client-requires-clause-resting
+close_client-requires-clause-resting g c = c.self.invariant.0
+
+pub returns-in-Err-clause-plans : goal.returns-in-Err-clause-plans
+returns-in-Err-clause-plans g c = leaves_told g.S.Store c.args.self.now c.self.inside.conn
+    c.close_client.new.conn
+    c.self.view_is c.close_client.ensures.plans
+
+pub returns-clause-writes : goal.returns-clause-writes
+returns-clause-writes g c = wrote_done g.S.Store c.args.self.now c.self.inside.conn
+    c.close_client.new.conn
+    (λ content. with_closed content c.args.client.now) c.close_client.result _
+    c.self.view_is c.in-Ok.is c.close_client.ensures.wrote
+
+pub returns-clause-plans : goal.returns-clause-plans
+returns-clause-plans g c = leaves_told g.S.Store c.args.self.now c.self.inside.conn
+    c.close_client.new.conn
+    c.self.view_is c.close_client.ensures.plans

@@ -2,8 +2,9 @@ use Rattle.std.proofs.Common.{w64}
 use Rattle.std.proofs.lemmas.Int.{to_z-of_z}
 use Rattle.acct_book.specs.Content.{with_topup}
 use Rattle.acct_sql.specs.Book.{Wrote}
-use Rattle.acct_sql.proofs.CommitLemmas.{wrote_told}
+use Rattle.acct_sql.proofs.CommitLemmas.{wrote_told, wrote_done}
 use Rattle.acct_sql.proofs.RememberLemmas.{remembers_credit}
+use Rattle.acct_sql.proofs.ReadLemmas.{leaves_told}
 use Rattle.acct_sql.proofs.sql_book.SqlBookBook.put_topup.Goals as goal
 
 pub returns-in-Err-clause-writes : goal.returns-in-Err-clause-writes
@@ -38,3 +39,25 @@ invariant_of-self-2 g c =
           c.self.invariant.1 c.args.topup.now c.args.balance c.forget_read.ensures.read
           c.forget_read.ensures.ended w,
     )
+
+pub write_topup-requires : goal.write_topup-requires
+write_topup-requires g c = c.self.invariant.0
+
+pub returns-in-Err-clause-plans : goal.returns-in-Err-clause-plans
+returns-in-Err-clause-plans g c = leaves_told g.S.Store c.args.self.now c.self.inside.conn
+    c.write_topup.new.conn
+    c.self.view_is c.write_topup.ensures.plans
+
+pub returns-clause-writes : goal.returns-clause-writes
+returns-clause-writes g c =
+    let w : Wrote g.S.Store c.self.inside.conn c.write_topup.new.conn
+    (λ content. with_topup content c.args.topup.now c.args.balance) c.write_topup.result = rw
+    (to_z-of_z w64 c.args.balance c.ranges.balance) at c.write_topup.ensures.wrote in
+    wrote_done g.S.Store c.args.self.now c.self.inside.conn c.write_topup.new.conn
+    (λ content. with_topup content c.args.topup.now c.args.balance) c.write_topup.result _
+    c.self.view_is c.in-Ok.is w
+
+pub returns-clause-plans : goal.returns-clause-plans
+returns-clause-plans g c = leaves_told g.S.Store c.args.self.now c.self.inside.conn
+    c.write_topup.new.conn
+    c.self.view_is c.write_topup.ensures.plans

@@ -1,6 +1,59 @@
-use Rattle.acct_sql.proofs.ReadLemmas.{read_told}
+use Rattle.std.proofs.Common.{◌≡◌, refl, subst, IfSome}
+use Rattle.acct_sql.specs.Book.{content_at}
+use Rattle.sqlite.specs.Held.{state}
+use Rattle.acct_sql.specs.inner.Inside.{HasPlanOf}
+use Rattle.acct_sql.specs.inner.Remembered.{IsReadOf}
+use Rattle.acct_sql.proofs.ReadLemmas.{read_told, read_done, found_told, leaves_told}
+use Rattle.acct_sql.proofs.RememberLemmas.{remembers_read, remembers_session}
 use Rattle.acct_sql.proofs.sql_book.SqlBookBook.session.Goals as goal
+
+pub read_session-requires : goal.read_session-requires
+read_session-requires g c = c.self.invariant.0
+
+pub invariant_of-self : goal.invariant_of-self
+invariant_of-self g c = (
+  c.read_session.ensures.read.resting,
+  remembers_read g.S.Store c.self.inside.conn c.read_session.new.conn c.read_session.result
+      c.self.inside.memory
+      c.read_session.ensures.read c.self.invariant.1,
+)
+
+pub returns-in-Err-clause-found : goal.returns-in-Err-clause-found
+returns-in-Err-clause-found g c = λ _. tt
 
 pub returns-in-Err-clause-reads : goal.returns-in-Err-clause-reads
 returns-in-Err-clause-reads g c = read_told g.S.Store c.args.self.now c.self.inside.conn
     c.read_session.new.conn c.read_session.result c.self.view_is c.read_session.ensures.read.read
+
+pub returns-in-Err-clause-plans : goal.returns-in-Err-clause-plans
+returns-in-Err-clause-plans g c = leaves_told g.S.Store c.args.self.now c.self.inside.conn
+    c.read_session.new.conn c.self.view_is c.read_session.ensures.read.plans
+
+pub keep_read-requires : goal.keep_read-requires
+keep_read-requires g c = tt
+
+pub invariant_of-self-2 : goal.invariant_of-self-2
+invariant_of-self-2 g c = (
+  c.read_session.ensures.read.resting,
+  remembers_session g.S.Store c.self.inside.conn c.read_session.new.conn c.self.inside.memory
+      c.keep_read.new.self c.read_session.result c.self.invariant.1 c.in-Ok.row
+      c.read_session.ensures.read (subst (λ row. IsReadOf row c.keep_read.new.self.last_read)
+      c.as_ref.ensures.value c.keep_read.ensures.read) c.keep_read.ensures.ended
+      (found_told (λ conn row. IfSome row (λ r. HasPlanOf r (state g.S.Store conn)))
+      c.self.inside.conn c.self.inside.conn c.read_session.result c.in-Ok.row refl c.in-Ok.is
+      c.read_session.ensures.plan),
+)
+
+pub returns-clause-found : goal.returns-clause-found
+returns-clause-found g c = found_told (λ conn row. row ≡ (content_at g.S.Store conn).rows
+    c.args.key.now) c.args.self.now c.self.inside.conn c.read_session.result c.in-Ok.row
+    c.self.view_is c.in-Ok.is c.read_session.ensures.found
+
+pub returns-clause-reads : goal.returns-clause-reads
+returns-clause-reads g c = read_done g.S.Store c.args.self.now c.self.inside.conn
+    c.read_session.new.conn c.read_session.result c.in-Ok.row _ c.self.view_is c.in-Ok.is
+    c.read_session.ensures.read.read
+
+pub returns-clause-plans : goal.returns-clause-plans
+returns-clause-plans g c = leaves_told g.S.Store c.args.self.now c.self.inside.conn
+    c.read_session.new.conn c.self.view_is c.read_session.ensures.read.plans
