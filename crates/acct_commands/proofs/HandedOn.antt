@@ -8,9 +8,10 @@ use Rattle.acct_service.specs.Slices.{Slice, ServesInSlices}
 use Rattle.acct_service.specs.declared.exchange.Call.{Call}
 use Rattle.acct_service.specs.declared.server.Served.{Served}
 use Rattle.acct_service.specs.declared.slices.Until.{Until}
-use Rattle.acct_commands.specs.declared.ended.Ended.{Ended}
-use Rattle.acct_commands.specs.declared.ended.Ended.TheVariants as how
-use Rattle.acct_commands.specs.Serving.{Ran, Ends, EndsAfresh}
+use Rattle.acct_run.specs.declared.ended.Ended.{Ended}
+use Rattle.acct_run.specs.declared.ended.Ended.TheVariants as how
+use Rattle.acct_run.specs.Runs.{Ran, Ends}
+use Rattle.acct_commands.specs.Serving.{EndsAfresh}
 
 -- two exchanges count and tell the same
 pub record Agrees {X Y : Type 0} (x : exchange.Ghosts X) (y : exchange.Ghosts Y) (one : X)

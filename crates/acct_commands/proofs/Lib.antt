@@ -1,5 +1,3 @@
--- the lines of the drops, one reason more
-pub mod DropLines
 -- what was read of a text
 pub mod Readings
 -- the places of a log of drops

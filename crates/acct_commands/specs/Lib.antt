@@ -1,6 +1,5 @@
 pub mod BookClock
 pub mod Checks
-pub mod Counts
 pub mod Drops
 pub mod Endings
 pub mod Exports

@@ -1,5 +1,5 @@
 use Rattle.std.proofs.KnownBytes.{Appends-trans}
-use Rattle.acct_commands.proofs.serving.serve_exchange.Goals as goal
+use Rattle.acct_run.proofs.running.serve_exchange.Goals as goal
 
 pub returns-in-Ok-write_counts : goal.returns-in-Ok-write_counts
 returns-in-Ok-write_counts g c =

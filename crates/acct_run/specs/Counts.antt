@@ -1,7 +1,7 @@
 -- What a server counted, as it is printed.
 use Rattle.std.specs.Prelude.{ℕ, List, ◌++◌, codes, decimal}
-use Rattle.acct_commands.specs.declared.counts.Counts.{Counts}
-use Rattle.acct_commands.specs.declared.counts.Drops.{Drops}
+use Rattle.acct_run.specs.declared.counts.Counts.{Counts}
+use Rattle.acct_run.specs.declared.counts.Drops.{Drops}
 
 -- `events E, replies R, mute M, faults F`
 abbrev pub counts_text : Counts → List ℕ

@@ -1,8 +1,8 @@
 -- The lines of the reasons so far are written.
 use Rattle.std.proofs.Common.{take}
 use Rattle.std.specs.Io.KnownBytes.{Appends}
-use Rattle.acct_commands.specs.Serving.{drops_lines}
-use Rattle.acct_commands.proofs.serving.write_drops.Given as goal
+use Rattle.acct_run.specs.Runs.{drops_lines}
+use Rattle.acct_run.proofs.running.write_drops.Given as goal
 
 abbrev pub invariant-loop-place : goal.invariant-loop-place
 invariant-loop-place g l = Appends (g.W.Write.contents l.fn.output)

@@ -2,7 +2,7 @@
 use Rattle.std.proofs.Common.{◌≡◌, ℕ, ◌+◌, List, [], ◌∷◌, ◌++◌, length, suc, arith}
 use Rattle.std.proofs.Common.{sym, ◌∙◌, ap}
 use Rattle.std.proofs.lemmas.List.{append_assoc, append-nil}
-use Rattle.acct_commands.specs.Serving.{drops_line, drops_lines}
+use Rattle.acct_run.specs.Runs.{drops_line, drops_lines}
 
 abbrev pub line_of : ℕ → ℕ → List ℕ
 line_of n count = drops_line (record { reason = n; count = count })

@@ -1,9 +1,9 @@
 use Rattle.std.proofs.Common.{◌≡◌, ◌<◌, ◌++◌, ◌+◌, ◌∙◌, ap, take, length, get_or, arith}
 use Rattle.std.proofs.KnownBytes.{Appends-trans}
 use Rattle.std.proofs.lemmas.List.{take_more, length-take-le}
-use Rattle.acct_commands.specs.Serving.{drops_lines}
-use Rattle.acct_commands.proofs.DropLines.{drops_more, line_of}
-use Rattle.acct_commands.proofs.serving.write_drops.Goals as goal
+use Rattle.acct_run.specs.Runs.{drops_lines}
+use Rattle.acct_run.proofs.DropLines.{drops_more, line_of}
+use Rattle.acct_run.proofs.running.write_drops.Goals as goal
 
 pub loop-place-preserved : goal.loop-place-preserved
 loop-place-preserved g c =

@@ -1,6 +1,6 @@
 //! What a server counted, as it is printed.
 ghost use Rattle.std.specs.Prelude.{Some};
-ghost use Rattle.acct_commands.specs.Counts.{counts_text, drops_text};
+ghost use Rattle.acct_run.specs.Counts.{counts_text, drops_text};
 
 use std::fmt;
 

@@ -1,0 +1,2 @@
+-- the lines of the drops, one reason more
+pub mod DropLines
