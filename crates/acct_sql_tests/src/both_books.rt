@@ -1,6 +1,6 @@
 //! All calls of a book on tables beside those of the book in memory.
 use crate::sample_book::{LATER, Name, S1, STOPPED, Usage, key, made, row};
-use acct_book::{Book, Key, MemBook, Row, SessionState};
+use acct_book::{Book, Key, MemBook, Row, SessionState, Unavailable};
 use acct_model::TopUp;
 use acct_sql::SqlBook;
 use sqlite::MemStore;
@@ -23,28 +23,25 @@ impl Drop for Books {
     }
 }
 
-// A row as (name, account, usage), and the balance of the account.
-type Put = (Name<'static>, &'static [u8], Usage, i64);
-
-// A row, another, and the first with other values.
-static ROWS: [Put; 3] = [
-    (S1, b"al", STOPPED, -20),
-    (("ap1", b"s2"), b"bo", STOPPED, 7),
-    (S1, b"al", LATER, -(1 << 62)),
-];
-
-// The plan of the first row, and another.
-static PLANNED: [Usage; 2] = [STOPPED, LATER];
-
-// A top-up of `al` as (number, sum, moment), and the balance.
-type Credit = (&'static str, u64, u32, i64);
-
-// One, another, and that one with other values.
-static TOP_UPS: [Credit; 3] = [
-    ("V-2", 500, 1000, 470),
-    ("V-1", 60, 2000, 530),
-    ("V-1", 1_000_000_000_000, u32::MAX, 1 << 62),
-];
+// What both books are told or asked. What is asked of rows and top-ups has one at least.
+#[derive(Clone, Copy)]
+enum Turn {
+    // A row is put as (name, account, usage), and the balance of the account.
+    Put(Name<'static>, &'static [u8], Usage, i64),
+    // A top-up of `al` is put as (number, sum, moment), and the balance.
+    TopUp(&'static str, u64, u32, i64),
+    // Each live session of the client is closed.
+    Close(&'static str),
+    // The session is in this state, or there is none.
+    Session(Name<'static>, Option<SessionState>),
+    FirstSession,
+    SessionsOf(&'static [u8]),
+    Voucher(&'static str),
+    NextTopUp(Option<&'static str>),
+    TopUpsOf(&'static [u8]),
+    Balance(&'static [u8]),
+    NextAccount(Option<&'static [u8]>),
+}
 
 // What a row says, in two parts since a comparison takes twelve values at most.
 type Names<'r> = (&'r str, &'r [u8], &'r [u8], &'r [u8], &'r [u8], &'r [u8]);
@@ -79,11 +76,26 @@ fn is_row(row: &Row, other: &Row) -> bool {
     names(row) == names(other) && numbers(row) == numbers(other)
 }
 
-// Whether both are none, or one row.
-fn is_same_row(row: Option<&Row>, other: Option<&Row>) -> bool {
-    match (row, other) {
-        (Some(row), Some(other)) => is_row(row, other),
-        (row, other) => row.is_none() && other.is_none(),
+// A row that a book tells, if there is one.
+type ToldRow = Result<Option<Row>, Unavailable>;
+
+type ToldTopUp = Result<Option<TopUp>, Unavailable>;
+
+// Whether both tell the same row, or that there is none.
+fn is_same_row(told: &ToldRow, want: &ToldRow) -> bool {
+    match (told, want) {
+        (Ok(Some(row)), Ok(Some(other))) => is_row(row, other),
+        (Ok(None), Ok(None)) => true,
+        _ => false,
+    }
+}
+
+// Whether a row in this state is told, or that there is none.
+fn is_in_state(told: &ToldRow, state: Option<SessionState>) -> bool {
+    match (told, state) {
+        (Ok(Some(row)), Some(state)) => row.state == state,
+        (Ok(None), None) => true,
+        _ => false,
     }
 }
 
@@ -93,7 +105,7 @@ fn are_same_rows(rows: &[Row], others: &[Row]) -> bool {
             return false;
         }
     }
-    rows.len() == others.len()
+    !rows.is_empty() && rows.len() == others.len()
 }
 
 fn is_topup(topup: &TopUp, other: &TopUp) -> bool {
@@ -102,11 +114,11 @@ fn is_topup(topup: &TopUp, other: &TopUp) -> bool {
         && (topup.sum, topup.when) == (other.sum, other.when)
 }
 
-// Whether both are none, or one top-up.
-fn is_same_topup(topup: Option<&TopUp>, other: Option<&TopUp>) -> bool {
-    match (topup, other) {
-        (Some(topup), Some(other)) => is_topup(topup, other),
-        (topup, other) => topup.is_none() && other.is_none(),
+// Whether both tell the same top-up.
+fn is_same_topup(told: &ToldTopUp, want: &ToldTopUp) -> bool {
+    match (told, want) {
+        (Ok(Some(topup)), Ok(Some(other))) => is_topup(topup, other),
+        _ => false,
     }
 }
 
@@ -116,171 +128,201 @@ fn are_same_topups(topups: &[TopUp], others: &[TopUp]) -> bool {
             return false;
         }
     }
-    topups.len() == others.len()
+    !topups.is_empty() && topups.len() == others.len()
 }
 
+// Each call tells whether both books did it, or told the same.
 impl Books {
-    fn new(alloc: Global) -> Result<Books, Fail> {
-        let tables = made(alloc)?;
-        let memory = MemBook::new(alloc);
-        Ok(Books { tables, memory })
+    fn put_row(&mut self, row: &Row, balance: i64) -> bool {
+        self.tables.put_session(row, balance).is_ok()
+            && self.memory.put_session(row, balance).is_ok()
     }
 
-    fn put_rows(&mut self, alloc: Global, rows: &[Put]) -> Result<(), Fail> {
-        for i in 0..rows.len() {
-            let row = row(alloc, &rows[i].0, rows[i].1, &rows[i].2)?;
-            self.tables.put_session(&row, rows[i].3)?;
-            self.memory.put_session(&row, rows[i].3)?;
+    fn put_topup(&mut self, topup: &TopUp, balance: i64) -> bool {
+        self.tables.put_topup(topup, balance).is_ok()
+            && self.memory.put_topup(topup, balance).is_ok()
+    }
+
+    fn close(&mut self, client: &str) -> bool {
+        self.tables.close_client(client).is_ok() && self.memory.close_client(client).is_ok()
+    }
+
+    fn tell_session(&mut self, key: &Key, state: Option<SessionState>) -> bool {
+        let told = self.tables.session(key);
+        let want = self.memory.session(key);
+        is_in_state(&told, state) && is_same_row(&told, &want)
+    }
+
+    fn tell_first_session(&mut self) -> bool {
+        let told = self.tables.next_session(None);
+        let want = self.memory.next_session(None);
+        !is_in_state(&told, None) && is_same_row(&told, &want)
+    }
+
+    fn tell_sessions_of(&mut self, account: &[u8]) -> bool {
+        match (
+            self.tables.sessions_of(account),
+            self.memory.sessions_of(account),
+        ) {
+            (Ok(told), Ok(want)) => are_same_rows(&told, &want),
+            _ => false,
+        }
+    }
+
+    fn tell_voucher(&mut self, number: &str) -> bool {
+        let told = self.tables.voucher(number);
+        let want = self.memory.voucher(number);
+        is_same_topup(&told, &want)
+    }
+
+    fn tell_next_topup(&mut self, after: Option<&str>) -> bool {
+        let told = self.tables.next_topup(after);
+        let want = self.memory.next_topup(after);
+        is_same_topup(&told, &want)
+    }
+
+    fn tell_topups_of(&mut self, account: &[u8]) -> bool {
+        match (
+            self.tables.topups_of(account),
+            self.memory.topups_of(account),
+        ) {
+            (Ok(told), Ok(want)) => are_same_topups(&told, &want),
+            _ => false,
+        }
+    }
+
+    fn tell_balance(&mut self, account: &[u8]) -> bool {
+        match (self.tables.balance(account), self.memory.balance(account)) {
+            (Ok(told), Ok(want)) => told == want,
+            _ => false,
+        }
+    }
+
+    fn tell_next_account(&mut self, after: Option<&[u8]>) -> bool {
+        match (
+            self.tables.next_account(after),
+            self.memory.next_account(after),
+        ) {
+            (Ok(told), Ok(want)) => told == want,
+            _ => false,
+        }
+    }
+
+    fn take(&mut self, alloc: Global, turn: &Turn) -> Result<bool, Fail> {
+        Ok(match turn {
+            Turn::Put(name, account, usage, balance) => {
+                self.put_row(&row(alloc, name, account, usage)?, *balance)
+            }
+            Turn::TopUp(number, sum, when, balance) => {
+                let topup = TopUp::new(alloc, number, b"al", *sum, u64::from(*when))?;
+                self.put_topup(&topup, *balance)
+            }
+            Turn::Session(name, state) => self.tell_session(&key(alloc, name)?, *state),
+            Turn::Close(client) => self.close(client),
+            Turn::FirstSession => self.tell_first_session(),
+            Turn::SessionsOf(account) => self.tell_sessions_of(account),
+            Turn::Voucher(number) => self.tell_voucher(number),
+            Turn::NextTopUp(after) => self.tell_next_topup(*after),
+            Turn::TopUpsOf(account) => self.tell_topups_of(account),
+            Turn::Balance(account) => self.tell_balance(account),
+            Turn::NextAccount(after) => self.tell_next_account(*after),
+        })
+    }
+
+    fn take_all(&mut self, alloc: Global, script: &Script) -> Result<(), Fail> {
+        let (name, turns) = *script;
+        for i in 0..turns.len() {
+            if !self.take(alloc, &turns[i])? {
+                return Err(Fail::from((name, i)));
+            }
         }
         Ok(())
     }
-
-    fn put_topups(&mut self, alloc: Global, topups: &[Credit]) -> Result<(), Fail> {
-        for i in 0..topups.len() {
-            let (number, sum, when, balance) = topups[i];
-            let topup = TopUp::new(alloc, number, b"al", sum, u64::from(when))?;
-            self.tables.put_topup(&topup, balance)?;
-            self.memory.put_topup(&topup, balance)?;
-        }
-        Ok(())
-    }
-
-    // Whether both tell the same of a session, and its state.
-    fn tell_session(&mut self, key: &Key) -> Result<(bool, Option<SessionState>), Fail> {
-        let told = self.tables.session(key)?;
-        let want = self.memory.session(key)?;
-        let state = told.as_ref().map(|row| row.state);
-        Ok((is_same_row(told.as_ref(), want.as_ref()), state))
-    }
-
-    fn tell_first_session(&mut self) -> Result<bool, Fail> {
-        let told = self.tables.next_session(None)?;
-        let want = self.memory.next_session(None)?;
-        Ok(told.is_some() && is_same_row(told.as_ref(), want.as_ref()))
-    }
-
-    fn tell_sessions_of(&mut self, account: &[u8]) -> Result<bool, Fail> {
-        let told = self.tables.sessions_of(account)?;
-        let want = self.memory.sessions_of(account)?;
-        Ok(!told.is_empty() && are_same_rows(&told, &want))
-    }
-
-    fn tell_voucher(&mut self, number: &str) -> Result<bool, Fail> {
-        let told = self.tables.voucher(number)?;
-        let want = self.memory.voucher(number)?;
-        Ok(told.is_some() && is_same_topup(told.as_ref(), want.as_ref()))
-    }
-
-    fn tell_next_topup(&mut self, after: Option<&str>) -> Result<bool, Fail> {
-        let told = self.tables.next_topup(after)?;
-        let want = self.memory.next_topup(after)?;
-        Ok(told.is_some() && is_same_topup(told.as_ref(), want.as_ref()))
-    }
-
-    fn tell_topups_of(&mut self, account: &[u8]) -> Result<bool, Fail> {
-        let told = self.tables.topups_of(account)?;
-        let want = self.memory.topups_of(account)?;
-        Ok(!told.is_empty() && are_same_topups(&told, &want))
-    }
-
-    fn tell_balance(&mut self, account: &[u8]) -> Result<bool, Fail> {
-        Ok(self.tables.balance(account)? == self.memory.balance(account)?)
-    }
-
-    fn tell_next_account(&mut self, after: Option<&[u8]>) -> Result<bool, Fail> {
-        Ok(self.tables.next_account(after)? == self.memory.next_account(after)?)
-    }
 }
 
-// Whether both tell the same of rows, and the state of the first session.
-fn tell_rows(alloc: Global, books: &mut Books) -> Result<(bool, Option<SessionState>), Fail> {
-    let (is_same, state) = books.tell_session(&key(alloc, &S1)?)?;
-    let none = books.tell_session(&key(alloc, &("ap1", b"s3"))?)?;
-    let are_same = books.tell_first_session()? && books.tell_sessions_of(b"al")?;
-    Ok((is_same && none == (true, None) && are_same, state))
+// Fails at the first turn at which an empty book on tables and one in memory differ.
+fn expect_same(alloc: Global, script: &Script) -> Result<(), Fail> {
+    let tables = made(alloc)?;
+    let memory = MemBook::new(alloc);
+    Books { tables, memory }.take_all(alloc, script)
 }
 
-// The same before and after the restart of a client.
-fn tell_closed_rows(alloc: Global, books: &mut Books) -> Result<bool, Fail> {
-    books.put_rows(alloc, &ROWS)?;
-    let before = tell_rows(alloc, books)?;
-    books.tables.close_client("ap1")?;
-    books.memory.close_client("ap1")?;
-    let after = tell_rows(alloc, books)?;
-    Ok(before == (true, Some(SessionState::Live)) && after == (true, Some(SessionState::Closed)))
-}
+// What a script is of, and its turns.
+type Script = (&'static str, &'static [Turn]);
+
+static SCRIPTS: [Script; 4] = [
+    // A row, another, and the first with other values; then a restart of their client.
+    (
+        "rows",
+        &[
+            Turn::Put(S1, b"al", STOPPED, -20),
+            Turn::Put(("ap1", b"s2"), b"bo", STOPPED, 7),
+            Turn::Put(S1, b"al", LATER, -(1 << 62)),
+            Turn::Session(S1, Some(SessionState::Live)),
+            Turn::Session(("ap1", b"s3"), None),
+            Turn::FirstSession,
+            Turn::SessionsOf(b"al"),
+            Turn::Close("ap1"),
+            Turn::Session(S1, Some(SessionState::Closed)),
+            Turn::Session(("ap1", b"s3"), None),
+            Turn::FirstSession,
+            Turn::SessionsOf(b"al"),
+        ],
+    ),
+    // A row of a session that was read is set with the plan that it has, and then with another.
+    (
+        "reports",
+        &[
+            Turn::Put(S1, b"al", STOPPED, -20),
+            Turn::Session(S1, Some(SessionState::Stopped)),
+            Turn::Put(S1, b"al", STOPPED, 0),
+            Turn::Session(S1, Some(SessionState::Stopped)),
+            Turn::Put(S1, b"al", LATER, 0),
+            Turn::Session(S1, Some(SessionState::Live)),
+        ],
+    ),
+    // Two clients have a live session each. A restart of the first is told twice, then a live
+    // session of it comes, and then there is another restart.
+    (
+        "restarts",
+        &[
+            Turn::Put(S1, b"al", LATER, 3),
+            Turn::Put(("ap2", b"s1"), b"al", LATER, 4),
+            Turn::Close("ap1"),
+            Turn::SessionsOf(b"al"),
+            Turn::Close("ap1"),
+            Turn::SessionsOf(b"al"),
+            Turn::Put(("ap1", b"s0"), b"al", LATER, 5),
+            Turn::FirstSession,
+            Turn::Close("ap1"),
+            Turn::SessionsOf(b"al"),
+            Turn::Session(("ap1", b"s0"), Some(SessionState::Closed)),
+            Turn::Session(("ap2", b"s1"), Some(SessionState::Live)),
+        ],
+    ),
+    // A top-up, another, and that one with other values.
+    (
+        "money",
+        &[
+            Turn::TopUp("V-2", 500, 1000, 470),
+            Turn::TopUp("V-1", 60, 2000, 530),
+            Turn::TopUp("V-1", 1_000_000_000_000, u32::MAX, 1 << 62),
+            Turn::Balance(b"al"),
+            Turn::Balance(b"cy"),
+            Turn::NextAccount(None),
+            Turn::NextAccount(Some(b"al")),
+            Turn::Voucher("V-1"),
+            Turn::TopUpsOf(b"al"),
+            Turn::NextTopUp(None),
+            Turn::NextTopUp(Some("V-1")),
+        ],
+    ),
+];
 
 #[test]
-fn tables_tell_of_rows_what_memory_tells(rt: HostRuntime) -> Result<(), Fail> {
-    assert!(rt; tell_closed_rows(rt.alloc(), &mut Books::new(rt.alloc())?)?);
-    Ok(())
-}
-
-// A row of a session that was read is set with the plan that it has, and then with another.
-fn tell_reports(alloc: Global, books: &mut Books) -> Result<bool, Fail> {
-    books.put_rows(alloc, &[ROWS[0]])?;
-    for i in 0..PLANNED.len() {
-        if !books.tell_session(&key(alloc, &S1)?)?.0 {
-            return Ok(false);
-        }
-        books.put_rows(alloc, &[(S1, b"al", PLANNED[i], 0)])?;
+fn tables_tell_what_memory_tells(rt: HostRuntime) -> Result<(), Fail> {
+    for i in 0..SCRIPTS.len() {
+        expect_same(rt.alloc(), &SCRIPTS[i])?;
     }
-    Ok(books.tell_session(&key(alloc, &S1)?)?.0)
-}
-
-#[test]
-fn a_report_keeps_the_plan_that_it_has(rt: HostRuntime) -> Result<(), Fail> {
-    assert!(rt; tell_reports(rt.alloc(), &mut Books::new(rt.alloc())?)?);
-    Ok(())
-}
-
-// Rows of two clients that are live, and one of the first that is set live after its restart.
-static LIVE_ROWS: [Put; 2] = [(S1, b"al", LATER, 3), (("ap2", b"s1"), b"al", LATER, 4)];
-
-static NEW_ROW: [Put; 1] = [(("ap1", b"s0"), b"al", LATER, 5)];
-
-// Whether both tell the same of `al` after a restart of the client.
-fn tell_restart(books: &mut Books, client: &str) -> Result<bool, Fail> {
-    books.tables.close_client(client)?;
-    books.memory.close_client(client)?;
-    books.tell_sessions_of(b"al")
-}
-
-// A restart is told twice, then a session comes, and then there is another restart.
-fn tell_restarts(alloc: Global, books: &mut Books) -> Result<bool, Fail> {
-    books.put_rows(alloc, &LIVE_ROWS)?;
-    let first = tell_restart(books, "ap1")? && tell_restart(books, "ap1")?;
-    books.put_rows(alloc, &NEW_ROW)?;
-    let second = books.tell_first_session()? && tell_restart(books, "ap1")?;
-    let state = books.tell_session(&key(alloc, &NEW_ROW[0].0)?)?;
-    let other = books.tell_session(&key(alloc, &LIVE_ROWS[1].0)?)?;
-    let closed = (true, Some(SessionState::Closed));
-    Ok(first && second && state == closed && other == (true, Some(SessionState::Live)))
-}
-
-#[test]
-fn each_restart_closes_the_live_sessions(rt: HostRuntime) -> Result<(), Fail> {
-    assert!(rt; tell_restarts(rt.alloc(), &mut Books::new(rt.alloc())?)?);
-    Ok(())
-}
-
-// Whether both tell the same of balances and top-ups.
-fn tell_money(alloc: Global, books: &mut Books) -> Result<bool, Fail> {
-    books.put_topups(alloc, &TOP_UPS)?;
-    Ok(
-        books.tell_balance(b"al")?
-            && books.tell_balance(b"cy")?
-            && books.tell_next_account(None)?
-            && books.tell_next_account(Some(b"al"))?
-            && books.tell_voucher("V-1")?
-            && books.tell_topups_of(b"al")?
-            && books.tell_next_topup(None)?
-            && books.tell_next_topup(Some("V-1"))?,
-    )
-}
-
-#[test]
-fn tables_tell_of_money_what_memory_tells(rt: HostRuntime) -> Result<(), Fail> {
-    assert!(rt; tell_money(rt.alloc(), &mut Books::new(rt.alloc())?)?);
     Ok(())
 }

@@ -16,8 +16,8 @@ pub(crate) const S1: Name<'static> = ("ap1", b"s1");
 // What a row says beside its names: octets as (input, output), times as (seconds, first, last).
 #[derive(Clone, Copy)]
 pub(crate) struct Usage {
-    plan: &'static [u8],
-    octets: (u64, u64),
+    pub(crate) plan: &'static [u8],
+    pub(crate) octets: (u64, u64),
     times: (u32, u64, u64),
     state: SessionState,
     cause: u32,
@@ -62,6 +62,23 @@ pub(crate) fn key(alloc: Global, name: &Name<'_>) -> Result<Key, Fail> {
     Ok(Key { client, session })
 }
 
+// Sets the texts and octets of a row that has none yet.
+fn set_names(row: &mut Row, name: &Name<'_>, account: &[u8], usage: &Usage) -> Result<(), Fail> {
+    row.client.text.push_str(name.0)?;
+    row.session.octets.extend_from_slice(name.1)?;
+    row.account.octets.extend_from_slice(account)?;
+    row.class.octets.extend_from_slice(b"gold")?;
+    row.plan.octets.extend_from_slice(usage.plan)?;
+    row.calling.octets.extend_from_slice(usage.calling)?;
+    Ok(())
+}
+
+fn no_octets(alloc: Global) -> Octets {
+    Octets {
+        octets: Vec::new(alloc),
+    }
+}
+
 // The row of a session of an account, of the Class `gold`. The bounds are those of each row.
 pub(crate) fn row(
     alloc: Global,
@@ -74,12 +91,14 @@ pub(crate) fn row(
     if input >= 1 << 63 || output >= (1 << 63) - input || first >= 1 << 53 || last >= 1 << 53 {
         return Err("past the bounds of a row".into());
     }
-    Ok(Row {
-        client: Text::from_str(alloc, name.0)?,
-        session: Octets::from_slice(alloc, name.1)?,
-        account: Octets::from_slice(alloc, account)?,
-        class: Octets::from_slice(alloc, b"gold")?,
-        plan: Octets::from_slice(alloc, usage.plan)?,
+    let mut row = Row {
+        client: Text {
+            text: String::new(alloc),
+        },
+        session: no_octets(alloc),
+        account: no_octets(alloc),
+        class: no_octets(alloc),
+        plan: no_octets(alloc),
         input,
         output,
         seconds,
@@ -87,7 +106,9 @@ pub(crate) fn row(
         last,
         state: usage.state,
         cause: usage.cause,
-        calling: Octets::from_slice(alloc, usage.calling)?,
+        calling: no_octets(alloc),
         framed: usage.framed,
-    })
+    };
+    set_names(&mut row, name, account, usage)?;
+    Ok(row)
 }

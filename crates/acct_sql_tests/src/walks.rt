@@ -31,9 +31,14 @@ static STEPS: [Step; 10] = [
     (Some(("ap1", b"\xff\x00")), Some(("ap10", b"\x00"))),
 ];
 
+fn put<B: Book>(alloc: Global, book: &mut B, name: &Name<'_>) -> Result<(), Fail> {
+    let row = row(alloc, name, b"al", &STOPPED)?;
+    Ok(book.put_session(&row, -20)?)
+}
+
 fn put_all<B: Book>(alloc: Global, book: &mut B, names: &[Name<'_>]) -> Result<(), Fail> {
     for i in 0..names.len() {
-        book.put_session(&row(alloc, &names[i], b"al", &STOPPED)?, -20)?;
+        put(alloc, book, &names[i])?;
     }
     Ok(())
 }
