@@ -1,8 +1,8 @@
 //! What a server prints over an exchange, and what it does where it can't print.
 use acct_book::MemBook;
 use acct_book::fakes::ShutBook;
-use acct_commands::{Ended, serve_exchange};
 use acct_model::Octets;
+use acct_run::{Ended, serve_exchange};
 use acct_samples::sample_config;
 use acct_service::lists::{ListExchange, Planned};
 use acct_service::{Event, Exchange, NoRounds, Served, Until, What};
