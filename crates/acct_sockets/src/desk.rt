@@ -8,8 +8,8 @@
 ghost use Rattle.std.specs.Prelude.{IfOk, IfSome, OnOk};
 ghost use Rattle.acct_sockets.specs.inner.Places.{IsAsked, Answers};
 
-use crate::caller::{Caller, Step};
 use crate::readiness::Readiness;
+use acct_callers::{Caller, Step};
 use acct_model::Octets;
 use acct_service::Fault;
 use std::alloc::Global;
@@ -172,7 +172,7 @@ impl<R: Net> Desk<R> {
             Err(error) => return self.put_off(&error),
         };
         let left = self.let_go(place);
-        readiness.watch(&stream, place).map_err(|_| Fault)?;
+        readiness.watch_both(&stream, place).map_err(|_| Fault)?;
         let caller = Caller::new(self.alloc, stream, now).map_err(|_| Fault)?;
         if let Some(free) = self.places.get_mut(place) {
             *free = Some(caller);

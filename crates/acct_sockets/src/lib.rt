@@ -1,13 +1,10 @@
 //! Access servers by UDP and callers of the desk by TCP, as an exchange, and the clock's moment.
 #![tactic(auto)]
 
-mod caller;
 mod clock;
 mod datagrams;
 mod desk;
 mod readiness;
-mod request;
-mod response;
 mod sockets;
 
 pub use clock::moment_of;

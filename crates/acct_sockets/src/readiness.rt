@@ -3,7 +3,6 @@ use mio::unix::SourceFd;
 use mio::{Events, Interest, Poll, Token};
 use std::alloc::Global;
 use std::io;
-use std::io::ErrorKind;
 use std::net::Net;
 use std::os::fd::AsRawFd;
 use std::time::Duration;
@@ -29,14 +28,31 @@ impl Readiness {
         })
     }
 
-    /// Watches a socket under a number, until it is closed.
+    /// Watches a socket under a number, until it is closed, for what may come.
     ///
     /// # Errors
     ///
     /// Those of the system.
     pub fn watch<S: AsRawFd>(&self, socket: &S, number: usize) -> io::Result<()> {
+        self.register(socket, number, Interest::READABLE)
+    }
+
+    /// Watches a socket under a number, until it is closed, for what may come and what may go.
+    ///
+    /// # Errors
+    ///
+    /// Those of the system.
+    pub fn watch_both<S: AsRawFd>(&self, socket: &S, number: usize) -> io::Result<()> {
+        self.register(socket, number, Interest::READABLE | Interest::WRITABLE)
+    }
+
+    fn register<S: AsRawFd>(
+        &self,
+        socket: &S,
+        number: usize,
+        interest: Interest,
+    ) -> io::Result<()> {
         let descriptor = socket.as_raw_fd();
-        let interest = Interest::READABLE | Interest::WRITABLE;
         self.poll
             .registry()
             .register(&mut SourceFd(&descriptor), Token(number), interest)
@@ -55,10 +71,4 @@ impl Readiness {
     pub fn events(&self) -> &Events<Global> {
         &self.events
     }
-}
-
-/// Whether a call failed only since it would have to wait. (One that does not wait is interrupted
-/// by nothing, but the kit's types leave it open.)
-pub fn has_to_wait(error: &io::Error) -> bool {
-    matches!(error.kind(), ErrorKind::WouldBlock | ErrorKind::Interrupted)
 }

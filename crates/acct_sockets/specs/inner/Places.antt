@@ -1,8 +1,8 @@
 -- The places of callers: who asks, and who is answered.
 use Rattle.std.specs.Prelude.{◌≡◌, ℕ, List, Option, Some, None, slice_get, slice_set}
-use Rattle.acct_sockets.specs.declared.caller.Caller.{Caller}
-use Rattle.acct_sockets.specs.declared.caller.Stage.TheVariants as stage
-use Rattle.acct_sockets.specs.inner.Going.{Goes}
+use Rattle.acct_callers.specs.declared.caller.Caller.{Caller}
+use Rattle.acct_callers.specs.declared.caller.Stage.TheVariants as stage
+use Rattle.acct_callers.specs.Going.{Goes}
 
 module _ {S : Type 0} where
   -- the caller who has this place

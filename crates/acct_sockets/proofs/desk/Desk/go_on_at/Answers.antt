@@ -1,10 +1,10 @@
 use Rattle.std.proofs.Common.{◌≡◌, ◌<◌, ℕ, List, Option, Some, length, slice_get, slice_set}
 use Rattle.std.proofs.Common.{rules}
 use Rattle.std.proofs.lemmas.Option.{slice_get_read}
-use Rattle.acct_sockets.specs.declared.caller.Stage.{Stage}
-use Rattle.acct_sockets.specs.declared.caller.Stage.TheVariants as stage
-use Rattle.acct_sockets.specs.declared.caller.Step.TheVariants as step
-use Rattle.acct_sockets.specs.inner.Going.{GoesOn}
+use Rattle.acct_callers.specs.declared.caller.Stage.{Stage}
+use Rattle.acct_callers.specs.declared.caller.Stage.TheVariants as stage
+use Rattle.acct_callers.specs.declared.caller.Step.TheVariants as step
+use Rattle.acct_callers.specs.Going.{GoesOn}
 use Rattle.acct_sockets.proofs.desk.Desk.go_on_at.Goals as goal
 
 -- only one whose request has come asks

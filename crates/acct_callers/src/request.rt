@@ -1,8 +1,8 @@
 //! What has come of a caller's request.
 ghost use Rattle.std.specs.Prelude.{◌≡◌, ◌∷◌, ◌++◌, [], false, Some, OnOk, IfOk, IfSome, IsOkAnd};
-ghost use Rattle.acct_sockets.specs.inner.Coming.{Takes, IsRequestOf};
+ghost use Rattle.acct_callers.specs.Coming.{Takes, IsRequestOf};
 
-use crate::readiness::has_to_wait;
+use crate::waiting::has_to_wait;
 use acct_desk::{ReadFault, read_request};
 use acct_model::Octets;
 use acct_service::Fault;
@@ -13,8 +13,10 @@ use std::io::{ErrorKind, Read};
 /// The octets that have come of a request, and whether its caller closed its sending side.
 #[derive(Drop)]
 pub struct Request {
-    octets: Vec<u8>,
-    has_ended: bool,
+    /// What has come, in its order.
+    pub octets: Vec<u8>,
+    /// Whether no more comes.
+    pub has_ended: bool,
 }
 
 impl Request {

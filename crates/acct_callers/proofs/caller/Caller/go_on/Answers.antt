@@ -1,13 +1,13 @@
 use Rattle.std.proofs.Common.{◌≡◌, ℕ, List, Option, Result, Ok, Err}
 use Rattle.std.specs.Prelude.{IfOk}
 use Rattle.acct_service.specs.declared.exchange.Fault.{Fault}
-use Rattle.acct_sockets.specs.declared.caller.Stage.{Stage}
-use Rattle.acct_sockets.specs.declared.caller.Stage.TheVariants as stage
-use Rattle.acct_sockets.specs.declared.caller.Step.{Step}
-use Rattle.acct_sockets.specs.declared.request.Request.{Request}
-use Rattle.acct_sockets.specs.inner.Coming.{Takes}
-use Rattle.acct_sockets.specs.inner.Going.{Advances, GoesOn}
-use Rattle.acct_sockets.proofs.caller.Caller.go_on.Goals as goal
+use Rattle.acct_callers.specs.declared.caller.Stage.{Stage}
+use Rattle.acct_callers.specs.declared.caller.Stage.TheVariants as stage
+use Rattle.acct_callers.specs.declared.caller.Step.{Step}
+use Rattle.acct_callers.specs.declared.request.Request.{Request}
+use Rattle.acct_callers.specs.Coming.{Takes}
+use Rattle.acct_callers.specs.Going.{Advances, GoesOn}
+use Rattle.acct_callers.proofs.caller.Caller.go_on.Goals as goal
 
 -- what came of a request is what its read gave
 comes : {S : Type 0} (left held : S → Option (List ℕ)) (old read new : S) → new ≡ read

@@ -6,8 +6,8 @@ use Rattle.std.specs.Prelude.{IfOk, IfSome, IsOkAnd}
 use Rattle.std.specs.Io.KnownBytes.{Consumes}
 use Rattle.acct_desk.specs.Reading.{IsSettled, EndsReading}
 use Rattle.acct_service.specs.declared.exchange.Fault.{Fault}
-use Rattle.acct_sockets.specs.inner.Coming.{IsRequestOf}
-use Rattle.acct_sockets.proofs.request.Request.read.Goals as goal
+use Rattle.acct_callers.specs.Coming.{IsRequestOf}
+use Rattle.acct_callers.proofs.request.Request.read.Goals as goal
 
 -- what is at the end of the octets of a caller that sends no more
 at_end : (request left : List ℕ) → EndsReading request (Some left)

@@ -2,9 +2,9 @@
 ghost use Rattle.std.specs.Prelude.{◌≡◌, ◌↔◌, ◌≤◌, [], ℕ, List, drop, take, length};
 ghost use Rattle.std.specs.Prelude.{IsTrue, OnOk, IfOk};
 ghost use Rattle.std.specs.Io.KnownBytes.{Appends};
-ghost use Rattle.acct_sockets.specs.inner.Coming.{Gives};
+ghost use Rattle.acct_callers.specs.Coming.{Gives};
 
-use crate::readiness::has_to_wait;
+use crate::waiting::has_to_wait;
 use acct_model::Octets;
 use acct_service::Fault;
 use std::alloc::{AllocError, Global};

@@ -1,10 +1,10 @@
 //! A caller of the desk: what has come of its request, and what is still to go of its response.
 ghost use Rattle.std.specs.Prelude.{◌≡◌, IfOk, OnOk};
-ghost use Rattle.acct_sockets.specs.inner.Going.{GoesOn, Goes, Advances, AsksNothing, IsFresh};
+ghost use Rattle.acct_callers.specs.Going.{GoesOn, Goes, Advances, AsksNothing, IsFresh};
 
-use crate::readiness::has_to_wait;
 use crate::request::Request;
 use crate::response::{Response, write_some};
+use crate::waiting::has_to_wait;
 use acct_model::Octets;
 use acct_service::Fault;
 use std::alloc::Global;
@@ -62,8 +62,10 @@ pub enum Step {
 /// A caller's connection, which is closed as this is let go. Its reads and writes don't wait.
 #[derive(Drop)]
 pub struct Caller<S> {
-    stream: S,
-    stage: Stage,
+    /// The connection.
+    pub stream: S,
+    /// How far it has come.
+    pub stage: Stage,
     is_ready: bool,
     came: Instant,
     heard: Instant,

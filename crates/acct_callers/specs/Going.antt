@@ -1,11 +1,11 @@
 -- How a caller goes on: its request comes, and then its response goes.
 use Rattle.std.specs.Prelude.{◌≡◌, ⊤, ℕ, false, List, [], Option}
-use Rattle.acct_sockets.specs.declared.caller.Stage.{Stage}
-use Rattle.acct_sockets.specs.declared.caller.Stage.TheVariants as stage
-use Rattle.acct_sockets.specs.declared.caller.Step.{Step}
-use Rattle.acct_sockets.specs.declared.caller.Step.TheVariants as step
-use Rattle.acct_sockets.specs.declared.request.Request.{Request}
-use Rattle.acct_sockets.specs.inner.Coming.{Takes, Gives, IsRequestOf}
+use Rattle.acct_callers.specs.declared.caller.Stage.{Stage}
+use Rattle.acct_callers.specs.declared.caller.Stage.TheVariants as stage
+use Rattle.acct_callers.specs.declared.caller.Step.{Step}
+use Rattle.acct_callers.specs.declared.caller.Step.TheVariants as step
+use Rattle.acct_callers.specs.declared.request.Request.{Request}
+use Rattle.acct_callers.specs.Coming.{Takes, Gives, IsRequestOf}
 
 -- what is left to go of a response that was handed over
 abbrev pub IsLeft : Stage → List ℕ → Type 0
