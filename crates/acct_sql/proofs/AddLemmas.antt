@@ -27,28 +27,28 @@ use Rattle.std.proofs.lemmas.List.Elements.{All-contains}
 use Rattle.acct_model.proofs.Lists.{all_listed}
 use Rattle.acct_model.proofs.PlanLaws.{apart}
 use Rattle.acct_model.proofs.Same.{Decides-bytes_eq}
-use Rattle.acct_sql.specs.Tables.{book_schema, plan_count, own_number}
-use Rattle.acct_sql.specs.declared.adopting.PlanTable.TheVariants.{Prices, Counts}
-use Rattle.acct_sql.specs.Make.{KeepsPrices, KeepsCounts, KeepsPlans}
-use Rattle.acct_sql.specs.Make.{mode_of}
-use Rattle.acct_sql.specs.Look.{HasNumberAlone}
-use Rattle.acct_sql.specs.declared.sql_book_error.SqlBookError.{SqlBookError}
-use Rattle.acct_sql.specs.declared.sql_book_error.SqlBookError.TheVariants.{NotABook, PlansDiffer}
-use Rattle.acct_sql.specs.declared.sql_book_error.SqlBookError.TheVariants.{WrongSchema}
-use Rattle.acct_sql.specs.declared.sql_book_error.SqlBookError.TheVariants.{Unavailable}
-use Rattle.acct_sql.specs.Book.{IsBook}
+use Rattle.acct_tables.specs.Tables.{book_schema, plan_count, own_number}
+use Rattle.acct_tables.specs.declared.plan_table.PlanTable.TheVariants.{Prices, Counts}
+use Rattle.acct_tables.specs.Make.{KeepsPrices, KeepsCounts, KeepsPlans}
+use Rattle.acct_tables.specs.Make.{mode_of}
+use Rattle.acct_tables.specs.Look.{HasNumberAlone}
+use Rattle.acct_tables.specs.declared.sql_book_error.SqlBookError.{SqlBookError}
+use Rattle.acct_tables.specs.declared.sql_book_error.SqlBookError.TheVariants.{NotABook, PlansDiffer}
+use Rattle.acct_tables.specs.declared.sql_book_error.SqlBookError.TheVariants.{WrongSchema}
+use Rattle.acct_tables.specs.declared.sql_book_error.SqlBookError.TheVariants.{Unavailable}
+use Rattle.acct_tables.specs.Book.{IsBook}
 use Rattle.acct_sql.specs.Add.{AreExtended, HasAdded, IsNotAddedAs}
-use Rattle.acct_sql.specs.inner.Inside.{HasBecome}
-use Rattle.acct_sql.specs.inner.Looked.{IsShownIn, IsPlanFault, IsNumberFault, IsUnknownFault}
-use Rattle.acct_sql.specs.inner.NewBook.{HasPlansOver}
+use Rattle.acct_tables.specs.inner.Inside.{HasBecome}
+use Rattle.acct_tables.specs.inner.Looked.{IsShownIn, IsPlanFault, IsNumberFault, IsUnknownFault}
+use Rattle.acct_tables.specs.inner.NewBook.{HasPlansOver}
 use Rattle.acct_sql.specs.inner.Adding.{IsCounted, ShowsPrices, AreAmong, AreShownOf}
 use Rattle.acct_sql.specs.inner.Adding.{AnswersFit, ShowsClassesOf}
-use Rattle.acct_sql.specs.declared.statements.TheConstants as texts
+use Rattle.acct_tables.specs.declared.statements.TheConstants as texts
 use Rattle.acct_sql.proofs.PlanLemmas.{price_of_shown, shown_of_price, prices_shown, shown_prices}
 use Rattle.acct_sql.proofs.PlanLemmas.{count_of_shown, shown_of_count, all_counts_shown}
 use Rattle.acct_sql.proofs.PlanLemmas.{all_shown_counts}
-use Rattle.acct_sql.proofs.CreateLemmas.{content_same}
-use Rattle.acct_sql.proofs.MigrateLemmas.{alone_same}
+use Rattle.acct_tables.proofs.CreateLemmas.{content_same}
+use Rattle.acct_tables.proofs.MigrateLemmas.{alone_same}
 
 -- ---- one plan for each class
 

@@ -8,10 +8,10 @@ use Rattle.sqlite.specs.State.{State, HasCleanDisk, Survives, KeepsCommit, IsRol
 use Rattle.sqlite.specs.Held.{Held, state}
 use Rattle.sqlite.proofs.Callers.{survives_begin}
 use Rattle.sqlite.proofs.StateLemmas.{survives_then}
-use Rattle.acct_sql.specs.Book.{IsBook}
-use Rattle.acct_sql.specs.Look.{IsIdle}
-use Rattle.acct_sql.specs.inner.Inside.{HasFinished, HasBecome, IsBookOf}
-use Rattle.acct_sql.proofs.CommitLemmas.{of_ok}
+use Rattle.acct_tables.specs.Book.{IsBook}
+use Rattle.acct_tables.specs.Look.{IsIdle}
+use Rattle.acct_tables.specs.inner.Inside.{HasFinished, HasBecome, IsBookOf}
+use Rattle.acct_tables.proofs.CommitLemmas.{of_ok}
 
 module _ {S T E F : Type 0} (g : Ghosts S) (old end : Held S) (mid : State)
     (Is : Trees → Trees → Type 0)

@@ -12,16 +12,16 @@ use Rattle.acct_book.specs.declared.key.Key.{Key}
 use Rattle.acct_book.specs.Row.{RowFacts}
 use Rattle.acct_book.specs.Content.{same_key, key_of}
 use Rattle.acct_book.proofs.Keys.{key_is}
-use Rattle.acct_sql.specs.Tables.{session_plan, meta, price_plan, plan_count}
-use Rattle.acct_sql.specs.Columns.{session_plan_columns}
-use Rattle.acct_sql.specs.Content.{content_without_plans, plans_in_tables, is_session}
-use Rattle.acct_sql.specs.Content.{without_plan}
-use Rattle.acct_sql.specs.Book.{IsBook, HasSamePlans}
-use Rattle.acct_sql.specs.inner.Inside.{HasMade, HasMadeBare, HasPlanOf, HasSetPlan, with_row}
-use Rattle.acct_sql.specs.declared.statements.TheConstants as texts
-use Rattle.acct_sql.proofs.FindLemmas.{find_has, none_has}
-use Rattle.acct_sql.proofs.MadeLemmas.{made_plan, made_new_plan, made_with_plan, same_plans_then}
-use Rattle.acct_sql.proofs.PlanReadLemmas.{plan_found}
+use Rattle.acct_tables.specs.Tables.{session_plan, meta, price_plan, plan_count}
+use Rattle.acct_tables.specs.Columns.{session_plan_columns}
+use Rattle.acct_tables.specs.Content.{content_without_plans, plans_in_tables, is_session}
+use Rattle.acct_tables.specs.Content.{without_plan}
+use Rattle.acct_tables.specs.Book.{IsBook, HasSamePlans}
+use Rattle.acct_tables.specs.inner.Inside.{HasMade, HasMadeBare, HasPlanOf, HasSetPlan, with_row}
+use Rattle.acct_tables.specs.declared.statements.TheConstants as texts
+use Rattle.acct_tables.proofs.FindLemmas.{find_has, none_has}
+use Rattle.acct_tables.proofs.MadeLemmas.{made_plan, made_new_plan, made_with_plan, same_plans_then}
+use Rattle.acct_tables.proofs.PlanReadLemmas.{plan_found}
 
 -- a plan that is kept already is set
 kept_set : (plans : Key → Option (List ℕ)) (at : Key) (class : List ℕ) → plans at ≡ Some class

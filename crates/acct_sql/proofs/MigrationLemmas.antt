@@ -2,13 +2,13 @@
 use Rattle.std.proofs.Common.{◌≢◌, List}
 use Rattle.sqlite.specs.Effect.{Database}
 use Rattle.acct_model.specs.declared.plan.Plan.{Plan}
-use Rattle.acct_sql.specs.declared.sql_book_error.SqlBookError.{SqlBookError}
-use Rattle.acct_sql.specs.declared.sql_book_error.SqlBookError.TheVariants.{NotABook, PlansDiffer}
-use Rattle.acct_sql.specs.declared.sql_book_error.SqlBookError.TheVariants.{WrongSchema}
-use Rattle.acct_sql.specs.declared.sql_book_error.SqlBookError.TheVariants.{Unavailable}
-use Rattle.acct_sql.specs.declared.older_schema.OlderSchema.{OlderSchema}
-use Rattle.acct_sql.specs.Migrate.{schema_of, IsNotMigratedAs}
-use Rattle.acct_sql.specs.inner.Migrating.{IsNoOlderFault}
+use Rattle.acct_tables.specs.declared.sql_book_error.SqlBookError.{SqlBookError}
+use Rattle.acct_tables.specs.declared.sql_book_error.SqlBookError.TheVariants.{NotABook, PlansDiffer}
+use Rattle.acct_tables.specs.declared.sql_book_error.SqlBookError.TheVariants.{WrongSchema}
+use Rattle.acct_tables.specs.declared.sql_book_error.SqlBookError.TheVariants.{Unavailable}
+use Rattle.acct_tables.specs.declared.older_schema.OlderSchema.{OlderSchema}
+use Rattle.acct_tables.specs.Migrate.{schema_of, IsNotMigratedAs}
+use Rattle.acct_tables.specs.inner.Migrating.{IsNoOlderFault}
 
 -- what tables are refused for that are those of no older book
 pub unfit_refused : (plans : List Plan) (db : Database) (e : SqlBookError)

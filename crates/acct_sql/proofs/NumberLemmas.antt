@@ -13,21 +13,21 @@ use Rattle.sqlite.specs.Effect.{Database}
 use Rattle.sqlite.specs.State.{State, Shown}
 use Rattle.sqlite_rules.specs.Lists.{Has}
 use Rattle.acct_model.specs.declared.plan.Plan.{Plan}
-use Rattle.acct_sql.specs.declared.sql_book_error.SqlBookError.{SqlBookError}
-use Rattle.acct_sql.specs.declared.sql_book_error.SqlBookError.TheVariants.{NotABook, PlansDiffer}
-use Rattle.acct_sql.specs.declared.sql_book_error.SqlBookError.TheVariants.{WrongSchema}
-use Rattle.acct_sql.specs.declared.sql_book_error.SqlBookError.TheVariants.{Unavailable}
-use Rattle.acct_sql.specs.Tables.{book_schema, meta, own_number}
-use Rattle.acct_sql.specs.Make.{HasNumber}
-use Rattle.acct_sql.specs.Look.{HasNumberAlone, IsRefusedAs}
-use Rattle.acct_sql.specs.inner.Looked.{IsKnown, IsSchemaNumber, HasNone, IsSchemaNumberFault}
-use Rattle.acct_sql.specs.inner.Looked.{IsNumberFault, IsUnknownFault}
-use Rattle.acct_sql.specs.declared.statements.TheConstants as texts
-use Rattle.acct_sql.proofs.QueryLemmas.{over_table, all_rows, meets, shown_has, has_shown}
-use Rattle.acct_sql.proofs.QueryLemmas.{answer_of}
-use Rattle.acct_sql.proofs.TextLemmas.{schema_filter, value_shown}
-use Rattle.acct_sql.proofs.OlderLemmas.{schema_number}
-use Rattle.acct_sql.proofs.ValueLemmas.{equal_text, text_equal}
+use Rattle.acct_tables.specs.declared.sql_book_error.SqlBookError.{SqlBookError}
+use Rattle.acct_tables.specs.declared.sql_book_error.SqlBookError.TheVariants.{NotABook, PlansDiffer}
+use Rattle.acct_tables.specs.declared.sql_book_error.SqlBookError.TheVariants.{WrongSchema}
+use Rattle.acct_tables.specs.declared.sql_book_error.SqlBookError.TheVariants.{Unavailable}
+use Rattle.acct_tables.specs.Tables.{book_schema, meta, own_number}
+use Rattle.acct_tables.specs.Make.{HasNumber}
+use Rattle.acct_tables.specs.Look.{HasNumberAlone, IsRefusedAs}
+use Rattle.acct_tables.specs.inner.Looked.{IsKnown, IsSchemaNumber, HasNone, IsSchemaNumberFault}
+use Rattle.acct_tables.specs.inner.Looked.{IsNumberFault, IsUnknownFault}
+use Rattle.acct_tables.specs.declared.statements.TheConstants as texts
+use Rattle.acct_tables.proofs.QueryLemmas.{over_table, all_rows, meets, shown_has, has_shown}
+use Rattle.acct_tables.proofs.QueryLemmas.{answer_of}
+use Rattle.acct_tables.proofs.TextLemmas.{schema_filter, value_shown}
+use Rattle.acct_tables.proofs.OlderLemmas.{schema_number}
+use Rattle.acct_tables.proofs.ValueLemmas.{equal_text, text_equal}
 
 -- ---- what it shows
 

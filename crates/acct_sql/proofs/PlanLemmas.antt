@@ -1,6 +1,6 @@
 -- What the query for the plans shows.
-use Rattle.std.proofs.Common.{◌≡◌, List, [], ◌∷◌, true, false, IsTrue, length, get_or}
-use Rattle.std.proofs.Common.{◌≤◌, refl, sym, ap, subst, ◌∙◌, arith}
+use Rattle.std.proofs.Common.{◌≡◌, List, [], ◌∷◌, true, false, IsTrue}
+use Rattle.std.proofs.Common.{refl, sym, subst, ◌∙◌, arith}
 use Rattle.sqlite.specs.declared.types.Value.TheVariants.{Null}
 use Rattle.sqlite.specs.Order.{Row}
 use Rattle.sqlite.specs.Term.{eval_all}
@@ -14,17 +14,17 @@ use Rattle.std.specs.List.{AllByRecursion}
 use Rattle.sqlite_rules.specs.Lists.{Has}
 use Rattle.sqlite_rules.proofs.ListLemmas.{all_has, all_from}
 use Rattle.acct_model.specs.declared.plan.Plan.{Plan}
-use Rattle.acct_sql.specs.Tables.{price_plan, plan_count}
-use Rattle.acct_sql.specs.Make.{KeepsPrices, KeepsCounts, IsPlanRow, IsCountRow}
-use Rattle.acct_sql.specs.Look.{IsIdle, LooksAtTables}
-use Rattle.acct_sql.specs.inner.Looked.{IsKnown, HasCounts, ShowsPlan, ShowsCount, IsShownIn}
-use Rattle.acct_sql.specs.inner.Looked.{IsPlanIn, AreShown}
+use Rattle.acct_tables.specs.Tables.{price_plan, plan_count}
+use Rattle.acct_tables.specs.Make.{KeepsPrices, KeepsCounts, IsPlanRow, IsCountRow}
+use Rattle.acct_tables.specs.Look.{IsIdle, LooksAtTables}
+use Rattle.acct_tables.specs.inner.Looked.{IsKnown, HasCounts, ShowsPlan, ShowsCount, IsShownIn}
+use Rattle.acct_tables.specs.inner.Looked.{IsPlanIn, AreShown}
 use Rattle.acct_sql.specs.inner.Adding.{IsPriced, IsCounted}
-use Rattle.acct_sql.specs.declared.adopting.PlanTable.TheVariants.{Prices, Counts}
-use Rattle.acct_sql.specs.declared.statements.TheConstants as texts
-use Rattle.acct_sql.proofs.QueryLemmas.{over_table, all_rows, shown_has, has_shown, answer_of}
-use Rattle.acct_sql.proofs.TextLemmas.{plan_shown, count_shown}
-use Rattle.acct_sql.proofs.OlderLemmas.{prices, counts}
+use Rattle.acct_tables.specs.declared.plan_table.PlanTable.TheVariants.{Prices, Counts}
+use Rattle.acct_tables.specs.declared.statements.TheConstants as texts
+use Rattle.acct_tables.proofs.QueryLemmas.{over_table, all_rows, shown_has, has_shown, answer_of}
+use Rattle.acct_tables.proofs.TextLemmas.{plan_shown, count_shown}
+use Rattle.acct_tables.proofs.OlderLemmas.{prices, counts}
 
 module _ (old new : State) (rows : List Row) (plans : List Plan) (known : IsKnown old.now.schema)
     (h : Shown texts.PLANS.now [] old new rows) where
@@ -145,14 +145,6 @@ module _ (old new : State) (rows : List Row) (plans : List Plan) (has : HasCount
         (kept.each plan there)),
     all_shown_counts kept.only,
   )
-
--- ---- a list of one
-
-pub alone : {X : Type 0} (xs : List X) (x : X) → 1 ≤ length xs → length xs ≤ 1 → x ≡ get_or xs 0 x
-    → xs ≡ x ∷ []
-alone [] x some one is = absurd (omega arith)
-alone (y ∷ []) x some one is = ap (λ z. z ∷ []) (sym is)
-alone (y ∷ z ∷ more) x some one is = absurd (omega arith)
 
 -- ---- a transaction that is let fall
 

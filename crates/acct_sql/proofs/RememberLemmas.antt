@@ -19,12 +19,12 @@ use Rattle.acct_book.specs.Content.{Content, same_key, key_of, with_session, wit
 use Rattle.acct_book.specs.Content.{closed_by, closed_row}
 use Rattle.acct_sql.specs.declared.memory.ReadSession.{ReadSession}
 use Rattle.acct_sql.specs.declared.memory.Memory.{Memory}
-use Rattle.acct_sql.specs.Content.{content_in_tables, plans_in_tables}
-use Rattle.acct_sql.specs.Book.{IsOpenBook, Wrote, content_at, is_open_at}
-use Rattle.acct_sql.specs.inner.AtRest.{ReadsAtRest, WritesAtRest}
+use Rattle.acct_tables.specs.Content.{content_in_tables, plans_in_tables}
+use Rattle.acct_tables.specs.Book.{IsOpenBook, Wrote, content_at, is_open_at}
+use Rattle.acct_tables.specs.inner.AtRest.{ReadsAtRest, WritesAtRest}
 use Rattle.acct_sql.specs.inner.Remembered.{IsReadOf, IsLastRead, KeepsPlan, HasEnded}
 use Rattle.acct_sql.specs.inner.Remembered.{AreEndedAfter, Remembers}
-use Rattle.acct_sql.specs.inner.Inside.{HasPlanOf}
+use Rattle.acct_tables.specs.inner.Inside.{HasPlanOf}
 
 -- ---- a read
 

@@ -4,14 +4,14 @@ use Rattle.sqlite.specs.Tree.{Trees}
 use Rattle.sqlite.specs.Effect.{Database}
 use Rattle.acct_model.specs.declared.plan.Plan.{Plan}
 use Rattle.acct_model.specs.Plans.{Extends}
-use Rattle.acct_sql.specs.declared.sql_book_error.SqlBookError.{SqlBookError}
-use Rattle.acct_sql.specs.declared.sql_book_error.SqlBookError.TheVariants.{NotABook, PlansDiffer}
-use Rattle.acct_sql.specs.declared.sql_book_error.SqlBookError.TheVariants.{WrongSchema}
-use Rattle.acct_sql.specs.declared.sql_book_error.SqlBookError.TheVariants.{Unavailable}
-use Rattle.acct_sql.specs.Tables.{book_schema, own_number}
-use Rattle.acct_sql.specs.Content.{content_in_tables}
-use Rattle.acct_sql.specs.Make.{HasNumber, KeepsPlans}
-use Rattle.acct_sql.specs.Look.{HasNumberAlone}
+use Rattle.acct_tables.specs.declared.sql_book_error.SqlBookError.{SqlBookError}
+use Rattle.acct_tables.specs.declared.sql_book_error.SqlBookError.TheVariants.{NotABook, PlansDiffer}
+use Rattle.acct_tables.specs.declared.sql_book_error.SqlBookError.TheVariants.{WrongSchema}
+use Rattle.acct_tables.specs.declared.sql_book_error.SqlBookError.TheVariants.{Unavailable}
+use Rattle.acct_tables.specs.Tables.{book_schema, own_number}
+use Rattle.acct_tables.specs.Content.{content_in_tables}
+use Rattle.acct_tables.specs.Make.{HasNumber, KeepsPlans}
+use Rattle.acct_tables.specs.Look.{HasNumberAlone}
 
 -- the tables keep some plans, each of which stands unchanged among these
 pub record AreExtended (plans : List Plan) (db : Trees) : Type 0 where

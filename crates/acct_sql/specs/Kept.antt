@@ -8,10 +8,10 @@ use Rattle.sqlite_rules.specs.Lists.{Has}
 use Rattle.acct_model.specs.Vouchers.{TopUpFacts}
 use Rattle.acct_book.specs.Row.{RowFacts}
 use Rattle.acct_book.specs.Content.{key_of}
-use Rattle.acct_sql.specs.Tables.{account, voucher, session, session_plan}
-use Rattle.acct_sql.specs.Columns.{session_columns, session_plan_columns, topup_columns}
-use Rattle.acct_sql.specs.Columns.{columns}
-use Rattle.acct_sql.specs.Content.{is_session, is_account, is_voucher}
+use Rattle.acct_tables.specs.Tables.{account, voucher, session, session_plan}
+use Rattle.acct_tables.specs.Columns.{session_columns, session_plan_columns, topup_columns}
+use Rattle.acct_tables.specs.Columns.{columns}
+use Rattle.acct_tables.specs.Content.{is_session, is_account, is_voucher}
 
 -- the columns are these values, from the first on
 abbrev pub AreColumns : Row → (ℕ → Value) → Type 0

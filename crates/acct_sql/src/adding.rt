@@ -9,28 +9,27 @@ ghost use Rattle.sqlite.specs.Held.{state};
 ghost use Rattle.sqlite_rules.specs.Lists.{Has};
 ghost use Rattle.acct_model.specs.declared.plan.Plan.{Plan};
 ghost use Rattle.acct_model.specs.Plans.{plans_added};
-ghost use Rattle.acct_sql.specs.declared.adopting.PlanTable.TheVariants.{Prices, Counts};
-ghost use Rattle.acct_sql.specs.Tables.{own_number};
-ghost use Rattle.acct_sql.specs.Book.{is_sound_at};
-ghost use Rattle.acct_sql.specs.Look.{IsIdle, HasNumberAlone};
+ghost use Rattle.acct_tables.specs.declared.plan_table.PlanTable.TheVariants.{Prices, Counts};
+ghost use Rattle.acct_tables.specs.Tables.{own_number};
+ghost use Rattle.acct_tables.specs.Book.{is_sound_at};
+ghost use Rattle.acct_tables.specs.Look.{IsIdle, HasNumberAlone};
 ghost use Rattle.acct_sql.specs.Add.{HasAdded, IsNotAddedAs};
-ghost use Rattle.acct_sql.specs.inner.Inside.{RunsInside, Holds, HoldsBook, IsBookOf};
-ghost use Rattle.acct_sql.specs.inner.Looked.{IsIdleBook, IsShownIn, IsPlanFault, Peeks, tables_at};
-ghost use Rattle.acct_sql.specs.inner.NewBook.{HasPlansOver};
+ghost use Rattle.acct_tables.specs.inner.Inside.{RunsInside, Holds, HoldsBook, IsBookOf};
+ghost use Rattle.acct_tables.specs.inner.Looked.{IsIdleBook, IsShownIn, IsPlanFault, Peeks, tables_at};
+ghost use Rattle.acct_tables.specs.inner.NewBook.{HasPlansOver};
 ghost use Rattle.acct_sql.specs.inner.Adding.{ShowsPrices, AreAmong, AnswersFit, AreShownOf};
 ghost use Rattle.acct_sql.specs.inner.Adding.{ShowsClassesOf, IsBookAddedTo};
 
-use crate::adopting::{
-    OWN_NUMBER, PlanTable, are_plans, check_number, fault_of_other, is_shown, peek,
-};
-use crate::book_schema::is_book_schema;
-use crate::making::add_plan;
-use crate::refused::Refused;
-use crate::rowids::check_rowids;
-use crate::sql_book_error::SqlBookError;
-use crate::statements::{PLAN_COUNTS, PLANS};
-use crate::writing::finish;
+use crate::adopting::{OWN_NUMBER, are_plans, check_number, fault_of_other, is_shown, peek};
 use acct_model::{Plan, Plans};
+use acct_tables::book_schema::is_book_schema;
+use acct_tables::ending::finish;
+use acct_tables::making::add_plan;
+use acct_tables::plan_table::PlanTable;
+use acct_tables::refused::Refused;
+use acct_tables::rowids::check_rowids;
+use acct_tables::sql_book_error::SqlBookError;
+use acct_tables::statements::{PLAN_COUNTS, PLANS};
 use sqlite::{Alter, Connection, Transaction};
 
 /// Adds the plans that a book does not keep yet, all of them or none, and tells how many they are.

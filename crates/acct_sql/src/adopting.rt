@@ -10,38 +10,31 @@ ghost use Rattle.sqlite_value.specs.Order.{column};
 ghost use Rattle.sqlite_value.specs.Value.{owned};
 ghost use Rattle.sqlite_value.specs.declared.value.Value.TheVariants.{Int, Blob};
 ghost use Rattle.acct_model.specs.declared.plan.Plan.{Plan};
-ghost use Rattle.acct_sql.specs.Tables.{book_schema, own_number};
-ghost use Rattle.acct_sql.specs.Book.{is_sound_at};
-ghost use Rattle.acct_sql.specs.Make.{KeepsPlans, KeepsPrices, KeepsCounts};
-ghost use Rattle.acct_sql.specs.Look.{IsIdle, LooksAtTables, HasNumberAlone, IsRefusedAs};
-ghost use Rattle.acct_sql.specs.inner.Looked.{IsIdleBook, IsIdleKnown, IsBookWith, HasRowsOf};
-ghost use Rattle.acct_sql.specs.inner.Looked.{IsIdleCounting};
-ghost use Rattle.acct_sql.specs.inner.Looked.{tables_at, IsNumberFault, IsUnknownFault};
-ghost use Rattle.acct_sql.specs.inner.Looked.{Peeks, Examines, ShowsPlan, ShowsCount, Says};
-ghost use Rattle.acct_sql.specs.inner.Looked.{IsShownIn, IsPlanIn};
-ghost use Rattle.acct_sql.specs.inner.Looked.{AreShown, IsSchemaNumber, IsSchemaNumberFault};
-ghost use Rattle.acct_sql.specs.inner.Looked.{IsPlanFault, is_failure};
+ghost use Rattle.acct_tables.specs.Tables.{book_schema, own_number};
+ghost use Rattle.acct_tables.specs.Book.{is_sound_at};
+ghost use Rattle.acct_tables.specs.Make.{KeepsPlans, KeepsPrices, KeepsCounts};
+ghost use Rattle.acct_tables.specs.Look.{IsIdle, LooksAtTables, HasNumberAlone, IsRefusedAs};
+ghost use Rattle.acct_tables.specs.inner.Looked.{IsIdleBook, IsIdleKnown, IsBookWith, HasRowsOf};
+ghost use Rattle.acct_tables.specs.inner.Looked.{IsIdleCounting};
+ghost use Rattle.acct_tables.specs.inner.Looked.{tables_at, IsNumberFault, IsUnknownFault};
+ghost use Rattle.acct_tables.specs.inner.Looked.{Peeks, Examines, ShowsPlan, ShowsCount, Says};
+ghost use Rattle.acct_tables.specs.inner.Looked.{IsShownIn, IsPlanIn};
+ghost use Rattle.acct_tables.specs.inner.Looked.{AreShown, IsSchemaNumber, IsSchemaNumberFault};
+ghost use Rattle.acct_tables.specs.inner.Looked.{IsPlanFault, is_failure};
 
-use crate::book_schema::is_book_schema;
-use crate::columns::mode_of;
-use crate::rowids::check_rowids;
-use crate::sql_book_error::SqlBookError;
-use crate::statements::{PLAN_COUNTS, PLANS, SCHEMA_NUMBER};
 use acct_model::{Plan, Plans};
+use acct_tables::book_schema::is_book_schema;
+use acct_tables::cells::{has_blob, has_count, id_of};
+use acct_tables::columns::mode_of;
+use acct_tables::plan_table::PlanTable;
+use acct_tables::rowids::check_rowids;
+use acct_tables::sql_book_error::SqlBookError;
+use acct_tables::statements::{PLAN_COUNTS, PLANS, SCHEMA_NUMBER};
 use sqlite::types::ValueRef;
 use sqlite::{Alter, Connection, Error, ErrorCode};
 
 /// The schema number of a book.
 pub(crate) const OWN_NUMBER: i64 = 3;
-
-/// A table of plans.
-#[derive(Clone, Copy)]
-pub(crate) enum PlanTable {
-    /// Their blocks and units.
-    Prices,
-    /// What they count.
-    Counts,
-}
 
 /// What a query shows of the tables of a database.
 pub(crate) fn peek<S: Alter>(
@@ -60,27 +53,6 @@ pub(crate) fn peek<S: Alter>(
     match conn.query_all(sql, &[]) {
         Ok(rows) => Ok(rows),
         Err(_) => Err(SqlBookError::Unavailable),
-    }
-}
-
-/// The integer in the first column of a row, if it is one.
-pub(crate) fn id_of(row: &sqlite::Row) -> Option<i64>
-    ensures { MatchOption result ((id : ℤ) → column row.now 0 ≢ Int id)
-        (λ id. column row.now 0 ≡ Int id) }
-{
-    match value_at(row, 0) {
-        ValueRef::Int(id) => Some(id),
-        _ => None,
-    }
-}
-
-/// The value of a column, NULL past the last one.
-pub(crate) fn value_at(row: &sqlite::Row, at: usize) -> ValueRef<'_>
-    ensures { owned result ≡ column row.now at }
-{
-    match row.get_ref(at) {
-        Ok(value) => value,
-        Err(_) => ValueRef::Null,
     }
 }
 
@@ -318,23 +290,4 @@ fn shows_plan(row: &sqlite::Row, plan: &Plan) -> bool
     has_blob(row, plan.class.as_slice())
         && has_count(row, 1, plan.block)
         && has_count(row, 2, plan.unit)
-}
-
-/// Whether the first column of a row is these octets.
-pub(crate) fn has_blob(row: &sqlite::Row, octets: &[u8]) -> bool
-    ensures { IsTrue result ↔ (column row.now 0 ≡ Blob octets.now) }
-{
-    match value_at(row, 0) {
-        ValueRef::Blob(blob) => blob == octets,
-        _ => false,
-    }
-}
-
-fn has_count(row: &sqlite::Row, at: usize, count: u64) -> bool
-    ensures { IsTrue result ↔ (column row.now at ≡ Int (pos count)) }
-{
-    match value_at(row, at) {
-        ValueRef::Int(kept) => kept >= 0 && kept as u64 == count,
-        _ => false,
-    }
 }

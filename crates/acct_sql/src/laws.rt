@@ -2,7 +2,7 @@
 ghost use Rattle.std.specs.Prelude.{◌≡◌, ℤ, Some};
 ghost use Rattle.sqlite.specs.Held.{state};
 ghost use Rattle.acct_book.specs.Content.{key_of};
-ghost use Rattle.acct_sql.specs.Book.{IsBookOver};
+ghost use Rattle.acct_tables.specs.Book.{IsBookOver};
 ghost use Rattle.acct_sql.specs.Kept.{KeepsSession, KeepsTopUp, KeepsBalance};
 
 use crate::sql_book::SqlBook;

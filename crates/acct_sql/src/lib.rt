@@ -19,22 +19,11 @@
 
 mod adding;
 mod adopting;
-mod book_schema;
-mod columns;
 pub mod laws;
-mod listing;
-mod making;
 mod memory;
 mod migrating;
-mod older_schema;
-mod reading;
-mod refused;
-mod rowids;
-mod session_classes;
 mod sql_book;
-mod sql_book_error;
-mod statements;
 mod writing;
 
+pub use acct_tables::sql_book_error::SqlBookError;
 pub use sql_book::SqlBook;
-pub use sql_book_error::SqlBookError;

@@ -3,17 +3,17 @@ ghost use Rattle.sqlite.specs.Held.{state};
 
 use crate::adding::add_to_book;
 use crate::adopting::examine;
-use crate::listing::{read_sessions, read_topups};
-use crate::making::{has_nothing, make_book};
 use crate::memory::Memory;
 use crate::migrating::migrate_book;
-use crate::reading::{
-    read_balance, read_next_account, read_next_session, read_next_topup, read_session, read_voucher,
-};
-use crate::sql_book_error::SqlBookError;
 use crate::writing::{close_client, write_session, write_topup};
 use acct_book::{Book, Key, Row, Unavailable};
 use acct_model::{Plans, TopUp};
+use acct_tables::listing::{read_sessions, read_topups};
+use acct_tables::making::{has_nothing, make_book};
+use acct_tables::reading::{
+    read_balance, read_next_account, read_next_session, read_next_topup, read_session, read_voucher,
+};
+use acct_tables::sql_book_error::SqlBookError;
 use sqlite::{Alter, Connection};
 use std::alloc::Global;
 use std::marker::Model;
@@ -38,7 +38,7 @@ impl<S: Alter + Drop> Drop for SqlBook<S> {
 
 impl<S: Alter> Model for SqlBook<S> {
     ghost use Rattle.sqlite.specs.Held.{Held, held_code, state};
-    ghost use Rattle.acct_sql.specs.Book.{IsResting};
+    ghost use Rattle.acct_tables.specs.Book.{IsResting};
     ghost use Rattle.acct_sql.specs.inner.Remembered.{Remembers};
 
     ghost Value = { Held S };
@@ -55,13 +55,13 @@ impl<S: Alter> SqlBook<S> {
     ghost use Rattle.std.specs.Prelude.{◌≡◌, ◌↔◌, ◌≢◌, ◌⊎◌, false, IsTrue, IfOk, IfErr};
     ghost use Rattle.std.specs.Prelude.{IsErrAnd, List, ◌∷◌, None, length};
     ghost use Rattle.sqlite.specs.State.{HasCleanDisk, Survives};
-    ghost use Rattle.acct_sql.specs.Tables.{no_schema, own_number};
-    ghost use Rattle.acct_sql.specs.Make.{IsNew, KeepsPlans};
-    ghost use Rattle.acct_sql.specs.Look.{LooksAtTables, HasNumberAlone, IsRefusedAs};
-    ghost use Rattle.acct_sql.specs.declared.older_schema.OlderSchema.{OlderSchema};
-    ghost use Rattle.acct_sql.specs.Migrate.{IsMigrated, IsNotMigratedAs, IsOlder, StoodFor};
-    ghost use Rattle.acct_sql.specs.Content.{content_in_tables, content_without_plans};
-    ghost use Rattle.acct_sql.specs.Book.{IsOpenBook, IsResting, IsBookOver};
+    ghost use Rattle.acct_tables.specs.Tables.{no_schema, own_number};
+    ghost use Rattle.acct_tables.specs.Make.{IsNew, KeepsPlans};
+    ghost use Rattle.acct_tables.specs.Look.{LooksAtTables, HasNumberAlone, IsRefusedAs};
+    ghost use Rattle.acct_tables.specs.declared.older_schema.OlderSchema.{OlderSchema};
+    ghost use Rattle.acct_tables.specs.Migrate.{IsMigrated, IsNotMigratedAs, IsOlder, StoodFor};
+    ghost use Rattle.acct_tables.specs.Content.{content_in_tables, content_without_plans};
+    ghost use Rattle.acct_tables.specs.Book.{IsOpenBook, IsResting, IsBookOver};
     ghost use Rattle.acct_book.specs.Stands.{Stands};
     ghost use Rattle.acct_model.specs.declared.plan.Plan.{Plan};
     ghost use Rattle.acct_model.specs.Plans.{Extends, plans_added};
@@ -307,9 +307,9 @@ impl<S: Alter> Book for SqlBook<S> {
     ghost use Rattle.acct_book.specs.Content.{kept_balance, with_session, with_topup, with_closed};
     ghost use Rattle.acct_book.specs.Walk.{IsNextRow, IsNextBalance, IsNextTopUp, AreRowsOf};
     ghost use Rattle.acct_book.specs.Walk.{AreTopUpsOf};
-    ghost use Rattle.acct_sql.specs.Book.{content_at, is_sound_at, is_open_at, is_steady_at};
-    ghost use Rattle.acct_sql.specs.Book.{left_at, Wrote, HasReadBook, LeavesPlans};
-    ghost use Rattle.acct_sql.specs.Laws.{own_keys, open_settled};
+    ghost use Rattle.acct_tables.specs.Book.{content_at, is_sound_at, is_open_at, is_steady_at};
+    ghost use Rattle.acct_tables.specs.Book.{left_at, Wrote, HasReadBook, LeavesPlans};
+    ghost use Rattle.acct_tables.specs.Laws.{own_keys, open_settled};
 
     ghost content = { content_at S.Store };
 

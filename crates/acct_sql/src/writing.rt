@@ -3,25 +3,26 @@ ghost use Rattle.std.specs.Prelude.{IsTrue};
 ghost use Rattle.sqlite.specs.Held.{state};
 ghost use Rattle.sqlite.specs.Values.{bound};
 ghost use Rattle.acct_book.specs.Content.{key_of, with_session, with_topup, with_closed};
-ghost use Rattle.acct_sql.specs.inner.Inside.{HoldsBook, HasMade, HasPut, RunsInside, HasFinished};
-ghost use Rattle.acct_sql.specs.Book.{is_open_at, content_at};
-ghost use Rattle.acct_sql.specs.Content.{without_plan};
-ghost use Rattle.acct_sql.specs.inner.Inside.{with_row, with_balance, with_voucher};
-ghost use Rattle.acct_sql.specs.inner.Inside.{HasMadeBare, HasPlanOf, HasSetPlan, Holds};
-ghost use Rattle.acct_sql.specs.inner.AtRest.{IsAtRest, WritesAtRest};
+ghost use Rattle.acct_tables.specs.inner.Inside.{HoldsBook, HasMade, HasPut, RunsInside, HasFinished};
+ghost use Rattle.acct_tables.specs.Book.{is_open_at, content_at};
+ghost use Rattle.acct_tables.specs.Content.{without_plan};
+ghost use Rattle.acct_tables.specs.inner.Inside.{with_row, with_balance, with_voucher};
+ghost use Rattle.acct_tables.specs.inner.Inside.{HasMadeBare, HasPlanOf, HasSetPlan, Holds};
+ghost use Rattle.acct_tables.specs.inner.AtRest.{IsAtRest, WritesAtRest};
 ghost use Rattle.acct_sql.specs.inner.Remembered.{HasEnded};
 
-use crate::adopting::has_blob;
-use crate::columns::{session_plan_values, session_values, topup_values};
-use crate::reading::check_open;
-use crate::refused::Refused;
-use crate::session_classes::show;
-use crate::statements::{
+use acct_book::Row;
+use acct_model::TopUp;
+use acct_tables::cells::has_blob;
+use acct_tables::columns::{session_plan_values, session_values, topup_values};
+use acct_tables::ending::finish;
+use acct_tables::reading::check_open;
+use acct_tables::refused::Refused;
+use acct_tables::session_classes::show;
+use acct_tables::statements::{
     CLOSE_SESSIONS_OF_CLIENT, NEW_BALANCE, NEW_SESSION, NEW_SESSION_PLAN, NEW_TOPUP,
     PLAN_OF_SESSION, SET_BALANCE, SET_SESSION, SET_SESSION_PLAN, SET_TOPUP,
 };
-use acct_book::Row;
-use acct_model::TopUp;
 use sqlite::types::ValueRef;
 use sqlite::{Alter, Connection, Transaction, params};
 
@@ -100,20 +101,6 @@ fn set_balance<S: Alter>(
         (HasMade (λ c. with_balance c name.now balance)) result }
 {
     put(tx, SET_BALANCE, NEW_BALANCE, params![name, balance])
-}
-
-/// Commits what was done, and lets a transaction fall whose body failed.
-pub(crate) fn finish<S: Alter>(
-    tx: Transaction<'_, S>,
-    done: Result<(), Refused>,
-) -> Result<(), Refused>
-    ensures { HasFinished done (state S.Store tx.entry.conn.now) (state S.Store tx.exit.0.now)
-        result }
-{
-    match done {
-        Ok(()) => Ok(tx.commit()?),
-        Err(refused) => Err(refused),
-    }
 }
 
 fn close_rows<S: Alter>(tx: &mut Transaction<'_, S>, client: &str) -> Result<(), Refused>

@@ -1,6 +1,6 @@
 -- What a command says is wrong with a book.
-use Rattle.acct_sql.specs.declared.sql_book_error.SqlBookError.{SqlBookError}
-use Rattle.acct_sql.specs.declared.sql_book_error.SqlBookError.TheVariants as error
+use Rattle.acct_tables.specs.declared.sql_book_error.SqlBookError.{SqlBookError}
+use Rattle.acct_tables.specs.declared.sql_book_error.SqlBookError.TheVariants as error
 use Rattle.acct_commands.specs.declared.fault.StoreFault.{StoreFault}
 use Rattle.acct_commands.specs.declared.fault.StoreFault.TheVariants as fault
 

@@ -13,7 +13,7 @@ use Rattle.sqlite.specs.Files.{file_state, HoldsDatabase, AreFoundIn, IsClosed}
 use Rattle.sqlite.specs.Closing.{IsCopied}
 use Rattle.acct_model.specs.declared.plan.Plan.{Plan}
 use Rattle.acct_model.specs.Plans.{plans_added}
-use Rattle.acct_sql.specs.declared.sql_book_error.SqlBookError.{SqlBookError}
+use Rattle.acct_tables.specs.declared.sql_book_error.SqlBookError.{SqlBookError}
 use Rattle.acct_sql.specs.Book.{IsOpenBook}
 use Rattle.acct_sql.specs.Look.{HasNumberAlone, IsRefusedAs}
 use Rattle.acct_sql.specs.Tables.{own_number}

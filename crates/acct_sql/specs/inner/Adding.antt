@@ -7,12 +7,12 @@ use Rattle.sqlite.specs.State.{State}
 use Rattle.sqlite_rules.specs.Lists.{Has}
 use Rattle.acct_model.specs.declared.plan.Plan.{Plan}
 use Rattle.acct_model.specs.Plans.{Extends, has_class, plans_added}
-use Rattle.acct_sql.specs.Tables.{price_plan, plan_count}
-use Rattle.acct_sql.specs.declared.adopting.PlanTable.TheVariants.{Prices, Counts}
-use Rattle.acct_sql.specs.Make.{IsPlanRow, IsCountRow, KeepsPlans}
+use Rattle.acct_tables.specs.Tables.{price_plan, plan_count}
+use Rattle.acct_tables.specs.declared.plan_table.PlanTable.TheVariants.{Prices, Counts}
+use Rattle.acct_tables.specs.Make.{IsPlanRow, IsCountRow, KeepsPlans}
 use Rattle.acct_sql.specs.Add.{AreExtended, HasAdded}
-use Rattle.acct_sql.specs.inner.Inside.{IsBookOf}
-use Rattle.acct_sql.specs.inner.Looked.{IsShownIn, IsPlanIn}
+use Rattle.acct_tables.specs.inner.Inside.{IsBookOf}
+use Rattle.acct_tables.specs.inner.Looked.{IsShownIn, IsPlanIn}
 
 -- a row of the tables has the price of this plan, or what it counts
 abbrev pub IsPriced : Plan → Trees → Type 0

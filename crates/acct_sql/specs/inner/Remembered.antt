@@ -8,8 +8,8 @@ use Rattle.acct_book.specs.Row.{RowFacts}
 use Rattle.acct_book.specs.Content.{Content, key_of}
 use Rattle.acct_sql.specs.declared.memory.ReadSession.{ReadSession}
 use Rattle.acct_sql.specs.declared.memory.Memory.{Memory}
-use Rattle.acct_sql.specs.Content.{content_in_tables, plans_in_tables}
-use Rattle.acct_sql.specs.Book.{IsOpenBook}
+use Rattle.acct_tables.specs.Content.{content_in_tables, plans_in_tables}
+use Rattle.acct_tables.specs.Book.{IsOpenBook}
 
 -- ---- the session that was read last
 

@@ -1,6 +1,6 @@
 use Rattle.sqlite.specs.Held.{state}
-use Rattle.acct_sql.proofs.ReadLemmas.{answered}
-use Rattle.acct_sql.proofs.StepLemmas.{quiet_none}
+use Rattle.acct_tables.proofs.ReadLemmas.{answered}
+use Rattle.acct_tables.proofs.StepLemmas.{quiet_none}
 use Rattle.acct_sql.proofs.AddLemmas.{plan_there}
 use Rattle.acct_sql.proofs.adding.add_if_missing.Goals as goal
 

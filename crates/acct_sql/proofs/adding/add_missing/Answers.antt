@@ -3,8 +3,8 @@ use Rattle.std.proofs.lemmas.List.{take_all, take_more, append_assoc, append-nil
 use Rattle.sqlite.specs.State.{HasCleanDisk}
 use Rattle.sqlite.specs.Held.{state}
 use Rattle.sqlite_rules.proofs.ListLemmas.{has_left, has_at}
-use Rattle.acct_sql.specs.inner.NewBook.{HasPlansOver}
-use Rattle.acct_sql.proofs.StepLemmas.{quiet_then, quiet_none}
+use Rattle.acct_tables.specs.inner.NewBook.{HasPlansOver}
+use Rattle.acct_tables.proofs.StepLemmas.{quiet_then, quiet_none}
 use Rattle.acct_sql.proofs.adding.add_missing.Goals as goal
 
 pub loop-plan-init : goal.loop-plan-init

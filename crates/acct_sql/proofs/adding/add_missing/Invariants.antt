@@ -2,8 +2,8 @@ use Rattle.std.proofs.Common.{Ok, take, ℕ, List, ◌++◌}
 use Rattle.sqlite.specs.Tree.{Trees}
 use Rattle.sqlite.specs.Effect.{Database}
 use Rattle.acct_model.specs.declared.plan.Plan.{Plan}
-use Rattle.acct_sql.specs.inner.Inside.{RunsInside}
-use Rattle.acct_sql.specs.inner.NewBook.{HasPlansOver}
+use Rattle.acct_tables.specs.inner.Inside.{RunsInside}
+use Rattle.acct_tables.specs.inner.NewBook.{HasPlansOver}
 use Rattle.acct_sql.specs.inner.Adding.{AreShownOf}
 use Rattle.acct_sql.proofs.adding.add_missing.Given as goal
 

@@ -2,10 +2,10 @@ use Rattle.std.proofs.Common.{rules, arith, ◌≡◌, subst, sym, ◌∙◌}
 use Rattle.sqlite.specs.Effect.{Database}
 use Rattle.sqlite.specs.State.{HasCleanDisk}
 use Rattle.sqlite.specs.Held.{state}
-use Rattle.acct_sql.specs.Tables.{book_schema}
+use Rattle.acct_tables.specs.Tables.{book_schema}
 use Rattle.acct_sql.specs.Add.{HasAdded}
-use Rattle.acct_sql.specs.inner.Inside.{IsBookOf}
-use Rattle.acct_sql.specs.inner.Looked.{IsPlanFault}
+use Rattle.acct_tables.specs.inner.Inside.{IsBookOf}
+use Rattle.acct_tables.specs.inner.Looked.{IsPlanFault}
 use Rattle.acct_sql.specs.inner.Adding.{AreAmong, ShowsPrices}
 use Rattle.acct_sql.proofs.AddLemmas.{not_added, shown_extended, old_extended, old_classes}
 use Rattle.acct_sql.proofs.adding.add_to_book.Goals as goal

@@ -4,8 +4,8 @@ use Rattle.std.specs.List.{AllByRecursion}
 use Rattle.std.proofs.lemmas.List.{take_all}
 use Rattle.sqlite_rules.proofs.ListLemmas.{all_has, all_more, has_at}
 use Rattle.acct_model.specs.declared.plan.Plan.{Plan}
-use Rattle.acct_sql.specs.declared.adopting.PlanTable.TheVariants.{Prices, Counts}
-use Rattle.acct_sql.specs.inner.Looked.{IsShownIn}
+use Rattle.acct_tables.specs.declared.plan_table.PlanTable.TheVariants.{Prices, Counts}
+use Rattle.acct_tables.specs.inner.Looked.{IsShownIn}
 use Rattle.acct_sql.proofs.adding.are_in_both.Goals as goal
 
 pub returns-then-not-is_in_both : goal.returns-then-not-is_in_both

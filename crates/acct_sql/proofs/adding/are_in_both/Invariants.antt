@@ -1,8 +1,8 @@
 use Rattle.std.proofs.Common.{take, ◌↔◌}
 use Rattle.std.specs.List.{AllByRecursion}
 use Rattle.acct_model.specs.declared.plan.Plan.{Plan}
-use Rattle.acct_sql.specs.declared.adopting.PlanTable.TheVariants.{Prices, Counts}
-use Rattle.acct_sql.specs.inner.Looked.{IsShownIn}
+use Rattle.acct_tables.specs.declared.plan_table.PlanTable.TheVariants.{Prices, Counts}
+use Rattle.acct_tables.specs.inner.Looked.{IsShownIn}
 use Rattle.acct_sql.proofs.adding.are_in_both.Given as goal
 
 abbrev pub invariant-loop-plan : goal.invariant-loop-plan

@@ -1,6 +1,6 @@
 use Rattle.std.proofs.Common.{arith, true, false, inl, inr, refl, sym, ◌∙◌, true≢false}
-use Rattle.acct_sql.specs.declared.adopting.PlanTable.TheVariants.{Prices}
-use Rattle.acct_sql.specs.inner.Looked.{IsShownIn}
+use Rattle.acct_tables.specs.declared.plan_table.PlanTable.TheVariants.{Prices}
+use Rattle.acct_tables.specs.inner.Looked.{IsShownIn}
 use Rattle.acct_sql.proofs.AddLemmas.{shown_more, number_more}
 use Rattle.acct_sql.proofs.adding.count_missing.Goals as goal
 

@@ -5,9 +5,9 @@ use Rattle.sqlite.specs.Held.{state}
 use Rattle.sqlite.specs.Given.{IsPlain}
 use Rattle.sqlite.specs.Listing.{understood}
 use Rattle.acct_sql.specs.inner.Adding.{AnswersFit}
-use Rattle.acct_sql.specs.declared.statements.TheConstants as texts
+use Rattle.acct_tables.specs.declared.statements.TheConstants as texts
 use Rattle.acct_sql.proofs.AddLemmas.{prices_told, fit_among, among_fit}
-use Rattle.acct_sql.proofs.TextLemmas as t
+use Rattle.acct_tables.proofs.TextLemmas as t
 use Rattle.acct_sql.proofs.adding.kept_prices.Goals as goal
 
 pub peek-requires-clause-plain : goal.peek-requires-clause-plain

@@ -2,8 +2,8 @@ use Rattle.std.proofs.Common.{rules, arith, ◌≡◌, subst, OnOk, OnErr, IsTru
 use Rattle.sqlite.specs.State.{HasCleanDisk, Survives}
 use Rattle.sqlite.specs.Held.{state}
 use Rattle.acct_sql.specs.Add.{HasAdded}
-use Rattle.acct_sql.specs.inner.Inside.{HasBecome, IsBookOf}
-use Rattle.acct_sql.proofs.ReadLemmas.{answered}
+use Rattle.acct_tables.specs.inner.Inside.{HasBecome, IsBookOf}
+use Rattle.acct_tables.proofs.ReadLemmas.{answered}
 use Rattle.acct_sql.proofs.BecomeLemmas.{book_of, undone_of, survives_of}
 use Rattle.acct_sql.proofs.AddLemmas.{added_all}
 use Rattle.acct_sql.proofs.adding.write_missing.Goals as goal

@@ -3,7 +3,7 @@ use Rattle.std.proofs.Common.{false, true≢false}
 use Rattle.std.specs.List.{AllByRecursion}
 use Rattle.std.proofs.lemmas.List.{take_all}
 use Rattle.sqlite_rules.proofs.ListLemmas.{all_has, all_more, has_at}
-use Rattle.acct_sql.specs.inner.Looked.{IsPlanIn}
+use Rattle.acct_tables.specs.inner.Looked.{IsPlanIn}
 use Rattle.acct_sql.proofs.adopting.are_plans.Goals as goal
 
 pub returns-then-not-is_plan : goal.returns-then-not-is_plan

@@ -1,6 +1,6 @@
 use Rattle.std.proofs.Common.{take}
 use Rattle.std.specs.List.{AllByRecursion}
-use Rattle.acct_sql.specs.inner.Looked.{IsPlanIn}
+use Rattle.acct_tables.specs.inner.Looked.{IsPlanIn}
 use Rattle.acct_sql.proofs.adopting.are_plans.Given as goal
 
 abbrev pub invariant-loop-row : goal.invariant-loop-row

@@ -1,6 +1,6 @@
 use Rattle.std.proofs.Common.{take}
 use Rattle.std.specs.List.{AllByRecursion}
-use Rattle.acct_sql.specs.inner.Looked.{IsShownIn}
+use Rattle.acct_tables.specs.inner.Looked.{IsShownIn}
 use Rattle.acct_sql.proofs.adopting.are_shown.Given as goal
 
 abbrev pub invariant-loop-plan : goal.invariant-loop-plan

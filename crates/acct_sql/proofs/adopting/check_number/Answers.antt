@@ -2,11 +2,11 @@ use Rattle.std.proofs.Common.{rules, arith, subst, w64}
 use Rattle.std.proofs.lemmas.Int.{to_z-of_z}
 use Rattle.sqlite.specs.State.{HasCleanDisk}
 use Rattle.sqlite.specs.Held.{state}
-use Rattle.acct_sql.specs.inner.Looked.{IsSchemaNumber, IsSchemaNumberFault}
-use Rattle.acct_sql.proofs.ReadLemmas.{answered}
-use Rattle.acct_sql.proofs.LookLemmas.{blamed}
+use Rattle.acct_tables.specs.inner.Looked.{IsSchemaNumber, IsSchemaNumberFault}
+use Rattle.acct_tables.proofs.ReadLemmas.{answered}
+use Rattle.acct_tables.proofs.LookLemmas.{blamed}
 use Rattle.acct_sql.proofs.NumberLemmas.{number_told, number_refused}
-use Rattle.acct_sql.proofs.OlderLemmas.{schema_number}
+use Rattle.acct_tables.proofs.OlderLemmas.{schema_number}
 use Rattle.acct_sql.proofs.adopting.check_number.Goals as goal
 
 pub peek-requires-clause-plain : goal.peek-requires-clause-plain

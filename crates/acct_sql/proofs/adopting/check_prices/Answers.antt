@@ -1,10 +1,10 @@
 use Rattle.std.proofs.Common.{rules, arith, subst, sym, ◌∙◌, true≢false}
 use Rattle.sqlite.specs.State.{HasCleanDisk}
 use Rattle.sqlite.specs.Held.{state}
-use Rattle.acct_sql.specs.inner.Looked.{AreShown}
-use Rattle.acct_sql.specs.declared.adopting.PlanTable.TheVariants.{Prices}
+use Rattle.acct_tables.specs.inner.Looked.{AreShown}
+use Rattle.acct_tables.specs.declared.plan_table.PlanTable.TheVariants.{Prices}
 use Rattle.acct_sql.proofs.PlanLemmas.{plans_shown, shown_plans}
-use Rattle.acct_sql.proofs.OlderLemmas.{prices}
+use Rattle.acct_tables.proofs.OlderLemmas.{prices}
 use Rattle.acct_sql.proofs.adopting.check_prices.Goals as goal
 
 pub peek-requires-clause-plain : goal.peek-requires-clause-plain

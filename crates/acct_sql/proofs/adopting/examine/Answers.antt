@@ -1,6 +1,6 @@
 use Rattle.std.proofs.Common.{rules, ◌≢◌}
 use Rattle.sqlite.specs.Held.{state}
-use Rattle.acct_sql.specs.Tables.{book_schema}
+use Rattle.acct_tables.specs.Tables.{book_schema}
 use Rattle.acct_sql.proofs.NumberLemmas.{other_refused}
 use Rattle.acct_sql.proofs.adopting.examine.Goals as goal
 

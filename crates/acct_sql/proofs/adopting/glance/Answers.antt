@@ -1,7 +1,7 @@
 use Rattle.std.proofs.Common.{rules, ◌≡◌, subst, refl, true}
 use Rattle.sqlite.specs.Held.{state}
-use Rattle.acct_sql.specs.Look.{LooksAtTables}
-use Rattle.acct_sql.proofs.ReadLemmas.{look_kept}
+use Rattle.acct_tables.specs.Look.{LooksAtTables}
+use Rattle.acct_tables.proofs.ReadLemmas.{look_kept}
 use Rattle.acct_sql.proofs.PlanLemmas.{let_fall}
 use Rattle.acct_sql.proofs.adopting.glance.Goals as goal
 

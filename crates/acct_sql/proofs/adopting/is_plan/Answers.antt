@@ -2,7 +2,7 @@ use Rattle.std.proofs.Common.{rules, arith, subst, sym, ◌∙◌, true≢false}
 use Rattle.std.specs.List.{AllByRecursion}
 use Rattle.std.proofs.lemmas.List.{take_all}
 use Rattle.sqlite_rules.proofs.ListLemmas.{all_has, all_more, has_at}
-use Rattle.acct_sql.specs.inner.Looked.{Says}
+use Rattle.acct_tables.specs.inner.Looked.{Says}
 use Rattle.acct_sql.proofs.adopting.is_plan.Goals as goal
 
 pub returns-then-says : goal.returns-then-says

@@ -1,6 +1,6 @@
 use Rattle.std.proofs.Common.{subst, OnOk, IsTrue}
 use Rattle.sqlite.specs.Held.{state}
-use Rattle.acct_sql.proofs.LookLemmas.{peeked, peeked_open}
+use Rattle.acct_tables.proofs.LookLemmas.{peeked, peeked_open}
 use Rattle.acct_sql.proofs.adopting.peek.Goals as goal
 
 pub returns-in-Err-clause-looks : goal.returns-in-Err-clause-looks

@@ -2,8 +2,8 @@ use Rattle.std.proofs.Common.{arith, ◌≡◌, ◌+◌, ◌++◌, [], ◌∷◌
 use Rattle.std.proofs.lemmas.List.{take_all, take_more}
 use Rattle.sqlite.specs.State.{HasCleanDisk}
 use Rattle.sqlite.specs.Held.{state}
-use Rattle.acct_sql.specs.inner.Migrating.{HasWritten}
-use Rattle.acct_sql.proofs.StepLemmas.{quiet_then}
+use Rattle.acct_tables.specs.inner.Migrating.{HasWritten}
+use Rattle.acct_tables.proofs.StepLemmas.{quiet_then}
 use Rattle.acct_sql.proofs.migrating.add_counts.Goals as goal
 
 pub loop-plan-preserved : goal.loop-plan-preserved

@@ -1,7 +1,7 @@
 use Rattle.std.proofs.Common.{Ok, [], take, ℕ, List, None}
 use Rattle.acct_model.specs.declared.plan.Plan.{Plan}
-use Rattle.acct_sql.specs.inner.Inside.{RunsInside}
-use Rattle.acct_sql.specs.inner.Migrating.{HasWritten}
+use Rattle.acct_tables.specs.inner.Inside.{RunsInside}
+use Rattle.acct_tables.specs.inner.Migrating.{HasWritten}
 use Rattle.acct_sql.proofs.migrating.add_counts.Given as goal
 
 abbrev pub invariant-loop-plan : goal.invariant-loop-plan

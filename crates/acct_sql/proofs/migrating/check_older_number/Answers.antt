@@ -1,5 +1,5 @@
 use Rattle.std.proofs.Common.{rules, ◌≡◌, w64, to_z, of_z}
-use Rattle.acct_sql.specs.inner.Looked.{tables_at}
+use Rattle.acct_tables.specs.inner.Looked.{tables_at}
 use Rattle.acct_sql.proofs.migrating.check_older_number.Goals as goal
 
 pub returns-in-Err-clause-refused : goal.returns-in-Err-clause-refused

@@ -1,10 +1,10 @@
 use Rattle.std.proofs.Common.{arith, []}
 use Rattle.sqlite.specs.State.{HasCleanDisk}
 use Rattle.sqlite.specs.Held.{state}
-use Rattle.acct_sql.specs.declared.older_schema.OlderSchema.TheVariants.{First}
-use Rattle.acct_sql.proofs.ReadLemmas.{answered}
-use Rattle.acct_sql.proofs.StepLemmas.{quiet_then}
-use Rattle.acct_sql.proofs.MigrateLemmas.{plan_tables_over}
+use Rattle.acct_tables.specs.declared.older_schema.OlderSchema.TheVariants.{First}
+use Rattle.acct_tables.proofs.ReadLemmas.{answered}
+use Rattle.acct_tables.proofs.StepLemmas.{quiet_then}
+use Rattle.acct_tables.proofs.MigrateLemmas.{plan_tables_over}
 use Rattle.acct_sql.proofs.migrating.complete_first.Goals as goal
 
 pub returns : goal.returns

@@ -1,7 +1,7 @@
 use Rattle.std.proofs.Common.{None}
 use Rattle.sqlite.specs.Held.{state}
-use Rattle.acct_sql.proofs.StepLemmas.{is_inside, execute_quiet}
-use Rattle.acct_sql.proofs.MigrateLemmas.{count_written}
+use Rattle.acct_tables.proofs.StepLemmas.{is_inside, execute_quiet}
+use Rattle.acct_tables.proofs.MigrateLemmas.{count_written}
 use Rattle.acct_sql.proofs.migrating.keep_count.Goals as goal
 
 pub returns : goal.returns

@@ -1,6 +1,6 @@
 use Rattle.std.proofs.Common.{rules, ◌≡◌, subst, w64, to_z, of_z}
-use Rattle.acct_sql.specs.Migrate.{number_of}
-use Rattle.acct_sql.specs.inner.Looked.{IsNumberFault}
+use Rattle.acct_tables.specs.Migrate.{number_of}
+use Rattle.acct_tables.specs.inner.Looked.{IsNumberFault}
 use Rattle.acct_sql.proofs.migrating.older_fault.Goals as goal
 
 pub returns-in-WrongSchema-clause-older : goal.returns-in-WrongSchema-clause-older

@@ -1,6 +1,6 @@
 use Rattle.sqlite.specs.Held.{state}
-use Rattle.acct_sql.proofs.StepLemmas.{is_inside, execute_quiet}
-use Rattle.acct_sql.proofs.MigrateLemmas.{number_written}
+use Rattle.acct_tables.proofs.StepLemmas.{is_inside, execute_quiet}
+use Rattle.acct_tables.proofs.MigrateLemmas.{number_written}
 use Rattle.acct_sql.proofs.migrating.raise_number.Goals as goal
 
 pub returns : goal.returns

@@ -1,5 +1,5 @@
 use Rattle.acct_book.specs.Content.{with_closed}
-use Rattle.acct_sql.specs.Book.{content_at}
+use Rattle.acct_tables.specs.Book.{content_at}
 use Rattle.acct_sql.proofs.RememberLemmas.{closes_none, read_writes}
 use Rattle.acct_sql.proofs.writing.close_client.Goals as goal
 

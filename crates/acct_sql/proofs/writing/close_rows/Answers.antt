@@ -1,8 +1,8 @@
 use Rattle.std.proofs.Common.{rules, arith}
 use Rattle.sqlite.specs.State.{HasCleanDisk}
 use Rattle.sqlite.specs.Held.{state}
-use Rattle.acct_sql.proofs.StepLemmas.{is_inside, execute_quiet}
-use Rattle.acct_sql.proofs.MadeLemmas.{made_closed}
+use Rattle.acct_tables.proofs.StepLemmas.{is_inside, execute_quiet}
+use Rattle.acct_tables.proofs.MadeLemmas.{made_closed}
 use Rattle.acct_sql.proofs.writing.close_rows.Goals as goal
 
 pub returns-in_err-execute : goal.returns-in_err-execute

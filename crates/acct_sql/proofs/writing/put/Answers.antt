@@ -2,8 +2,8 @@ use Rattle.std.proofs.Common.{rules, arith, inl, inr, subst, Ok}
 use Rattle.sqlite.specs.State.{HasCleanDisk, ExecutesInside}
 use Rattle.sqlite.specs.Held.{state}
 use Rattle.sqlite.specs.Values.{bound}
-use Rattle.acct_sql.specs.inner.Inside.{CommitsNothing}
-use Rattle.acct_sql.proofs.StepLemmas.{is_inside, execute_quiet, quiet_then}
+use Rattle.acct_tables.specs.inner.Inside.{CommitsNothing}
+use Rattle.acct_tables.proofs.StepLemmas.{is_inside, execute_quiet, quiet_then}
 use Rattle.acct_sql.proofs.writing.put.Goals as goal
 
 pub returns-in_err-count : goal.returns-in_err-count

@@ -2,8 +2,8 @@ use Rattle.std.proofs.Common.{arith, w64}
 use Rattle.std.proofs.lemmas.Int.{to_z-of_z}
 use Rattle.sqlite.specs.State.{HasCleanDisk}
 use Rattle.sqlite.specs.Held.{state}
-use Rattle.acct_sql.proofs.ReadLemmas.{answered}
-use Rattle.acct_sql.proofs.MadeLemmas.{put_balance}
+use Rattle.acct_tables.proofs.ReadLemmas.{answered}
+use Rattle.acct_tables.proofs.MadeLemmas.{put_balance}
 use Rattle.acct_sql.proofs.writing.set_balance.Goals as goal
 
 pub returns : goal.returns

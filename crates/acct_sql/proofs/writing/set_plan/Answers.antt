@@ -6,12 +6,12 @@ use Rattle.sqlite.specs.Listing.{understood}
 use Rattle.sqlite.specs.declared.types.Value.TheVariants.{Text, Blob}
 use Rattle.sqlite.proofs.Callers.{IsPlain}
 use Rattle.acct_book.specs.Row.{RowFacts}
-use Rattle.acct_sql.specs.Columns.{session_plan_columns}
-use Rattle.acct_sql.specs.declared.statements.TheConstants as texts
-use Rattle.acct_sql.proofs.StepLemmas.{is_inside, execute_quiet, quiet_then}
-use Rattle.acct_sql.proofs.ClassLemmas.{first_shown, none_shown}
+use Rattle.acct_tables.specs.Columns.{session_plan_columns}
+use Rattle.acct_tables.specs.declared.statements.TheConstants as texts
+use Rattle.acct_tables.proofs.StepLemmas.{is_inside, execute_quiet, quiet_then}
+use Rattle.acct_tables.proofs.ClassLemmas.{first_shown, none_shown}
 use Rattle.acct_sql.proofs.KeptPlanLemmas.{plan_stays, plan_replaced, plan_added}
-use Rattle.acct_sql.proofs.TextLemmas as t
+use Rattle.acct_tables.proofs.TextLemmas as t
 use Rattle.acct_sql.proofs.writing.set_plan.Goals.{in-Some-2, in-None}
 use Rattle.acct_sql.proofs.writing.set_plan.Goals as goal
 

@@ -1,9 +1,9 @@
 use Rattle.std.proofs.Common.{arith}
 use Rattle.sqlite.specs.State.{HasCleanDisk}
 use Rattle.sqlite.specs.Held.{state}
-use Rattle.acct_sql.proofs.ReadLemmas.{answered}
-use Rattle.acct_sql.proofs.StepLemmas.{quiet_then}
-use Rattle.acct_sql.proofs.MadeLemmas.{made_with_plan}
+use Rattle.acct_tables.proofs.ReadLemmas.{answered}
+use Rattle.acct_tables.proofs.StepLemmas.{quiet_then}
+use Rattle.acct_tables.proofs.MadeLemmas.{made_with_plan}
 use Rattle.acct_sql.proofs.KeptPlanLemmas.{made_with_kept}
 use Rattle.acct_sql.proofs.writing.set_row.Goals as goal
 

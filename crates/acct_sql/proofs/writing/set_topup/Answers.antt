@@ -1,8 +1,8 @@
 use Rattle.std.proofs.Common.{arith}
 use Rattle.sqlite.specs.State.{HasCleanDisk}
 use Rattle.sqlite.specs.Held.{state}
-use Rattle.acct_sql.proofs.ReadLemmas.{answered}
-use Rattle.acct_sql.proofs.MadeLemmas.{put_topup}
+use Rattle.acct_tables.proofs.ReadLemmas.{answered}
+use Rattle.acct_tables.proofs.MadeLemmas.{put_topup}
 use Rattle.acct_sql.proofs.writing.set_topup.Goals as goal
 
 pub returns : goal.returns

@@ -2,8 +2,8 @@ use Rattle.std.proofs.Common.{rules, ◌≡◌, subst, w64}
 use Rattle.std.proofs.lemmas.Int.{to_z-of_z}
 use Rattle.sqlite.specs.Held.{state}
 use Rattle.acct_book.specs.Content.{with_session, Content}
-use Rattle.acct_sql.specs.inner.AtRest.{WritesAtRest}
-use Rattle.acct_sql.proofs.CommitLemmas.{writes_at_rest}
+use Rattle.acct_tables.specs.inner.AtRest.{WritesAtRest}
+use Rattle.acct_tables.proofs.CommitLemmas.{writes_at_rest}
 use Rattle.acct_sql.proofs.writing.write_session.Goals as goal
 
 pub returns : goal.returns

@@ -2,7 +2,7 @@ use Rattle.std.proofs.Common.{◌≡◌, ◌∙◌, ap, sym, subst, inl, inr, ar
 use Rattle.sqlite.specs.Effect.{Database}
 use Rattle.sqlite.specs.State.{HasCleanDisk}
 use Rattle.sqlite.specs.Files.{file_state}
-use Rattle.acct_sql.specs.declared.sql_book_error.SqlBookError.TheVariants as error
+use Rattle.acct_tables.specs.declared.sql_book_error.SqlBookError.TheVariants as error
 use Rattle.acct_commands.specs.declared.fault.Fault.TheVariants as fault
 use Rattle.acct_commands.specs.declared.fault.StoreFault.TheVariants as store
 use Rattle.radacctd.specs.Faults.{store_fault_of}

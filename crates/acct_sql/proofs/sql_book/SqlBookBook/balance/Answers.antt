@@ -1,4 +1,4 @@
-use Rattle.acct_sql.proofs.ReadLemmas.{read_told, read_done, leaves_told}
+use Rattle.acct_tables.proofs.ReadLemmas.{read_told, read_done, leaves_told}
 use Rattle.acct_sql.proofs.RememberLemmas.{remembers_read}
 use Rattle.acct_sql.proofs.sql_book.SqlBookBook.balance.Goals as goal
 

@@ -2,10 +2,10 @@ use Rattle.std.proofs.Common.{◌≡◌, true, bytes_eq, subst, sym, ◌∙◌}
 use Rattle.std.specs.List.{list_any}
 use Rattle.sqlite.specs.Held.{state}
 use Rattle.acct_book.specs.Content.{with_closed}
-use Rattle.acct_sql.specs.Book.{Wrote}
-use Rattle.acct_sql.proofs.CommitLemmas.{wrote_told, wrote_done}
+use Rattle.acct_tables.specs.Book.{Wrote}
+use Rattle.acct_tables.proofs.CommitLemmas.{wrote_told, wrote_done}
 use Rattle.acct_sql.proofs.RememberLemmas.{has_ended, remembers_close, remembers_more, closed_now}
-use Rattle.acct_sql.proofs.ReadLemmas.{leaves_told}
+use Rattle.acct_tables.proofs.ReadLemmas.{leaves_told}
 use Rattle.acct_sql.proofs.sql_book.SqlBookBook.close_client.Goals as goal
 
 pub returns-in-Err-clause-writes : goal.returns-in-Err-clause-writes

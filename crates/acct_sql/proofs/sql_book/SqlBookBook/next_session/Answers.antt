@@ -1,7 +1,7 @@
 use Rattle.std.specs.Option.{option_copied}
 use Rattle.acct_book.specs.Walk.{IsNextRow}
-use Rattle.acct_sql.specs.Book.{content_at}
-use Rattle.acct_sql.proofs.ReadLemmas.{read_told, read_done, found_told, leaves_told}
+use Rattle.acct_tables.specs.Book.{content_at}
+use Rattle.acct_tables.proofs.ReadLemmas.{read_told, read_done, found_told, leaves_told}
 use Rattle.acct_sql.proofs.RememberLemmas.{remembers_read}
 use Rattle.acct_sql.proofs.sql_book.SqlBookBook.next_session.Goals as goal
 

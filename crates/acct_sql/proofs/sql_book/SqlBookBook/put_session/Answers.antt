@@ -2,11 +2,11 @@ use Rattle.std.proofs.Common.{w64, subst, ◌∙◌}
 use Rattle.std.proofs.lemmas.Int.{to_z-of_z}
 use Rattle.sqlite.specs.Held.{state}
 use Rattle.acct_book.specs.Content.{with_session}
-use Rattle.acct_sql.specs.Book.{Wrote}
-use Rattle.acct_sql.proofs.CommitLemmas.{wrote_told, wrote_done}
+use Rattle.acct_tables.specs.Book.{Wrote}
+use Rattle.acct_tables.proofs.CommitLemmas.{wrote_told, wrote_done}
 use Rattle.acct_sql.specs.inner.Remembered.{AreEndedAfter}
 use Rattle.acct_sql.proofs.RememberLemmas.{planned, remembers_set}
-use Rattle.acct_sql.proofs.ReadLemmas.{leaves_told}
+use Rattle.acct_tables.proofs.ReadLemmas.{leaves_told}
 use Rattle.acct_sql.proofs.sql_book.SqlBookBook.put_session.Goals as goal
 
 pub write_session-requires-clause-planned : goal.write_session-requires-clause-planned

@@ -1,10 +1,10 @@
 use Rattle.std.proofs.Common.{w64}
 use Rattle.std.proofs.lemmas.Int.{to_z-of_z}
 use Rattle.acct_book.specs.Content.{with_topup}
-use Rattle.acct_sql.specs.Book.{Wrote}
-use Rattle.acct_sql.proofs.CommitLemmas.{wrote_told, wrote_done}
+use Rattle.acct_tables.specs.Book.{Wrote}
+use Rattle.acct_tables.proofs.CommitLemmas.{wrote_told, wrote_done}
 use Rattle.acct_sql.proofs.RememberLemmas.{remembers_credit}
-use Rattle.acct_sql.proofs.ReadLemmas.{leaves_told}
+use Rattle.acct_tables.proofs.ReadLemmas.{leaves_told}
 use Rattle.acct_sql.proofs.sql_book.SqlBookBook.put_topup.Goals as goal
 
 pub returns-in-Err-clause-writes : goal.returns-in-Err-clause-writes

@@ -1,9 +1,9 @@
 use Rattle.std.proofs.Common.{◌≡◌, refl, subst, IfSome}
-use Rattle.acct_sql.specs.Book.{content_at}
+use Rattle.acct_tables.specs.Book.{content_at}
 use Rattle.sqlite.specs.Held.{state}
-use Rattle.acct_sql.specs.inner.Inside.{HasPlanOf}
+use Rattle.acct_tables.specs.inner.Inside.{HasPlanOf}
 use Rattle.acct_sql.specs.inner.Remembered.{IsReadOf}
-use Rattle.acct_sql.proofs.ReadLemmas.{read_told, read_done, found_told, leaves_told}
+use Rattle.acct_tables.proofs.ReadLemmas.{read_told, read_done, found_told, leaves_told}
 use Rattle.acct_sql.proofs.RememberLemmas.{remembers_read, remembers_session}
 use Rattle.acct_sql.proofs.sql_book.SqlBookBook.session.Goals as goal
 

@@ -1,6 +1,6 @@
 use Rattle.acct_book.specs.Walk.{AreTopUpsOf}
-use Rattle.acct_sql.specs.Book.{content_at}
-use Rattle.acct_sql.proofs.ReadLemmas.{read_told, read_done, found_told, leaves_told}
+use Rattle.acct_tables.specs.Book.{content_at}
+use Rattle.acct_tables.proofs.ReadLemmas.{read_told, read_done, found_told, leaves_told}
 use Rattle.acct_sql.proofs.RememberLemmas.{remembers_read}
 use Rattle.acct_sql.proofs.sql_book.SqlBookBook.topups_of.Goals as goal
 

@@ -1,0 +1,10 @@
+pub mod Tables
+pub mod Tidy
+pub mod Columns
+pub mod Content
+pub mod Book
+pub mod Make
+pub mod Migrate
+pub mod Look
+pub mod Laws
+pub mod inner

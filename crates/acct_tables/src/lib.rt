@@ -1,0 +1,23 @@
+//! The tables of a book in a SQLite database: which they are, what their rows say, and what each
+//! statement over them shows and makes.
+//!
+//! 1. What a book is, is said of its tables (`specs/Content.antt`, `Book.antt`): `acct_sql` is the
+//!    book over them.
+//! 2. A call that reads is a transaction that writes nothing.
+//! 3. A call inside a transaction commits nothing, whatever comes of it (`specs/inner/Inside.antt`).
+#![tactic(auto)]
+
+pub mod book_schema;
+pub mod cells;
+pub mod columns;
+pub mod ending;
+pub mod listing;
+pub mod making;
+pub mod older_schema;
+pub mod plan_table;
+pub mod reading;
+pub mod refused;
+pub mod rowids;
+pub mod session_classes;
+pub mod sql_book_error;
+pub mod statements;

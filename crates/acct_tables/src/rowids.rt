@@ -1,0 +1,134 @@
+//! Rowids that tell the rows of a table apart.
+ghost use Rattle.std.specs.Prelude.{◌≡◌, IfOk, IfErr, OnOk};
+ghost use Rattle.sqlite.specs.Given.{IsPlain};
+ghost use Rattle.sqlite.specs.Listing.{understood};
+ghost use Rattle.sqlite_value.specs.Order.{column};
+ghost use Rattle.sqlite_value.specs.declared.value.Value.TheVariants.{Int};
+ghost use Rattle.sqlite.specs.Held.{state};
+ghost use Rattle.acct_tables.specs.Tables.{meta, account, voucher, session, session_plan};
+ghost use Rattle.acct_tables.specs.Tidy.{IsTidy};
+ghost use Rattle.acct_tables.specs.Book.{is_sound_at};
+ghost use Rattle.acct_tables.specs.Look.{IsIdle};
+ghost use Rattle.acct_tables.specs.inner.Looked.{IsIdleBook, IsIdleKnown, Peeks, Examines, AreTidy};
+ghost use Rattle.acct_tables.specs.inner.Looked.{tables_at};
+ghost use Rattle.acct_tables.specs.inner.Migrating.{AreFirstTidy};
+ghost use Rattle.acct_tables.specs.inner.Rising.{IsAbove, ShowsRising};
+
+use crate::cells::id_of;
+use crate::refused::Refused;
+use crate::sql_book_error::SqlBookError;
+use crate::statements::{
+    ACCOUNT_ROWIDS, META_ROWIDS, SESSION_PLAN_ROWIDS, SESSION_ROWIDS, VOUCHER_ROWIDS,
+};
+use sqlite::{Alter, Connection};
+
+/// Refuses tables in which two rows have one rowid. It reads each rowid once, and keeps one.
+pub fn check_rowids<S: Alter>(conn: &mut Connection<S>) -> Result<(), SqlBookError>
+    requires { IsIdleBook S.Store conn.old }
+    ensures tidy { Examines S.Store conn.old conn.new AreTidy result }
+    ensures fault { IfErr result (λ e. e ≡ SqlBookError.Unavailable) }
+{
+    check_accounts(conn)?;
+    check_vouchers(conn)?;
+    check_sessions(conn)?;
+    check_session_plans(conn)
+}
+
+/// The same of an older book, whose schema number has a rowid too.
+pub fn check_first_rowids<S: Alter>(conn: &mut Connection<S>) -> Result<(), SqlBookError>
+    requires { IsIdleKnown S.Store conn.old }
+    ensures tidy { Examines S.Store conn.old conn.new AreFirstTidy result }
+    ensures fault { IfErr result (λ e. e ≡ SqlBookError.Unavailable) }
+{
+    check_numbers(conn)?;
+    check_accounts(conn)?;
+    check_vouchers(conn)?;
+    check_sessions(conn)
+}
+
+fn check_numbers<S: Alter>(conn: &mut Connection<S>) -> Result<(), SqlBookError>
+    requires { IsIdleKnown S.Store conn.old }
+    ensures tidy { Examines S.Store conn.old conn.new (λ db. IsTidy (db meta.tree)) result }
+    ensures fault { IfErr result (λ e. e ≡ SqlBookError.Unavailable) }
+{
+    match check_ids(conn, META_ROWIDS) {
+        Ok(()) => Ok(()),
+        Err(_) => Err(SqlBookError::Unavailable),
+    }
+}
+
+fn check_accounts<S: Alter>(conn: &mut Connection<S>) -> Result<(), SqlBookError>
+    requires { IsIdleKnown S.Store conn.old }
+    ensures tidy { Examines S.Store conn.old conn.new (λ db. IsTidy (db account.tree)) result }
+    ensures fault { IfErr result (λ e. e ≡ SqlBookError.Unavailable) }
+{
+    match check_ids(conn, ACCOUNT_ROWIDS) {
+        Ok(()) => Ok(()),
+        Err(_) => Err(SqlBookError::Unavailable),
+    }
+}
+
+fn check_vouchers<S: Alter>(conn: &mut Connection<S>) -> Result<(), SqlBookError>
+    requires { IsIdleKnown S.Store conn.old }
+    ensures tidy { Examines S.Store conn.old conn.new (λ db. IsTidy (db voucher.tree)) result }
+    ensures fault { IfErr result (λ e. e ≡ SqlBookError.Unavailable) }
+{
+    match check_ids(conn, VOUCHER_ROWIDS) {
+        Ok(()) => Ok(()),
+        Err(_) => Err(SqlBookError::Unavailable),
+    }
+}
+
+fn check_sessions<S: Alter>(conn: &mut Connection<S>) -> Result<(), SqlBookError>
+    requires { IsIdleKnown S.Store conn.old }
+    ensures tidy { Examines S.Store conn.old conn.new (λ db. IsTidy (db session.tree)) result }
+    ensures fault { IfErr result (λ e. e ≡ SqlBookError.Unavailable) }
+{
+    match check_ids(conn, SESSION_ROWIDS) {
+        Ok(()) => Ok(()),
+        Err(_) => Err(SqlBookError::Unavailable),
+    }
+}
+
+fn check_session_plans<S: Alter>(conn: &mut Connection<S>) -> Result<(), SqlBookError>
+    requires { IsIdleBook S.Store conn.old }
+    ensures tidy { Examines S.Store conn.old conn.new (λ db. IsTidy (db session_plan.tree)) result }
+    ensures fault { IfErr result (λ e. e ≡ SqlBookError.Unavailable) }
+{
+    match check_ids(conn, SESSION_PLAN_ROWIDS) {
+        Ok(()) => Ok(()),
+        Err(_) => Err(SqlBookError::Unavailable),
+    }
+}
+
+// Refuses a query whose rows do not each begin with an id above that of the row before.
+fn check_ids<S: Alter>(conn: &mut Connection<S>, sql: &str) -> Result<(), Refused>
+    requires idle { IsIdle (state S.Store conn.old) }
+    requires plain { is_sound_at S.Store conn.old
+        → IsPlain (understood (tables_at S.Store conn.old).schema sql.now) }
+    ensures looks { Peeks S.Store conn.old conn.new result }
+    ensures shown { is_sound_at S.Store conn.new
+        → OnOk result (ShowsRising S.Store sql.now conn.old conn.new) }
+{
+    let mut rows = conn.query(sql, &[])?;
+    let mut last: Option<i64> = None;
+    // A loop over rows has a bound, and no table has so many.
+    'rows: for _ in 0..u64::MAX {
+        let Some(row) = rows.next()? else {
+            return Ok(());
+        };
+        last = Some(id_above(row, last)?);
+    }
+    Err(Refused)
+}
+
+// The id in the first column of a row, where it is above the last one.
+fn id_above(row: &sqlite::Row, last: Option<i64>) -> Result<i64, Refused>
+    ensures { IfOk result (λ id. (column row.now 0 ≡ Int id) × IsAbove last id) }
+{
+    match (id_of(row), last) {
+        (Some(id), Some(last)) if last < id => Ok(id),
+        (Some(id), None) => Ok(id),
+        _ => Err(Refused),
+    }
+}

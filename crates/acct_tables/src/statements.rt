@@ -1,0 +1,207 @@
+//! The statements of the book, in SQL. The columns of a table stand here in the order in which
+//! `columns.rt` writes and reads them.
+
+// A statement with the columns of `price_plan` in its midst.
+macro_rules! with_plan_columns {
+    ($before:literal, $after:literal) => { concat!($before, "class, block, unit", $after) };
+}
+
+// A statement with the columns of `account` in its midst.
+macro_rules! with_account_columns {
+    ($before:literal, $after:literal) => { concat!($before, "name, balance", $after) };
+}
+
+// A statement with the columns of `voucher` in its midst.
+macro_rules! with_topup_columns {
+    ($before:literal, $after:literal) => {
+        concat!($before, "number, account, amount, moment", $after)
+    };
+}
+
+// A statement with the columns of `session` in its midst.
+macro_rules! with_session_columns {
+    ($before:literal, $after:literal) => {
+        concat!(
+            $before,
+            "client, id, account, class, input, output, seconds, first_seen, last_seen, state, \
+            cause, calling, framed",
+            $after
+        )
+    };
+}
+
+// ---- the schema number
+
+// A statement with the schema number of a book in its midst.
+macro_rules! with_own_number {
+    ($before:literal, $after:literal) => { concat!($before, "3", $after) };
+}
+
+pub const META_TABLE: &str = "\
+    CREATE TABLE meta (name TEXT NOT NULL PRIMARY KEY, value INTEGER NOT NULL) STRICT";
+
+pub const NEW_SCHEMA_NUMBER: &str = with_own_number!(
+    "INSERT INTO meta (name, value) VALUES ('schema', ",
+    ")"
+);
+
+pub const SCHEMA_NUMBER: &str = "SELECT value FROM meta WHERE name = 'schema'";
+
+pub const SET_SCHEMA_NUMBER: &str = with_own_number!(
+    "UPDATE meta SET value = ",
+    " WHERE name = 'schema'"
+);
+
+pub const META_ROWIDS: &str = "SELECT rowid FROM meta ORDER BY rowid";
+
+// ---- the plans
+
+pub const PLAN_TABLE: &str = "\
+    CREATE TABLE price_plan (class BLOB NOT NULL PRIMARY KEY, block INTEGER NOT NULL, unit \
+    INTEGER NOT NULL) STRICT";
+
+pub const NEW_PLAN: &str = with_plan_columns!("INSERT INTO price_plan (", ") VALUES (?1, ?2, ?3)");
+
+pub const PLANS: &str = with_plan_columns!("SELECT ", " FROM price_plan");
+
+pub const PLAN_COUNT_TABLE: &str = "\
+    CREATE TABLE plan_count (class BLOB NOT NULL PRIMARY KEY, mode INTEGER NOT NULL) STRICT";
+
+pub const NEW_PLAN_COUNT: &str = "INSERT INTO plan_count (class, mode) VALUES (?1, ?2)";
+
+pub const PLAN_COUNTS: &str = "SELECT class, mode FROM plan_count";
+
+// ---- the accounts
+
+pub const ACCOUNT_TABLE: &str = "\
+    CREATE TABLE account (name BLOB NOT NULL PRIMARY KEY, balance INTEGER NOT NULL) STRICT";
+
+pub const SET_BALANCE: &str = "UPDATE account SET balance = ?2 WHERE name = ?1";
+
+pub const NEW_BALANCE: &str = with_account_columns!("INSERT INTO account (", ") VALUES (?1, ?2)");
+
+pub const BALANCE_OF_ACCOUNT: &str = "SELECT balance FROM account WHERE name = ?1";
+
+pub const FIRST_ACCOUNT: &str = with_account_columns!(
+    "SELECT ",
+    " FROM account ORDER BY name LIMIT 1"
+);
+
+pub const ACCOUNT_AFTER: &str = with_account_columns!(
+    "SELECT ",
+    " FROM account WHERE name > ?1 ORDER BY name LIMIT 1"
+);
+
+pub const ACCOUNT_ROWIDS: &str = "SELECT rowid FROM account ORDER BY rowid";
+
+// ---- the vouchers
+
+pub const VOUCHER_TABLE: &str = "\
+    CREATE TABLE voucher (number TEXT NOT NULL PRIMARY KEY, account BLOB NOT NULL, amount INTEGER \
+    NOT NULL, moment INTEGER NOT NULL) STRICT";
+
+pub const VOUCHER_ACCOUNT_INDEX: &str = "CREATE INDEX voucher_account ON voucher (account)";
+
+pub const SET_TOPUP: &str = "\
+    UPDATE voucher SET account = ?2, amount = ?3, moment = ?4 WHERE number = ?1";
+
+pub const NEW_TOPUP: &str = with_topup_columns!(
+    "INSERT INTO voucher (",
+    ") VALUES (?1, ?2, ?3, ?4)"
+);
+
+pub const TOPUP_OF_NUMBER: &str = with_topup_columns!("SELECT ", " FROM voucher WHERE number = ?1");
+
+pub const TOPUPS_OF_ACCOUNT: &str = with_topup_columns!(
+    "SELECT ",
+    " FROM voucher WHERE account = ?1 ORDER BY number"
+);
+
+pub const FIRST_TOPUP: &str = with_topup_columns!(
+    "SELECT ",
+    " FROM voucher ORDER BY number LIMIT 1"
+);
+
+pub const TOPUP_AFTER: &str = with_topup_columns!(
+    "SELECT ",
+    " FROM voucher WHERE number > ?1 ORDER BY number LIMIT 1"
+);
+
+pub const VOUCHER_ROWIDS: &str = "SELECT rowid FROM voucher ORDER BY rowid";
+
+// ---- the sessions
+
+pub const SESSION_TABLE: &str = "\
+    CREATE TABLE session (client TEXT NOT NULL, id BLOB NOT NULL, account BLOB NOT NULL, class \
+    BLOB NOT NULL, input INTEGER NOT NULL, output INTEGER NOT NULL, seconds INTEGER NOT NULL, \
+    first_seen INTEGER NOT NULL, last_seen INTEGER NOT NULL, state INTEGER NOT NULL, cause \
+    INTEGER NOT NULL, calling BLOB NOT NULL, framed BLOB NOT NULL, PRIMARY KEY (client, id)) \
+    STRICT";
+
+pub const SESSION_ACCOUNT_INDEX: &str = "CREATE INDEX session_account ON session (account)";
+
+pub const SET_SESSION: &str = "\
+    UPDATE session SET account = ?3, class = ?4, input = ?5, output = ?6, seconds = ?7, \
+    first_seen = ?8, last_seen = ?9, state = ?10, cause = ?11, calling = ?12, framed = ?13 WHERE \
+    client = ?1 AND id = ?2";
+
+pub const NEW_SESSION: &str = with_session_columns!(
+    "INSERT INTO session (",
+    ") VALUES (?1, ?2, ?3, ?4, ?5, ?6, ?7, ?8, ?9, ?10, ?11, ?12, ?13)"
+);
+
+pub const CLOSE_SESSIONS_OF_CLIENT: &str = "\
+    UPDATE session SET state = 1, cause = 11 WHERE client = ?1 AND state = 0";
+
+pub const SESSION_OF_KEY: &str = with_session_columns!(
+    "SELECT ",
+    " FROM session WHERE client = ?1 AND id = ?2"
+);
+
+pub const SESSIONS_OF_ACCOUNT: &str = with_session_columns!(
+    "SELECT ",
+    " FROM session WHERE account = ?1 ORDER BY client, id"
+);
+
+pub const FIRST_SESSION: &str = with_session_columns!(
+    "SELECT ",
+    " FROM session ORDER BY client, id LIMIT 1"
+);
+
+pub const LATER_SESSION_OF_CLIENT: &str = with_session_columns!(
+    "SELECT ",
+    " FROM session WHERE client = ?1 AND id > ?2 ORDER BY id LIMIT 1"
+);
+
+pub const SESSION_OF_LATER_CLIENT: &str = with_session_columns!(
+    "SELECT ",
+    " FROM session WHERE client > ?1 ORDER BY client, id LIMIT 1"
+);
+
+pub const SESSION_ROWIDS: &str = "SELECT rowid FROM session ORDER BY rowid";
+
+// A statement that shows the class of a session.
+macro_rules! with_class_columns {
+    ($after:literal) => { concat!("SELECT rowid, client, id, class FROM session", $after) };
+}
+
+pub const FIRST_CLASS: &str = with_class_columns!(" ORDER BY rowid LIMIT 1");
+
+pub const CLASS_AFTER: &str = with_class_columns!(" WHERE rowid > ?1 ORDER BY rowid LIMIT 1");
+
+// ---- the plans of the sessions
+
+pub const SESSION_PLAN_TABLE: &str = "\
+    CREATE TABLE session_plan (client TEXT NOT NULL, id BLOB NOT NULL, plan_class BLOB NOT NULL, \
+    PRIMARY KEY (client, id)) STRICT";
+
+pub const SET_SESSION_PLAN: &str = "\
+    UPDATE session_plan SET plan_class = ?3 WHERE client = ?1 AND id = ?2";
+
+pub const NEW_SESSION_PLAN: &str = "\
+    INSERT INTO session_plan (client, id, plan_class) VALUES (?1, ?2, ?3)";
+
+pub const PLAN_OF_SESSION: &str = "\
+    SELECT plan_class FROM session_plan WHERE client = ?1 AND id = ?2";
+
+pub const SESSION_PLAN_ROWIDS: &str = "SELECT rowid FROM session_plan ORDER BY rowid";
