@@ -67,7 +67,7 @@ fn finish_rows<S: Alter>(
     }
 }
 
-// What a query shows, in a transaction of its own.
+/// What a query shows, in a transaction of its own.
 pub fn ask<S: Alter>(
     conn: &mut Connection<S>,
     sql: &str,
