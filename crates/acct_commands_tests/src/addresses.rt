@@ -82,8 +82,8 @@ const ASKED: [(u8, &[u8]); 4] = [
 
 #[test]
 fn replies_from_the_address_that_was_asked(rt: HostRuntime) -> Result<(), Fail> {
-    for (count, asked) in ASKED {
-        assert!(rt; each_replies(&rt, count, asked)?);
+    for (count, asked) in &ASKED {
+        assert!(rt; each_replies(&rt, *count, asked)?);
     }
     Ok(())
 }
@@ -128,8 +128,7 @@ fn hears_callers_at_the_desks_address(rt: HostRuntime) -> Result<(), Fail> {
     let (_, desk) = sockets.ports()?;
     let mut guest = TcpStream::connect(&rt, ("127.0.0.99", desk))?;
     guest.write_all(REQUEST)?;
-    assert!(rt; echoes(&mut sockets, 8, REQUEST)?);
-    assert!(rt; gets(rt.alloc(), &mut guest, REQUEST)?);
+    assert!(rt; echoes(&mut sockets, 8, REQUEST) && gets(rt.alloc(), &mut guest, REQUEST));
     Ok(())
 }
 

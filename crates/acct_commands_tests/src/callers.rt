@@ -63,36 +63,68 @@ pub fn next(sockets: &mut Sockets<'_, HostRuntime>, turns: u32) -> Result<Option
 
 /// Answers what comes in at most so many turns by its own octets, and says whether these are the
 /// wanted ones.
-pub fn echoes(
-    sockets: &mut Sockets<'_, HostRuntime>,
-    turns: u32,
-    wanted: &[u8],
-) -> Result<bool, Fail> {
+pub fn echoes(sockets: &mut Sockets<'_, HostRuntime>, turns: u32, wanted: &[u8]) -> bool {
     let Ok(Some(event)) = next(sockets, turns) else {
-        return Ok(false);
+        return false;
     };
     let What::Desk { bytes } = &event.what else {
-        return Ok(false);
+        return false;
     };
     let is_wanted = bytes.as_slice() == wanted;
-    Ok(reply(sockets, &event, bytes.as_slice()).is_ok() && is_wanted)
+    reply(sockets, &event, bytes.as_slice()).is_ok() && is_wanted
 }
 
 /// Whether a caller gets just these octets, and then the end.
-pub fn gets<R: Read>(alloc: Global, stream: &mut R, wanted: &[u8]) -> Result<bool, Fail> {
+pub fn gets<R: Read>(alloc: Global, stream: &mut R, wanted: &[u8]) -> bool {
     let mut response = Vec::new(alloc);
-    stream.read_to_end(&mut response)?;
-    Ok(response.as_slice() == wanted)
+    stream.read_to_end(&mut response).is_ok() && response.as_slice() == wanted
+}
+
+// Whether nothing comes in so many turns, and none of them fails.
+fn is_quiet(sockets: &mut Sockets<'_, HostRuntime>, turns: u32) -> bool {
+    matches!(&next(sockets, turns), Ok(None))
+}
+
+// Whether a caller that has sent the request is answered by it within so many turns.
+fn is_echoed(
+    alloc: Global,
+    sockets: &mut Sockets<'_, HostRuntime>,
+    turns: u32,
+    guest: &mut TcpStream,
+) -> bool {
+    echoes(sockets, turns, REQUEST) && gets(alloc, guest, REQUEST)
+}
+
+// Whether a new caller is answered by its request within so many turns.
+fn is_heard(
+    rt: &HostRuntime,
+    sockets: &mut Sockets<'_, HostRuntime>,
+    turns: u32,
+) -> Result<bool, Fail> {
+    let mut guest = caller(rt, sockets, REQUEST)?;
+    Ok(is_echoed(rt.alloc(), sockets, turns, &mut guest))
 }
 
 #[test]
 fn hears_a_caller(rt: HostRuntime) -> Result<(), Fail> {
     let mut sockets = bound(&rt)?;
-    let mut guest = caller(&rt, &sockets, REQUEST)?;
-    assert!(rt; echoes(&mut sockets, 8, REQUEST)?);
-    assert!(rt; gets(rt.alloc(), &mut guest, REQUEST)?);
-    assert_eq!(rt; sockets.failures(), 0);
+    assert!(rt; is_heard(&rt, &mut sockets, 8)? && sockets.failures() == 0);
     Ok(())
+}
+
+// Whether a caller is heard once, whatever it sends on.
+fn is_heard_once(
+    alloc: Global,
+    sockets: &mut Sockets<'_, HostRuntime>,
+    guest: &mut TcpStream,
+) -> bool {
+    echoes(sockets, 8, REQUEST)
+        && guest.write_all(REQUEST).is_ok()
+        && is_quiet(sockets, 4)
+        && guest.write_all(REQUEST).is_ok()
+        && gets(alloc, guest, REQUEST)
+        && guest.shutdown(Shutdown::Write).is_ok()
+        && is_quiet(sockets, 4)
 }
 
 // What a caller sends on is read away, so that its response isn't lost to a reset.
@@ -100,27 +132,34 @@ fn hears_a_caller(rt: HostRuntime) -> Result<(), Fail> {
 fn hears_one_request_of_a_caller(rt: HostRuntime) -> Result<(), Fail> {
     let mut sockets = bound(&rt)?;
     let mut guest = caller(&rt, &sockets, REQUEST)?;
-    assert!(rt; echoes(&mut sockets, 8, REQUEST)?);
-    guest.write_all(REQUEST)?;
-    assert!(rt; matches!(&next(&mut sockets, 4), Ok(None)));
-    guest.write_all(REQUEST)?;
-    assert!(rt; gets(rt.alloc(), &mut guest, REQUEST)?);
-    guest.shutdown(Shutdown::Write)?;
-    assert!(rt; matches!(&next(&mut sockets, 4), Ok(None)));
-    assert_eq!(rt; sockets.failures(), 0);
+    assert!(rt; is_heard_once(rt.alloc(), &mut sockets, &mut guest) && sockets.failures() == 0);
     Ok(())
+}
+
+// What a caller may have sent when it closes its side.
+const CLOSED_AFTER: [&[u8]; 3] = [b"GET /me", REQUEST, b""];
+
+// Whether a caller that closes its side after these octets is answered by them.
+fn is_heard_to_its_end(
+    rt: &HostRuntime,
+    sockets: &mut Sockets<'_, HostRuntime>,
+    octets: &[u8],
+) -> Result<bool, Fail> {
+    let mut guest = caller(rt, sockets, octets)?;
+    Ok(
+        guest.shutdown(Shutdown::Write).is_ok()
+            && echoes(sockets, 8, octets)
+            && gets(rt.alloc(), &mut guest, octets),
+    )
 }
 
 #[test]
 fn answers_a_caller_that_closed_its_side(rt: HostRuntime) -> Result<(), Fail> {
     let mut sockets = bound(&rt)?;
-    for octets in [b"GET /me", REQUEST, b""] {
-        let mut guest = caller(&rt, &sockets, octets)?;
-        guest.shutdown(Shutdown::Write)?;
-        assert!(rt; echoes(&mut sockets, 8, octets)?);
-        assert!(rt; gets(rt.alloc(), &mut guest, octets)?);
+    for octets in &CLOSED_AFTER {
+        assert!(rt; is_heard_to_its_end(&rt, &mut sockets, octets)?);
     }
-    assert_eq!(rt; sockets.failures(), 0);
+    assert!(rt; sockets.failures() == 0);
     Ok(())
 }
 
@@ -130,14 +169,9 @@ fn hears_others_while_a_request_comes(rt: HostRuntime) -> Result<(), Fail> {
     let mut sockets = bound(&rt)?;
     let mut slow = caller(&rt, &sockets, b"")?;
     for octet in REQUEST {
-        let mut guest = caller(&rt, &sockets, REQUEST)?;
-        assert!(rt; echoes(&mut sockets, 8, REQUEST)?);
-        assert!(rt; gets(rt.alloc(), &mut guest, REQUEST)?);
-        slow.write_all(&[*octet])?;
+        assert!(rt; is_heard(&rt, &mut sockets, 8)? && slow.write_all(&[*octet]).is_ok());
     }
-    assert!(rt; echoes(&mut sockets, 8, REQUEST)?);
-    assert!(rt; gets(rt.alloc(), &mut slow, REQUEST)?);
-    assert_eq!(rt; sockets.failures(), 0);
+    assert!(rt; is_echoed(rt.alloc(), &mut sockets, 8, &mut slow) && sockets.failures() == 0);
     Ok(())
 }
 
@@ -170,8 +204,10 @@ fn gives_up_who_is_silent(rt: HostRuntime) -> Result<(), Fail> {
     let mut sockets = bound(&rt)?;
     let mut silent = caller(&rt, &sockets, b"")?;
     let mut dripping = caller(&rt, &sockets, b"G")?;
-    assert!(rt; faults_within(&rt, &mut sockets, &mut dripping, 1, (1_900, 3_500))?);
-    assert!(rt; gets(rt.alloc(), &mut silent, b"")?);
+    assert!(rt;
+        faults_within(&rt, &mut sockets, &mut dripping, 1, (1_900, 3_500))?
+            && gets(rt.alloc(), &mut silent, b"")
+    );
     Ok(())
 }
 
@@ -181,10 +217,7 @@ fn gives_up_who_never_asks(rt: HostRuntime) -> Result<(), Fail> {
     let mut sockets = bound(&rt)?;
     let mut dripping = caller(&rt, &sockets, b"G")?;
     assert!(rt; faults_within(&rt, &mut sockets, &mut dripping, 1, (3_900, 5_500))?);
-    let mut guest = caller(&rt, &sockets, REQUEST)?;
-    assert!(rt; echoes(&mut sockets, 8, REQUEST)?);
-    assert!(rt; gets(rt.alloc(), &mut guest, REQUEST)?);
-    assert_eq!(rt; sockets.failures(), 1);
+    assert!(rt; is_heard(&rt, &mut sockets, 8)? && sockets.failures() == 1);
     Ok(())
 }
 
@@ -208,11 +241,10 @@ fn taken_slowly(
     let mut taken = Vec::new(rt.alloc());
     let mut room = vec![in rt.alloc(); 0; 1 << 18]?;
     for _ in 0..1000 {
-        let mut guest = caller(rt, sockets, REQUEST)?;
-        if !echoes(sockets, 64, REQUEST)? || !gets(rt.alloc(), &mut guest, REQUEST)? {
+        if !is_heard(rt, sockets, 64)? {
             return Err("another caller".into());
         }
-        if !matches!(&next(sockets, 5), Ok(None)) {
+        if !is_quiet(sockets, 5) {
             return Err("an event".into());
         }
         match slow.read(room.as_mut_slice())? {
@@ -223,6 +255,25 @@ fn taken_slowly(
     Err("no end".into())
 }
 
+// Whether a caller takes these octets slowly, and then the end.
+fn takes_slowly(
+    rt: &HostRuntime,
+    sockets: &mut Sockets<'_, HostRuntime>,
+    slow: &mut TcpStream,
+    wanted: &[u8],
+) -> Result<bool, Fail> {
+    let taken = taken_slowly(rt, sockets, slow)?;
+    Ok(taken.as_slice() == wanted)
+}
+
+// Whether a request comes, and its response is taken to be sent.
+fn is_answered(sockets: &mut Sockets<'_, HostRuntime>, response: &[u8]) -> bool {
+    let Ok(Some(event)) = next(sockets, 8) else {
+        return false;
+    };
+    reply(sockets, &event, response).is_ok()
+}
+
 // A response that its caller takes slowly goes whole, though it takes more than two seconds, and
 // keeps nobody waiting.
 #[test]
@@ -230,15 +281,13 @@ fn answers_a_slow_caller(rt: HostRuntime) -> Result<(), Fail> {
     let mut sockets = bound(&rt)?;
     let response = long_response(rt.alloc(), 2_048)?;
     let mut slow = caller(&rt, &sockets, REQUEST)?;
-    let Ok(Some(event)) = next(&mut sockets, 8) else {
-        return Err("no event".into());
-    };
     let begun = Instant::now(&rt)?;
-    assert!(rt; reply(&mut sockets, &event, response.as_slice()).is_ok());
-    let taken = taken_slowly(&rt, &mut sockets, &mut slow)?;
-    assert!(rt; taken.as_slice() == response.as_slice());
-    assert!(rt; begun.elapsed(&rt)? > Duration::from_secs(2));
-    assert_eq!(rt; sockets.failures(), 0);
+    assert!(rt;
+        is_answered(&mut sockets, response.as_slice())
+            && takes_slowly(&rt, &mut sockets, &mut slow, response.as_slice())?
+            && begun.elapsed(&rt)? > Duration::from_secs(2)
+            && sockets.failures() == 0
+    );
     Ok(())
 }
 
@@ -248,16 +297,14 @@ fn waits_for_a_caller_that_takes_nothing(rt: HostRuntime) -> Result<(), Fail> {
     let mut sockets = bound(&rt)?;
     let response = long_response(rt.alloc(), 2_048)?;
     let mut deaf = caller(&rt, &sockets, REQUEST)?;
-    let Ok(Some(event)) = next(&mut sockets, 8) else {
-        return Err("no event".into());
-    };
-    assert!(rt; reply(&mut sockets, &event, response.as_slice()).is_ok());
+    assert!(rt; is_answered(&mut sockets, response.as_slice()));
     let begun = Instant::now(&rt)?;
-    assert!(rt; matches!(&next(&mut sockets, 150), Ok(None)));
-    assert!(rt; begun.elapsed(&rt)? > Duration::from_secs(2));
-    let taken = taken_slowly(&rt, &mut sockets, &mut deaf)?;
-    assert!(rt; taken.as_slice() == response.as_slice());
-    assert_eq!(rt; sockets.failures(), 0);
+    assert!(rt;
+        is_quiet(&mut sockets, 150)
+            && begun.elapsed(&rt)? > Duration::from_secs(2)
+            && takes_slowly(&rt, &mut sockets, &mut deaf, response.as_slice())?
+            && sockets.failures() == 0
+    );
     Ok(())
 }
 
@@ -296,17 +343,21 @@ fn echo_all(sockets: &mut Sockets<'_, HostRuntime>, turns: u32) -> bool {
     true
 }
 
+// Whether the caller with this number gets its own request.
+fn gets_its_own(alloc: Global, number: usize, stream: &mut TcpStream) -> Result<bool, Fail> {
+    let request = request_of(alloc, number)?;
+    Ok(gets(alloc, stream, request.as_bytes()))
+}
+
 // More callers at once than there are places get each the response to its own request.
 #[test]
 fn answers_many_at_once(rt: HostRuntime) -> Result<(), Fail> {
     let mut sockets = bound(&rt)?;
     let mut streams = callers(&rt, &sockets, 100)?;
-    assert!(rt; echo_all(&mut sockets, 200));
+    assert!(rt; echo_all(&mut sockets, 200) && sockets.failures() == 0);
     for (number, stream) in streams.iter_mut().enumerate() {
-        let request = request_of(rt.alloc(), number)?;
-        assert!(rt; gets(rt.alloc(), stream, request.as_bytes())?);
+        assert!(rt; gets_its_own(rt.alloc(), number, stream)?);
     }
-    assert_eq!(rt; sockets.failures(), 0);
     Ok(())
 }
 
@@ -317,24 +368,34 @@ fn hears_past_silent_callers(rt: HostRuntime) -> Result<(), Fail> {
     let mut silent = Vec::new(rt.alloc());
     for _ in 0..64 {
         silent.push(caller(&rt, &sockets, b"")?)?;
-        assert!(rt; matches!(&next(&mut sockets, 2), Ok(None)));
+        assert!(rt; is_quiet(&mut sockets, 2));
     }
     let mut guest = caller(&rt, &sockets, REQUEST)?;
     let begun = Instant::now(&rt)?;
-    assert!(rt; matches!(&next(&mut sockets, 4), Err(Fault)));
-    assert!(rt; echoes(&mut sockets, 4, REQUEST)?);
-    assert!(rt; gets(rt.alloc(), &mut guest, REQUEST)?);
-    assert!(rt; begun.elapsed(&rt)? < Duration::from_millis(1_000));
+    assert!(rt;
+        matches!(&next(&mut sockets, 4), Err(Fault))
+            && is_echoed(rt.alloc(), &mut sockets, 4, &mut guest)
+            && begun.elapsed(&rt)? < Duration::from_millis(1_000)
+            && sockets.failures() == 1
+    );
     if let Some(first) = silent.first_mut() {
-        assert!(rt; gets(rt.alloc(), first, b"")?);
+        assert!(rt; gets(rt.alloc(), first, b""));
     }
-    assert_eq!(rt; sockets.failures(), 1);
     Ok(())
 }
 
 // A Start of the client, whose digest another program computed.
 const START: &[u8] = b"\x04\x07\x00\x22\xa0\x21\x9d\xa7\x81\xbf\x21\x71\x05\xbb\xdd\x1d\x2b\x3a\
     \x0e\x94\x28\x06\x00\x00\x00\x01\x2c\x04\x73\x31\x01\x04\x61\x6c";
+
+// Whether a caller, or a datagram, comes in the next turn, and is answered.
+fn is_turn_of_a_caller(sockets: &mut Sockets<'_, HostRuntime>, is_caller: bool) -> bool {
+    let Ok(Some(event)) = next(sockets, 1) else {
+        return false;
+    };
+    let is_right = matches!(&event.what, What::Desk { .. }) == is_caller;
+    reply(sockets, &event, b"x").is_ok() && is_right
+}
 
 // Datagrams and callers that wait take turns.
 #[test]
@@ -347,12 +408,7 @@ fn takes_turns(rt: HostRuntime) -> Result<(), Fail> {
     }
     let _streams = callers(&rt, &sockets, 10)?;
     for turn in 0..20 {
-        let Ok(Some(event)) = next(&mut sockets, 1) else {
-            return Err(Fail::from(("turn", turn)));
-        };
-        let is_caller = matches!(&event.what, What::Desk { .. });
-        assert_eq!(rt; is_caller, turn % 2 == 0);
-        assert!(rt; reply(&mut sockets, &event, b"x").is_ok());
+        assert!(rt; is_turn_of_a_caller(&mut sockets, turn % 2 == 0));
     }
     Ok(())
 }

@@ -57,8 +57,8 @@ const WORDS: [(&[&str], Status, (u32, u32)); 9] = [
 
 #[test]
 fn reads_command_lines(rt: HostRuntime) -> Result<(), Fail> {
-    for (words, status, texts) in WORDS {
-        assert_eq!(rt; told(rt.alloc(), words)?, Some((status, texts)));
+    for (words, status, texts) in &WORDS {
+        assert!(rt; told(rt.alloc(), words)? == Some((*status, *texts)));
     }
     Ok(())
 }
@@ -185,9 +185,9 @@ const ORDERS: [(&str, Option<&str>); 43] = [
 
 #[test]
 fn asks_for_what_the_words_say(rt: HostRuntime) -> Result<(), Fail> {
-    for (words, wanted) in ORDERS {
-        if !asks_for(rt.alloc(), words, wanted)? {
-            return Err(words.into());
+    for (words, wanted) in &ORDERS {
+        if !asks_for(rt.alloc(), words, *wanted)? {
+            return Err((*words).into());
         }
     }
     Ok(())
