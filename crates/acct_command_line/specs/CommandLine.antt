@@ -66,15 +66,17 @@ explained a = with_rule a (flag_rule (codes "explain"))
 abbrev pub feed_app : App
 feed_app = explained (with_rule (new_app (codes "feed")) config_rule)
 
+-- a command that wants a configuration: `--config FILE`
+abbrev pub configured_app : Text → App
+configured_app name = with_rule (new_app name) (required config_rule)
+
 -- `check --config FILE [--db FILE] [--explain]`
 abbrev pub check_app : App
-check_app =
-    explained (with_rule (with_rule (new_app (codes "check")) (required config_rule)) database_rule)
+check_app = explained (with_rule (configured_app (codes "check")) database_rule)
 
 -- a command that keeps a book: `--config FILE --db FILE [--explain]`
 abbrev pub book_app : Text → App
-book_app name = explained
-    (with_rule (with_rule (new_app name) (required config_rule)) (required database_rule))
+book_app name = explained (with_rule (configured_app name) (required database_rule))
 
 -- the same with `WHAT`, of `export`
 abbrev pub export_app : App
@@ -120,11 +122,15 @@ bare_app = requires_subcommand (has_version (new_app (codes "radacctd")))
 abbrev pub bookless_app : App
 bookless_app = with_subcommand (with_subcommand bare_app feed_app.top) check_app.top
 
--- the same with its commands that work with a book
+-- the same with its commands that make a book and serve from it
+abbrev pub serving_app : App
+serving_app =
+    with_subcommand (with_subcommand bookless_app (book_app (codes "init")).top) serve_app.top
+
+-- the same with its commands that bring vouchers into a book and write it out
 abbrev pub working_app : App
 working_app =
-    with_subcommand (with_subcommand (with_subcommand (with_subcommand bookless_app
-    (book_app (codes "init")).top) serve_app.top) (book_app (codes "import")).top) export_app.top
+    with_subcommand (with_subcommand serving_app (book_app (codes "import")).top) export_app.top
 
 -- the program's command line: the same with the commands that change how a book is kept
 abbrev pub app : App

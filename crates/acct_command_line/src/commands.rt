@@ -1,7 +1,9 @@
 //! The program's command line, with its commands.
 ghost use Rattle.std.specs.Prelude.{◌≡◌, IfOk, codes};
 ghost use Rattle.clap.specs.Words.{app_of};
-ghost use Rattle.acct_command_line.specs.CommandLine.{app, feed_app, check_app, book_app};
+ghost use Rattle.acct_command_line.specs.CommandLine.{app, bare_app, bookless_app, serving_app};
+ghost use Rattle.acct_command_line.specs.CommandLine.{working_app, configured_app};
+ghost use Rattle.acct_command_line.specs.CommandLine.{feed_app, check_app, book_app};
 ghost use Rattle.acct_command_line.specs.CommandLine.{addressed_app, listening_app, running_app};
 ghost use Rattle.acct_command_line.specs.CommandLine.{telling_app, serve_app, export_app};
 
@@ -22,18 +24,46 @@ const VERSION: &str = "0.1.0";
 pub fn command_line<'a>(alloc: Global) -> Result<Command<'a>, AllocError>
     ensures { IfOk result (λ c. app_of c ≡ app) }
 {
+    working_program(alloc)?
+        .subcommand(migrate_command(alloc)?)?
+        .subcommand(plans_command(alloc)?)
+}
+
+// The program with its commands but for those that change how a book is kept.
+fn working_program<'a>(alloc: Global) -> Result<Command<'a>, AllocError>
+    ensures { IfOk result (λ c. app_of c ≡ working_app) }
+{
+    serving_program(alloc)?
+        .subcommand(import_command(alloc)?)?
+        .subcommand(export_command(alloc)?)
+}
+
+// The program with its commands up to the one that serves.
+fn serving_program<'a>(alloc: Global) -> Result<Command<'a>, AllocError>
+    ensures { IfOk result (λ c. app_of c ≡ serving_app) }
+{
+    bookless_program(alloc)?
+        .subcommand(init_command(alloc)?)?
+        .subcommand(serve_command(alloc)?)
+}
+
+// The program with its commands that keep no book.
+fn bookless_program<'a>(alloc: Global) -> Result<Command<'a>, AllocError>
+    ensures { IfOk result (λ c. app_of c ≡ bookless_app) }
+{
+    bare_program(alloc)
+        .subcommand(feed_command(alloc)?)?
+        .subcommand(check_command(alloc)?)
+}
+
+// The program without its commands.
+fn bare_program<'a>(alloc: Global) -> Command<'a>
+    ensures { app_of result ≡ bare_app }
+{
     Command::new(alloc, PROGRAM)
         .about("A RADIUS accounting server with prepaid data allowances (RFC 2866)")
         .version(VERSION)
         .subcommand_required(true)
-        .subcommand(feed_command(alloc)?)?
-        .subcommand(check_command(alloc)?)?
-        .subcommand(init_command(alloc)?)?
-        .subcommand(serve_command(alloc)?)?
-        .subcommand(import_command(alloc)?)?
-        .subcommand(export_command(alloc)?)?
-        .subcommand(migrate_command(alloc)?)?
-        .subcommand(plans_command(alloc)?)
 }
 
 fn feed_command<'a>(alloc: Global) -> Result<Command<'a>, AllocError>
@@ -48,9 +78,8 @@ fn feed_command<'a>(alloc: Global) -> Result<Command<'a>, AllocError>
 fn check_command<'a>(alloc: Global) -> Result<Command<'a>, AllocError>
     ensures { IfOk result (λ c. app_of c ≡ check_app) }
 {
-    Command::new(alloc, "check")
-        .about("Reads a configuration, and says what it has or the first thing that is wrong")
-        .arg(config_option(alloc).required(true))?
+    let about = "Reads a configuration, and says what it has or the first thing that is wrong";
+    configured_command(alloc, "check", about)?
         .arg(database_option(alloc).help(
             "A book that is to keep the same plans, a SQLite database",
         ))?
@@ -146,9 +175,20 @@ fn plans_command<'a>(alloc: Global) -> Result<Command<'a>, AllocError>
 fn book_command<'a>(alloc: Global, name: &'a str, about: &'a str) -> Result<Command<'a>, AllocError>
     ensures { IfOk result (λ c. app_of c ≡ book_app name.now) }
 {
-    Command::new(alloc, name)
-        .about(about)
-        .arg(config_option(alloc).required(true))?
+    configured_command(alloc, name, about)?
         .arg(database_option(alloc).required(true))?
         .arg(explain_flag(alloc))
+}
+
+// A command that wants a configuration.
+fn configured_command<'a>(
+    alloc: Global,
+    name: &'a str,
+    about: &'a str,
+) -> Result<Command<'a>, AllocError>
+    ensures { IfOk result (λ c. app_of c ≡ configured_app name.now) }
+{
+    Command::new(alloc, name)
+        .about(about)
+        .arg(config_option(alloc).required(true))
 }
