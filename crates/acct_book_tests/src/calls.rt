@@ -35,7 +35,7 @@ const LATER: Refusals = (false, true, true);
 
 // A call, its name, which of three such calls a book refuses that has one write left, and whether
 // it is then shut. A read shuts none, also where no write is left.
-const CALLS: [(Call, &str, u64, Refusals, bool); 11] = [
+static CALLS: [(Call, &str, u64, Refusals, bool); 11] = [
     (Call::Session, "session", 0, NONE, false),
     (Call::Balance, "balance", 0, NONE, false),
     (Call::Voucher, "voucher", 0, NONE, false),
@@ -121,13 +121,10 @@ fn failing_refusals(alloc: Global, asked: &Asked, call: Call, number: u64) -> Re
 #[test]
 fn failing_books_refuse_one_call(rt: HostRuntime) -> Result<(), Fail> {
     let asked = Asked::new(rt.alloc())?;
-    for (call, name, ..) in CALLS {
+    for (call, name, ..) in &CALLS {
         assert!(rt;
-            failing_refusals(rt.alloc(), &asked, call, 2) == SECOND,
-            "{name}"
-        );
-        assert!(rt;
-            failing_refusals(rt.alloc(), &asked, call, 0) == NONE,
+            failing_refusals(rt.alloc(), &asked, *call, 2) == SECOND
+                && failing_refusals(rt.alloc(), &asked, *call, 0) == NONE,
             "{name}"
         );
     }
@@ -151,18 +148,18 @@ fn is_refused_when_shut(alloc: Global, asked: &Asked, call: Call) -> bool {
 #[test]
 fn shut_books_shut_at_a_write(rt: HostRuntime) -> Result<(), Fail> {
     let asked = Asked::new(rt.alloc())?;
-    for (call, name, writes_left, refusals, is_shut) in CALLS {
+    for (call, name, writes_left, refusals, is_shut) in &CALLS {
         assert!(rt;
-            shuts(rt.alloc(), &asked, call, writes_left) == (refusals, is_shut),
+            shuts(rt.alloc(), &asked, *call, *writes_left) == (*refusals, *is_shut)
+                && is_refused_when_shut(rt.alloc(), &asked, *call),
             "{name}"
         );
-        assert!(rt; is_refused_when_shut(rt.alloc(), &asked, call), "{name}");
     }
     Ok(())
 }
 
 // Vouchers, and what a book with two writes left says of them.
-const LAST_VOUCHERS: [(Said, &str); 4] = [
+static LAST_VOUCHERS: [(Said, &str); 4] = [
     (TopsUp("V-1", 5, 1000), "new"),
     (TopsUp("V-1", 5, 1000), "repeat"),
     (TopsUp("V-2", 5, 1000), "unavailable"),
@@ -190,7 +187,7 @@ const FILLED: &[Said] = &[
 
 // An entry of each kind that the filled book takes, and how many calls that makes: a row or a
 // voucher is read, a balance is read, and both are written, but a restart is one call.
-const ENTRIES: [(Said, u64); 3] = [
+static ENTRIES: [(Said, u64); 3] = [
     (Says(ReportKind::Stop, 2_000_000, 3000, 1), 3),
     (TopsUp("V-2", 7, 2000), 3),
     (Restarts("ap1"), 1),

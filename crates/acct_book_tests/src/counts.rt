@@ -2,7 +2,7 @@
 use crate::entries::Said::Tells;
 use crate::entries::{Words, key, says};
 use acct_book::{Book, MemBook};
-use acct_model::{Count, Plans, ReportKind};
+use acct_model::{Count, Plan, Plans, ReportKind};
 use acct_samples::plan;
 use std::alloc::Global;
 use std::test::Fail;
@@ -72,11 +72,16 @@ fn has_octets(alloc: Global, book: &mut MemBook, octets: (u64, u64)) -> Result<b
 // The plan `default`, and the plan `link` that counts so.
 fn plans_that_count(alloc: Global, count: Count) -> Result<Plans, Fail> {
     let mut list = Vec::new(alloc);
+    add_both(alloc, &mut list, count)?;
+    Ok(Plans::new(list)?)
+}
+
+fn add_both(alloc: Global, list: &mut Vec<Plan>, count: Count) -> Result<(), Fail> {
     list.push(plan(alloc, b"default", 1_000_000, 5)?)?;
     let mut link = plan(alloc, b"link", 1_048_576, 10)?;
     link.count = count;
     list.push(link)?;
-    Ok(Plans::new(list)?)
+    Ok(())
 }
 
 // A report of the plan `link`.

@@ -12,7 +12,7 @@ use std::test::Fail;
 type Line = (bool, &'static [u8], u64, i64, &'static [u8]);
 
 // Prices by `default` are 5 for each started 1,000,000 octets, by `silver` 7.
-const LINES: [Line; 5] = [
+static LINES: [Line; 5] = [
     (false, b"s5", 3_000_000, -15, b"default"),
     (true, b"s5", 3_000_000, -15, b"default"),
     (true, b"s5", 4_000_000, -20, b"default"),

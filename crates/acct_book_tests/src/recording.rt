@@ -97,7 +97,7 @@ const EARLY_STOP: &[Line] = &[
     (Restarts("ap1"), "new", -10, STOPPED),
 ];
 
-const SCRIPTS: [(&str, &[Line]); 11] = [
+static SCRIPTS: [(&str, &[Line]); 11] = [
     ("a rise", RISE),
     ("a fall", FALL),
     ("a later rise", LATER_RISE),
@@ -143,7 +143,7 @@ const VOUCHERS: &[Line] = &[
 #[test]
 fn scripts_are_recorded(rt: HostRuntime) -> Result<(), Fail> {
     let plans = sample_plans(rt.alloc())?;
-    for (name, script) in SCRIPTS {
+    for (name, script) in &SCRIPTS {
         assert!(rt; holds(rt.alloc(), &plans, script)?, "{name}");
     }
     Ok(())
@@ -160,8 +160,9 @@ fn limits_are_an_account_s(rt: HostRuntime) -> Result<(), Fail> {
 fn vouchers_are_credited_once(rt: HostRuntime) -> Result<(), Fail> {
     let plans = sample_plans(rt.alloc())?;
     let mut book = MemBook::new(rt.alloc());
-    assert!(rt; goes(rt.alloc(), &plans, &mut book, VOUCHERS)?);
-    assert!(rt; book.topups_of(b"al")?.len() == 1);
+    assert!(rt;
+        goes(rt.alloc(), &plans, &mut book, VOUCHERS)? && book.topups_of(b"al")?.len() == 1
+    );
     Ok(())
 }
 
@@ -198,8 +199,9 @@ const WHOLE: &[Said] = &[
 fn rows_keep_what_was_reported(rt: HostRuntime) -> Result<(), Fail> {
     let plans = sample_plans(rt.alloc())?;
     let mut book = MemBook::new(rt.alloc());
-    assert!(rt; takes(rt.alloc(), &plans, &mut book, WHOLE)?);
-    assert!(rt; is_whole_kept(rt.alloc(), &mut book)?);
+    assert!(rt;
+        takes(rt.alloc(), &plans, &mut book, WHOLE)? && is_whole_kept(rt.alloc(), &mut book)?
+    );
     Ok(())
 }
 

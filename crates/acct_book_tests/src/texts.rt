@@ -5,7 +5,7 @@ use std::alloc::Global;
 use std::fmt::Display;
 use std::test::Fail;
 
-const STATES: [(SessionState, &str); 3] = [
+static STATES: [(SessionState, &str); 3] = [
     (SessionState::Live, "open"),
     (SessionState::Closed, "closed"),
     (SessionState::Stopped, "stopped"),
@@ -29,12 +29,14 @@ fn is_difference_shown(alloc: Global, text: &str) -> Result<bool, Fail> {
 
 #[test]
 fn states_and_errors_have_their_texts(rt: HostRuntime) -> Result<(), Fail> {
-    for (state, text) in STATES {
-        assert!(rt; is_shown(rt.alloc(), &state, text)?, "{text}");
+    for (state, text) in &STATES {
+        assert!(rt; is_shown(rt.alloc(), state, text)?, "{text}");
     }
-    assert!(rt; is_difference_shown(rt.alloc(), DIFFERS)?);
-    assert!(rt; is_shown(rt.alloc(), &RecordError::BalanceLimit(-10), LIMIT)?);
-    assert!(rt; is_shown(rt.alloc(), &RecordError::Unavailable, UNAVAILABLE)?);
-    assert!(rt; is_shown(rt.alloc(), &Unavailable, UNAVAILABLE)?);
+    assert!(rt;
+        is_difference_shown(rt.alloc(), DIFFERS)?
+            && is_shown(rt.alloc(), &RecordError::BalanceLimit(-10), LIMIT)?
+            && is_shown(rt.alloc(), &RecordError::Unavailable, UNAVAILABLE)?
+            && is_shown(rt.alloc(), &Unavailable, UNAVAILABLE)?
+    );
     Ok(())
 }

@@ -21,7 +21,7 @@ const SHUFFLED: &[Said] = &[
 
 // After each name, and before all of them, the name of the session that follows. After a name that
 // is not in the book comes the next greater one.
-const SESSIONS: [(Option<Name>, Option<Name>); 8] = [
+static SESSIONS: [(Option<Name>, Option<Name>); 8] = [
     (None, Some(("ap1", b""))),
     (Some(("ap1", b"")), Some(("ap1", b"\x00"))),
     (Some(("ap1", b"\x00")), Some(("ap1", b"\x00\x00"))),
@@ -36,12 +36,21 @@ const SESSIONS: [(Option<Name>, Option<Name>); 8] = [
 fn sessions_are_in_order(rt: HostRuntime) -> Result<(), Fail> {
     let plans = sample_plans(rt.alloc())?;
     let mut book = MemBook::new(rt.alloc());
-    assert!(rt; takes(rt.alloc(), &plans, &mut book, SHUFFLED)?);
-    for (before, after) in SESSIONS {
-        assert!(rt; follows(rt.alloc(), &mut book, before, after)?);
-    }
-    assert!(rt; has_accounts(&mut book)?);
+    assert!(rt;
+        takes(rt.alloc(), &plans, &mut book, SHUFFLED)?
+            && are_in_order(rt.alloc(), &mut book)?
+            && has_accounts(&mut book)?
+    );
     Ok(())
+}
+
+fn are_in_order(alloc: Global, book: &mut MemBook) -> Result<bool, Fail> {
+    for (before, after) in &SESSIONS {
+        if !follows(alloc, book, *before, *after)? {
+            return Ok(false);
+        }
+    }
+    Ok(true)
 }
 
 // Whether the session after one of a name, or else the first, has this other name.
@@ -79,7 +88,7 @@ const VOUCHERS: &[Said] = &[
 ];
 
 // After each number, and before all of them, the sum and the moment of the voucher that follows.
-const FOLLOWERS: [(Option<&str>, Option<(u64, u64)>); 4] = [
+static FOLLOWERS: [(Option<&str>, Option<(u64, u64)>); 4] = [
     (None, Some((500, 1000))),
     (Some("V-1"), Some((5, 3000))),
     (Some("V-11"), Some((7, 2000))),
@@ -90,11 +99,17 @@ const FOLLOWERS: [(Option<&str>, Option<(u64, u64)>); 4] = [
 fn topups_are_in_order(rt: HostRuntime) -> Result<(), Fail> {
     let plans = sample_plans(rt.alloc())?;
     let mut book = MemBook::new(rt.alloc());
-    assert!(rt; takes(rt.alloc(), &plans, &mut book, VOUCHERS)?);
-    for (after, wanted) in FOLLOWERS {
-        assert!(rt; topup_after(&mut book, after)? == wanted);
-    }
+    assert!(rt; takes(rt.alloc(), &plans, &mut book, VOUCHERS)? && are_topups_in_order(&mut book)?);
     Ok(())
+}
+
+fn are_topups_in_order(book: &mut MemBook) -> Result<bool, Fail> {
+    for (after, wanted) in &FOLLOWERS {
+        if topup_after(book, *after)? != *wanted {
+            return Ok(false);
+        }
+    }
+    Ok(true)
 }
 
 // The sum and the moment of the voucher after a number.

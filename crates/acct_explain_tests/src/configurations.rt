@@ -1,7 +1,7 @@
 //! What is said of configurations that are wrong.
 use acct_explain::explain_config;
 use acct_files::config_of;
-use std::str;
+use std::alloc::Global;
 use std::test::Fail;
 
 // A text, and what is said of its first fault.
@@ -131,13 +131,17 @@ static WRONG: [Wrong; 26] = [
 
 #[test]
 fn says_where_a_configuration_is_wrong(rt: HostRuntime) -> Result<(), Fail> {
-    for (text, wanted) in WRONG {
-        let mut written = Vec::new(rt.alloc());
-        if let Err(error) = config_of(rt.alloc(), text) {
-            explain_config(rt.alloc(), "f", text, error, &mut written);
-        }
-        let written = str::from_utf8(&written).unwrap_or("");
-        assert_eq!(rt; written, wanted, "of {text}");
+    for (text, wanted) in &WRONG {
+        assert!(rt; is_said_of(rt.alloc(), text, wanted), "of {text}");
     }
     Ok(())
+}
+
+// Whether this is said of a configuration.
+fn is_said_of(alloc: Global, text: &str, wanted: &str) -> bool {
+    let mut written = Vec::new(alloc);
+    if let Err(error) = config_of(alloc, text) {
+        explain_config(alloc, "f", text, error, &mut written);
+    }
+    written.as_slice() == wanted.as_bytes()
 }

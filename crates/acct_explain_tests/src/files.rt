@@ -2,8 +2,9 @@
 use acct_explain::{Explained, explain, explain_words};
 use acct_files::{ConfigError, ConfigKind, ConfigTable};
 use acct_model::Text;
+use std::alloc::Global;
+use std::fs;
 use std::test::Fail;
-use std::{fs, str};
 
 const FOLDER: &str = "acct_explain_test";
 
@@ -81,15 +82,19 @@ fn says_why_a_file_is_refused(rt: HostRuntime) -> Result<(), Fail> {
     fs::write(&rt, "acct_explain_test/text", [b'-'; 200].as_slice())?;
     fs::write(&rt, "acct_explain_test/two", [b'-'; 200].as_slice())?;
     fs::hard_link(&rt, "acct_explain_test/two", "acct_explain_test/three")?;
-    for (asked, file, wanted) in ROWS {
-        let file = Text::from_str(rt.alloc(), file)?;
-        let mut written = Vec::new(rt.alloc());
-        explain(&rt, rt.alloc(), explained(asked, &file), &mut written);
-        let said = str::from_utf8(&written).unwrap_or("");
-        assert_eq!(rt; said, wanted);
+    for (asked, file, wanted) in &ROWS {
+        assert!(rt; is_said_of(&rt, *asked, file, wanted)?, "{wanted}");
     }
     fs::remove_dir_all(&rt, FOLDER)?;
     Ok(())
+}
+
+// Whether this is said of a file.
+fn is_said_of(rt: &HostRuntime, asked: Asked, file: &str, wanted: &str) -> Result<bool, Fail> {
+    let file = Text::from_str(rt.alloc(), file)?;
+    let mut written = Vec::new(rt.alloc());
+    explain(rt, rt.alloc(), explained(asked, &file), &mut written);
+    Ok(written.as_slice() == wanted.as_bytes())
 }
 
 // What is to be explained of a file.
@@ -122,14 +127,19 @@ static WORDS: [([&str; 4], &str); 4] = [
 
 #[test]
 fn says_which_words_an_export_takes(rt: HostRuntime) -> Result<(), Fail> {
-    for (words, wanted) in WORDS {
-        let mut owned = Vec::new(rt.alloc());
-        for word in words {
-            owned.push(String::from_str(rt.alloc(), word)?)?;
-        }
-        let mut written = Vec::new(rt.alloc());
-        explain_words(&owned, &mut written);
-        assert_eq!(rt; str::from_utf8(&written).unwrap_or(""), wanted);
+    for (words, wanted) in &WORDS {
+        assert!(rt; is_said_of_words(rt.alloc(), words, wanted)?, "{wanted}");
     }
     Ok(())
+}
+
+// Whether this is said of a command line.
+fn is_said_of_words(alloc: Global, words: &[&str], wanted: &str) -> Result<bool, Fail> {
+    let mut owned = Vec::new(alloc);
+    for word in words {
+        owned.push(String::from_str(alloc, word)?)?;
+    }
+    let mut written = Vec::new(alloc);
+    explain_words(&owned, &mut written);
+    Ok(written.as_slice() == wanted.as_bytes())
 }

@@ -488,7 +488,7 @@ fn book_at(alloc: Global, balance: i64) -> Result<MemBook, Fail> {
 }
 
 // Which call of the book is refused, an input, and what it prints.
-const REFUSALS: [(u64, &str, &str); 8] = [
+static REFUSALS: [(u64, &str, &str); 8] = [
     (1, ONE_OCTET, "drop 13\nbalance al 0\n"),
     (2, ONE_OCTET, "drop 13\nbalance al 0\n"),
     (3, ONE_OCTET, "drop 13\nbalance al 0\n"),
@@ -509,9 +509,9 @@ fn tells_refusals_of_the_book(rt: HostRuntime) {
 }
 
 fn are_told(alloc: Global) -> bool {
-    for (calls_left, input, wanted) in REFUSALS {
-        let book = MemBook::new(alloc);
-        if !book_answers(alloc, FailingBook { book, calls_left }, input, wanted) {
+    for (calls_left, input, wanted) in &REFUSALS {
+        let book = FailingBook::new(MemBook::new(alloc), *calls_left);
+        if !book_answers(alloc, book, input, wanted) {
             return false;
         }
     }

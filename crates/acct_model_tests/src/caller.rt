@@ -52,15 +52,18 @@ fn is_answered(request: &[u8], datagram: &[u8]) -> Result<bool, Fail> {
     )
 }
 
+// Whether a Start comes to the report of its session, and is answered.
+fn is_heard(alloc: Global, request: &[u8]) -> Result<bool, Fail> {
+    let mut reply = [0; 4096];
+    let (report, size) = answer(alloc, request, 1000, &mut reply)?;
+    let is_reported = report.session.as_slice() == b"s1".as_slice();
+    Ok(is_reported && size == 20 && is_answered(request, &reply)?)
+}
+
 #[test]
 fn start_is_answered(rt: HostRuntime) -> Result<(), Fail> {
     let mut request = [0; 4096];
     let size = write_request(7, &START, SECRET, &mut request)?;
-    assert_eq!(rt; &request[..4], [4, 7, 0, 34].as_slice());
-
-    let mut reply = [0; 4096];
-    let (report, length) = answer(rt.alloc(), &request[..size], 1000, &mut reply)?;
-    assert_eq!(rt; (report.session.as_slice(), length), (b"s1".as_slice(), 20));
-    assert!(rt; is_answered(&request[..size], &reply)?);
+    assert!(rt; request.starts_with(&[4, 7, 0, 34]) && is_heard(rt.alloc(), &request[..size])?);
     Ok(())
 }

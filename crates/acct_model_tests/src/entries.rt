@@ -35,7 +35,7 @@ const EACH: &[u8] = &[
 
 // What is spelled: its name, the attribute octets, the moment at which they come, and what they
 // spell. Of several faults it is the first in the order of `EntryError`.
-const SPELLED: [(&str, &[u8], u32, Wanted); 14] = [
+static SPELLED: [(&str, &[u8], u32, Wanted); 14] = [
     (
         "a Start",
         START,

@@ -45,7 +45,7 @@ fn errors_are_numbered(rt: HostRuntime) {
     assert!(rt; TOPUP_NUMBERS == [1, 2, 3, 4]);
 }
 
-const PLAN_TEXTS: [(PlanError, &str); 5] = [
+static PLAN_TEXTS: [(PlanError, &str); 5] = [
     (PlanError::NoDefault, "there is no plan default"),
     (
         PlanError::TwicePlanned,
@@ -59,7 +59,7 @@ const PLAN_TEXTS: [(PlanError, &str); 5] = [
     (PlanError::Memory, "out of memory"),
 ];
 
-const ENTRY_TEXTS: [(EntryError, &str); 6] = [
+static ENTRY_TEXTS: [(EntryError, &str); 6] = [
     (EntryError::NoStatus, "there is no Acct-Status-Type"),
     (EntryError::UnknownStatus, "the Acct-Status-Type is unknown"),
     (EntryError::NoSessionId, "there is no Acct-Session-Id"),
@@ -71,7 +71,7 @@ const ENTRY_TEXTS: [(EntryError, &str); 6] = [
     (EntryError::Memory, "out of memory"),
 ];
 
-const TOPUP_TEXTS: [(TopUpError, &str); 4] = [
+static TOPUP_TEXTS: [(TopUpError, &str); 4] = [
     (
         TopUpError::BadVoucher,
         "the voucher's number is not 1 to 32 of A-Z, 0-9 and -",
@@ -81,14 +81,16 @@ const TOPUP_TEXTS: [(TopUpError, &str); 4] = [
     (TopUpError::Memory, "out of memory"),
 ];
 
-const MEMORY_TEXT: [(NoMemory, &str); 1] = [(NoMemory, "out of memory")];
+static MEMORY_TEXT: [(NoMemory, &str); 1] = [(NoMemory, "out of memory")];
 
 #[test]
 fn errors_have_their_texts(rt: HostRuntime) -> Result<(), Fail> {
-    assert!(rt; are_shown(rt.alloc(), &PLAN_TEXTS)?);
-    assert!(rt; are_shown(rt.alloc(), &ENTRY_TEXTS)?);
-    assert!(rt; are_shown(rt.alloc(), &TOPUP_TEXTS)?);
-    assert!(rt; are_shown(rt.alloc(), &MEMORY_TEXT)?);
+    assert!(rt;
+        are_shown(rt.alloc(), &PLAN_TEXTS)?
+            && are_shown(rt.alloc(), &ENTRY_TEXTS)?
+            && are_shown(rt.alloc(), &TOPUP_TEXTS)?
+            && are_shown(rt.alloc(), &MEMORY_TEXT)?
+    );
     Ok(())
 }
 

@@ -25,7 +25,7 @@ fn is_read(alloc: Global, text: &str, octets: &[u8]) -> Result<bool, Fail> {
 
 // Addresses of RFC 5737 and of a private net, and no address; 0 stands once alone and once at the
 // end of a number.
-const SHOWN_ADDRESSES: [(Option<[u8; 4]>, &str); 3] = [
+static SHOWN_ADDRESSES: [(Option<[u8; 4]>, &str); 3] = [
     (None, ""),
     (Some([203, 0, 113, 7]), "203.0.113.7"),
     (Some([10, 200, 30, 254]), "10.200.30.254"),
@@ -33,8 +33,8 @@ const SHOWN_ADDRESSES: [(Option<[u8; 4]>, &str); 3] = [
 
 #[test]
 fn addresses_are_shown(rt: HostRuntime) -> Result<(), Fail> {
-    for (address, text) in SHOWN_ADDRESSES {
-        assert!(rt; is_address_shown(rt.alloc(), address, text)?, "{text}");
+    for (address, text) in &SHOWN_ADDRESSES {
+        assert!(rt; is_address_shown(rt.alloc(), *address, text)?, "{text}");
     }
     Ok(())
 }
@@ -44,7 +44,7 @@ fn is_address_shown(alloc: Global, address: Option<[u8; 4]>, text: &str) -> Resu
 }
 
 // Texts, and the addresses that they are.
-const READ_ADDRESSES: [(&str, Option<[u8; 4]>); 8] = [
+static READ_ADDRESSES: [(&str, Option<[u8; 4]>); 8] = [
     ("203.0.113.7", Some([203, 0, 113, 7])),
     ("10.200.30.254", Some([10, 200, 30, 254])),
     ("", None),
@@ -57,17 +57,17 @@ const READ_ADDRESSES: [(&str, Option<[u8; 4]>); 8] = [
 
 #[test]
 fn addresses_are_read(rt: HostRuntime) {
-    for (text, address) in READ_ADDRESSES {
-        assert!(rt; address_of(text) == address, "{text}");
+    for (text, address) in &READ_ADDRESSES {
+        assert!(rt; address_of(text) == *address, "{text}");
     }
 }
 
 // Octets in their order.
-const ORDERED_OCTETS: [(&[u8], &[u8]); 2] = [(b"", &[0]), (&[0], b"a")];
+static ORDERED_OCTETS: [(&[u8], &[u8]); 2] = [(b"", &[0]), (&[0], b"a")];
 
 #[test]
 fn octets_and_texts_are_ordered(rt: HostRuntime) -> Result<(), Fail> {
-    for (less, greater) in ORDERED_OCTETS {
+    for (less, greater) in &ORDERED_OCTETS {
         assert!(rt; are_octets_ordered(rt.alloc(), less, greater)?);
     }
     assert!(rt; are_texts_ordered(rt.alloc(), "ap1", "ap10")?);

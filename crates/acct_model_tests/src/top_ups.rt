@@ -20,7 +20,7 @@ fn is_kept(alloc: Global) -> Result<bool, Fail> {
 
 // A number, an account, a sum, and what is wrong with them: of several faults the first in the
 // order of `TopUpError`.
-const FAULTS: [(&str, &[u8], u64, TopUpError); 7] = [
+static FAULTS: [(&str, &[u8], u64, TopUpError); 7] = [
     ("", b"", 0, TopUpError::BadVoucher),
     ("v-1", b"al", 1, TopUpError::BadVoucher),
     (
@@ -37,8 +37,8 @@ const FAULTS: [(&str, &[u8], u64, TopUpError); 7] = [
 
 #[test]
 fn faults_of_top_ups_are_found_in_order(rt: HostRuntime) {
-    for (voucher, account, sum, wanted) in FAULTS {
-        assert!(rt; fault_of(rt.alloc(), voucher, account, sum) == Some(wanted));
+    for (voucher, account, sum, wanted) in &FAULTS {
+        assert!(rt; fault_of(rt.alloc(), voucher, account, *sum) == Some(*wanted));
     }
 }
 

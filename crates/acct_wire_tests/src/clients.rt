@@ -5,7 +5,7 @@ use std::alloc::Global;
 use std::test::Fail;
 
 // The names of three clients, the last octets of their addresses, and their fault.
-const CLIENTS: [([&str; 3], [u8; 3], Option<ClientError>); 5] = [
+static CLIENTS: [([&str; 3], [u8; 3], Option<ClientError>); 5] = [
     (["ap1", "ap2", "ap3"], [1, 2, 3], None),
     (
         ["ap1", "ap2", "ap1"],
@@ -31,8 +31,8 @@ const CLIENTS: [([&str; 3], [u8; 3], Option<ClientError>); 5] = [
 
 #[test]
 fn clients_have_names_and_addresses_of_their_own(rt: HostRuntime) -> Result<(), Fail> {
-    for (names, addresses, fault) in CLIENTS {
-        assert!(rt; has_fault(rt.alloc(), names, addresses, fault)?);
+    for (names, addresses, fault) in &CLIENTS {
+        assert!(rt; has_fault(rt.alloc(), *names, *addresses, *fault)?);
     }
     Ok(())
 }

@@ -73,7 +73,7 @@ fn kept(site: &mut Site, outcome: Outcome) -> Result<Outcome, Fail> {
 
 // Sizes of datagrams, their Length, and why they are dropped: the limits of RFC 2865, section 3. In
 // the last two the digest is looked at.
-const LENGTHS: [(usize, [u8; 2], Reason); 8] = [
+static LENGTHS: [(usize, [u8; 2], Reason); 8] = [
     (0, [0, 0], Reason::TooShort),
     (19, [0, 19], Reason::TooShort),
     (19, [0, 20], Reason::TooShort),
@@ -87,13 +87,10 @@ const LENGTHS: [(usize, [u8; 2], Reason); 8] = [
 // A stranger is told apart before the length is looked at.
 #[test]
 fn lengths_are_judged(rt: HostRuntime) -> Result<(), Fail> {
-    for (size, length, reason) in LENGTHS {
+    for (size, length, reason) in &LENGTHS {
         assert!(rt;
-            of_length(rt.alloc(), AP1, size, length)? == Outcome::Drop(reason),
-            "{size}"
-        );
-        assert!(rt;
-            of_length(rt.alloc(), STRANGER, size, length)? == UNKNOWN_CLIENT,
+            of_length(rt.alloc(), AP1, *size, *length)? == Outcome::Drop(*reason)
+                && of_length(rt.alloc(), STRANGER, *size, *length)? == UNKNOWN_CLIENT,
             "{size}"
         );
     }
@@ -117,7 +114,7 @@ fn of_length(
 
 // Attribute octets under a right digest, and why they are dropped. The numbers are RFC 2866's:
 // section 5.1 for a status, 5.5 for a session id.
-const ATTRIBUTES: [(&[u8], Reason); 8] = [
+static ATTRIBUTES: [(&[u8], Reason); 8] = [
     // A Length of 1, also after a status that isn't known.
     (b"\x28\x01", Reason::BadAttribute),
     (b"\x28\x06\0\0\0\x09\x28\x01", Reason::BadAttribute),
@@ -135,8 +132,8 @@ const ATTRIBUTES: [(&[u8], Reason); 8] = [
 // Attributes that are cut off spell some where the cut is between two of them.
 #[test]
 fn attributes_are_judged(rt: HostRuntime) -> Result<(), Fail> {
-    for (octets, reason) in ATTRIBUTES {
-        assert!(rt; asked(rt.alloc(), octets)? == Outcome::Drop(reason));
+    for (octets, reason) in &ATTRIBUTES {
+        assert!(rt; asked(rt.alloc(), octets)? == Outcome::Drop(*reason));
     }
     for size in 0..=START_OCTETS.len() {
         assert!(rt;
@@ -177,7 +174,7 @@ const TOO_LARGE: Outcome = Outcome::Drop(Reason::TotalTooLarge);
 // The input of a report, gigawords of it, output and gigawords of it, what becomes of the report,
 // and the balance after it. A total is 2^63 - 1 octets at most. Its price by hand:
 // 10 * ceil((2^63 - 1) / 2^20) = 10 * 2^43.
-const TOTALS: [([&[u8]; 4], Outcome, i64); 3] = [
+static TOTALS: [([&[u8]; 4], Outcome, i64); 3] = [
     ([MOST, MOST, MOST, MOST], TOO_LARGE, 0),
     ([MOST, HALF, ONE, NONE], TOO_LARGE, 0),
     ([MOST, HALF, NONE, NONE], SHORT_REPLY, -87_960_930_222_080),
@@ -185,8 +182,8 @@ const TOTALS: [([&[u8]; 4], Outcome, i64); 3] = [
 
 #[test]
 fn totals_are_limited(rt: HostRuntime) -> Result<(), Fail> {
-    for (totals, outcome, balance) in TOTALS {
-        assert!(rt; totalled(rt.alloc(), totals)? == (outcome, balance));
+    for (totals, outcome, balance) in &TOTALS {
+        assert!(rt; totalled(rt.alloc(), *totals)? == (*outcome, *balance));
     }
     Ok(())
 }

@@ -7,7 +7,7 @@ use std::test::Fail;
 // Users, and their balances at the end. Prices by hand: `al` has 1,048,577 octets of `gold` and 10
 // without a Class, `wichert` 3 * 2^32 + 11 of `gold`, in 12,289 blocks, and the user of hostapd's
 // session none.
-const BALANCES: [(&[u8], i64); 3] = [(b"al", -25), (b"wichert", -122_890), (b"a26ecb7eca74", 0)];
+static BALANCES: [(&[u8], i64); 3] = [(b"al", -25), (b"wichert", -122_890), (b"a26ecb7eca74", 0)];
 
 // What two Stops leave of their sessions: the account and the calling station, the input, output
 // and seconds, the cause and the address.
@@ -17,7 +17,7 @@ type Stopped = (
     (u32, [u8; 4]),
 );
 
-const STOPPED: [(&[u8], Stopped); 2] = [
+static STOPPED: [(&[u8], Stopped); 2] = [
     (
         b"700A05EF064CCF53",
         (
@@ -46,13 +46,26 @@ fn foreign_packets_are_answered(rt: HostRuntime) -> Result<(), Fail> {
             foreign.client
         );
     }
-    for (user, balance) in BALANCES {
-        assert!(rt; site.balance(user)? == balance);
-    }
-    for (session, stopped) in STOPPED {
-        assert!(rt; is_stopped(&mut site, session, stopped)?);
-    }
+    assert!(rt; have_balances(&mut site)? && have_stopped(&mut site)?);
     Ok(())
+}
+
+fn have_balances(site: &mut Site) -> Result<bool, Fail> {
+    for (user, balance) in &BALANCES {
+        if site.balance(user)? != *balance {
+            return Ok(false);
+        }
+    }
+    Ok(true)
+}
+
+fn have_stopped(site: &mut Site) -> Result<bool, Fail> {
+    for (session, stopped) in &STOPPED {
+        if !is_stopped(site, session, *stopped)? {
+            return Ok(false);
+        }
+    }
+    Ok(true)
 }
 
 fn gets(site: &mut Site, request: &[u8], response: &[u8]) -> bool {

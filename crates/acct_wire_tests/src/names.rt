@@ -5,7 +5,7 @@ use std::fmt::Display;
 use std::test::Fail;
 
 // The reasons in the order of their numbers.
-const REASONS: [Reason; Reason::COUNT] = [
+static REASONS: [Reason; Reason::COUNT] = [
     Reason::UnknownClient,
     Reason::TooShort,
     Reason::BadLength,

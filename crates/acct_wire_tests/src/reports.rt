@@ -180,7 +180,7 @@ const RESTART: &[Line] = &[
     ),
 ];
 
-const SCRIPTS: [(&str, &[Line]); 11] = [
+static SCRIPTS: [(&str, &[Line]); 11] = [
     ("started blocks", STARTED_BLOCKS),
     ("a gigaword", GIGAWORD),
     ("a lower total", LOWER_TOTAL),
@@ -196,7 +196,7 @@ const SCRIPTS: [(&str, &[Line]); 11] = [
 
 #[test]
 fn reports_are_answered_and_charged(rt: HostRuntime) -> Result<(), Fail> {
-    for (name, script) in SCRIPTS {
+    for (name, script) in &SCRIPTS {
         assert!(rt; holds(rt.alloc(), script)?, "{name}");
     }
     Ok(())

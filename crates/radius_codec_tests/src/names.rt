@@ -34,7 +34,7 @@ fn names_stand_for_the_numbers_of_the_rfcs(rt: HostRuntime) {
 }
 
 // The numbers and texts of the errors.
-const ERRORS: [(CodecError, u8, &str); 3] = [
+static ERRORS: [(CodecError, u8, &str); 3] = [
     (CodecError::TooShort, 1, "a packet has 20 octets at least"),
     (
         CodecError::BadLength,
@@ -52,9 +52,9 @@ const TOO_LONG: &str = "the attributes take more octets than a packet has room f
 
 #[test]
 fn errors_have_numbers_and_texts(rt: HostRuntime) -> Result<(), Fail> {
-    for (error, number, text) in ERRORS {
+    for (error, number, text) in &ERRORS {
         assert!(rt;
-            error as u8 == number && is_shown(rt.alloc(), &error, text)?,
+            *error as u8 == *number && is_shown(rt.alloc(), error, text)?,
             "{text}"
         );
     }

@@ -4,7 +4,7 @@ use foreign_packets::SECRET;
 use radius_codec::{CodecError, Front, read, sign_request, word_of};
 
 // RFC 2865, section 5: a number has four octets, the high one first.
-const NUMBERS: [(&[u8], Option<u32>); 4] = [
+static NUMBERS: [(&[u8], Option<u32>); 4] = [
     (&[1, 2, 3, 4], Some(0x0102_0304)),
     (&[255; 4], Some(u32::MAX)),
     (&[0; 3], None),
@@ -13,8 +13,8 @@ const NUMBERS: [(&[u8], Option<u32>); 4] = [
 
 #[test]
 fn numbers_have_four_octets(rt: HostRuntime) {
-    for (octets, number) in NUMBERS {
-        assert!(rt; word_of(octets) == number);
+    for (octets, number) in &NUMBERS {
+        assert!(rt; word_of(octets) == *number);
     }
 }
 
@@ -38,7 +38,7 @@ fn is_start(datagram: &[u8]) -> bool {
 }
 
 // RFC 2866, section 5: an attribute's Length is 2 at least and ends within the packet.
-const ENDLESS: [&[u8]; 6] = [
+static ENDLESS: [&[u8]; 6] = [
     &[0x28, 1],
     &[0x28, 3],
     &[0x28, 0],
@@ -49,7 +49,7 @@ const ENDLESS: [&[u8]; 6] = [
 
 #[test]
 fn attributes_have_to_end(rt: HostRuntime) {
-    for octets in ENDLESS {
+    for octets in &ENDLESS {
         assert!(rt; fault_of(octets) == Some(CodecError::BadAttribute));
     }
 }
@@ -84,7 +84,7 @@ fn is_one_empty_value(octets: &[u8]) -> bool {
 
 // The size of a datagram, its Length field, and what is wrong with it: RFC 2865, section 3, for the
 // limits 20 and 4,096.
-const LENGTHS: [(usize, [u8; 2], Option<CodecError>); 8] = [
+static LENGTHS: [(usize, [u8; 2], Option<CodecError>); 8] = [
     (0, [0, 0], Some(CodecError::TooShort)),
     (19, [0, 20], Some(CodecError::TooShort)),
     (20, [0, 19], Some(CodecError::BadLength)),
@@ -97,8 +97,8 @@ const LENGTHS: [(usize, [u8; 2], Option<CodecError>); 8] = [
 
 #[test]
 fn lengths_are_judged(rt: HostRuntime) {
-    for (size, length, fault) in LENGTHS {
-        assert!(rt; has_fault(size, length, fault), "{size} octets");
+    for (size, length, fault) in &LENGTHS {
+        assert!(rt; has_fault(*size, *length, *fault), "{size} octets");
     }
 }
 

@@ -9,7 +9,7 @@ const LONGEST: (u8, &[u8]) = (1, &[0; 253]);
 // Attributes, and what comes of writing them: the size, and the octets at the front of the array.
 // 4,076 octets are the most of all attributes together: fifteen attributes of 255 octets, and one
 // of 251.
-const WRITTEN: [(&[(u8, &[u8])], Result<usize, TooLong>, &[u8]); 5] = [
+static WRITTEN: [(&[(u8, &[u8])], Result<usize, TooLong>, &[u8]); 5] = [
     (&START_VALUES, Ok(34), &START_PACKET),
     (
         &[
@@ -81,7 +81,7 @@ const WRITTEN: [(&[(u8, &[u8])], Result<usize, TooLong>, &[u8]); 5] = [
 ];
 
 // Attribute octets, and what comes of signing them.
-const SIGNED: [(&[u8], Result<usize, TooLong>, &[u8]); 4] = [
+static SIGNED: [(&[u8], Result<usize, TooLong>, &[u8]); 4] = [
     (&START, Ok(34), &START_PACKET),
     (&[0x28, 2], Ok(22), &[4, 7, 0, 22]),
     (&[2; 4077], Err(TooLong), &[]),
@@ -90,8 +90,8 @@ const SIGNED: [(&[u8], Result<usize, TooLong>, &[u8]); 4] = [
 
 #[test]
 fn requests_are_written(rt: HostRuntime) {
-    for (attributes, size, front) in WRITTEN {
-        assert!(rt; comes_of_writing(attributes, size, front));
+    for (attributes, size, front) in &WRITTEN {
+        assert!(rt; comes_of_writing(attributes, *size, front));
     }
 }
 
@@ -108,8 +108,8 @@ fn comes_of_writing(
 
 #[test]
 fn requests_are_signed(rt: HostRuntime) {
-    for (octets, size, front) in SIGNED {
-        assert!(rt; comes_of_signing(octets, size, front));
+    for (octets, size, front) in &SIGNED {
+        assert!(rt; comes_of_signing(octets, *size, front));
     }
 }
 
