@@ -1,5 +1,6 @@
 //! Several addresses on loopback: who is asked where, and from where each reply leaves.
-use crate::callers::{echoes, gets, next, reply};
+use crate::callers::{echoes, gets, next};
+use crate::turns::reply;
 use acct_service::{Exchange, What};
 use acct_sockets::Sockets;
 use std::io::Write;
@@ -70,7 +71,7 @@ fn comes_from_there(sockets: &Sockets<'_, HostRuntime>, client: &UdpSocket) -> R
 }
 
 // How many addresses there are, and the places of those that are asked, in this order.
-const ASKED: [(u8, &[u8]); 4] = [
+static ASKED: [(u8, &[u8]); 4] = [
     (1, &[0, 0]),
     (2, &[1, 0]),
     (2, &[0, 1, 1, 1, 0]),

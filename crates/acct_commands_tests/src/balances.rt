@@ -1,8 +1,8 @@
 //! The file of all balances.
 ghost use Rattle.std.specs.Prelude.{◌<◌, ◌^◌};
 
-use acct_book::MemBook;
 use acct_book::fakes::ShutBook;
+use acct_book::{Book, MemBook};
 use acct_command_line::{BalancesFile, Export};
 use acct_commands::{KeptBalances, run_export, run_import};
 use acct_model::Text;
@@ -64,63 +64,90 @@ const FIRST: &str = "account,balance,overrun\nal,500,0\nbo,300,0\n";
 
 const SECOND: &str = "account,balance,overrun\nal,500,0\nbo,1000,0\n";
 
-// The file has all balances, and is not written again within five seconds.
+// Whether a file has this text.
+fn reads(rt: &HostRuntime, name: &str, wanted: &str) -> Result<bool, Fail> {
+    let text = fs::read_to_string(rt, name)?;
+    Ok(text.as_str() == wanted)
+}
+
+const TWO_VOUCHERS: &str = "voucher,account,sum\nV-1,al,500\nV-2,bo,300\n";
+
+const LATER_VOUCHER: &str = "voucher,account,sum\nV-3,bo,700\n";
+
+// Whether a file has all balances of a book, and is not written again within five seconds.
+fn is_kept_up(
+    rt: &HostRuntime,
+    config: &Config,
+    book: &mut MemBook,
+    kept: &mut KeptBalances<'_, HostRuntime>,
+    told: &mut Vec<u8>,
+) -> Result<bool, Fail> {
+    let alloc = rt.alloc();
+    credit(alloc, config, book, TWO_VOUCHERS)?;
+    kept.keep(alloc, &config.plans, book, 3000, told);
+    let begins = has(rt, config, book, "kept-balances", FIRST)?;
+    credit(alloc, config, book, LATER_VOUCHER)?;
+    kept.keep(alloc, &config.plans, book, 3004, told);
+    let stays = reads(rt, "kept-balances", FIRST)?;
+    kept.keep(alloc, &config.plans, book, 3005, told);
+    let goes_on = has(rt, config, book, "kept-balances", SECOND)?;
+    let is_renamed = !fs::exists(rt, "kept-balances.new")?;
+    fs::remove_file(rt, "kept-balances")?;
+    Ok(begins && stays && goes_on && is_renamed)
+}
+
 #[test]
 fn keeps_up_with_the_book(rt: HostRuntime) -> Result<(), Fail> {
-    let alloc = rt.alloc();
-    let config = sample_config(alloc)?;
-    let mut book = MemBook::new(alloc);
-    let mut told = Vec::new(alloc);
-    let mut kept = KeptBalances::new(&rt, alloc, &asked(alloc, "kept-balances")?)?;
-    credit(
-        alloc,
-        &config,
-        &mut book,
-        "voucher,account,sum\nV-1,al,500\nV-2,bo,300\n",
-    )?;
-    kept.keep(alloc, &config.plans, &mut book, 3000, &mut told);
-    assert!(rt; has(&rt, &config, &mut book, "kept-balances", FIRST)?);
-    credit(
-        alloc,
-        &config,
-        &mut book,
-        "voucher,account,sum\nV-3,bo,700\n",
-    )?;
-    kept.keep(alloc, &config.plans, &mut book, 3004, &mut told);
-    let text = fs::read_to_string(&rt, "kept-balances")?;
-    assert!(rt; text.as_str() == FIRST);
-    kept.keep(alloc, &config.plans, &mut book, 3005, &mut told);
-    assert!(rt; has(&rt, &config, &mut book, "kept-balances", SECOND)?);
-    assert!(rt; !fs::exists(&rt, "kept-balances.new")?);
-    assert!(rt; told.is_empty());
-    fs::remove_file(&rt, "kept-balances")?;
+    let config = sample_config(rt.alloc())?;
+    let mut book = MemBook::new(rt.alloc());
+    let mut told = Vec::new(rt.alloc());
+    let mut kept = KeptBalances::new(&rt, rt.alloc(), &asked(rt.alloc(), "kept-balances")?)?;
+    assert!(rt; is_kept_up(&rt, &config, &mut book, &mut kept, &mut told)? && told.is_empty());
     Ok(())
 }
 
-// Where it cannot be written, or the book refuses, that is told once, and the file stays.
+// Moments at which a file is due.
+static DUE: [u64; 3] = [3000, 3005, 3010];
+
+// Whether this is told of a file of balances that is due three times.
+fn tells<B: Book>(
+    rt: &HostRuntime,
+    name: &str,
+    config: &Config,
+    book: &mut B,
+    wanted: &str,
+) -> Result<bool, Fail> {
+    let mut told = Vec::new(rt.alloc());
+    let mut kept = KeptBalances::new(rt, rt.alloc(), &asked(rt.alloc(), name)?)?;
+    for moment in &DUE {
+        kept.keep(rt.alloc(), &config.plans, book, *moment, &mut told);
+    }
+    Ok(told.as_slice() == wanted.as_bytes())
+}
+
+// Where it cannot be written, that is told once.
 #[test]
-fn tells_why_it_is_not_kept_up(rt: HostRuntime) -> Result<(), Fail> {
-    let alloc = rt.alloc();
-    let config = sample_config(alloc)?;
-    let mut told = Vec::new(alloc);
-    let mut book = MemBook::new(alloc);
-    let mut kept = KeptBalances::new(&rt, alloc, &asked(alloc, "no-folder/balances")?)?;
-    for moment in [3000, 3005, 3010] {
-        kept.keep(alloc, &config.plans, &mut book, moment, &mut told);
-    }
-    let name = "shut-balances";
-    fs::write(&rt, name, FIRST)?;
-    let mut shut = ShutBook::new(alloc, 0);
-    let mut kept = KeptBalances::new(&rt, alloc, &asked(alloc, name)?)?;
-    shut_down(alloc, &config, &mut shut)?;
-    for moment in [3000, 3005, 3010] {
-        kept.keep(alloc, &config.plans, &mut shut, moment, &mut told);
-    }
-    let text = fs::read_to_string(&rt, name)?;
-    assert!(rt; text.as_str() == FIRST);
-    let wanted = "balances: cannot write\nbalances: db: Unavailable\n";
-    assert!(rt; told.as_slice() == wanted.as_bytes());
-    fs::remove_file(&rt, name)?;
+fn tells_that_it_is_not_written(rt: HostRuntime) -> Result<(), Fail> {
+    let config = sample_config(rt.alloc())?;
+    let mut book = MemBook::new(rt.alloc());
+    let wanted = "balances: cannot write\n";
+    assert!(rt; tells(&rt, "no-folder/balances", &config, &mut book, wanted)?);
+    Ok(())
+}
+
+// Where the book refuses, that is told once, and the file stays.
+#[test]
+fn tells_that_the_book_refuses(rt: HostRuntime) -> Result<(), Fail> {
+    let config = sample_config(rt.alloc())?;
+    let mut shut = ShutBook::new(rt.alloc(), 0);
+    shut_down(rt.alloc(), &config, &mut shut)?;
+    fs::write(&rt, "shut-balances", FIRST)?;
+    let wanted = "balances: db: Unavailable\n";
+    assert!(rt;
+        tells(&rt, "shut-balances", &config, &mut shut, wanted)?
+            && reads(&rt, "shut-balances", FIRST)?
+    );
+    fs::remove_file(&rt, "shut-balances")?;
     fs::remove_file(&rt, "shut-balances.new")?;
     Ok(())
 }

@@ -1,4 +1,5 @@
 //! Callers of the desk on loopback: each kind of them, and many at once.
+use crate::turns::{reply, turn};
 use acct_service::{Event, Exchange, Fault, What};
 use acct_sockets::Sockets;
 use std::alloc::Global;
@@ -29,26 +30,6 @@ fn caller(
     stream.set_read_timeout(Some(Duration::from_secs(5)))?;
     stream.write_all(octets)?;
     Ok(stream)
-}
-
-// A turn, unless there were as many as can be counted.
-fn turn(sockets: &mut Sockets<'_, HostRuntime>) -> Result<Option<Event>, Fault> {
-    if sockets.turns() == u64::MAX || sockets.failures() == u64::MAX {
-        return Err(Fault);
-    }
-    sockets.next()
-}
-
-/// Sends a reply, unless there were as many failures as can be counted.
-pub fn reply(
-    sockets: &mut Sockets<'_, HostRuntime>,
-    event: &Event,
-    bytes: &[u8],
-) -> Result<(), Fault> {
-    if sockets.failures() == u64::MAX {
-        return Err(Fault);
-    }
-    sockets.reply(event, bytes)
 }
 
 /// What comes in at most so many turns.
@@ -137,7 +118,7 @@ fn hears_one_request_of_a_caller(rt: HostRuntime) -> Result<(), Fail> {
 }
 
 // What a caller may have sent when it closes its side.
-const CLOSED_AFTER: [&[u8]; 3] = [b"GET /me", REQUEST, b""];
+static CLOSED_AFTER: [&[u8]; 3] = [b"GET /me", REQUEST, b""];
 
 // Whether a caller that closes its side after these octets is answered by them.
 fn is_heard_to_its_end(

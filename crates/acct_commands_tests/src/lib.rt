@@ -20,6 +20,8 @@ mod site;
 #[cfg(test)]
 mod status;
 #[cfg(test)]
+mod turns;
+#[cfg(test)]
 mod watching;
 #[cfg(test)]
 mod words;

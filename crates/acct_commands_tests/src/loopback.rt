@@ -38,13 +38,14 @@ fn uploads_twice_and_exports(rt: HostRuntime) -> Result<(), Fail> {
     let alloc = rt.alloc();
     let mut book = MemBook::new(alloc);
     let first = "added 2, repeated 0, refused 1\n4: VoucherDiffers\n";
-    assert!(rt; uploads(alloc, &mut book, first)?);
     let second = "added 0, repeated 2, refused 1\n4: VoucherDiffers\n";
-    assert!(rt; uploads(alloc, &mut book, second)?);
     let balances = "account,balance,overrun\nal,500,0\nbo,300,0\n";
-    assert!(rt; exports(alloc, &mut book, Export::Balances, balances)?);
     let topups = "voucher,account,sum,when\nV-1,al,500,3000\nV-2,bo,300,3000\n";
-    assert!(rt; exports(alloc, &mut book, Export::TopUps, topups)?);
+    assert!(rt; uploads(alloc, &mut book, first)? && uploads(alloc, &mut book, second)?);
+    assert!(rt;
+        exports(alloc, &mut book, Export::Balances, balances)?
+            && exports(alloc, &mut book, Export::TopUps, topups)?
+    );
     Ok(())
 }
 
@@ -73,38 +74,43 @@ const RESPONSE: &[u8] = b"HTTP/1.1 200 OK\r\nContent-Type: application/json\r\n\
     Content-Length: 40\r\nConnection: close\r\n\r\n\
     {\"account\":\"al\",\"balance\":0,\"overrun\":0}";
 
-// A datagram and a request that wait already are answered, and nothing else comes.
-fn serves_both(rt: &HostRuntime) -> Result<bool, Fail> {
-    let config = loopback_site(rt.alloc())?;
-    let mut book = MemBook::new(rt.alloc());
-    let here = [127, 0, 0, 1];
-    let Ok(mut sockets) = Sockets::bind(rt, rt.alloc(), &[here], here, 0, 0) else {
-        return Err("no sockets".into());
-    };
-    let (radius, desk) = sockets.ports()?;
+// A client that sent its datagram, and a guest that sent its request.
+fn both_ask(rt: &HostRuntime, (radius, desk): (u16, u16)) -> Result<(UdpSocket, TcpStream), Fail> {
     let client = UdpSocket::bind(rt, "127.0.0.1:0")?;
     client.send_to(START, ("127.0.0.1", radius))?;
     let mut guest = TcpStream::connect(rt, ("127.0.0.1", desk))?;
     guest.write_all(REQUEST)?;
+    Ok((client, guest))
+}
+
+// A datagram and a request that wait already are answered, and nothing else comes.
+fn serves_both(rt: &HostRuntime) -> Result<bool, Fail> {
+    let config = loopback_site(rt.alloc())?;
+    let here = [127, 0, 0, 1];
+    let Ok(mut sockets) = Sockets::bind(rt, rt.alloc(), &[here], here, 0, 0) else {
+        return Err("no sockets".into());
+    };
+    let ports = sockets.ports()?;
+    let (client, mut guest) = both_ask(rt, ports)?;
+    let mut book = MemBook::new(rt.alloc());
     let served = serve(rt.alloc(), &config, &mut book, &mut sockets, 64);
-    Ok(
-        (served.events, served.replies, served.faults) == (2, 2, 0)
-            && is_answered(&client)?
-            && is_told(rt.alloc(), &mut guest)?,
-    )
+    let counts = (served.events, served.replies, served.faults);
+    Ok(counts == (2, 2, 0) && is_answered(&client) && is_told(rt.alloc(), &mut guest))
 }
 
-fn is_answered(client: &UdpSocket) -> Result<bool, Fail> {
-    client.set_read_timeout(Some(Duration::from_millis(1000)))?;
+fn is_answered(client: &UdpSocket) -> bool {
     let mut reply = [0; 64];
-    let (count, _) = client.recv_from(&mut reply)?;
-    Ok(&reply[..count] == ANSWER)
+    let wait = Some(Duration::from_millis(1000));
+    client.set_read_timeout(wait).is_ok()
+        && match client.recv_from(&mut reply) {
+            Ok((count, _)) => &reply[..count] == ANSWER,
+            Err(_) => false,
+        }
 }
 
-fn is_told<R: Read>(alloc: Global, guest: &mut R) -> Result<bool, Fail> {
+fn is_told<R: Read>(alloc: Global, guest: &mut R) -> bool {
     let mut response = Vec::new(alloc);
-    guest.read_to_end(&mut response)?;
-    Ok(response.as_slice() == RESPONSE)
+    guest.read_to_end(&mut response).is_ok() && response.as_slice() == RESPONSE
 }
 
 #[test]

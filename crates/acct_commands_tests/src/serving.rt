@@ -64,12 +64,20 @@ const TEXT: &str = "serving\nevents 2, replies 1, mute 0, faults 0\ndropped 2: 1
 #[test]
 fn prints_what_it_counts(rt: HostRuntime) -> Result<(), Fail> {
     let mut output = Vec::new(rt.alloc());
-    assert_eq!(rt;
-        ended(rt.alloc(), &mut output)?,
-        (Ended::Told(served(), Until::AllMade), 3)
-    );
-    assert!(rt; output.as_slice() == TEXT.as_bytes());
+    let wanted = end_with(TEXT.len());
+    assert!(rt; ended(rt.alloc(), &mut output)? == wanted && output.as_slice() == TEXT.as_bytes());
     Ok(())
+}
+
+// How it ends where its output has room for so many octets, and how many turns it makes then.
+fn end_with(room: usize) -> (Ended, u64) {
+    if room < "serving\n".len() {
+        (Ended::NotBegun, 0)
+    } else if room < TEXT.len() {
+        (Ended::Untold(served(), Until::AllMade), 3)
+    } else {
+        (Ended::Told(served(), Until::AllMade), 3)
+    }
 }
 
 // A writer that takes so many octets, and then fails.
@@ -95,18 +103,12 @@ impl Write for Short {
 // It serves nobody where it can't say so, and everybody where only its counts find no room.
 #[test]
 fn serves_whom_it_told(rt: HostRuntime) -> Result<(), Fail> {
-    for room in 0..TEXT.len() {
-        let told = ended(rt.alloc(), &mut Short { room })?;
-        let begun = room >= "serving\n".len();
-        let wanted = if begun {
-            (Ended::Untold(served(), Until::AllMade), 3)
-        } else {
-            (Ended::NotBegun, 0)
-        };
-        assert_eq!(rt; told, wanted);
+    for room in 0..=TEXT.len() {
+        assert!(rt;
+            ended(rt.alloc(), &mut Short { room })? == end_with(room),
+            "{room}"
+        );
     }
-    let told = ended(rt.alloc(), &mut Short { room: TEXT.len() })?;
-    assert_eq!(rt; told, (Ended::Told(served(), Until::AllMade), 3));
     Ok(())
 }
 
@@ -131,9 +133,9 @@ fn starts(alloc: Global) -> Result<Vec<Planned>, Fail> {
     Ok(planned)
 }
 
-// How a server of 1,000 turns ends over a book that shuts at the write after so many, the number of
-// turns that it made, and what it printed.
-fn shuts(alloc: Global, writes: u64) -> Result<(Ended, u64, Vec<u8>), Fail> {
+// Whether a server of 1,000 turns over a book that shuts at the write after so many ends so, makes
+// so many turns, and prints this.
+fn ends_after(alloc: Global, writes: u64, wanted: (Ended, u64), text: &str) -> Result<bool, Fail> {
     let config = sample_config(alloc)?;
     let mut book = ShutBook::new(alloc, writes);
     let mut exchange = ListExchange::new(alloc, starts(alloc)?);
@@ -147,24 +149,27 @@ fn shuts(alloc: Global, writes: u64) -> Result<(Ended, u64, Vec<u8>), Fail> {
         1000,
         &mut output,
     );
-    Ok((ended, exchange.turns(), output))
+    Ok((ended, exchange.turns()) == wanted && output.as_slice() == text.as_bytes())
+}
+
+// Two datagrams, of which so many are answered and the others refused by the book.
+fn answered(replies: u64, refused: u64) -> Served {
+    let mut served = Served::none();
+    served.events = 2;
+    served.replies = replies;
+    served.dropped[12] = refused;
+    served
 }
 
 // A server whose book was shut by a failed write ends after its slice of turns, and says what it
 // counted. One that it wasn't makes all of its turns.
 #[test]
 fn ends_where_the_book_is_shut(rt: HostRuntime) -> Result<(), Fail> {
-    let mut served = Served::none();
-    served.events = 2;
-    served.dropped[12] = 2;
-    let (ended, turns, output) = shuts(rt.alloc(), 0)?;
-    assert_eq!(rt; (ended, turns), (Ended::Told(served, Until::Shut), 256));
+    let shut = (Ended::Told(answered(0, 2), Until::Shut), 256);
     let text = "serving\nevents 2, replies 0, mute 0, faults 0\ndropped 13: 2\n";
-    assert!(rt; output.as_slice() == text.as_bytes());
-    let mut served = Served::none();
-    served.events = 2;
-    served.replies = 2;
-    let (ended, turns, _) = shuts(rt.alloc(), 2)?;
-    assert_eq!(rt; (ended, turns), (Ended::Told(served, Until::AllMade), 1000));
+    assert!(rt; ends_after(rt.alloc(), 0, shut, text)?);
+    let open = (Ended::Told(answered(2, 0), Until::AllMade), 1000);
+    let text = "serving\nevents 2, replies 2, mute 0, faults 0\n";
+    assert!(rt; ends_after(rt.alloc(), 2, open, text)?);
     Ok(())
 }

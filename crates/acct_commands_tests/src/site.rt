@@ -57,35 +57,46 @@ fn taken(
     take_site(rt.alloc(), read, &config.plans, told)
 }
 
+// The parts of a text, the moment at which a file of it is looked at first, and how many clients and
+// keys are taken of it.
+static CHANGES: [([&str; 4], u32, Option<(usize, usize)>); 5] = [
+    ([CLIENT, OTHER_CLIENT, PLAN, KEY], 3000, Some((2, 1))),
+    ([CLIENT, OTHER_CLIENT, PLAN, WRONG_KEY], 3002, None),
+    ([CLIENT, PLAN, "", ""], 3004, Some((1, 0))),
+    ([CLIENT, OTHER_PLAN, KEY, ""], 3006, None),
+    ([CLIENT, PLAN, OTHER_PLAN, OTHER_CLIENT], 3008, None),
+];
+
+// Whether what is in a file is taken at the second look at it, and at no other one.
+fn is_taken_once(
+    rt: &HostRuntime,
+    site: &mut SiteFile<'_, HostRuntime>,
+    config: &Config,
+    (moment, wanted): (u32, Option<(usize, usize)>),
+    told: &mut Vec<u8>,
+) -> bool {
+    let first = u64::from(moment);
+    taken(rt, site, config, first, told).is_none()
+        && sizes(taken(rt, site, config, first + 1, told)) == wanted
+        && taken(rt, site, config, first + 2, told).is_none()
+}
+
 // A change is seen once, taken where it is right and has the same plans, and told.
 #[test]
 fn takes_what_is_right(rt: HostRuntime) -> Result<(), Fail> {
-    let alloc = rt.alloc();
     let name = "changing-site.toml";
     write_site(&rt, name, [CLIENT, PLAN, KEY, ""])?;
-    let config = old_site(alloc)?;
-    let mut told = Vec::new(alloc);
-    let file = Text::from_str(alloc, name)?;
+    let config = old_site(rt.alloc())?;
+    let mut told = Vec::new(rt.alloc());
+    let file = Text::from_str(rt.alloc(), name)?;
     let mut site = SiteFile::new(&rt, &file);
     assert!(rt; taken(&rt, &mut site, &config, 3000, &mut told).is_none());
-    let changes: [([&str; 4], u32, Option<(usize, usize)>); 5] = [
-        ([CLIENT, OTHER_CLIENT, PLAN, KEY], 3000, Some((2, 1))),
-        ([CLIENT, OTHER_CLIENT, PLAN, WRONG_KEY], 3002, None),
-        ([CLIENT, PLAN, "", ""], 3004, Some((1, 0))),
-        ([CLIENT, OTHER_PLAN, KEY, ""], 3006, None),
-        ([CLIENT, PLAN, OTHER_PLAN, OTHER_CLIENT], 3008, None),
-    ];
-    for (parts, moment, wanted) in changes {
-        let last = u64::from(moment);
-        write_site(&rt, name, parts)?;
-        assert!(rt; taken(&rt, &mut site, &config, last, &mut told).is_none());
-        assert!(rt; sizes(taken(&rt, &mut site, &config, last + 1, &mut told)) == wanted);
-        assert!(rt; taken(&rt, &mut site, &config, last + 2, &mut told).is_none());
+    for (parts, moment, wanted) in &CHANGES {
+        write_site(&rt, name, *parts)?;
+        assert!(rt; is_taken_once(&rt, &mut site, &config, (*moment, *wanted), &mut told));
     }
     fs::remove_file(&rt, name)?;
-    for moment in [4000, 4001] {
-        assert!(rt; taken(&rt, &mut site, &config, moment, &mut told).is_none());
-    }
+    assert!(rt; is_taken_once(&rt, &mut site, &config, (4000, None), &mut told));
     assert!(rt; told.as_slice() == TOLD.as_bytes());
     Ok(())
 }
@@ -107,27 +118,42 @@ fn write_at(rt: &HostRuntime, name: &str, moment: u64) -> Result<(), Fail> {
     Ok(())
 }
 
-// A clock that is before the last change of the book or of its log is told.
+// Tells of the clock beside a book and a log that were written at these moments.
+fn note_beside(
+    rt: &HostRuntime,
+    file: &Text,
+    (book, log): (u64, u64),
+    told: &mut Vec<u8>,
+) -> Result<(), Fail> {
+    write_at(rt, "late-book", book)?;
+    write_at(rt, "late-book-wal", log)?;
+    note_clock(rt, file, told);
+    Ok(())
+}
+
+// Whether a clock is told that is before the last change of the book or of its log, and no other.
+fn tells_late(rt: &HostRuntime, file: &Text, told: &mut Vec<u8>) -> Result<bool, Fail> {
+    note_clock(rt, file, told);
+    note_beside(rt, file, (1_000_000_000, 1_000_000_001), told)?;
+    let is_silent = told.is_empty();
+    note_beside(rt, file, (1_000_000_000, 9_000_000_001), told)?;
+    note_beside(rt, file, (9_000_000_002, 9_000_000_001), told)?;
+    let text = str::from_utf8(told).unwrap_or("");
+    let (first, second) = text.split_once('\n').unwrap_or(("", ""));
+    Ok(
+        is_silent
+            && first.starts_with("clock: 1")
+            && first.ends_with(" is before 9000000001, when the book was last written")
+            && second.ends_with(" is before 9000000002, when the book was last written\n"),
+    )
+}
+
 #[test]
 fn tells_a_clock_that_is_late(rt: HostRuntime) -> Result<(), Fail> {
-    let name = "late-book";
-    let file = Text::from_str(rt.alloc(), name)?;
+    let file = Text::from_str(rt.alloc(), "late-book")?;
     let mut told = Vec::new(rt.alloc());
-    note_clock(&rt, &file, &mut told);
-    write_at(&rt, name, 1_000_000_000)?;
-    write_at(&rt, "late-book-wal", 1_000_000_001)?;
-    note_clock(&rt, &file, &mut told);
-    assert!(rt; told.is_empty());
-    write_at(&rt, "late-book-wal", 9_000_000_001)?;
-    note_clock(&rt, &file, &mut told);
-    write_at(&rt, name, 9_000_000_002)?;
-    note_clock(&rt, &file, &mut told);
-    let text = str::from_utf8(&told).unwrap_or("");
-    let (first, second) = text.split_once('\n').unwrap_or(("", ""));
-    assert!(rt; first.starts_with("clock: 1"));
-    assert!(rt; first.ends_with(" is before 9000000001, when the book was last written"));
-    assert!(rt; second.ends_with(" is before 9000000002, when the book was last written\n"));
-    fs::remove_file(&rt, name)?;
+    assert!(rt; tells_late(&rt, &file, &mut told)?);
+    fs::remove_file(&rt, "late-book")?;
     fs::remove_file(&rt, "late-book-wal")?;
     Ok(())
 }

@@ -1,6 +1,7 @@
 //! The file of a server's counts.
 ghost use Rattle.std.specs.Prelude.{◌<◌, ◌^◌};
 
+use crate::turns::{reply, turn};
 use acct_commands::{Figures, StatusFile, Tally, Watch, Watched, write_figures};
 use acct_model::{Octets, Text};
 use acct_service::lists::{ListExchange, Planned};
@@ -8,6 +9,7 @@ use acct_service::{Event, Exchange, What};
 use acct_wire::Reason;
 use std::alloc::Global;
 use std::fs;
+use std::io::Write;
 use std::os::unix::fs::PermissionsExt;
 use std::test::Fail;
 
@@ -112,53 +114,86 @@ fn no_watch() -> Option<Watch<Vec<u8>>> {
     None
 }
 
+// An exchange of three datagrams, at these moments, whose counts are kept in a file.
+fn watched<'r, E: Write + Drop>(
+    rt: &'r HostRuntime,
+    name: &str,
+    moments: [u32; 3],
+    told: E,
+) -> Result<Watched<'r, HostRuntime, ListExchange, Vec<u8>, E>, Fail> {
+    let exchange = ListExchange::new(rt.alloc(), datagrams(rt.alloc(), moments)?);
+    let name = Text::from_str(rt.alloc(), name)?;
+    let status = StatusFile::new(rt, rt.alloc(), &name, 990, told)?;
+    Ok(Watched::new(rt, exchange, no_watch(), Some(status)))
+}
+
+// Whether a datagram comes, and is dropped.
+fn drops<X: Exchange>(exchange: &mut X) -> bool {
+    match turn(exchange) {
+        Ok(Some(event)) => {
+            exchange.note_drop(&event, Reason::TooShort);
+            true
+        }
+        _ => false,
+    }
+}
+
+// Whether a datagram comes, and its reply is taken.
+fn replies<X: Exchange>(exchange: &mut X) -> bool {
+    match turn(exchange) {
+        Ok(Some(event)) => reply(exchange, &event, b"yes").is_ok(),
+        _ => false,
+    }
+}
+
+// Whether the file is written at the first turn, and when ten seconds have gone by.
+fn is_kept<X: Exchange>(rt: &HostRuntime, exchange: &mut X) -> Result<bool, Fail> {
+    let mut tally = Tally::none();
+    let begins = drops(exchange) && has(rt, "kept-status", &figures(tally, 0))?;
+    let stays = replies(exchange) && has(rt, "kept-status", &figures(tally, 0))?;
+    tally.events = 2;
+    tally.drops = 1;
+    tally.replies = 1;
+    let goes_on = turn(exchange).is_ok() && has(rt, "kept-status", &figures(tally, 1009))?;
+    Ok(begins && stays && goes_on)
+}
+
 // The file is written at the first turn, when ten seconds have gone by, and at the end, by an
 // exchange that counts its calls: a drop, a reply, and an event without an answer.
 #[test]
 fn keeps_a_file(rt: HostRuntime) -> Result<(), Fail> {
-    let alloc = rt.alloc();
-    let name = Text::from_str(alloc, "kept-status")?;
-    let status = StatusFile::new(&rt, alloc, &name, 990, Vec::new(alloc))?;
-    let exchange = ListExchange::new(alloc, datagrams(alloc, [1000, 1009, 1010])?);
-    let mut watched = Watched::new(&rt, exchange, no_watch(), Some(status));
-    let Ok(Some(event)) = watched.next() else {
-        return Err("no event".into());
-    };
-    watched.note_drop(&event, Reason::TooShort);
-    let mut tally = Tally::none();
-    assert!(rt; has(&rt, "kept-status", &figures(tally, 0))?);
-    let Ok(Some(event)) = watched.next() else {
-        return Err("no event".into());
-    };
-    assert!(rt; watched.reply(&event, b"yes").is_ok());
-    assert!(rt; has(&rt, "kept-status", &figures(tally, 0))?);
-    assert!(rt; watched.next().is_ok());
-    tally.events = 2;
-    tally.drops = 1;
-    tally.replies = 1;
-    assert!(rt; has(&rt, "kept-status", &figures(tally, 1009))?);
+    let told = Vec::new(rt.alloc());
+    let mut watched = watched(&rt, "kept-status", [1000, 1009, 1010], told)?;
+    let is_kept = is_kept(&rt, &mut watched)?;
     watched.finish();
-    tally.events = 3;
-    tally.mute = 1;
-    assert!(rt; has(&rt, "kept-status", &figures(tally, 1010))?);
-    assert!(rt; !fs::exists(&rt, "kept-status.new")?);
+    let tally = Tally {
+        events: 3,
+        replies: 1,
+        drops: 1,
+        mute: 1,
+        faults: 0,
+    };
+    assert!(rt;
+        is_kept
+            && has(&rt, "kept-status", &figures(tally, 1010))?
+            && !fs::exists(&rt, "kept-status.new")?
+    );
     fs::remove_file(&rt, "kept-status")?;
     Ok(())
+}
+
+// Whether an event comes.
+fn comes<X: Exchange>(exchange: &mut X) -> bool {
+    matches!(turn(exchange), Ok(Some(_)))
 }
 
 // Where it cannot be written, that is told once, and the exchange gives what it gives.
 #[test]
 fn tells_once_that_it_cannot(rt: HostRuntime) -> Result<(), Fail> {
-    let alloc = rt.alloc();
-    let name = Text::from_str(alloc, "no-folder/status")?;
-    let mut told = Vec::new(alloc);
-    let status = StatusFile::new(&rt, alloc, &name, 990, &mut told)?;
-    let exchange = ListExchange::new(alloc, datagrams(alloc, [1000, 1010, 1020])?);
-    let mut watched = Watched::new(&rt, exchange, no_watch(), Some(status));
-    assert!(rt; matches!(watched.next(), Ok(Some(_))));
-    assert!(rt; matches!(watched.next(), Ok(Some(_))));
-    assert!(rt; matches!(watched.next(), Ok(Some(_))));
+    let mut told = Vec::new(rt.alloc());
+    let mut watched = watched(&rt, "no-folder/status", [1000, 1010, 1020], &mut told)?;
+    let all_come = comes(&mut watched) && comes(&mut watched) && comes(&mut watched);
     watched.finish();
-    assert!(rt; told.as_slice() == b"status: cannot write\n".as_slice());
+    assert!(rt; all_come && told.as_slice() == b"status: cannot write\n".as_slice());
     Ok(())
 }

@@ -1,6 +1,7 @@
 //! What a server tells while it runs, and which drops it tells.
 ghost use Rattle.std.specs.Prelude.{◌<◌, ◌^◌};
 
+use crate::turns::turn;
 use acct_book::MemBook;
 use acct_commands::{DropLog, StatusFile, Watch, Watched};
 use acct_model::Octets;
@@ -162,21 +163,28 @@ fn serves_whoever_watches(rt: HostRuntime) -> Result<(), Fail> {
     Ok(())
 }
 
+// Whether the first datagram is dropped, and one turn is counted for it.
+fn drops<X: Exchange>(exchange: &mut X) -> bool {
+    let Ok(Some(event)) = turn(exchange) else {
+        return false;
+    };
+    exchange.note_drop(&event, Reason::TooShort);
+    (exchange.turns(), exchange.failures()) == (1, 0)
+}
+
 // A watched exchange counts and tells what the one inside it does.
 #[test]
 fn counts_as_the_watched_one(rt: HostRuntime) -> Result<(), Fail> {
-    let alloc = rt.alloc();
-    let exchange = ListExchange::new(alloc, flood(alloc)?);
-    let watch = Watch::new(Vec::new(alloc));
+    let exchange = ListExchange::new(rt.alloc(), flood(rt.alloc())?);
+    let watch = Watch::new(Vec::new(rt.alloc()));
     let mut watched = Watched::new(&rt, exchange, Some(watch), no_status(&rt));
-    let Ok(Some(event)) = watched.next() else {
-        return Err("no event".into());
-    };
-    watched.note_drop(&event, Reason::TooShort);
-    assert!(rt; (watched.turns(), watched.failures()) == (1, 0));
+    let is_counted = drops(&mut watched);
     let (exchange, _) = watched.finish();
-    assert!(rt; exchange.calls().len() == 2);
-    assert!(rt; matches!(&exchange.calls()[1], Call::Dropped(_, Reason::TooShort)));
+    assert!(rt;
+        is_counted
+            && exchange.calls().len() == 2
+            && matches!(&exchange.calls()[1], Call::Dropped(_, Reason::TooShort))
+    );
     Ok(())
 }
 
@@ -191,15 +199,25 @@ fn source(number: u16) -> [u8; 4] {
 #[test]
 fn keeps_the_drops_of_256_sources(rt: HostRuntime) {
     let mut log = DropLog::new();
+    assert!(rt; tells_each_of_256(&mut log) && tells_the_next_later(&mut log));
+}
+
+fn tells_each_of_256(log: &mut DropLog) -> bool {
     for number in 0..256_u16 {
         let moment = 1000 + u64::from(number > 0);
-        assert!(rt; log.note(source(number), Reason::TooShort, moment) == Some(0));
+        if log.note(source(number), Reason::TooShort, moment) != Some(0) {
+            return false;
+        }
     }
-    assert!(rt; log.note(source(256), Reason::TooShort, 1009).is_none());
-    assert!(rt; log.note(source(0), Reason::TooShort, 1009).is_none());
-    assert!(rt; log.note(source(256), Reason::TooShort, 1010) == Some(0));
-    assert!(rt; log.note(source(1), Reason::TooShort, 1011) == Some(0));
-    assert!(rt; log.note(source(0), Reason::TooShort, 1011) == Some(0));
+    true
+}
+
+fn tells_the_next_later(log: &mut DropLog) -> bool {
+    log.note(source(256), Reason::TooShort, 1009).is_none()
+        && log.note(source(0), Reason::TooShort, 1009).is_none()
+        && log.note(source(256), Reason::TooShort, 1010) == Some(0)
+        && log.note(source(1), Reason::TooShort, 1011) == Some(0)
+        && log.note(source(0), Reason::TooShort, 1011) == Some(0)
 }
 
 // A clock that goes back keeps nothing back for longer than ten seconds by its own count.
@@ -207,8 +225,10 @@ fn keeps_the_drops_of_256_sources(rt: HostRuntime) {
 fn tells_after_a_clock_went_back(rt: HostRuntime) {
     let mut log = DropLog::new();
     let (address, _) = STRANGER;
-    assert!(rt; log.note(address, Reason::UnknownClient, 5000) == Some(0));
-    assert!(rt; log.note(address, Reason::UnknownClient, 4995).is_none());
-    assert!(rt; log.note(address, Reason::UnknownClient, 1000) == Some(1));
-    assert!(rt; log.note(address, Reason::TooShort, 1000) == Some(0));
+    assert!(rt;
+        log.note(address, Reason::UnknownClient, 5000) == Some(0)
+            && log.note(address, Reason::UnknownClient, 4995).is_none()
+            && log.note(address, Reason::UnknownClient, 1000) == Some(1)
+            && log.note(address, Reason::TooShort, 1000) == Some(0)
+    );
 }

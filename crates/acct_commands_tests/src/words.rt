@@ -43,7 +43,7 @@ impl Eprint for Streams {
 }
 
 // Words, how the program ends, and how many texts it prints to standard output and standard error.
-const WORDS: [(&[&str], Status, (u32, u32)); 9] = [
+static WORDS: [(&[&str], Status, (u32, u32)); 9] = [
     (&["radacctd", "feed", "x"], WrongWords, (0, 1)),
     (&["radacctd"], WrongWords, (0, 1)),
     (&["radacctd", "fed"], WrongWords, (0, 1)),
@@ -66,7 +66,7 @@ fn reads_command_lines(rt: HostRuntime) -> Result<(), Fail> {
 // Words after the program's name, and what they ask for: the job, its files, and of a server its
 // addresses, the desk's, both ports, turns, syncs, what it tells, and the two files; a plus where
 // more is told of a fault. None where they name no job.
-const ORDERS: [(&str, Option<&str>); 43] = [
+static ORDERS: [(&str, Option<&str>); 43] = [
     ("feed", Some("feed none")),
     ("feed --config a", Some("feed a")),
     ("feed --explain", Some("feed none +")),
@@ -195,21 +195,27 @@ fn asks_for_what_the_words_say(rt: HostRuntime) -> Result<(), Fail> {
 
 // Whether words ask for this.
 fn asks_for(alloc: Global, words: &str, wanted: Option<&str>) -> Result<bool, Fail> {
-    let mut list = words_of(alloc, &["radacctd"])?;
-    for word in words.split_ascii_whitespace() {
-        list.push(String::from_str(alloc, word)?)?;
-    }
-    match job_of(alloc, list) {
-        Ok(order) => Ok(Some(shown(alloc, &order)?.as_str()) == wanted),
+    match job_of(alloc, split(alloc, words)?) {
+        Ok(order) => is_shown(alloc, &order, wanted),
         Err(_) => Ok(wanted.is_none()),
     }
 }
 
-// An order in words of these tests.
-fn shown(alloc: Global, order: &Order) -> Result<String, Fail> {
+// The words of a text, after the program's name.
+fn split(alloc: Global, words: &str) -> Result<Vec<String>, Fail> {
+    let mut list = words_of(alloc, &["radacctd"])?;
+    for word in words.split_ascii_whitespace() {
+        list.push(String::from_str(alloc, word)?)?;
+    }
+    Ok(list)
+}
+
+// Whether an order is this one in words of these tests.
+fn is_shown(alloc: Global, order: &Order, wanted: Option<&str>) -> Result<bool, Fail> {
     let mark = if order.explains { " +" } else { "" };
     let job = shown_job(alloc, &order.job)?;
-    Ok(format!(in alloc; "{job}{mark}")?)
+    let shown = format!(in alloc; "{job}{mark}")?;
+    Ok(Some(shown.as_str()) == wanted)
 }
 
 fn shown_job(alloc: Global, job: &Job) -> Result<String, Fail> {
