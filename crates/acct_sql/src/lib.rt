@@ -1,17 +1,18 @@
 //! The book of a RADIUS accounting server in SQLite tables, over any store that `sqlite` can write.
 //!
 //! 1. The content of the book is what the tables `session`, `session_plan`, `account` and `voucher`
-//!    hold, column by column (`specs/Content.antt`). `create` and `adopt` say so of the book that
-//!    they give.
+//!    hold, column by column (`acct_tables/specs/Content.antt`). `create` and `adopt` say so of the
+//!    book that they give.
 //! 2. A call that writes is one transaction: of each table an UPDATE by key, and an INSERT where
 //!    that met no row.
 //! 3. A call that reads is a transaction too, which writes nothing: so a read of a store that was
 //!    shut adds nothing to what a crash may leave.
 //! 4. While the book is open, all that it holds is committed, and a crash leaves that alone.
-//! 5. Rowids are integers and tell rows apart (`specs/Tidy.antt`): the rules of a schema don't say
-//!    so, and an UPDATE goes by them. `create` makes it so, `adopt` tests it, each write keeps it.
+//! 5. Rowids are integers and tell rows apart (`acct_tables/specs/Tidy.antt`): the rules of a
+//!    schema don't say so, and an UPDATE goes by them. `create` makes it so, `adopt` tests it, each
+//!    write keeps it.
 //! 6. No call of a book writes the schema number, the plans, or what they count: in what it shows,
-//!    and in what a crash may leave, they stay (`specs/Book.antt`, `LeavesPlans`).
+//!    and in what a crash may leave, they stay (`acct_tables/specs/Book.antt`, `LeavesPlans`).
 //! 7. A row whose columns break a bound of a session counts by its columns, and each call that
 //!    would show it answers `Unavailable`. So does each call that would show a session of which no
 //!    plan is kept.
