@@ -10,6 +10,9 @@ ghost use Rattle.sqlite_wal.specs.Files.{image_at};
 ghost use Rattle.acct_site.specs.declared.config.Config.{Config};
 ghost use Rattle.acct_command_line.specs.Orders.{HasBounds};
 ghost use Rattle.radacctd.specs.Commands.{Closes, Fails, Worked, WritesOut, FailsToExport};
+ghost use Rattle.radacctd.specs.Commands.{refused};
+ghost use Rattle.acct_book.specs.Step.{Looks};
+ghost use Rattle.acct_commands.specs.Exports.{IsExportFault};
 ghost use Rattle.radacctd.specs.Files.{Copies, IsUnclosed};
 ghost use Rattle.radacctd.specs.Jobs.{DoesJob, HasNoConfig, WorksAndCloses, FailsAtWork};
 ghost use Rattle.radacctd.specs.Jobs.{ExportsBook, ExportsNothing, FeedsScript};
@@ -28,14 +31,15 @@ use acct_book::Book;
 use acct_command_line::{Export, Job, Paths};
 use acct_commands::{Errors, Fault, read_config, run_export, run_import};
 use acct_feed::Status;
-use acct_model::Text;
+use acct_model::{Plans, Text};
 use acct_samples::sample_config;
 use acct_service::Exchange;
 use acct_site::Config;
 use acct_sockets::{Sockets, moment_of};
 use acct_sql::SqlBook;
-use sqlite::{Connection, FileFrom, FileStore, Files, MemStore, Start};
+use sqlite::{Alter, Connection, FileFrom, FileStore, Files, MemStore, Start};
 use sqlite_disk::Disk;
+use std::alloc::Global;
 use std::io;
 use std::io::{Read, Write};
 
@@ -254,11 +258,34 @@ fn imported<S: Start, I: Read + Drop, W: Write>(
         (I.remaining input) first last (W.contents output.old) (W.contents output.new) ended)
         e.0 e.1) }
 {
-    let mut book = adopted(runtime, file, &config.plans, start)?;
-    let alloc = runtime.alloc();
-    match run_import(alloc, &config.plans, &mut book, moment, input, output) {
-        Ok(status) => finished(book, status),
-        Err(fault) => Err((fault, Left::Open(book.into_connection()))),
+    let book = adopted(runtime, file, &config.plans, start)?;
+    match credited(runtime.alloc(), &config.plans, book, moment, input, output) {
+        Ok((book, status)) => finished(book, status),
+        Err((fault, connection)) => Err((fault, Left::Open(connection))),
+    }
+}
+
+// Credits the vouchers of an input to a book in any store. A fault leaves its connection.
+fn credited<T: Alter + Drop, I: Read + Drop, W: Write>(
+    alloc: Global,
+    plans: &Plans,
+    mut book: SqlBook<T>,
+    moment: u64,
+    input: I,
+    output: &mut W,
+) -> Result<(SqlBook<T>, Status), (Fault, Connection<T>)>
+    requires { moment < 2 ^ 53 }
+    ensures other { IfOk result (λ done. done.1 ≢ Status.WrongWords) }
+    ensures credited { IfOk result (λ done. Runs ⟦<SqlBook<T> as Book>⟧ plans.now moment
+        (I.remaining input) book done.0 (W.contents output.old) (W.contents output.new)
+        (Ok done.1)) }
+    ensures failed { IfErr result (λ e. Runs ⟦<SqlBook<T> as Book>⟧ plans.now moment
+        (I.remaining input) book e.1 (W.contents output.old) (W.contents output.new)
+        (Err e.0)) }
+{
+    match run_import(alloc, plans, &mut book, moment, input, output) {
+        Ok(status) => Ok((book, status)),
+        Err(fault) => Err((fault, book.into_connection())),
     }
 }
 
@@ -309,10 +336,28 @@ fn exported<S: Start, W: Write + Drop>(
     ensures failed { IfErr result (λ e. FailsToExport
         ⟦<SqlBook<FileStore<FileFrom<S>>> as Book>⟧ (image_at S.Start) config.now.plans e.0 e.1) }
 {
-    let mut book = adopted(runtime, file, &config.plans, start)?;
-    let alloc = runtime.alloc();
-    match run_export(alloc, what, &config.plans, &mut book, output) {
+    let book = adopted(runtime, file, &config.plans, start)?;
+    match written_out(runtime.alloc(), what, &config.plans, book, output) {
+        Ok(done) => Ok(done),
+        Err((fault, connection)) => Err((fault, Left::Open(connection))),
+    }
+}
+
+// Writes a book in any store out, and hands back its connection.
+fn written_out<T: Alter + Drop, W: Write + Drop>(
+    alloc: Global,
+    what: Export,
+    plans: &Plans,
+    mut book: SqlBook<T>,
+    output: W,
+) -> Result<(W, Connection<T>), (Fault, Connection<T>)>
+    ensures exported { IfOk result (λ done. WritesOut ⟦<SqlBook<T> as Book>⟧ plans.now what
+        (W.contents output) (W.contents done.0) book done.1) }
+    ensures failed { IfErr result (λ e. Looks ⟦<SqlBook<T> as Book>⟧ book e.1 (refused e.0)
+        × IsExportFault e.0) }
+{
+    match run_export(alloc, what, plans, &mut book, output) {
         Ok(writer) => Ok((writer, book.into_connection())),
-        Err(fault) => Err((fault, Left::Open(book.into_connection()))),
+        Err(fault) => Err((fault, book.into_connection())),
     }
 }

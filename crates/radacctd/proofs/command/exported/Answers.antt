@@ -2,39 +2,18 @@ use Rattle.std.proofs.Common.{inr}
 use Rattle.radacctd.proofs.command.exported.Goals as goal
 
 pub returns-in-Ok-clause-exported : goal.returns-in-Ok-clause-exported
-returns-in-Ok-clause-exported g c = rw c.into_connection.ensures (
-    let looks = c.in-Ok.ensures.reads in
-    record {
-      first = c.in_ok-book.book;
-      adopted = c.in_ok-book.ensures.adopted;
-      did = (
-        record {
-          was_sound = looks.was_sound;
-          was_open = looks.was_open;
-          keeps_steady = looks.keeps_steady;
-          answers = looks.answers;
-          same = looks.same;
-          adds_none = looks.adds_none;
-        },
-        c.in-Ok.ensures.exports,
-      );
-    })
+returns-in-Ok-clause-exported g c = record {
+  first = c.in_ok-book.book;
+  adopted = c.in_ok-book.ensures.adopted;
+  did = c.in-Ok.ensures.exported;
+}
 
 pub returns-in-Err-clause-failed : goal.returns-in-Err-clause-failed
 returns-in-Err-clause-failed g c = inr (
-  rw c.into_connection-in-Err.ensures (
-      let looks = c.in-Err.ensures.reads in
-      record {
-        first = c.in_ok-book.book;
-        adopted = c.in_ok-book.ensures.adopted;
-        did = record {
-          was_sound = looks.was_sound;
-          was_open = looks.was_open;
-          keeps_steady = looks.keeps_steady;
-          answers = looks.answers;
-          same = looks.same;
-          adds_none = looks.adds_none;
-        };
-      }),
-  c.in-Err.ensures.why,
+  record {
+    first = c.in_ok-book.book;
+    adopted = c.in_ok-book.ensures.adopted;
+    did = c.in-Err.ensures.failed.0;
+  },
+  c.in-Err.ensures.failed.1,
 )

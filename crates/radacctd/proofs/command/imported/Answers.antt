@@ -11,19 +11,19 @@ pub returns-in-Ok-clause-closed : goal.returns-in-Ok-clause-closed
 returns-in-Ok-clause-closed g c = closes_if _ _ _ _ c.in-Ok.status (record {
   first = c.in_ok-book.book;
   adopted = c.in_ok-book.ensures.adopted;
-  did = c.in-Ok.ensures.runs;
+  did = c.in-Ok.ensures.credited;
 }) _ c.finished.ensures.closed
 
 pub returns-in-Ok-clause-failed : goal.returns-in-Ok-clause-failed
 returns-in-Ok-clause-failed g c = fails_if _ _ _ _ c.in-Ok.status (record {
   first = c.in_ok-book.book;
   adopted = c.in_ok-book.ensures.adopted;
-  did = c.in-Ok.ensures.runs;
+  did = c.in-Ok.ensures.credited;
 }) _ c.finished.ensures.failed
 
 pub returns-in-Err-clause-failed : goal.returns-in-Err-clause-failed
-returns-in-Err-clause-failed g c = failed_at_work _ _ _ _ _ (rw c.into_connection.ensures (record {
+returns-in-Err-clause-failed g c = failed_at_work _ _ _ _ _ (record {
   first = c.in_ok-book.book;
   adopted = c.in_ok-book.ensures.adopted;
-  did = c.in-Err.ensures.runs;
-}))
+  did = c.in-Err.ensures.failed;
+})
