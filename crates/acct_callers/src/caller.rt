@@ -1,6 +1,7 @@
 //! A caller of the desk: what has come of its request, and what is still to go of its response.
-ghost use Rattle.std.specs.Prelude.{◌≡◌, IfOk, OnOk};
+ghost use Rattle.std.specs.Prelude.{◌≡◌, ◌↔◌, ◌⊎◌, true, false, IfOk, IsTrue, OnOk};
 ghost use Rattle.acct_callers.specs.Going.{GoesOn, Goes, Advances, AsksNothing, IsFresh};
+ghost use Rattle.acct_callers.specs.Waiting.{IsLate, MayGiveWay, seconds_from, milliseconds_from};
 
 use crate::request::Request;
 use crate::response::{Response, write_some};
@@ -11,7 +12,7 @@ use std::alloc::Global;
 use std::io;
 use std::io::{Read, Write};
 use std::net::{OpenStream, Shutdown};
-use std::time::{Duration, Instant};
+use std::time::Instant;
 
 /// How many seconds a caller has from its accept on until its request is there.
 const SECONDS_TO_ASK: u64 = 4;
@@ -21,7 +22,7 @@ const SECONDS_OF_SILENCE: u64 = 2;
 /// the megabyte, and then none until a good part of them went over a slow link.
 const SECONDS_TO_TAKE: u64 = 30;
 /// How many milliseconds a caller keeps its place from its accept on where others wait for one.
-const SHORTEST_STAY: u64 = 25;
+const SHORTEST_STAY: u128 = 25;
 
 /// How far a caller has come.
 pub enum Stage {
@@ -78,7 +79,9 @@ impl<S: Read + Write + OpenStream + Drop> Caller<S> {
     ///
     /// Those of the system.
     pub fn new(alloc: Global, stream: S, now: Instant) -> io::Result<Caller<S>>
-        ensures { IfOk result (λ caller. IsFresh caller.stage) }
+        ensures fresh { IfOk result (λ caller. IsFresh caller.stage) }
+        ensures heard { IfOk result (λ caller. (caller.came ≡ now) × (caller.heard ≡ now)
+            × (caller.is_ready ≡ true)) }
     {
         stream.set_nonblocking(true)?;
         Ok(Caller {
@@ -91,52 +94,65 @@ impl<S: Read + Write + OpenStream + Drop> Caller<S> {
     }
 
     /// Whether the next read or write need not wait, as far as is known.
-    pub fn is_ready(&self) -> bool {
+    pub fn is_ready(&self) -> bool
+        ensures { result ≡ self.now.is_ready }
+    {
         self.is_ready
     }
 
     /// Notes that the next read or write need not wait.
-    pub fn rouse(&mut self) {
+    pub fn rouse(&mut self)
+        ensures { self.new ≡ record self.old { is_ready = true } }
+    {
         self.is_ready = true;
     }
 
     /// When its connection was accepted.
-    pub fn came(&self) -> Instant {
+    pub fn came(&self) -> Instant
+        ensures { result ≡ self.now.came }
+    {
         self.came
     }
 
     /// Whether its response has gone.
-    pub fn is_leaving(&self) -> bool {
+    pub fn is_leaving(&self) -> bool
+        ensures { IsTrue result ↔ (self.now.stage ≡ Stage.Leaving) }
+    {
         matches!(&self.stage, Stage::Leaving)
     }
 
     /// Whether its time is up.
-    pub fn is_late(&self, now: Instant) -> bool {
-        let silence = now.duration_since(self.heard);
+    pub fn is_late(&self, now: Instant) -> bool
+        ensures { IsTrue result ↔ IsLate self.now.stage (seconds_from self.now.came now)
+            (seconds_from self.now.heard now) }
+    {
+        let silence = now.duration_since(self.heard).as_secs();
         match &self.stage {
-            Stage::Told(_) => silence >= Duration::from_secs(SECONDS_TO_TAKE),
+            Stage::Told(_) => silence >= SECONDS_TO_TAKE,
             Stage::Asking(_) => {
-                silence >= Duration::from_secs(SECONDS_OF_SILENCE)
-                    || now.duration_since(self.came) >= Duration::from_secs(SECONDS_TO_ASK)
+                let stay = now.duration_since(self.came).as_secs();
+                silence >= SECONDS_OF_SILENCE || stay >= SECONDS_TO_ASK
             }
-            Stage::Asked | Stage::Leaving => silence >= Duration::from_secs(SECONDS_OF_SILENCE),
+            Stage::Asked | Stage::Leaving => silence >= SECONDS_OF_SILENCE,
         }
     }
 
     /// Whether it gives its place to another one that waits: nothing comes or goes now, and it was
     /// not just accepted, or has taken nothing of its response for a while, or has all of it.
-    pub fn may_give_way(&self, now: Instant) -> bool {
-        let is_idle = match &self.stage {
-            Stage::Asking(_) => {
-                now.duration_since(self.came) >= Duration::from_millis(SHORTEST_STAY)
-            }
-            Stage::Told(_) => {
-                now.duration_since(self.heard) >= Duration::from_secs(SECONDS_OF_SILENCE)
-            }
+    pub fn may_give_way(&self, now: Instant) -> bool
+        ensures { IsTrue result ↔ ((self.now.is_ready ≡ false)
+            × MayGiveWay self.now.stage (milliseconds_from self.now.came now)
+            (seconds_from self.now.heard now)) }
+    {
+        if self.is_ready {
+            return false;
+        }
+        match &self.stage {
+            Stage::Asking(_) => now.duration_since(self.came).as_millis() >= SHORTEST_STAY,
+            Stage::Told(_) => now.duration_since(self.heard).as_secs() >= SECONDS_OF_SILENCE,
             Stage::Asked => false,
             Stage::Leaving => true,
-        };
-        is_idle && !self.is_ready
+        }
     }
 
     /// Goes on by one read or one write, into or out of the room.
@@ -145,9 +161,12 @@ impl<S: Read + Write + OpenStream + Drop> Caller<S> {
     ///
     /// Where the connection fails before its response has gone, or memory is refused.
     pub fn go_on(&mut self, alloc: Global, room: &mut [u8], now: Instant) -> Result<Step, Fault>
-        ensures { IfOk result (GoesOn (S.remaining self.old.stream) (S.remaining self.new.stream)
+        ensures goes_on { IfOk result (GoesOn
+            (S.remaining self.old.stream) (S.remaining self.new.stream)
             (S.contents self.old.stream) (S.contents self.new.stream)
             self.old.stage self.new.stage) }
+        ensures came { self.new.came ≡ self.old.came }
+        ensures heard { (self.new.heard ≡ self.old.heard) ⊎ (self.new.heard ≡ now) }
     {
         match &mut self.stage {
             Stage::Asking(request) => {
@@ -165,6 +184,9 @@ impl<S: Read + Write + OpenStream + Drop> Caller<S> {
     // Goes to its next stage, where octets that came or went have ended this one.
     fn advance(&mut self, alloc: Global, has_moved: bool, now: Instant) -> Result<Step, Fault>
         ensures same { self.new.stream ≡ self.old.stream }
+        ensures came { self.new.came ≡ self.old.came }
+        ensures silent { has_moved ≡ false → self.new.heard ≡ self.old.heard }
+        ensures heard { has_moved ≡ true → self.new.heard ≡ now }
         ensures advances { IfOk result (Advances self.old.stage self.new.stage) }
     {
         if !has_moved {
@@ -191,6 +213,8 @@ impl<S: Read + Write + OpenStream + Drop> Caller<S> {
     // Reads away what a caller that has its response still sends.
     fn see_off(&mut self, room: &mut [u8]) -> Step
         ensures stage { self.new.stage ≡ self.old.stage }
+        ensures came { self.new.came ≡ self.old.came }
+        ensures heard { self.new.heard ≡ self.old.heard }
         ensures asks { AsksNothing result }
     {
         match self.stream.read(room) {
@@ -210,8 +234,10 @@ impl<S: Read + Write + OpenStream + Drop> Caller<S> {
     ///
     /// Where the connection fails, or memory is refused for what is left of the response.
     pub fn answer(&mut self, alloc: Global, response: &[u8], now: Instant) -> Result<(), Fault>
-        ensures { OnOk result (Goes (S.contents self.old.stream) (S.contents self.new.stream)
+        ensures goes { OnOk result (Goes (S.contents self.old.stream) (S.contents self.new.stream)
             response.now self.new.stage) }
+        ensures came { self.new.came ≡ self.old.came }
+        ensures heard { self.new.heard ≡ now }
     {
         self.heard = now;
         let count = write_some(&mut self.stream, response)?;
@@ -228,6 +254,8 @@ impl<S: Read + Write + OpenStream + Drop> Caller<S> {
     // Closes the sending side, since all of the response has gone.
     fn take_leave(&mut self) -> Result<(), Fault>
         ensures same { self.new.stream ≡ self.old.stream }
+        ensures came { self.new.came ≡ self.old.came }
+        ensures heard { self.new.heard ≡ self.old.heard }
         ensures leaves { OnOk result (self.new.stage ≡ Stage.Leaving) }
     {
         self.stream.shutdown(Shutdown::Write).map_err(|_| Fault)?;

@@ -19,8 +19,8 @@ comes left held old read new same asked came before after is takes (Err fault) t
 comes left held old read new same asked came before after is takes (Ok step) there =
     rw is (rw same record { came = came; takes = takes; there = there })
 
-pub returns-in_ok-has_moved-in-Asking : goal.returns-in_ok-has_moved-in-Asking
-returns-in_ok-has_moved-in-Asking g c = comes g.S.Read.remaining g.S.Write.contents
+pub returns-in_ok-has_moved-in-Asking-clause-goes_on : goal.returns-in_ok-has_moved-in-Asking-clause-goes_on
+returns-in_ok-has_moved-in-Asking-clause-goes_on g c = comes g.S.Read.remaining g.S.Write.contents
     c.args.self.now.stream c.take.new.reader c.advance.new.self.stream c.advance.ensures.same
     c.in-Asking.request c.take.new.self c.args.self.now.stage c.advance.new.self.stage
     c.in-Asking.is c.in_ok-has_moved-in-Asking.ensures.takes c.advance.result

@@ -27,5 +27,5 @@ returns g c = record {
       c.get_mut.ensures.item.3 c.take-2.ensures.value c.in_ok-caller.ensures.ok_part;
   after = c.answer.new.self;
   others = refl;
-  goes = c.in_ok-answer.ensures;
+  goes = c.in_ok-answer.ensures.goes;
 }

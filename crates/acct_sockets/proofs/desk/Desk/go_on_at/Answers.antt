@@ -30,5 +30,5 @@ returns-in-Asks g c = (
       (g.R.Stream.Write.contents c.in_ok-caller.caller.stream)
       (g.R.Stream.Write.contents c.go_on.new.self.stream)
       c.in_ok-caller.caller.stage c.go_on.new.self.stage c.in-Asks.request
-      (rw c.in-Asks.is at c.in_ok-step.ensures),
+      (rw c.in-Asks.is at c.in_ok-step.ensures.goes_on),
 )
