@@ -12,20 +12,17 @@ const LOOPBACK: [u8; 4] = [127, 0, 0, 1];
 
 const REQUEST: &[u8] = b"GET /me/balance HTTP/1.1\r\nDesk-Key: al-key-0000000001\r\n\r\n";
 
-fn bound<'r>(rt: &'r HostRuntime) -> Result<Sockets<'r, HostRuntime>, Fail> {
-    match Sockets::bind(rt, rt.alloc(), &[LOOPBACK], LOOPBACK, 0, 0) {
-        Ok(sockets) => Ok(sockets),
-        Err(_) => Err("no sockets".into()),
-    }
+// Sockets on loopback, and the port of their desk.
+fn bound<'r>(rt: &'r HostRuntime) -> Result<(Sockets<'r, HostRuntime>, u16), Fail> {
+    let Ok(sockets) = Sockets::bind(rt, rt.alloc(), &[LOOPBACK], LOOPBACK, 0, 0) else {
+        return Err("no sockets".into());
+    };
+    let (_, desk) = sockets.ports()?;
+    Ok((sockets, desk))
 }
 
-// A caller that has sent these octets.
-fn caller(
-    rt: &HostRuntime,
-    sockets: &Sockets<'_, HostRuntime>,
-    octets: &[u8],
-) -> Result<TcpStream, Fail> {
-    let (_, desk) = sockets.ports()?;
+// A caller that has sent these octets to the desk at a port.
+fn caller(rt: &HostRuntime, desk: u16, octets: &[u8]) -> Result<TcpStream, Fail> {
     let mut stream = TcpStream::connect(rt, ("127.0.0.1", desk))?;
     stream.set_read_timeout(Some(Duration::from_secs(5)))?;
     stream.write_all(octets)?;
@@ -33,9 +30,9 @@ fn caller(
 }
 
 /// What comes in at most so many turns.
-pub fn next(sockets: &mut Sockets<'_, HostRuntime>, turns: u32) -> Result<Option<Event>, Fault> {
+pub fn next<X: Exchange>(exchange: &mut X, turns: u32) -> Result<Option<Event>, Fault> {
     for _ in 0..turns {
-        if let Some(event) = turn(sockets)? {
+        if let Some(event) = turn(exchange)? {
             return Ok(Some(event));
         }
     }
@@ -44,15 +41,15 @@ pub fn next(sockets: &mut Sockets<'_, HostRuntime>, turns: u32) -> Result<Option
 
 /// Answers what comes in at most so many turns by its own octets, and says whether these are the
 /// wanted ones.
-pub fn echoes(sockets: &mut Sockets<'_, HostRuntime>, turns: u32, wanted: &[u8]) -> bool {
-    let Ok(Some(event)) = next(sockets, turns) else {
+pub fn echoes<X: Exchange>(exchange: &mut X, turns: u32, wanted: &[u8]) -> bool {
+    let Ok(Some(event)) = next(exchange, turns) else {
         return false;
     };
     let What::Desk { bytes } = &event.what else {
         return false;
     };
     let is_wanted = bytes.as_slice() == wanted;
-    reply(sockets, &event, bytes.as_slice()).is_ok() && is_wanted
+    reply(exchange, &event, bytes.as_slice()).is_ok() && is_wanted
 }
 
 /// Whether a caller gets just these octets, and then the end.
@@ -62,57 +59,54 @@ pub fn gets<R: Read>(alloc: Global, stream: &mut R, wanted: &[u8]) -> bool {
 }
 
 // Whether nothing comes in so many turns, and none of them fails.
-fn is_quiet(sockets: &mut Sockets<'_, HostRuntime>, turns: u32) -> bool {
-    matches!(&next(sockets, turns), Ok(None))
+fn is_quiet<X: Exchange>(exchange: &mut X, turns: u32) -> bool {
+    matches!(&next(exchange, turns), Ok(None))
 }
 
 // Whether a caller that has sent the request is answered by it within so many turns.
-fn is_echoed(
+fn is_echoed<X: Exchange>(
     alloc: Global,
-    sockets: &mut Sockets<'_, HostRuntime>,
+    exchange: &mut X,
     turns: u32,
     guest: &mut TcpStream,
 ) -> bool {
-    echoes(sockets, turns, REQUEST) && gets(alloc, guest, REQUEST)
+    echoes(exchange, turns, REQUEST) && gets(alloc, guest, REQUEST)
 }
 
 // Whether a new caller is answered by its request within so many turns.
-fn is_heard(
+fn is_heard<X: Exchange>(
     rt: &HostRuntime,
-    sockets: &mut Sockets<'_, HostRuntime>,
+    desk: u16,
+    exchange: &mut X,
     turns: u32,
 ) -> Result<bool, Fail> {
-    let mut guest = caller(rt, sockets, REQUEST)?;
-    Ok(is_echoed(rt.alloc(), sockets, turns, &mut guest))
+    let mut guest = caller(rt, desk, REQUEST)?;
+    Ok(is_echoed(rt.alloc(), exchange, turns, &mut guest))
 }
 
 #[test]
 fn hears_a_caller(rt: HostRuntime) -> Result<(), Fail> {
-    let mut sockets = bound(&rt)?;
-    assert!(rt; is_heard(&rt, &mut sockets, 8)? && sockets.failures() == 0);
+    let (mut sockets, desk) = bound(&rt)?;
+    assert!(rt; is_heard(&rt, desk, &mut sockets, 8)? && sockets.failures() == 0);
     Ok(())
 }
 
 // Whether a caller is heard once, whatever it sends on.
-fn is_heard_once(
-    alloc: Global,
-    sockets: &mut Sockets<'_, HostRuntime>,
-    guest: &mut TcpStream,
-) -> bool {
-    echoes(sockets, 8, REQUEST)
+fn is_heard_once<X: Exchange>(alloc: Global, exchange: &mut X, guest: &mut TcpStream) -> bool {
+    echoes(exchange, 8, REQUEST)
         && guest.write_all(REQUEST).is_ok()
-        && is_quiet(sockets, 4)
+        && is_quiet(exchange, 4)
         && guest.write_all(REQUEST).is_ok()
         && gets(alloc, guest, REQUEST)
         && guest.shutdown(Shutdown::Write).is_ok()
-        && is_quiet(sockets, 4)
+        && is_quiet(exchange, 4)
 }
 
 // What a caller sends on is read away, so that its response isn't lost to a reset.
 #[test]
 fn hears_one_request_of_a_caller(rt: HostRuntime) -> Result<(), Fail> {
-    let mut sockets = bound(&rt)?;
-    let mut guest = caller(&rt, &sockets, REQUEST)?;
+    let (mut sockets, desk) = bound(&rt)?;
+    let mut guest = caller(&rt, desk, REQUEST)?;
     assert!(rt; is_heard_once(rt.alloc(), &mut sockets, &mut guest) && sockets.failures() == 0);
     Ok(())
 }
@@ -121,24 +115,25 @@ fn hears_one_request_of_a_caller(rt: HostRuntime) -> Result<(), Fail> {
 static CLOSED_AFTER: [&[u8]; 3] = [b"GET /me", REQUEST, b""];
 
 // Whether a caller that closes its side after these octets is answered by them.
-fn is_heard_to_its_end(
+fn is_heard_to_its_end<X: Exchange>(
     rt: &HostRuntime,
-    sockets: &mut Sockets<'_, HostRuntime>,
+    desk: u16,
+    exchange: &mut X,
     octets: &[u8],
 ) -> Result<bool, Fail> {
-    let mut guest = caller(rt, sockets, octets)?;
+    let mut guest = caller(rt, desk, octets)?;
     Ok(
         guest.shutdown(Shutdown::Write).is_ok()
-            && echoes(sockets, 8, octets)
+            && echoes(exchange, 8, octets)
             && gets(rt.alloc(), &mut guest, octets),
     )
 }
 
 #[test]
 fn answers_a_caller_that_closed_its_side(rt: HostRuntime) -> Result<(), Fail> {
-    let mut sockets = bound(&rt)?;
+    let (mut sockets, desk) = bound(&rt)?;
     for octets in &CLOSED_AFTER {
-        assert!(rt; is_heard_to_its_end(&rt, &mut sockets, octets)?);
+        assert!(rt; is_heard_to_its_end(&rt, desk, &mut sockets, octets)?);
     }
     assert!(rt; sockets.failures() == 0);
     Ok(())
@@ -147,10 +142,10 @@ fn answers_a_caller_that_closed_its_side(rt: HostRuntime) -> Result<(), Fail> {
 // A request that comes in pieces is one event, once it is whole, and others come meanwhile.
 #[test]
 fn hears_others_while_a_request_comes(rt: HostRuntime) -> Result<(), Fail> {
-    let mut sockets = bound(&rt)?;
-    let mut slow = caller(&rt, &sockets, b"")?;
+    let (mut sockets, desk) = bound(&rt)?;
+    let mut slow = caller(&rt, desk, b"")?;
     for octet in REQUEST {
-        assert!(rt; is_heard(&rt, &mut sockets, 8)? && slow.write_all(&[*octet]).is_ok());
+        assert!(rt; is_heard(&rt, desk, &mut sockets, 8)? && slow.write_all(&[*octet]).is_ok());
     }
     assert!(rt; is_echoed(rt.alloc(), &mut sockets, 8, &mut slow) && sockets.failures() == 0);
     Ok(())
@@ -158,22 +153,22 @@ fn hears_others_while_a_request_comes(rt: HostRuntime) -> Result<(), Fail> {
 
 // Makes turns until so many faults came, while this caller sends an octet in each ten turns, and
 // says whether that was within these milliseconds.
-fn faults_within(
+fn faults_within<X: Exchange>(
     rt: &HostRuntime,
-    sockets: &mut Sockets<'_, HostRuntime>,
+    exchange: &mut X,
     dripping: &mut TcpStream,
     count: u64,
     (least, most): (u64, u64),
 ) -> Result<bool, Fail> {
     let begun = Instant::now(rt)?;
     for _ in 0..100 {
-        if sockets.failures() >= count {
+        if exchange.failures() >= count {
             let took = begun.elapsed(rt)?;
             return Ok(took > Duration::from_millis(least) && took < Duration::from_millis(most));
         }
         let _ = dripping.write(b"G");
         for _ in 0..10 {
-            let _ = turn(sockets);
+            let _ = turn(exchange);
         }
     }
     Err("no faults".into())
@@ -182,9 +177,9 @@ fn faults_within(
 // A caller that sends nothing is given up after two seconds.
 #[test]
 fn gives_up_who_is_silent(rt: HostRuntime) -> Result<(), Fail> {
-    let mut sockets = bound(&rt)?;
-    let mut silent = caller(&rt, &sockets, b"")?;
-    let mut dripping = caller(&rt, &sockets, b"G")?;
+    let (mut sockets, desk) = bound(&rt)?;
+    let mut silent = caller(&rt, desk, b"")?;
+    let mut dripping = caller(&rt, desk, b"G")?;
     assert!(rt;
         faults_within(&rt, &mut sockets, &mut dripping, 1, (1_900, 3_500))?
             && gets(rt.alloc(), &mut silent, b"")
@@ -195,10 +190,10 @@ fn gives_up_who_is_silent(rt: HostRuntime) -> Result<(), Fail> {
 // One that goes on sending is given up after four, and the next one is answered.
 #[test]
 fn gives_up_who_never_asks(rt: HostRuntime) -> Result<(), Fail> {
-    let mut sockets = bound(&rt)?;
-    let mut dripping = caller(&rt, &sockets, b"G")?;
+    let (mut sockets, desk) = bound(&rt)?;
+    let mut dripping = caller(&rt, desk, b"G")?;
     assert!(rt; faults_within(&rt, &mut sockets, &mut dripping, 1, (3_900, 5_500))?);
-    assert!(rt; is_heard(&rt, &mut sockets, 8)? && sockets.failures() == 1);
+    assert!(rt; is_heard(&rt, desk, &mut sockets, 8)? && sockets.failures() == 1);
     Ok(())
 }
 
@@ -214,18 +209,19 @@ fn long_response(alloc: Global, blocks: u32) -> Result<Vec<u8>, Fail> {
 }
 
 // What a caller takes of its response, a part at a time, while others ask and are answered.
-fn taken_slowly(
+fn taken_slowly<X: Exchange>(
     rt: &HostRuntime,
-    sockets: &mut Sockets<'_, HostRuntime>,
+    desk: u16,
+    exchange: &mut X,
     slow: &mut TcpStream,
 ) -> Result<Vec<u8>, Fail> {
     let mut taken = Vec::new(rt.alloc());
     let mut room = vec![in rt.alloc(); 0; 1 << 18]?;
     for _ in 0..1000 {
-        if !is_heard(rt, sockets, 64)? {
+        if !is_heard(rt, desk, exchange, 64)? {
             return Err("another caller".into());
         }
-        if !is_quiet(sockets, 5) {
+        if !is_quiet(exchange, 5) {
             return Err("an event".into());
         }
         match slow.read(room.as_mut_slice())? {
@@ -237,35 +233,36 @@ fn taken_slowly(
 }
 
 // Whether a caller takes these octets slowly, and then the end.
-fn takes_slowly(
+fn takes_slowly<X: Exchange>(
     rt: &HostRuntime,
-    sockets: &mut Sockets<'_, HostRuntime>,
+    desk: u16,
+    exchange: &mut X,
     slow: &mut TcpStream,
     wanted: &[u8],
 ) -> Result<bool, Fail> {
-    let taken = taken_slowly(rt, sockets, slow)?;
+    let taken = taken_slowly(rt, desk, exchange, slow)?;
     Ok(taken.as_slice() == wanted)
 }
 
 // Whether a request comes, and its response is taken to be sent.
-fn is_answered(sockets: &mut Sockets<'_, HostRuntime>, response: &[u8]) -> bool {
-    let Ok(Some(event)) = next(sockets, 8) else {
+fn is_answered<X: Exchange>(exchange: &mut X, response: &[u8]) -> bool {
+    let Ok(Some(event)) = next(exchange, 8) else {
         return false;
     };
-    reply(sockets, &event, response).is_ok()
+    reply(exchange, &event, response).is_ok()
 }
 
 // A response that its caller takes slowly goes whole, though it takes more than two seconds, and
 // keeps nobody waiting.
 #[test]
 fn answers_a_slow_caller(rt: HostRuntime) -> Result<(), Fail> {
-    let mut sockets = bound(&rt)?;
+    let (mut sockets, desk) = bound(&rt)?;
     let response = long_response(rt.alloc(), 2_048)?;
-    let mut slow = caller(&rt, &sockets, REQUEST)?;
+    let mut slow = caller(&rt, desk, REQUEST)?;
     let begun = Instant::now(&rt)?;
     assert!(rt;
         is_answered(&mut sockets, response.as_slice())
-            && takes_slowly(&rt, &mut sockets, &mut slow, response.as_slice())?
+            && takes_slowly(&rt, desk, &mut sockets, &mut slow, response.as_slice())?
             && begun.elapsed(&rt)? > Duration::from_secs(2)
             && sockets.failures() == 0
     );
@@ -275,15 +272,15 @@ fn answers_a_slow_caller(rt: HostRuntime) -> Result<(), Fail> {
 // One that takes nothing for more than two seconds, and all of it then.
 #[test]
 fn waits_for_a_caller_that_takes_nothing(rt: HostRuntime) -> Result<(), Fail> {
-    let mut sockets = bound(&rt)?;
+    let (mut sockets, desk) = bound(&rt)?;
     let response = long_response(rt.alloc(), 2_048)?;
-    let mut deaf = caller(&rt, &sockets, REQUEST)?;
+    let mut deaf = caller(&rt, desk, REQUEST)?;
     assert!(rt; is_answered(&mut sockets, response.as_slice()));
     let begun = Instant::now(&rt)?;
     assert!(rt;
         is_quiet(&mut sockets, 150)
             && begun.elapsed(&rt)? > Duration::from_secs(2)
-            && takes_slowly(&rt, &mut sockets, &mut deaf, response.as_slice())?
+            && takes_slowly(&rt, desk, &mut sockets, &mut deaf, response.as_slice())?
             && sockets.failures() == 0
     );
     Ok(())
@@ -295,28 +292,24 @@ fn request_of(alloc: Global, number: usize) -> Result<String, Fail> {
 }
 
 // So many callers, each with a request of its own.
-fn callers(
-    rt: &HostRuntime,
-    sockets: &Sockets<'_, HostRuntime>,
-    count: usize,
-) -> Result<Vec<TcpStream>, Fail> {
+fn callers(rt: &HostRuntime, desk: u16, count: usize) -> Result<Vec<TcpStream>, Fail> {
     let mut streams = Vec::new(rt.alloc());
     for number in 0..count {
         let request = request_of(rt.alloc(), number)?;
-        streams.push(caller(rt, sockets, request.as_bytes())?)?;
+        streams.push(caller(rt, desk, request.as_bytes())?)?;
     }
     Ok(streams)
 }
 
 // Answers each request of so many turns by its octets.
-fn echo_all(sockets: &mut Sockets<'_, HostRuntime>, turns: u32) -> bool {
+fn echo_all<X: Exchange>(exchange: &mut X, turns: u32) -> bool {
     for _ in 0..turns {
-        let Ok(came) = turn(sockets) else {
+        let Ok(came) = turn(exchange) else {
             return false;
         };
         if let Some(event) = came
             && let What::Desk { bytes } = &event.what
-            && reply(sockets, &event, bytes.as_slice()).is_err()
+            && reply(exchange, &event, bytes.as_slice()).is_err()
         {
             return false;
         }
@@ -333,8 +326,8 @@ fn gets_its_own(alloc: Global, number: usize, stream: &mut TcpStream) -> Result<
 // More callers at once than there are places get each the response to its own request.
 #[test]
 fn answers_many_at_once(rt: HostRuntime) -> Result<(), Fail> {
-    let mut sockets = bound(&rt)?;
-    let mut streams = callers(&rt, &sockets, 100)?;
+    let (mut sockets, desk) = bound(&rt)?;
+    let mut streams = callers(&rt, desk, 100)?;
     assert!(rt; echo_all(&mut sockets, 200) && sockets.failures() == 0);
     for (number, stream) in streams.iter_mut().enumerate() {
         assert!(rt; gets_its_own(rt.alloc(), number, stream)?);
@@ -345,13 +338,13 @@ fn answers_many_at_once(rt: HostRuntime) -> Result<(), Fail> {
 // Strangers at every place keep nobody away: the first of them gives way.
 #[test]
 fn hears_past_silent_callers(rt: HostRuntime) -> Result<(), Fail> {
-    let mut sockets = bound(&rt)?;
+    let (mut sockets, desk) = bound(&rt)?;
     let mut silent = Vec::new(rt.alloc());
     for _ in 0..64 {
-        silent.push(caller(&rt, &sockets, b"")?)?;
+        silent.push(caller(&rt, desk, b"")?)?;
         assert!(rt; is_quiet(&mut sockets, 2));
     }
-    let mut guest = caller(&rt, &sockets, REQUEST)?;
+    let mut guest = caller(&rt, desk, REQUEST)?;
     let begun = Instant::now(&rt)?;
     assert!(rt;
         matches!(&next(&mut sockets, 4), Err(Fault))
@@ -370,24 +363,24 @@ const START: &[u8] = b"\x04\x07\x00\x22\xa0\x21\x9d\xa7\x81\xbf\x21\x71\x05\xbb\
     \x0e\x94\x28\x06\x00\x00\x00\x01\x2c\x04\x73\x31\x01\x04\x61\x6c";
 
 // Whether a caller, or a datagram, comes in the next turn, and is answered.
-fn is_turn_of_a_caller(sockets: &mut Sockets<'_, HostRuntime>, is_caller: bool) -> bool {
-    let Ok(Some(event)) = next(sockets, 1) else {
+fn is_turn_of_a_caller<X: Exchange>(exchange: &mut X, is_caller: bool) -> bool {
+    let Ok(Some(event)) = next(exchange, 1) else {
         return false;
     };
     let is_right = matches!(&event.what, What::Desk { .. }) == is_caller;
-    reply(sockets, &event, b"x").is_ok() && is_right
+    reply(exchange, &event, b"x").is_ok() && is_right
 }
 
 // Datagrams and callers that wait take turns.
 #[test]
 fn takes_turns(rt: HostRuntime) -> Result<(), Fail> {
-    let mut sockets = bound(&rt)?;
+    let (mut sockets, desk) = bound(&rt)?;
     let (radius, _) = sockets.ports()?;
     let client = UdpSocket::bind(&rt, "127.0.0.1:0")?;
     for _ in 0..10 {
         client.send_to(START, ("127.0.0.1", radius))?;
     }
-    let _streams = callers(&rt, &sockets, 10)?;
+    let _streams = callers(&rt, desk, 10)?;
     for turn in 0..20 {
         assert!(rt; is_turn_of_a_caller(&mut sockets, turn % 2 == 0));
     }

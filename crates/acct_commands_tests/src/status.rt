@@ -1,7 +1,7 @@
 //! The file of a server's counts.
 ghost use Rattle.std.specs.Prelude.{◌<◌, ◌^◌};
 
-use crate::turns::{reply, turn};
+use crate::turns::{drops, reply, turn};
 use acct_commands::{Figures, StatusFile, Tally, Watch, Watched, write_figures};
 use acct_model::{Octets, Text};
 use acct_service::lists::{ListExchange, Planned};
@@ -125,17 +125,6 @@ fn watched<'r, E: Write + Drop>(
     let name = Text::from_str(rt.alloc(), name)?;
     let status = StatusFile::new(rt, rt.alloc(), &name, 990, told)?;
     Ok(Watched::new(rt, exchange, no_watch(), Some(status)))
-}
-
-// Whether a datagram comes, and is dropped.
-fn drops<X: Exchange>(exchange: &mut X) -> bool {
-    match turn(exchange) {
-        Ok(Some(event)) => {
-            exchange.note_drop(&event, Reason::TooShort);
-            true
-        }
-        _ => false,
-    }
 }
 
 // Whether a datagram comes, and its reply is taken.

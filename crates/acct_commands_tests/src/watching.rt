@@ -1,7 +1,7 @@
 //! What a server tells while it runs, and which drops it tells.
 ghost use Rattle.std.specs.Prelude.{◌<◌, ◌^◌};
 
-use crate::turns::turn;
+use crate::turns::drops;
 use acct_book::MemBook;
 use acct_commands::{DropLog, StatusFile, Watch, Watched};
 use acct_model::Octets;
@@ -163,22 +163,13 @@ fn serves_whoever_watches(rt: HostRuntime) -> Result<(), Fail> {
     Ok(())
 }
 
-// Whether the first datagram is dropped, and one turn is counted for it.
-fn drops<X: Exchange>(exchange: &mut X) -> bool {
-    let Ok(Some(event)) = turn(exchange) else {
-        return false;
-    };
-    exchange.note_drop(&event, Reason::TooShort);
-    (exchange.turns(), exchange.failures()) == (1, 0)
-}
-
 // A watched exchange counts and tells what the one inside it does.
 #[test]
 fn counts_as_the_watched_one(rt: HostRuntime) -> Result<(), Fail> {
     let exchange = ListExchange::new(rt.alloc(), flood(rt.alloc())?);
     let watch = Watch::new(Vec::new(rt.alloc()));
     let mut watched = Watched::new(&rt, exchange, Some(watch), no_status(&rt));
-    let is_counted = drops(&mut watched);
+    let is_counted = drops(&mut watched) && (watched.turns(), watched.failures()) == (1, 0);
     let (exchange, _) = watched.finish();
     assert!(rt;
         is_counted
