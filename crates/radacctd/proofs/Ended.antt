@@ -13,7 +13,7 @@ use Rattle.acct_commands.specs.declared.fault.Fault.{Fault}
 use Rattle.radacctd.specs.declared.left.Left.{Left}
 use Rattle.radacctd.specs.declared.left.Left.TheVariants as left
 use Rattle.radacctd.specs.Files.{IsRefused, IsUnclosed, Copies}
-use Rattle.radacctd.specs.Commands.{Worked, Closes, Fails, FailsToExport}
+use Rattle.radacctd.specs.Commands.{Worked, Closes, Fails, FailsToExport, IsNotClosed}
 use Rattle.radacctd.specs.Jobs.{ClosesOrFails, IsUnchecked}
 
 -- what holds with one configuration holds with some
@@ -38,11 +38,12 @@ module _ {D : Type 0} {g : disk.Ghosts D} where
 
 module _ {D : Type 0} {g : disk.Ghosts D} where
   -- its status is that of its work
-  pub status_if : (P : Status → Type 0) (last : Held (FileStore D g)) (ended : Status) → P ended
+  pub status_if : (P : Status → Type 0) (last : Held (FileStore D g))
+      (ended : Result Status Fault) → IfOk ended P
       → (result : Result (Status × Files D) (Fault × Left D g))
-      → IfOk result (λ done. (done.0 ≡ ended) × Copies last done.1)
+      → IfOk result (λ done. (ended ≡ Ok done.0) × Copies last done.1)
       → IfOk result (λ done. P done.0)
-  status_if P last ended is (Ok done) h = subst P (sym h.0) is
+  status_if P last ended is (Ok done) h = subst (λ it. IfOk it P) h.0 is
   status_if P last ended is (Err e) h = tt
 
 module _ {D : Type 0} {g : disk.Ghosts D} (image : Image) (plans : List Plan) where
@@ -73,26 +74,28 @@ module _ {D : Type 0} {g : disk.Ghosts D} (image : Image) (plans : List Plan) wh
     unclosed_fails last ended worked told (left.Closed files) h = absurd h
 
     -- a book that was closed after its work
-    pub closes_if : (last : Held (FileStore D g)) (ended : Status)
-        → Worked image plans (Did (Ok ended)) last
+    pub closes_if : (last : Held (FileStore D g)) (ended : Result Status Fault)
+        → Worked image plans (Did ended) last
         → (result : Result (Status × Files D) (Fault × Left D g))
-        → IfOk result (λ done. (done.0 ≡ ended) × Copies last done.1)
+        → IfOk result (λ done. (ended ≡ Ok done.0) × Copies last done.1)
         → IfOk result (λ done. Closes image plans Did done.0 done.1)
     closes_if last ended worked (Ok done) h = record {
       last = last;
       copied = h.1;
-      worked = subst (λ status. Worked image plans (Did (Ok status)) last) (sym h.0) worked;
+      worked = subst (λ it. Worked image plans (Did it) last) h.0 worked;
     }
     closes_if last ended worked (Err e) h = tt
 
     -- or was not
-    pub fails_if : (last : Held (FileStore D g)) (ended : Status)
-        → Worked image plans (Did (Ok ended)) last
+    pub fails_if : (last : Held (FileStore D g)) (ended : Result Status Fault)
+        → Worked image plans (Did ended) last
         → (result : Result (Status × Files D) (Fault × Left D g))
-        → IfErr result (λ e. IsUnclosed last e.0 e.1)
+        → IfErr result (λ e. IsNotClosed ended last e.0 e.1)
         → IfErr result (λ e. Fails image plans Did e.0 e.1)
     fails_if last ended worked (Ok done) h = tt
-    fails_if last ended worked (Err e) h = unclosed_fails last ended worked e.0 e.1 h
+    fails_if last (Ok status) worked (Err e) h =
+        unclosed_fails last status worked e.0 e.1 h
+    fails_if last (Err fault) worked (Err e) h = rw (h.0, h.1) (failed_at_work fault last worked)
 
   -- the first for an export
   pub refused_unexported : (b : book.Ghosts (Held (FileStore D g))) (told : Fault) (rest : Left D g)

@@ -1,5 +1,5 @@
 -- What each command does with the book of a file, what it prints, and what it leaves.
-use Rattle.std.specs.Prelude.{◌⊎◌, ℕ, List, Option, Result, Ok, Err}
+use Rattle.std.specs.Prelude.{◌≡◌, ◌⊎◌, ℕ, List, Option, Result, Ok, Err}
 use Rattle.sqlite_disk.specs.declared.Disk as disk
 use Rattle.sqlite_disk.specs.declared.Files.{Files}
 use Rattle.sqlite_wal.specs.Recovery.{Image}
@@ -53,6 +53,12 @@ module _ {D : Type 0} {g : disk.Ghosts D} where
     -- a command that a fault ended
     pub record Fails (told : Fault) (rest : Left D g) : Type 0 where
       pub at : FailsAt told rest
+
+  -- why the book of a command that ended so was not closed: a fault had ended it, and the files
+  -- are open still; or the close failed
+  abbrev pub IsNotClosed : Result Status Fault → Held (FileStore D g) → Fault → Left D g → Type 0
+  IsNotClosed (Ok status) last told rest = IsUnclosed last told rest
+  IsNotClosed (Err fault) last told rest = (told ≡ fault) × (rest ≡ left.Open last)
 
 abbrev pub well : Result Status Fault
 well = Ok status.Done

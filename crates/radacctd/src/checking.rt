@@ -11,13 +11,13 @@ ghost use Rattle.radacctd.specs.Jobs.{DoesCheck, ChecksBook, IsChecked, IsUnchec
 ghost use Rattle.radacctd.specs.Jobs.{text_of};
 
 use crate::command::{Outcome, config_of, without_book};
-use crate::database::adopted;
+use crate::database::{FileConnection, adopted};
 use crate::left::Left;
 use acct_commands::{Fault, run_check, write_sizes};
 use acct_feed::Status;
 use acct_model::Text;
 use acct_site::Config;
-use sqlite::{Connection, FileFrom, FileStore, Start};
+use sqlite::{FileFrom, Start};
 use std::io::Write;
 
 /// `check` of the configuration in a file, and of the book in another one, if that is given: whether
@@ -76,7 +76,7 @@ fn checked_from<S: Start, W: Write>(
     file: &Text,
     output: &mut W,
     start: S,
-) -> Result<Connection<FileStore<FileFrom<S>>>, (Fault, Left<FileFrom<S>>)>
+) -> Result<FileConnection<S>, (Fault, Left<FileFrom<S>>)>
     ensures checked { IfOk result (IsChecked (image_at S.Start) (W.contents output.old)
         (W.contents output.new)) }
     ensures failed { IfErr result (λ e. FailsToCheck (image_at S.Start) e.0 e.1) }
@@ -92,7 +92,7 @@ fn checked<S: Start, W: Write>(
     file: &Text,
     output: &mut W,
     start: S,
-) -> Result<Connection<FileStore<FileFrom<S>>>, (Fault, Left<FileFrom<S>>)>
+) -> Result<FileConnection<S>, (Fault, Left<FileFrom<S>>)>
     ensures checked { IfOk result (λ last. (HasCleanDisk (file_state last)
         → IsBookOf (image_at S.Start) config.now.plans last)) }
     ensures told { IfOk result (λ last. Appends (W.contents output.old) (W.contents output.new)
@@ -100,9 +100,9 @@ fn checked<S: Start, W: Write>(
     ensures refused { IfErr result (λ e.
         IsUnchecked (image_at S.Start) config.now.plans e.0 e.1) }
 {
-    let book = adopted(runtime, file, &config.plans, start)?;
+    let connection = adopted(runtime, file, &config.plans, start)?.into_connection();
     match write_sizes(output, config) {
-        Ok(_) => Ok(book.into_connection()),
-        Err(fault) => Err((fault, Left::Open(book.into_connection()))),
+        Ok(_) => Ok(connection),
+        Err(fault) => Err((fault, Left::Open(connection))),
     }
 }

@@ -10,10 +10,10 @@ ghost use Rattle.sqlite_wal.specs.Files.{image_at};
 ghost use Rattle.acct_site.specs.declared.config.Config.{Config};
 ghost use Rattle.acct_command_line.specs.Orders.{HasBounds};
 ghost use Rattle.radacctd.specs.Commands.{Closes, Fails, Worked, WritesOut, FailsToExport};
-ghost use Rattle.radacctd.specs.Commands.{refused};
+ghost use Rattle.radacctd.specs.Commands.{refused, IsNotClosed};
 ghost use Rattle.acct_book.specs.Step.{Looks};
 ghost use Rattle.acct_commands.specs.Exports.{IsExportFault};
-ghost use Rattle.radacctd.specs.Files.{Copies, IsUnclosed};
+ghost use Rattle.radacctd.specs.Files.{Copies};
 ghost use Rattle.radacctd.specs.Jobs.{DoesJob, HasNoConfig, WorksAndCloses, FailsAtWork};
 ghost use Rattle.radacctd.specs.Jobs.{ExportsBook, ExportsNothing, FeedsScript};
 ghost use Rattle.radacctd.specs.Jobs.{text_of, IsSiteOf};
@@ -22,7 +22,7 @@ ghost use Rattle.std.specs.Option.{option_copied};
 ghost use Rattle.acct_commands.specs.Imports.{Runs};
 
 use crate::checking::check;
-use crate::database::{FileBook, adopted, close};
+use crate::database::{FileConnection, adopted, close};
 use crate::feed::run_feed;
 use crate::left::Left;
 use crate::making::{add_plans, init, migrate};
@@ -179,14 +179,20 @@ fn feed<I: Read + Drop, W: Write + Drop>(
     Ok(run_feed(alloc, config, input, output))
 }
 
-/// Closes the book of a command that ends so.
-pub(crate) fn finished<S: Start>(book: FileBook<S>, status: Status) -> Ending<S>
-    ensures closed { IfOk result (λ done. (done.0 ≡ status) × Copies book done.1) }
-    ensures failed { IfErr result (λ e. IsUnclosed book e.0 e.1) }
+/// Closes the book of a command that ended so. After a fault its files stay open.
+pub(crate) fn finished<S: Start>(
+    ended: Result<Status, Fault>,
+    connection: FileConnection<S>,
+) -> Ending<S>
+    ensures closed { IfOk result (λ done. (ended ≡ Ok done.0) × Copies connection done.1) }
+    ensures failed { IfErr result (λ e. IsNotClosed ended connection e.0 e.1) }
 {
-    match close(book) {
-        Ok(files) => Ok((status, files)),
-        Err(failed) => Err(failed),
+    match ended {
+        Ok(status) => match close(connection) {
+            Ok(files) => Ok((status, files)),
+            Err(failed) => Err(failed),
+        },
+        Err(fault) => Err((fault, Left::Open(connection))),
     }
 }
 
@@ -259,13 +265,11 @@ fn imported<S: Start, I: Read + Drop, W: Write>(
         e.0 e.1) }
 {
     let book = adopted(runtime, file, &config.plans, start)?;
-    match credited(runtime.alloc(), &config.plans, book, moment, input, output) {
-        Ok((book, status)) => finished(book, status),
-        Err((fault, connection)) => Err((fault, Left::Open(connection))),
-    }
+    let (ended, connection) = credited(runtime.alloc(), &config.plans, book, moment, input, output);
+    finished(ended, connection)
 }
 
-// Credits the vouchers of an input to a book in any store. A fault leaves its connection.
+// Credits the vouchers of an input to a book in any store, and hands back its connection.
 fn credited<T: Alter + Drop, I: Read + Drop, W: Write>(
     alloc: Global,
     plans: &Plans,
@@ -273,20 +277,14 @@ fn credited<T: Alter + Drop, I: Read + Drop, W: Write>(
     moment: u64,
     input: I,
     output: &mut W,
-) -> Result<(SqlBook<T>, Status), (Fault, Connection<T>)>
+) -> (Result<Status, Fault>, Connection<T>)
     requires { moment < 2 ^ 53 }
-    ensures other { IfOk result (λ done. done.1 ≢ Status.WrongWords) }
-    ensures credited { IfOk result (λ done. Runs ⟦<SqlBook<T> as Book>⟧ plans.now moment
-        (I.remaining input) book done.0 (W.contents output.old) (W.contents output.new)
-        (Ok done.1)) }
-    ensures failed { IfErr result (λ e. Runs ⟦<SqlBook<T> as Book>⟧ plans.now moment
-        (I.remaining input) book e.1 (W.contents output.old) (W.contents output.new)
-        (Err e.0)) }
+    ensures other { IfOk result.0 (λ status. status ≢ Status.WrongWords) }
+    ensures runs { Runs ⟦<SqlBook<T> as Book>⟧ plans.now moment (I.remaining input) book result.1
+        (W.contents output.old) (W.contents output.new) result.0 }
 {
-    match run_import(alloc, plans, &mut book, moment, input, output) {
-        Ok(status) => Ok((book, status)),
-        Err(fault) => Err((fault, book.into_connection())),
-    }
+    let ended = run_import(alloc, plans, &mut book, moment, input, output);
+    (ended, book.into_connection())
 }
 
 // `export` of the book of a file.
@@ -329,7 +327,7 @@ fn exported<S: Start, W: Write + Drop>(
     what: Export,
     output: W,
     start: S,
-) -> Result<(W, Connection<FileStore<FileFrom<S>>>), (Fault, Left<FileFrom<S>>)>
+) -> Result<(W, FileConnection<S>), (Fault, Left<FileFrom<S>>)>
     ensures exported { IfOk result (λ done. Worked (image_at S.Start) config.now.plans
         (WritesOut ⟦<SqlBook<FileStore<FileFrom<S>>> as Book>⟧ config.now.plans what
         (W.contents output) (W.contents done.0)) done.1) }

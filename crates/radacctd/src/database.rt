@@ -29,8 +29,11 @@ const HEADER_OCTETS: u64 = 100;
 /// A book in a file that held what `S` says.
 pub type FileBook<S> = SqlBook<FileStore<FileFrom<S>>>;
 
+/// The connection of such a book.
+pub type FileConnection<S> = Connection<FileStore<FileFrom<S>>>;
+
 /// Makes an empty book in a file, and the file too where it isn't there, which then its owner alone
-/// can read and write, as its log.
+/// can read and write, as its log. It gives the connection to the book.
 ///
 /// # Errors
 ///
@@ -41,7 +44,7 @@ pub fn made<S: Start>(
     file: &Text,
     plans: &Plans,
     start: S,
-) -> Result<FileBook<S>, (Fault, Left<FileFrom<S>>)>
+) -> Result<FileConnection<S>, (Fault, Left<FileFrom<S>>)>
     ensures made { IfOk result (λ book. HasCleanDisk (file_state book)
         → IsMadeIn (image_at S.Start) plans.now book) }
     ensures refused { IfErr result (λ e. HasNotMade (image_at S.Start) plans.now e.0 e.1) }
@@ -76,7 +79,7 @@ pub fn adopted<S: Start>(
     taken(runtime.alloc(), connection, plans)
 }
 
-/// The book of schema number 1 or 2 in a file that is there, as one of today's.
+/// The connection to the book of schema number 1 or 2 in a file that is there, as one of today's.
 ///
 /// # Errors
 ///
@@ -88,7 +91,7 @@ pub fn migrated<S: Start>(
     file: &Text,
     plans: &Plans,
     start: S,
-) -> Result<FileBook<S>, (Fault, Left<FileFrom<S>>)>
+) -> Result<FileConnection<S>, (Fault, Left<FileFrom<S>>)>
     ensures migrated { IfOk result (λ book. HasCleanDisk (file_state book)
         → IsMigratedIn (image_at S.Start) plans.now book) }
     ensures refused { IfErr result (λ e. HasNotMigrated (image_at S.Start) plans.now e.0 e.1) }
@@ -100,8 +103,8 @@ pub fn migrated<S: Start>(
     raised(runtime.alloc(), connection, plans)
 }
 
-/// The book in a file that is there, with the plans that it did not keep yet, and how many they
-/// are.
+/// The connection to the book in a file that is there, with the plans that it did not keep yet, and
+/// how many they are.
 ///
 /// # Errors
 ///
@@ -113,7 +116,7 @@ pub fn extended<S: Start>(
     file: &Text,
     plans: &Plans,
     start: S,
-) -> Result<(FileBook<S>, u64), (Fault, Left<FileFrom<S>>)>
+) -> Result<(FileConnection<S>, u64), (Fault, Left<FileFrom<S>>)>
     ensures added { IfOk result (λ done. HasCleanDisk (file_state done.0)
         → IsAddedIn (image_at S.Start) plans.now done.1 done.0) }
     ensures refused { IfErr result (λ e. HasNotAdded (image_at S.Start) plans.now e.0 e.1) }
@@ -131,11 +134,13 @@ pub fn extended<S: Start>(
 /// # Errors
 ///
 /// `Unavailable` where that fails. File and log together still hold all that was accepted.
-pub fn close<S: Start>(book: FileBook<S>) -> Result<Files<FileFrom<S>>, (Fault, Left<FileFrom<S>>)>
-    ensures copied { IfOk result (λ files. Copies book files) }
-    ensures kept { IfErr result (λ e. IsUnclosed book e.0 e.1) }
+pub fn close<S: Start>(
+    connection: FileConnection<S>,
+) -> Result<Files<FileFrom<S>>, (Fault, Left<FileFrom<S>>)>
+    ensures copied { IfOk result (λ files. Copies connection files) }
+    ensures kept { IfErr result (λ e. IsUnclosed connection e.0 e.1) }
 {
-    match book.into_connection().close_files() {
+    match connection.close_files() {
         Ok(files) => Ok(files),
         Err((_, rest)) => { Err((Fault::Store(StoreFault::Unavailable), Left::Unclosed(rest))) }
     }
@@ -165,12 +170,12 @@ fn may_be_database(runtime: &HostRuntime, file: &Text) -> bool {
     }
 }
 
-// A new book in a database, which was opened over files that held an image.
+// The connection to a new book in a database, which was opened over files that held an image.
 fn created<D: Disk + Drop>(
     alloc: Global,
     connection: Connection<FileStore<D>>,
     plans: &Plans,
-) -> Result<SqlBook<FileStore<D>>, (Fault, Left<D>)>
+) -> Result<Connection<FileStore<D>>, (Fault, Left<D>)>
     requires { (file_state connection).in_transaction ≡ false }
     ensures made { (image : Image) → IsOpenedOn image connection
         → IfOk result (λ book. HasCleanDisk (file_state book) → IsMadeIn image plans.now book) }
@@ -178,7 +183,7 @@ fn created<D: Disk + Drop>(
         → IfErr result (λ e. HasNotMade image plans.now e.0 e.1) }
 {
     match SqlBook::create(alloc, connection, plans) {
-        Ok(book) => Ok(book),
+        Ok(book) => Ok(book.into_connection()),
         Err((error, connection)) => {
             Err((Fault::Store(store_fault(error)), Left::Open(connection)))
         }
@@ -205,13 +210,13 @@ fn taken<D: Disk + Drop>(
     }
 }
 
-// The book of today's that an older one is made, in a database that was opened over files that held
-// an image.
+// The connection to the book of today's that an older one is made, in a database that was opened
+// over files that held an image.
 fn raised<D: Disk + Drop>(
     alloc: Global,
     connection: Connection<FileStore<D>>,
     plans: &Plans,
-) -> Result<SqlBook<FileStore<D>>, (Fault, Left<D>)>
+) -> Result<Connection<FileStore<D>>, (Fault, Left<D>)>
     requires { (file_state connection).in_transaction ≡ false }
     ensures migrated { (image : Image) → IsOpenedOn image connection
         → IfOk result (λ book. HasCleanDisk (file_state book)
@@ -220,20 +225,20 @@ fn raised<D: Disk + Drop>(
         → IfErr result (λ e. HasNotMigrated image plans.now e.0 e.1) }
 {
     match SqlBook::migrate(alloc, connection, plans) {
-        Ok(book) => Ok(book),
+        Ok(book) => Ok(book.into_connection()),
         Err((error, connection)) => {
             Err((Fault::Store(store_fault(error)), Left::Open(connection)))
         }
     }
 }
 
-// The book that a database is, with the plans that it did not keep yet, in a database that was
-// opened over files that held an image.
+// The connection to the book that a database is, with the plans that it did not keep yet, in a
+// database that was opened over files that held an image.
 fn grown<D: Disk + Drop>(
     alloc: Global,
     connection: Connection<FileStore<D>>,
     plans: &Plans,
-) -> Result<(SqlBook<FileStore<D>>, u64), (Fault, Left<D>)>
+) -> Result<(Connection<FileStore<D>>, u64), (Fault, Left<D>)>
     requires { (file_state connection).in_transaction ≡ false }
     ensures added { (image : Image) → IsOpenedOn image connection
         → IfOk result (λ done. HasCleanDisk (file_state done.0)
@@ -242,7 +247,7 @@ fn grown<D: Disk + Drop>(
         → IfErr result (λ e. HasNotAdded image plans.now e.0 e.1) }
 {
     match SqlBook::add_plans(alloc, connection, plans) {
-        Ok((book, count)) => Ok((book, count)),
+        Ok((book, count)) => Ok((book.into_connection(), count)),
         Err((error, connection)) => {
             Err((Fault::Store(store_fault(error)), Left::Open(connection)))
         }
@@ -254,7 +259,7 @@ fn opened<S: Start>(
     runtime: &HostRuntime,
     file: &Text,
     start: S,
-) -> Result<Connection<FileStore<FileFrom<S>>>, (Fault, Left<FileFrom<S>>)>
+) -> Result<FileConnection<S>, (Fault, Left<FileFrom<S>>)>
     ensures found { IfOk result (IsOpenedOn (image_at S.Start)) }
     ensures idle { IfOk result (λ c. (file_state c).in_transaction ≡ false) }
     ensures unread { IfErr result (λ e. IsUnread (image_at S.Start) e.0 e.1) }

@@ -8,16 +8,15 @@ ghost use Rattle.radacctd.specs.Jobs.{WorksAndCloses, FailsAtWork};
 
 use crate::command::{Ending, config_of, finished};
 use crate::database::adopted;
-use crate::left::Left;
 use acct_book::Book;
 use acct_command_line::{Paths, Serving};
-use acct_commands::{Errors, SiteFile, note_clock, run_serve};
+use acct_commands::{Errors, Fault, SiteFile, note_clock, run_serve};
 use acct_feed::Status;
 use acct_service::Exchange;
 use acct_site::Config;
 use acct_sockets::Sockets;
 use acct_sql::SqlBook;
-use sqlite::{FileFrom, FileStore, Start};
+use sqlite::{Alter, Connection, FileFrom, FileStore, Start};
 use std::io::Write;
 
 /// `serve` over the book of a file. While it runs it tells on `errors` what it drops, if it isn't
@@ -87,7 +86,27 @@ fn served<S: Start, W: Write, E: Write + Drop>(
 {
     // Before it is opened, which may make a log.
     note_clock(runtime, &paths.database, &mut errors.site);
-    let mut book = adopted(runtime, &paths.database, &config.plans, start)?;
+    let book = adopted(runtime, &paths.database, &config.plans, start)?;
+    let (ended, connection) = run_over(runtime, config, site, book, serving, output, errors);
+    finished(ended, connection)
+}
+
+// Serves over a book in any store, and hands back its connection.
+fn run_over<T: Alter + Drop, W: Write, E: Write + Drop>(
+    runtime: &HostRuntime,
+    config: &Config,
+    site: SiteFile<'_, HostRuntime>,
+    mut book: SqlBook<T>,
+    serving: &Serving,
+    output: &mut W,
+    errors: Errors<E>,
+) -> (Result<Status, Fault>, Connection<T>)
+    requires { IsBounded serving.now }
+    ensures done { IfOk result.0 (λ status. status ≡ Status.Done) }
+    ensures serves { RunsServer ⟦<SqlBook<T> as Book>⟧
+        ⟦<Sockets<'static, HostRuntime> as Exchange>⟧ config.now serving.now.turns
+        (W.contents output.old) (W.contents output.new) result.0 book result.1 }
+{
     let ended = run_serve(
         runtime,
         runtime.alloc(),
@@ -98,8 +117,5 @@ fn served<S: Start, W: Write, E: Write + Drop>(
         output,
         errors,
     );
-    match ended {
-        Ok(status) => finished(book, status),
-        Err(fault) => Err((fault, Left::Open(book.into_connection()))),
-    }
+    (ended, book.into_connection())
 }

@@ -3,8 +3,10 @@ use Rattle.radacctd.proofs.checking.checked.Goals as goal
 
 pub returns-in-Ok-clause-checked : goal.returns-in-Ok-clause-checked
 returns-in-Ok-clause-checked g c =
-    rw c.into_connection.ensures c.in_ok-book.ensures.adopted
+    rw c.into_connection-connection.ensures c.in_ok-adopted.ensures.adopted
 
 pub returns-in-Err-clause-refused : goal.returns-in-Err-clause-refused
-returns-in-Err-clause-refused g c =
-    inr (c.in-Err.ensures.why, rw c.into_connection-in-Err.ensures c.in_ok-book.ensures.adopted)
+returns-in-Err-clause-refused g c = inr (
+  c.in-Err.ensures.why,
+  rw c.into_connection-connection.ensures c.in_ok-adopted.ensures.adopted,
+)

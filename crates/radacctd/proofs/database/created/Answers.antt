@@ -11,7 +11,7 @@ use Rattle.radacctd.proofs.Found.{was_held, may_leave_held}
 use Rattle.radacctd.proofs.database.created.Goals as goal
 
 pub returns-in-Ok-clause-made : goal.returns-in-Ok-clause-made
-returns-in-Ok-clause-made g c image found clean =
+returns-in-Ok-clause-made g c = rw c.into_connection.ensures (λ image found clean.
     let first = c.args.connection in
     let made = c.in-Ok.ensures.made clean in
     let early : HasCleanDisk (file_state first) = omega
@@ -22,7 +22,7 @@ returns-in-Ok-clause-made g c image found clean =
       held = (file_state first).now;
       was_held = was_held image first found early;
       was_bare = λ other. c.in-Ok.ensures.not_a_book.1 other;
-    }
+    })
 
 pub returns-in-Err-clause-refused : goal.returns-in-Err-clause-refused
 returns-in-Err-clause-refused g c image found =

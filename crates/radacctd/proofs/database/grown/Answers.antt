@@ -8,7 +8,7 @@ use Rattle.radacctd.proofs.Found.{was_held, may_leave_held}
 use Rattle.radacctd.proofs.database.grown.Goals as goal
 
 pub returns-in-Ok-clause-added : goal.returns-in-Ok-clause-added
-returns-in-Ok-clause-added g c image found clean =
+returns-in-Ok-clause-added g c = rw c.into_connection.ensures (λ image found clean.
     let first = c.args.connection in
     let it = c.in-Ok.ensures.added clean in
     let early : HasCleanDisk (file_state first) = omega
@@ -20,7 +20,7 @@ returns-in-Ok-clause-added g c image found clean =
       extended = it.1;
       added = it.2;
       counted = λ kept keeps. (c.in-Ok.ensures.number clean kept keeps).1;
-    }
+    })
 
 pub returns-in-Err-clause-refused : goal.returns-in-Err-clause-refused
 returns-in-Err-clause-refused g c image found =

@@ -8,7 +8,7 @@ use Rattle.radacctd.proofs.Found.{was_held, may_leave_held}
 use Rattle.radacctd.proofs.database.raised.Goals as goal
 
 pub returns-in-Ok-clause-migrated : goal.returns-in-Ok-clause-migrated
-returns-in-Ok-clause-migrated g c image found clean =
+returns-in-Ok-clause-migrated g c = rw c.into_connection.ensures (λ image found clean.
     let first = c.args.connection in
     let it = c.in-Ok.ensures.migrated clean in
     let early : HasCleanDisk (file_state first) = omega
@@ -19,7 +19,7 @@ returns-in-Ok-clause-migrated g c image found clean =
       was_held = was_held image first found early;
       was_older = c.in-Ok.ensures.older clean;
       migrated = it.1;
-    }
+    })
 
 pub returns-in-Err-clause-refused : goal.returns-in-Err-clause-refused
 returns-in-Err-clause-refused g c image found =
