@@ -6,4 +6,5 @@ mod KeptPlanLemmas
 mod NumberLemmas
 mod PlanLemmas
 mod AddLemmas
+mod TiedLemmas
 mod RememberLemmas

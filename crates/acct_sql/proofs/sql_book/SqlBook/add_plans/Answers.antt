@@ -6,6 +6,7 @@ use Rattle.acct_book.specs.Stands.{Stands}
 use Rattle.acct_book.proofs.Additions.{additions_stand}
 use Rattle.acct_tables.specs.Content.{content_in_tables}
 use Rattle.acct_sql.specs.inner.Adding.{IsBookAddedTo}
+use Rattle.acct_sql.proofs.TiedLemmas.{tied}
 use Rattle.acct_sql.proofs.sql_book.SqlBook.add_plans.Goals as goal
 
 pub returns-in-Ok-clause-stands : goal.returns-in-Ok-clause-stands
@@ -18,3 +19,6 @@ returns-in-Ok-clause-stands g c clean = λ old history kept fine stood.
     subst (λ content. Stands plans content (PlansAdded (plans_added old plans) ∷ history))
     (sym made.is.is.content) (additions_stand old plans (content_in_tables before) history fine
     c.have_no_fault.ensures (made.counted old kept).0 stood)
+
+pub returns-in-Ok-clause-tables : goal.returns-in-Ok-clause-tables
+returns-in-Ok-clause-tables g c = tied g.S.Store _

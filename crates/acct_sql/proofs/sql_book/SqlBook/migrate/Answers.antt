@@ -3,6 +3,7 @@ use Rattle.sqlite.specs.Held.{state}
 use Rattle.acct_book.specs.Stands.{Stands}
 use Rattle.acct_tables.specs.inner.Migrating.{IsMigratedBook}
 use Rattle.acct_sql.proofs.StoodLemmas.{migrated_stands}
+use Rattle.acct_sql.proofs.TiedLemmas.{tied}
 use Rattle.acct_sql.proofs.sql_book.SqlBook.migrate.Goals as goal
 
 pub returns-in-Ok-clause-stands : goal.returns-in-Ok-clause-stands
@@ -12,3 +13,6 @@ returns-in-Ok-clause-stands g c clean = λ history stood.
     rw c.in-Ok.is at (c.migrate_book.ensures.made clean) in
     subst (λ content. Stands c.args.plans.now content history) (sym made.is.content)
     (migrated_stands c.args.plans.now old history stood)
+
+pub returns-in-Ok-clause-tables : goal.returns-in-Ok-clause-tables
+returns-in-Ok-clause-tables g c = tied g.S.Store _
