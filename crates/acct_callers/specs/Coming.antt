@@ -1,12 +1,18 @@
 -- What comes of a request and goes of a response.
-use Rattle.std.specs.Prelude.{◌≡◌, ◌⊎◌, ℕ, Bool, true, List, [], ◌++◌, Option, length}
+use Rattle.std.specs.Prelude.{◌≡◌, ◌⊎◌, ◌<◌, ℕ, Bool, true, List, [], ◌++◌, Option, length}
 use Rattle.std.specs.Io.KnownBytes.{Consumes, Appends}
 use Rattle.acct_desk.specs.Reading.{IsSettled}
+use Rattle.acct_callers.specs.declared.request.Request.{Request}
 
 -- what came of a request grew at its end by the octets that a reader lost at its front
 abbrev pub Takes : Option (List ℕ) → Option (List ℕ) → List ℕ → List ℕ → Type 0
 Takes old_left new_left old new =
     (octets : List ℕ) × Consumes old_left new_left octets × (new ≡ old ++ octets)
+
+-- more came of a request, or its end
+abbrev pub HasCome : Request → Request → Type 0
+HasCome old new =
+    (length old.octets.items < length new.octets.items) ⊎ (new.has_ended ≡ true)
 
 -- what is left of a response lost at its front the octets by which a writer grew at its end
 abbrev pub Gives : Option (List ℕ) → Option (List ℕ) → List ℕ → List ℕ → Type 0

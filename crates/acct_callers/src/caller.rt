@@ -1,7 +1,8 @@
 //! A caller of the desk: what has come of its request, and what is still to go of its response.
 ghost use Rattle.std.specs.Prelude.{◌≡◌, ◌↔◌, ◌⊎◌, true, false, IfOk, IsTrue, OnOk};
 ghost use Rattle.acct_callers.specs.Going.{GoesOn, Goes, Advances, AsksNothing, IsFresh};
-ghost use Rattle.acct_callers.specs.Waiting.{IsLate, MayGiveWay, seconds_from, milliseconds_from};
+ghost use Rattle.acct_callers.specs.Waiting.{IsLate, MayGiveWay, PutsOff, seconds_from};
+ghost use Rattle.acct_callers.specs.Waiting.{milliseconds_from};
 
 use crate::request::Request;
 use crate::response::{Response, write_some};
@@ -167,6 +168,8 @@ impl<S: Read + Write + OpenStream + Drop> Caller<S> {
             self.old.stage self.new.stage) }
         ensures came { self.new.came ≡ self.old.came }
         ensures heard { (self.new.heard ≡ self.old.heard) ⊎ (self.new.heard ≡ now) }
+        ensures puts_off { OnOk result (PutsOff now self.old.heard self.new.heard
+            self.old.stage self.new.stage) }
     {
         match &mut self.stage {
             Stage::Asking(request) => {
@@ -186,6 +189,7 @@ impl<S: Read + Write + OpenStream + Drop> Caller<S> {
         ensures same { self.new.stream ≡ self.old.stream }
         ensures came { self.new.came ≡ self.old.came }
         ensures silent { has_moved ≡ false → self.new.heard ≡ self.old.heard }
+        ensures still { has_moved ≡ false → self.new.stage ≡ self.old.stage }
         ensures heard { has_moved ≡ true → self.new.heard ≡ now }
         ensures advances { IfOk result (Advances self.old.stage self.new.stage) }
     {

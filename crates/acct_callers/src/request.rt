@@ -1,6 +1,7 @@
 //! What has come of a caller's request.
-ghost use Rattle.std.specs.Prelude.{◌≡◌, ◌∷◌, ◌++◌, [], false, Some, OnOk, IfOk, IfSome, IsOkAnd};
-ghost use Rattle.acct_callers.specs.Coming.{Takes, IsRequestOf};
+ghost use Rattle.std.specs.Prelude.{◌≡◌, ◌∷◌, ◌++◌, [], true, false, Some, OnOk, IfOk};
+ghost use Rattle.std.specs.Prelude.{IfSome, IsOkAnd};
+ghost use Rattle.acct_callers.specs.Coming.{Takes, HasCome, IsRequestOf};
 
 use crate::waiting::has_to_wait;
 use acct_desk::{ReadFault, read_request};
@@ -41,6 +42,8 @@ impl Request {
     pub fn take<R: Read>(&mut self, reader: &mut R, room: &mut [u8]) -> Result<bool, Fault>
         ensures takes { OnOk result (Takes (R.remaining reader.old) (R.remaining reader.new)
             self.old.octets.items self.new.octets.items) }
+        ensures came { IfOk result (λ came. came ≡ true → HasCome self.old self.new) }
+        ensures same { IfOk result (λ came. came ≡ false → self.new ≡ self.old) }
     {
         match reader.read(room) {
             Ok(0) => self.has_ended = true,

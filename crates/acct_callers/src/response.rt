@@ -1,6 +1,6 @@
 //! What is still to go of a caller's response.
-ghost use Rattle.std.specs.Prelude.{◌≡◌, ◌↔◌, ◌≤◌, [], ℕ, List, drop, take, length};
-ghost use Rattle.std.specs.Prelude.{IsTrue, OnOk, IfOk};
+ghost use Rattle.std.specs.Prelude.{◌≡◌, ◌↔◌, ◌≤◌, ◌<◌, [], ℕ, List, drop, take, length};
+ghost use Rattle.std.specs.Prelude.{true, false, IsTrue, OnOk, IfOk};
 ghost use Rattle.std.specs.Io.KnownBytes.{Appends};
 ghost use Rattle.acct_callers.specs.Coming.{Gives};
 
@@ -59,6 +59,8 @@ impl Response {
     pub fn write<W: Write>(&mut self, writer: &mut W) -> Result<bool, Fault>
         ensures gives { OnOk result (Gives (W.contents writer.old) (W.contents writer.new)
             self.old self.new) }
+        ensures went { IfOk result (λ went. went ≡ true → length self.new < length self.old) }
+        ensures same { IfOk result (λ went. went ≡ false → self.new ≡ self.old) }
     {
         let count = write_some(writer, &self.octets.as_slice()[self.sent..])?;
         self.sent += count;
