@@ -170,6 +170,8 @@ impl<S: Read + Write + OpenStream + Drop> Caller<S> {
         ensures heard { (self.new.heard ≡ self.old.heard) ⊎ (self.new.heard ≡ now) }
         ensures puts_off { OnOk result (PutsOff now self.old.heard self.new.heard
             self.old.stage self.new.stage) }
+        ensures ready { OnOk result (self.old.is_ready ≡ true
+            → (self.new.is_ready ≡ true) ⊎ (self.new.stage ≡ self.old.stage)) }
     {
         match &mut self.stage {
             Stage::Asking(request) => {
@@ -192,6 +194,8 @@ impl<S: Read + Write + OpenStream + Drop> Caller<S> {
         ensures still { has_moved ≡ false → self.new.stage ≡ self.old.stage }
         ensures heard { has_moved ≡ true → self.new.heard ≡ now }
         ensures advances { IfOk result (Advances self.old.stage self.new.stage) }
+        ensures ready { OnOk result (has_moved ≡ true → self.old.is_ready ≡ true
+            → self.new.is_ready ≡ true) }
     {
         if !has_moved {
             self.is_ready = false;
@@ -242,6 +246,8 @@ impl<S: Read + Write + OpenStream + Drop> Caller<S> {
             response.now self.new.stage) }
         ensures came { self.new.came ≡ self.old.came }
         ensures heard { self.new.heard ≡ now }
+        ensures ready { OnOk result ((self.new.is_ready ≡ true)
+            ⊎ (self.new.stage ≡ Stage.Told response.now)) }
     {
         self.heard = now;
         let count = write_some(&mut self.stream, response)?;
@@ -261,6 +267,7 @@ impl<S: Read + Write + OpenStream + Drop> Caller<S> {
         ensures came { self.new.came ≡ self.old.came }
         ensures heard { self.new.heard ≡ self.old.heard }
         ensures leaves { OnOk result (self.new.stage ≡ Stage.Leaving) }
+        ensures ready { OnOk result (self.new.is_ready ≡ true) }
     {
         self.stream.shutdown(Shutdown::Write).map_err(|_| Fault)?;
         self.is_ready = true;
