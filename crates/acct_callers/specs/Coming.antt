@@ -1,6 +1,6 @@
 -- What comes of a request and goes of a response.
 use Rattle.std.specs.Prelude.{◌≡◌, ◌⊎◌, ◌<◌, ℕ, Bool, true, List, [], ◌++◌, Option, length}
-use Rattle.std.specs.Io.KnownBytes.{Consumes, Appends}
+use Rattle.std.specs.Io.KnownBytes.{Consumes, Appends, IsAtEnd}
 use Rattle.acct_desk.specs.Reading.{IsSettled}
 use Rattle.acct_callers.specs.declared.request.Request.{Request}
 
@@ -8,6 +8,10 @@ use Rattle.acct_callers.specs.declared.request.Request.{Request}
 abbrev pub Takes : Option (List ℕ) → Option (List ℕ) → List ℕ → List ℕ → Type 0
 Takes old_left new_left old new =
     (octets : List ℕ) × Consumes old_left new_left octets × (new ≡ old ++ octets)
+
+-- that a caller sends no more is known from before, or a reader has told that it has no more
+abbrev pub Ends : Option (List ℕ) → Bool → Bool → Type 0
+Ends left old new = new ≡ true → (old ≡ true) ⊎ IsAtEnd left
 
 -- more came of a request, or its end
 abbrev pub HasCome : Request → Request → Type 0

@@ -5,7 +5,7 @@ use Rattle.acct_callers.specs.declared.caller.Stage.TheVariants as stage
 use Rattle.acct_callers.specs.declared.caller.Step.{Step}
 use Rattle.acct_callers.specs.declared.caller.Step.TheVariants as step
 use Rattle.acct_callers.specs.declared.request.Request.{Request}
-use Rattle.acct_callers.specs.Coming.{Takes, Gives, IsRequestOf}
+use Rattle.acct_callers.specs.Coming.{Takes, Ends, Gives, IsRequestOf}
 
 -- what is left to go of a response that was handed over
 abbrev pub IsLeft : Stage → List ℕ → Type 0
@@ -45,6 +45,7 @@ pub record Comes (old_left new_left : Option (List ℕ)) (old : Request) (new : 
     : Type 0 where
   pub came : Request
   pub takes : Takes old_left new_left old.octets.items came.octets.items
+  pub ends : Ends new_left old.has_ended came.has_ended
   pub there : IsThere came new step
 
 -- a response went further: by the next octets of what was left of it

@@ -1,7 +1,7 @@
 //! What has come of a caller's request.
 ghost use Rattle.std.specs.Prelude.{◌≡◌, ◌∷◌, ◌++◌, [], true, false, Some, OnOk, IfOk};
 ghost use Rattle.std.specs.Prelude.{IfSome, IsOkAnd};
-ghost use Rattle.acct_callers.specs.Coming.{Takes, HasCome, IsRequestOf};
+ghost use Rattle.acct_callers.specs.Coming.{Takes, Ends, HasCome, IsRequestOf};
 
 use crate::waiting::has_to_wait;
 use acct_desk::{ReadFault, read_request};
@@ -32,7 +32,7 @@ impl Request {
         }
     }
 
-    /// Takes what has come by one read into the room, which isn't empty: no octets are the end.
+    /// Takes what has come by one read into the room: no octets are the end, if there is any room.
     /// It says whether something came.
     ///
     /// # Errors
@@ -42,10 +42,13 @@ impl Request {
     pub fn take<R: Read>(&mut self, reader: &mut R, room: &mut [u8]) -> Result<bool, Fault>
         ensures takes { OnOk result (Takes (R.remaining reader.old) (R.remaining reader.new)
             self.old.octets.items self.new.octets.items) }
+        ensures ends { OnOk result (Ends (R.remaining reader.new) self.old.has_ended
+            self.new.has_ended) }
         ensures came { IfOk result (λ came. came ≡ true → HasCome self.old self.new) }
         ensures same { IfOk result (λ came. came ≡ false → self.new ≡ self.old) }
     {
         match reader.read(room) {
+            Ok(0) if room.is_empty() => return Ok(false),
             Ok(0) => self.has_ended = true,
             Ok(count) => {
                 let grown = self.octets.extend_from_slice(&room[..count]);
