@@ -1,5 +1,5 @@
 //! Laws of books, as functions without effect.
-ghost use Rattle.std.specs.Prelude.{ℕ, ◌≡◌, ◌↔◌, List, []};
+ghost use Rattle.std.specs.Prelude.{ℕ, List, []};
 ghost use Rattle.acct_model.specs.declared.plan.Plan.{Plan};
 ghost use Rattle.acct_model.specs.History.{History};
 ghost use Rattle.acct_model.specs.Agreement.{BalancesAgree};
@@ -12,7 +12,6 @@ ghost use Rattle.acct_book.specs.Stands.{Stands};
 ghost use Rattle.acct_book.specs.Walk.{WalksMeetAll, ListsAreFixed};
 
 use crate::book::Book;
-use crate::fakes::{FailingBook, ShutBook};
 use crate::memory_book::MemBook;
 
 /// A book in memory is sound, open and steady at every moment, and a crash leaves nothing of it.
@@ -21,24 +20,6 @@ pub fn memory_book_stays(book: &MemBook)
     ensures open { ⟦<MemBook as Book>⟧.is_open book.now }
     ensures steady { ⟦<MemBook as Book>⟧.is_steady book.now }
     ensures left { (c : Content) → ⟦<MemBook as Book>⟧.left book.now c → ⊥ }
-{}
-
-/// A failing book is the book in it, but for the one call that it refuses, so it is never steady.
-pub fn failing_book_is_its_book<B: Book>(book: &FailingBook<B>)
-    ensures content { ⟦<FailingBook<B> as Book>⟧.content book.now ≡ B.content book.now.book }
-    ensures sound { ⟦<FailingBook<B> as Book>⟧.is_sound book.now ↔ B.is_sound book.now.book }
-    ensures open { ⟦<FailingBook<B> as Book>⟧.is_open book.now ↔ B.is_open book.now.book }
-    ensures steady { ⟦<FailingBook<B> as Book>⟧.is_steady book.now → ⊥ }
-    ensures left { (c : Content) → ⟦<FailingBook<B> as Book>⟧.left book.now c
-        ↔ B.left book.now.book c }
-{}
-
-/// A book that shuts is sound at every moment and never steady, and a crash may leave its content.
-/// It is open as long as it is not shut, as `ShutBook::is_shut` tells.
-pub fn shut_book_stays(book: &ShutBook)
-    ensures sound { ⟦<ShutBook as Book>⟧.is_sound book.now }
-    ensures steady { ⟦<ShutBook as Book>⟧.is_steady book.now → ⊥ }
-    ensures left { ⟦<ShutBook as Book>⟧.left book.now (⟦<ShutBook as Book>⟧.content book.now) }
 {}
 
 /// The empty content stands for the empty history, whatever the plans.

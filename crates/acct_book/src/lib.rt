@@ -18,7 +18,6 @@
 
 mod book;
 mod charging;
-pub mod fakes;
 mod key;
 pub mod laws;
 mod memory_book;

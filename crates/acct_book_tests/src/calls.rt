@@ -1,8 +1,8 @@
 //! Books that refuse calls, and entries recorded in them.
 use crate::entries::Said::{Restarts, Says, TopsUp};
 use crate::entries::{Said, key, says, takes};
-use acct_book::fakes::{FailingBook, ShutBook};
 use acct_book::{Book, Key, MemBook, Row, SessionState};
+use acct_fakes::{FailingBook, ShutBook};
 use acct_model::{Plans, ReportKind, TopUp};
 use acct_samples::sample_plans;
 use std::alloc::Global;

@@ -1,10 +1,10 @@
 //! The file of all balances.
 ghost use Rattle.std.specs.Prelude.{◌<◌, ◌^◌};
 
-use acct_book::fakes::ShutBook;
 use acct_book::{Book, MemBook};
 use acct_command_line::{BalancesFile, Export};
 use acct_commands::{KeptBalances, run_export, run_import};
+use acct_fakes::ShutBook;
 use acct_model::Text;
 use acct_samples::sample_config;
 use acct_site::Config;

@@ -1,6 +1,6 @@
 //! What a server prints over an exchange, and what it does where it can't print.
 use acct_book::MemBook;
-use acct_book::fakes::ShutBook;
+use acct_fakes::ShutBook;
 use acct_model::Octets;
 use acct_run::{Ended, serve_exchange};
 use acct_samples::sample_config;

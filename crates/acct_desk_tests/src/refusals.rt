@@ -4,8 +4,8 @@ use crate::texts::{
     ADDED, BAD_TOP_UP, BALANCE, CURL_TOP_UP, DIFFERS, MY_SESSIONS, MY_TOP_UPS, MY_VOUCHERS,
     ONE_SESSION, OTHER_SUM, REPEATED, Turn, WHO_IS_OVER,
 };
-use acct_book::fakes::FailingBook;
 use acct_book::{Book, MemBook};
+use acct_fakes::FailingBook;
 use acct_model::TopUp;
 use std::alloc::Global;
 use std::test::Fail;

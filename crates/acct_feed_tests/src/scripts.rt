@@ -1,7 +1,7 @@
 //! Scripts whose answers come from outside: worked by hand, or by another program from the RFC's
 //! formulas.
-use acct_book::fakes::FailingBook;
 use acct_book::{Book, MemBook};
+use acct_fakes::FailingBook;
 use acct_feed::Status::{Done, Refused};
 use acct_feed::{
     InputFault, MOST_OCTETS, MOST_READS, Status, answer_input, answer_reader, read_input,

@@ -1,7 +1,7 @@
 //! Tests of the four exports: their texts, and what they tell of a writer and a book that fail.
 use crate::imports::VOUCHERS;
-use acct_book::fakes::FailingBook;
 use acct_book::{Book, MemBook, Row, SessionState};
+use acct_fakes::FailingBook;
 use acct_files::{
     ExportError, export_balances, export_overruns, export_sessions, export_topups, import,
 };

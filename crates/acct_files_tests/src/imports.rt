@@ -1,7 +1,7 @@
 //! Texts of vouchers that are imported, and readers and books that fail under an import.
 use crate::exports::TOPUPS;
-use acct_book::fakes::FailingBook;
 use acct_book::{Book, MemBook};
+use acct_fakes::FailingBook;
 use acct_files::{Cause, Refused, Stopped, export_balances, export_topups, import};
 use acct_model::Plans;
 use acct_samples::sample_plans;

@@ -2,7 +2,7 @@
 use crate::sample_site::{Sent, Site};
 use crate::texts::{BALANCE, GOLD_1, GOLD_MORE, OF_BO, TOP_UP};
 use acct_book::MemBook;
-use acct_book::fakes::{FailingBook, ShutBook};
+use acct_fakes::{FailingBook, ShutBook};
 use std::alloc::Global;
 use std::test::Fail;
 

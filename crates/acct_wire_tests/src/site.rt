@@ -1,6 +1,6 @@
 //! The sample site over a book in memory, and requests of its client.
-use acct_book::fakes::FailingBook;
 use acct_book::{Book, Key, MemBook, Row};
+use acct_fakes::FailingBook;
 use acct_model::{Octets, Plans, Text};
 use acct_samples::{sample_clients, sample_plans};
 use acct_wire::{Clients, Datagram, Outcome, answer};

@@ -1,5 +1,8 @@
 //! Books that fail, for tests of what stands on a book.
+#![tactic(auto)]
+
 mod failing_book;
+pub mod laws;
 mod shut_book;
 
 pub use failing_book::FailingBook;

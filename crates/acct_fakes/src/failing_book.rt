@@ -1,9 +1,7 @@
 //! A book that refuses one call.
 ghost use Rattle.std.specs.Prelude.{◌≡◌, ◌↔◌, ◌-◌, IsErr};
 
-use crate::book::{Book, Unavailable};
-use crate::key::Key;
-use crate::row::Row;
+use acct_book::{Book, Key, Row, Unavailable};
 use acct_model::TopUp;
 
 /// A book that answers `Unavailable` at one call, and passes each other call on.

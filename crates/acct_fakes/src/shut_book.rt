@@ -2,10 +2,7 @@
 ghost use Rattle.std.specs.Prelude.{◌≡◌, ◌↔◌, ◌-◌, false, IsOk, IsErr};
 ghost use Rattle.acct_book.specs.Memory.{content_of};
 
-use crate::book::{Book, Unavailable};
-use crate::key::Key;
-use crate::memory_book::MemBook;
-use crate::row::Row;
+use acct_book::{Book, Key, MemBook, Row, Unavailable};
 use acct_model::TopUp;
 use std::alloc::Global;
 
