@@ -26,12 +26,12 @@ use Rattle.acct_book.specs.Walk.{IsNextBalance}
 use Rattle.acct_book.proofs.Looking.{looks_once}
 use Rattle.acct_book.proofs.Steps.{kept-balance}
 use Rattle.acct_book.proofs.WalkLaws.{walks-meet-all}
-use Rattle.acct_desk.specs.declared.bodies.PageError.{PageError}
+use Rattle.acct_pages.specs.declared.bodies.PageError.{PageError}
 use Rattle.acct_book.specs.declared.book.Unavailable as book
 use Rattle.acct_desk.specs.declared.asking.Page.TheVariants.{Balance}
 use Rattle.acct_desk.specs.Asks.{Ask, me}
-use Rattle.acct_desk.specs.Bodies.{balance_body, session_item, sessions_body, topup_item}
-use Rattle.acct_desk.specs.Bodies.{topups_body, overrun_of, overrun_item, overrun_in, overruns_body}
+use Rattle.acct_pages.specs.Bodies.{balance_body, session_item, sessions_body, topup_item}
+use Rattle.acct_pages.specs.Bodies.{topups_body, overrun_of, overrun_item, overrun_in, overruns_body}
 use Rattle.acct_desk.specs.Handling.{IsBody, AreBalances}
 use Rattle.acct_desk.specs.inner.Pages.{Shows}
 

@@ -19,8 +19,9 @@ use Rattle.acct_book.specs.Walk.{AreAllPast}
 use Rattle.acct_desk.specs.declared.asking.Page.{Page}
 use Rattle.acct_desk.specs.declared.asking.Page.TheVariants.{Balance, Sessions, TopUps}
 use Rattle.acct_desk.specs.Asks.{Ask, refused, me, overruns, credit}
-use Rattle.acct_desk.specs.Bodies.{balance_body, sessions_body, topups_body, overruns_body}
-use Rattle.acct_desk.specs.Responses.{response_of, refusal_response, unavailable_response}
+use Rattle.acct_pages.specs.Bodies.{balance_body, sessions_body, topups_body, overruns_body}
+use Rattle.acct_desk.specs.Responses.{refusal_response}
+use Rattle.acct_pages.specs.Responses.{response_of, unavailable_response}
 use Rattle.acct_desk.specs.Responses.{recorded_response}
 
 -- ---- what the desk tells

@@ -8,7 +8,7 @@ use Rattle.acct_desk.specs.declared.keys.DeskKey.{DeskKey}
 use Rattle.acct_desk.specs.declared.asking.Page.{Page}
 use Rattle.acct_desk.specs.Asks.{Ask, Asks, me}
 use Rattle.acct_desk.specs.Handling.{AnswersAsk, TellsAsk}
-use Rattle.acct_desk.specs.Responses.{unavailable_response}
+use Rattle.acct_pages.specs.Responses.{unavailable_response}
 
 -- the octets answer the request after this history, with this effect
 abbrev pub MayAnswer : List DeskKey → List Plan → List ℕ → ℕ → History → List ℕ → Effect → Type 0

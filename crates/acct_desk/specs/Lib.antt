@@ -6,7 +6,6 @@ pub mod Reading
 pub mod TopUpBodies
 pub mod Asks
 pub mod Responses
-pub mod Bodies
 pub mod Handling
 pub mod Laws
 pub mod inner

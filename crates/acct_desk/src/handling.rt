@@ -9,9 +9,10 @@ ghost use Rattle.acct_desk.specs.inner.TopUpAnswers.{AreAnswers};
 use crate::asking::{Ask, Page, Refusal, ask_of_octets};
 use crate::keys::Keys;
 use crate::pages::{balance_page, overruns_page, page_octets, sessions_page, topups_page};
-use crate::response::{error_octets, refusal_octets, result_octets, unavailable_octets};
+use crate::refusals::refusal_octets;
 use acct_book::{Book, RecordError, Recorded, record};
 use acct_model::{Entry, NoMemory, Plans, TopUp};
+use acct_pages::response::{error_octets, result_octets, unavailable_octets};
 use http::StatusCode;
 use std::alloc::{AllocError, Global};
 

@@ -2,7 +2,6 @@
 #![tactic(auto)]
 
 mod asking;
-mod bodies;
 mod framing;
 mod handling;
 mod head;
@@ -10,11 +9,10 @@ mod keys;
 pub mod laws;
 mod pages;
 mod reading;
-mod response;
+mod refusals;
 mod routes;
 mod top_up_body;
 
-pub use bodies::overrun;
 pub use framing::{Reach, extent};
 pub use handling::handle;
 pub use keys::{DeskKey, Keys, KeysError, Role};

@@ -9,16 +9,16 @@ ghost use Rattle.serde_json.specs.View.{view, items_view};
 ghost use Rattle.serde_json.specs.Written.{has_float};
 ghost use Rattle.acct_model.specs.declared.plan.Plan.{Plan};
 ghost use Rattle.acct_desk.specs.Asks.{me, overruns};
-ghost use Rattle.acct_desk.specs.Bodies.{balance_body, overrun_in};
+ghost use Rattle.acct_pages.specs.Bodies.{balance_body, overrun_in};
 ghost use Rattle.acct_desk.specs.declared.asking.Page.TheVariants as page;
 ghost use Rattle.acct_desk.specs.inner.Pages.{Shows, IsPageResponse};
 
-use crate::bodies::{
-    PageError, balance_value, overrun, overrun_value, sessions_value, topups_value,
-};
-use crate::response::{respond, unavailable_octets};
 use acct_book::{Book, Unavailable};
 use acct_model::{NoMemory, Plans};
+use acct_pages::bodies::{
+    PageError, balance_value, overrun, overrun_value, sessions_value, topups_value,
+};
+use acct_pages::response::{respond, unavailable_octets};
 use http::StatusCode;
 use serde_json::{Value, json};
 use std::alloc::{AllocError, Global};

@@ -9,7 +9,7 @@ use Rattle.acct_model.specs.Shown.{shown, shown_address}
 use Rattle.acct_model.specs.Vouchers.{TopUpFacts}
 use Rattle.acct_book.specs.Row.{RowFacts, state_text}
 use Rattle.acct_book.specs.Charge.{charge_of_row}
-use Rattle.acct_desk.specs.Bodies.{overrun_of}
+use Rattle.acct_pages.specs.Bodies.{overrun_of}
 use Rattle.acct_files.specs.declared.account_lines.AccountExport.{AccountExport}
 use Rattle.acct_files.specs.declared.account_lines.AccountExport.TheVariants.{Balances, Overruns}
 use Rattle.acct_files.specs.Vouchers.{Fields}

@@ -11,7 +11,7 @@ ghost use Rattle.acct_files.specs.Exporting.{export_text};
 use crate::csv_lines::{ExportError, begin, push_number, push_shown, write_line};
 use crate::walk::{Export, write_members};
 use acct_book::{Book, Unavailable};
-use acct_desk::overrun;
+use acct_pages::bodies::overrun;
 use csv::{ByteRecord, Writer};
 use std::alloc::Global;
 use std::io::Write;

@@ -19,7 +19,7 @@ use Rattle.acct_book.specs.Effect.{after_effect, failed}
 use Rattle.acct_book.specs.Stands.{Stands}
 use Rattle.acct_book.specs.inner.Step.{OnlyLooks}
 use Rattle.acct_book.proofs.Crashes.{Leaves, left_by}
-use Rattle.acct_desk.specs.Responses.{unavailable_response}
+use Rattle.acct_pages.specs.Responses.{unavailable_response}
 use Rattle.acct_site.specs.declared.config.Config.{Config}
 use Rattle.acct_service.specs.declared.event.Event.{Event}
 use Rattle.acct_service.specs.declared.exchange.Call.{Call}

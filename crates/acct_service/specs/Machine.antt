@@ -11,7 +11,7 @@ use Rattle.acct_book.specs.Step.{StoodFor, Does}
 use Rattle.acct_wire.specs.declared.reason.Reason.{Reason}
 use Rattle.acct_wire.specs.Outcomes.{AnswersReply, AnswersDrop}
 use Rattle.acct_desk.specs.Asks.{Ask, Asks}
-use Rattle.acct_desk.specs.Responses.{unavailable_response}
+use Rattle.acct_pages.specs.Responses.{unavailable_response}
 use Rattle.acct_desk.specs.Handling.{AnswersAsk, Mutes, IsResponseOf, IsOfBalance}
 use Rattle.acct_site.specs.declared.config.Config.{Config}
 use Rattle.acct_service.specs.declared.event.What.{What}

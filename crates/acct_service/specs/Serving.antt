@@ -13,7 +13,7 @@ use Rattle.acct_book.specs.Stands.{Stands}
 use Rattle.acct_book.specs.Step.{MayAdd, StoodFor}
 use Rattle.acct_wire.specs.declared.reason.Reason.{Reason}
 use Rattle.acct_wire.specs.Reasons.{reason_number}
-use Rattle.acct_desk.specs.Responses.{unavailable_response}
+use Rattle.acct_pages.specs.Responses.{unavailable_response}
 use Rattle.acct_site.specs.declared.config.Config.{Config}
 use Rattle.acct_service.specs.declared.event.Event.{Event}
 use Rattle.acct_service.specs.declared.exchange.Call.{Call}

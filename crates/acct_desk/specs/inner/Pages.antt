@@ -8,11 +8,11 @@ use Rattle.acct_model.specs.History.{History}
 use Rattle.acct_book.specs.declared.book.Book.{Ghosts}
 use Rattle.acct_book.specs.Stands.{Stands}
 use Rattle.acct_book.specs.inner.Step.{OnlyLooks}
-use Rattle.acct_desk.specs.declared.bodies.PageError.{PageError}
-use Rattle.acct_desk.specs.declared.bodies.PageError.TheVariants.{Unavailable, Memory}
+use Rattle.acct_pages.specs.declared.bodies.PageError.{PageError}
+use Rattle.acct_pages.specs.declared.bodies.PageError.TheVariants.{Unavailable, Memory}
 use Rattle.acct_desk.specs.Asks.{Ask}
 use Rattle.acct_desk.specs.Handling.{IsBody}
-use Rattle.acct_desk.specs.Responses.{response_of, unavailable_response}
+use Rattle.acct_pages.specs.Responses.{response_of, unavailable_response}
 
 -- A page that was read: the book is only read, a page that is there says that it is open, and its
 -- body is told by the history.

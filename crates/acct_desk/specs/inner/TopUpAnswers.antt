@@ -1,8 +1,9 @@
 -- The responses to a top-up that are made before it is recorded.
 use Rattle.std.specs.Prelude.{◌≡◌, [], codes}
 use Rattle.acct_desk.specs.declared.handling.TopUpAnswers.{TopUpAnswers}
-use Rattle.acct_desk.specs.Responses.{error_response, result_response, added_response}
-use Rattle.acct_desk.specs.Responses.{unavailable_response}
+use Rattle.acct_desk.specs.Responses.{added_response}
+use Rattle.acct_pages.specs.Responses.{error_response, result_response}
+use Rattle.acct_pages.specs.Responses.{unavailable_response}
 
 -- each is the response for its result
 pub record AreAnswers (answers : TopUpAnswers) : Type 0 where

@@ -10,7 +10,7 @@ use Rattle.acct_book.specs.Maps.{octets_cmp}
 use Rattle.acct_book.specs.Walk.{IsNext}
 use Rattle.acct_book.proofs.Looking.{looks_none, looks_then}
 use Rattle.acct_desk.specs.Asks.{overruns}
-use Rattle.acct_desk.specs.Bodies.{overrun_in, overruns_body}
+use Rattle.acct_pages.specs.Bodies.{overrun_in, overruns_body}
 use Rattle.acct_desk.proofs.PageLemmas.{shows_body, overruns_plain, accounts_told, next_from}
 use Rattle.acct_desk.proofs.Walking.{walked_more, walked_all, entries_walk}
 use Rattle.acct_desk.proofs.pages.overruns_page.Goals as goal

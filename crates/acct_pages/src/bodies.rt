@@ -6,26 +6,26 @@ ghost use Rattle.serde_json.specs.View.{view, members_view};
 ghost use Rattle.acct_model.specs.Shown.{shown, shown_address};
 ghost use Rattle.acct_book.specs.Charge.{charge_of_row};
 ghost use Rattle.acct_book.specs.Row.{state_text};
-ghost use Rattle.acct_desk.specs.Bodies.{overrun_of, balance_body, session_item};
-ghost use Rattle.acct_desk.specs.Bodies.{sessions_body, topup_item, topups_body, overrun_item};
+ghost use Rattle.acct_pages.specs.Bodies.{overrun_of, balance_body, session_item};
+ghost use Rattle.acct_pages.specs.Bodies.{sessions_body, topup_item, topups_body, overrun_item};
 
 use acct_book::{Row, Unavailable, charge};
 use acct_model::{NoMemory, Plans, TopUp, show, show_address};
 use serde_json::{Map, Value, json};
 use std::alloc::{AllocError, Global};
 
-// Why there is no page.
+/// Why there is no page.
 #[derive(Clone, Copy, Debug, PartialEq, Eq)]
-pub(crate) enum PageError {
-    // The book refused.
+pub enum PageError {
+    /// The book refused.
     Unavailable,
-    // Memory was refused.
+    /// Memory was refused.
     Memory,
 }
 
 impl From<Unavailable> for PageError {
     ghost use Rattle.std.specs.Prelude.{◌≡◌};
-    ghost use Rattle.acct_desk.specs.declared.bodies.PageError.TheVariants as page;
+    ghost use Rattle.acct_pages.specs.declared.bodies.PageError.TheVariants as page;
 
     ghost from_gives = { λ _ e. e ≡ page.Unavailable };
 
@@ -36,7 +36,7 @@ impl From<Unavailable> for PageError {
 
 impl From<AllocError> for PageError {
     ghost use Rattle.std.specs.Prelude.{◌≡◌};
-    ghost use Rattle.acct_desk.specs.declared.bodies.PageError.TheVariants.{Memory};
+    ghost use Rattle.acct_pages.specs.declared.bodies.PageError.TheVariants.{Memory};
 
     ghost from_gives = { λ _ e. e ≡ Memory };
 
@@ -47,7 +47,7 @@ impl From<AllocError> for PageError {
 
 impl From<NoMemory> for PageError {
     ghost use Rattle.std.specs.Prelude.{◌≡◌};
-    ghost use Rattle.acct_desk.specs.declared.bodies.PageError.TheVariants.{Memory};
+    ghost use Rattle.acct_pages.specs.declared.bodies.PageError.TheVariants.{Memory};
 
     ghost from_gives = { λ _ e. e ≡ Memory };
 
@@ -56,8 +56,8 @@ impl From<NoMemory> for PageError {
     }
 }
 
-// The body of `/me/balance`.
-pub(crate) fn balance_value(alloc: Global, account: &[u8], balance: i64) -> Result<Value, PageError>
+/// The body of `/me/balance`.
+pub fn balance_value(alloc: Global, account: &[u8], balance: i64) -> Result<Value, PageError>
     ensures shown { IfOk result (λ v. view v ≡ balance_body account.now balance) }
     ensures refused { result ≢ Err PageError.Unavailable }
 {
@@ -66,8 +66,8 @@ pub(crate) fn balance_value(alloc: Global, account: &[u8], balance: i64) -> Resu
     Ok(json!(in alloc; {"account": account, "balance": balance, "overrun": overrun})?)
 }
 
-// The body of `/me/sessions`.
-pub(crate) fn sessions_value(
+/// The body of `/me/sessions`.
+pub fn sessions_value(
     alloc: Global,
     plans: &Plans,
     account: &[u8],
@@ -199,12 +199,8 @@ fn put_number(
     serde_json::put(members, alloc, name, Value::from(value))
 }
 
-// The body of `/me/topups`.
-pub(crate) fn topups_value(
-    alloc: Global,
-    account: &[u8],
-    topups: &[TopUp],
-) -> Result<Value, PageError>
+/// The body of `/me/topups`.
+pub fn topups_value(alloc: Global, account: &[u8], topups: &[TopUp]) -> Result<Value, PageError>
     ensures { IfOk result (λ v. view v ≡ topups_body account.now topups.now) }
 {
     let account = show(alloc, account)?;
@@ -234,9 +230,9 @@ fn topup_value(alloc: Global, topup: &TopUp) -> Result<Value, AllocError>
     })
 }
 
-// One account of the body of `/overruns`.
+/// One account of the body of `/overruns`.
 #[tactic(auto, unfolding(crate::specs::Bodies::overrun_item))]
-pub(crate) fn overrun_value(alloc: Global, account: &[u8], overrun: u64) -> Result<Value, PageError>
+pub fn overrun_value(alloc: Global, account: &[u8], overrun: u64) -> Result<Value, PageError>
     ensures { IfOk result (λ v. view v ≡ overrun_item account.now overrun) }
 {
     let account = show(alloc, account)?;

@@ -1,7 +1,7 @@
 use Rattle.std.proofs.Common.{◌≡◌, map, take}
 use Rattle.serde_json.specs.View.{view}
-use Rattle.acct_desk.specs.Bodies.{session_item}
-use Rattle.acct_desk.proofs.bodies.session_values.Given as goal
+use Rattle.acct_pages.specs.Bodies.{session_item}
+use Rattle.acct_pages.proofs.bodies.session_values.Given as goal
 
 abbrev pub invariant-loop-row : goal.invariant-loop-row
 invariant-loop-row l = map view l.values.items
