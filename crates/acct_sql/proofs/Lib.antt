@@ -1,10 +1,5 @@
-mod MigrationLemmas
-mod BecomeLemmas
 mod StoodLemmas
 mod ColumnLemmas
 mod KeptPlanLemmas
-mod NumberLemmas
-mod PlanLemmas
-mod AddLemmas
 mod TiedLemmas
 mod RememberLemmas

@@ -7,6 +7,6 @@ pub use Rattle.acct_tables.specs.Make
 pub use Rattle.acct_tables.specs.Migrate
 pub use Rattle.acct_tables.specs.Look
 pub use Rattle.acct_tables.specs.Laws
+pub use Rattle.acct_upkeep.specs.Add
 pub mod Kept
-pub mod Add
 pub mod inner

@@ -1,3 +1,2 @@
 -- What the private functions of the crate promise one another. No public contract cites it.
-pub mod Adding
 pub mod Remembered

@@ -18,11 +18,8 @@
 //!    plan is kept.
 #![tactic(auto)]
 
-mod adding;
-mod adopting;
 pub mod laws;
 mod memory;
-mod migrating;
 mod sql_book;
 mod writing;
 

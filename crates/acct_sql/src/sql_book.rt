@@ -1,10 +1,7 @@
 //! The book on tables.
 ghost use Rattle.sqlite.specs.Held.{state};
 
-use crate::adding::add_to_book;
-use crate::adopting::examine;
 use crate::memory::Memory;
-use crate::migrating::migrate_book;
 use crate::writing::{close_client, write_session, write_topup};
 use acct_book::{Book, Key, Row, Unavailable};
 use acct_model::{Plans, TopUp};
@@ -14,6 +11,9 @@ use acct_tables::reading::{
     read_balance, read_next_account, read_next_session, read_next_topup, read_session, read_voucher,
 };
 use acct_tables::sql_book_error::SqlBookError;
+use acct_upkeep::adding::add_to_book;
+use acct_upkeep::adopting::examine;
+use acct_upkeep::migrating::migrate_book;
 use sqlite::{Alter, Connection};
 use std::alloc::Global;
 use std::marker::Model;
@@ -67,7 +67,7 @@ impl<S: Alter> SqlBook<S> {
     ghost use Rattle.acct_model.specs.Plans.{Extends, plans_added};
     ghost use Rattle.acct_model.specs.PlanFaults.{plans_fault};
     ghost use Rattle.acct_model.specs.History.{PlansAdded, History};
-    ghost use Rattle.acct_sql.specs.Add.{AreExtended, HasAdded, IsNotAddedAs};
+    ghost use Rattle.acct_upkeep.specs.Add.{AreExtended, HasAdded, IsNotAddedAs};
 
     /// Makes an empty database an empty book that is kept by these plans: the seven tables, their
     /// two indices, the schema number 3 and a row for each plan, in one transaction. It is handed

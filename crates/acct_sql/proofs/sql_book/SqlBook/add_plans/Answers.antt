@@ -5,7 +5,7 @@ use Rattle.acct_model.specs.History.{PlansAdded}
 use Rattle.acct_book.specs.Stands.{Stands}
 use Rattle.acct_book.proofs.Additions.{additions_stand}
 use Rattle.acct_tables.specs.Content.{content_in_tables}
-use Rattle.acct_sql.specs.inner.Adding.{IsBookAddedTo}
+use Rattle.acct_upkeep.specs.inner.Adding.{IsBookAddedTo}
 use Rattle.acct_sql.proofs.TiedLemmas.{tied}
 use Rattle.acct_sql.proofs.sql_book.SqlBook.add_plans.Goals as goal
 

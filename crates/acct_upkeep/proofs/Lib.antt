@@ -1,0 +1,5 @@
+mod MigrationLemmas
+mod BecomeLemmas
+mod NumberLemmas
+mod PlanLemmas
+mod AddLemmas
