@@ -2,8 +2,8 @@
 use Rattle.std.proofs.Common.{◌≡◌, ℕ, List, Option, None, Some, inl, inr, refl, subst}
 use Rattle.std.specs.Prelude.{IfSome, IfOk, IfErr, Result, Ok, Err}
 use Rattle.acct_site.specs.declared.config.Config.{Config}
-use Rattle.acct_files.specs.Tables.{top_error}
-use Rattle.acct_files.specs.declared.config_error.ConfigKind.TheVariants.{Memory}
+use Rattle.acct_config.specs.Tables.{top_error}
+use Rattle.acct_config.specs.declared.config_error.ConfigKind.TheVariants.{Memory}
 use Rattle.acct_feed.specs.declared.input.InputFault.TheVariants as input
 use Rattle.acct_commands.specs.declared.fault.Fault.{Fault}
 use Rattle.acct_commands.specs.declared.fault.Fault.TheVariants as fault

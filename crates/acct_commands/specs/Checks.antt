@@ -4,10 +4,10 @@ use Rattle.std.specs.Prelude.{length, Result, Ok, Err}
 use Rattle.std.specs.Str.{IsUtf8}
 use Rattle.std.specs.Io.KnownBytes.{Appends}
 use Rattle.acct_site.specs.declared.config.Config.{Config}
-use Rattle.acct_files.specs.Config.{IsConfig, IsConfigError}
-use Rattle.acct_files.specs.Tables.{top_error}
-use Rattle.acct_files.specs.declared.config_error.ConfigError.{ConfigError}
-use Rattle.acct_files.specs.declared.config_error.ConfigKind.TheVariants.{NotToml, Memory}
+use Rattle.acct_config.specs.Config.{IsConfig, IsConfigError}
+use Rattle.acct_config.specs.Tables.{top_error}
+use Rattle.acct_config.specs.declared.config_error.ConfigError.{ConfigError}
+use Rattle.acct_config.specs.declared.config_error.ConfigKind.TheVariants.{NotToml, Memory}
 use Rattle.acct_feed.specs.declared.input.InputFault.{InputFault}
 use Rattle.acct_feed.specs.declared.input.InputFault.TheVariants as input
 use Rattle.acct_commands.specs.Sights.{Reading}

@@ -1,6 +1,6 @@
 -- What ends a command before its time, and how the command then ends.
 use Rattle.std.specs.Prelude.{ℕ, List, ◌++◌, codes, Result, Ok, Err}
-use Rattle.acct_files.specs.ErrorText.{error_text}
+use Rattle.acct_config.specs.ErrorText.{error_text}
 use Rattle.acct_commands.specs.declared.fault.StoreFault.{StoreFault}
 use Rattle.acct_commands.specs.declared.fault.StoreFault.TheVariants as error
 use Rattle.acct_commands.specs.declared.fault.Fault.{Fault}

@@ -1,12 +1,12 @@
 //! The file of a configuration.
 ghost use Rattle.std.specs.Prelude.{◌≡◌, IfOk, IfErr, IfSome, None};
-ghost use Rattle.acct_files.specs.Config.{IsConfig};
-ghost use Rattle.acct_files.specs.Tables.{top_error};
+ghost use Rattle.acct_config.specs.Config.{IsConfig};
+ghost use Rattle.acct_config.specs.Tables.{top_error};
 ghost use Rattle.acct_commands.specs.Checks.{IsNoConfig, IsRead};
 
 use crate::fault::Fault;
+use acct_config::{ConfigError, ConfigKind, ConfigTable, config_of};
 use acct_feed::{InputFault, read_input};
-use acct_files::{ConfigError, ConfigKind, ConfigTable, config_of};
 use acct_model::{Octets, Text};
 use acct_site::Config;
 use std::alloc::Global;

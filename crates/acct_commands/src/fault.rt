@@ -3,8 +3,8 @@ ghost use Rattle.std.specs.Prelude.{◌≡◌, ◌≢◌, Some, IfOk};
 ghost use Rattle.acct_commands.specs.Endings.{fault_text, store_fault_text, fault_status};
 ghost use Rattle.acct_commands.specs.Endings.{ended_status};
 
+use acct_config::ConfigError;
 use acct_feed::Status;
-use acct_files::ConfigError;
 use std::alloc::AllocError;
 use std::io::Write;
 use std::{fmt, io};

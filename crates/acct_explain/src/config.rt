@@ -3,7 +3,7 @@ use crate::fields::kind_of;
 use crate::finding::{Finding, What};
 use crate::headers::{header_line, line_at};
 use crate::tables::{top_finding, twice_in, wrong_in};
-use acct_files::{ConfigError, ConfigKind};
+use acct_config::{ConfigError, ConfigKind};
 use std::alloc::{AllocError, Global};
 use std::io::Write;
 use toml::{Table, Value};

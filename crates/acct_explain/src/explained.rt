@@ -1,8 +1,8 @@
 //! What is explained, and where it is written.
 use crate::config::explain_config;
 use crate::files::{why_unmade, why_unopened, why_unread};
+use acct_config::ConfigError;
 use acct_feed::read_input;
-use acct_files::ConfigError;
 use acct_model::Text;
 use std::alloc::Global;
 use std::fs::{File, Files, metadata};

@@ -2,7 +2,7 @@
 //!
 //! No rule is tested here: a value is put into a table of which all else is right, and that is read
 //! as a configuration.
-use acct_files::{ConfigKind, ConfigTable, config_of};
+use acct_config::{ConfigKind, ConfigTable, config_of};
 use std::alloc::{AllocError, Global};
 use toml::{Table, Value};
 

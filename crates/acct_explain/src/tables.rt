@@ -2,7 +2,7 @@
 use crate::fields::{Field, Kind, field_at_fault};
 use crate::finding::{Finding, What};
 use crate::headers::header_line;
-use acct_files::ConfigKind;
+use acct_config::ConfigKind;
 use std::alloc::{AllocError, Global};
 use toml::{Table, Value};
 

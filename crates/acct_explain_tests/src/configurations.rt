@@ -1,6 +1,6 @@
 //! What is said of configurations that are wrong.
+use acct_config::config_of;
 use acct_explain::explain_config;
-use acct_files::config_of;
 use std::alloc::Global;
 use std::test::Fail;
 

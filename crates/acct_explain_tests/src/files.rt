@@ -1,6 +1,6 @@
 //! What is said of files that cannot be read or opened, and of wrong words.
+use acct_config::{ConfigError, ConfigKind, ConfigTable};
 use acct_explain::{Explained, explain, explain_words};
-use acct_files::{ConfigError, ConfigKind, ConfigTable};
 use acct_model::Text;
 use std::alloc::Global;
 use std::fs;

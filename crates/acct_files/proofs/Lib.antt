@@ -5,9 +5,4 @@ pub mod Halfway
 pub mod Headers
 pub mod Walking
 pub mod Repeats
-pub mod EntryLemmas
-pub mod TableLemmas
-pub mod ClientLemmas
-pub mod PlanLemmas
-pub mod ConfigLemmas
 pub mod CutExports

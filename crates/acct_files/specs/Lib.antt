@@ -3,11 +3,4 @@ pub mod Importing
 pub mod Reports
 pub mod Exporting
 pub mod Laws
-pub mod Tables
-pub mod Entries
-pub mod ClientTables
-pub mod PlanTables
-pub mod KeyTables
-pub mod Config
-pub mod ErrorText
 pub mod inner

@@ -1,6 +1,3 @@
 -- What private functions and proofs need, and no public contract reaches.
-pub mod ClientTables
 pub mod Importing
-pub mod KeyTables
-pub mod PlanTables
 pub mod Reading

@@ -1,40 +1,28 @@
-//! What an operator edits, as TOML, and what a shop uploads and accounting downloads, as CSV.
+//! What a shop uploads and accounting downloads, as CSV.
 //!
-//! 1. `config_of` reads the clients, plans and keys of a site, or tells the first fault of the text
-//! with its place.
-//! 2. `import` reads vouchers from a text, one record at a time, and records each in a book. A
+//! 1. `import` reads vouchers from a text, one record at a time, and records each in a book. A
 //! record is added, repeated or refused with its cause; what was recorded before the import stopped
 //! stays.
-//! 3. Records are numbered from 1, the header being 1. Only the list of refused records grows with
+//! 2. Records are numbered from 1, the header being 1. Only the list of refused records grows with
 //! the text.
-//! 4. An export writes a header and a line for each session, account or voucher of a book, and
+//! 3. An export writes a header and a line for each session, account or voucher of a book, and
 //! changes nothing in it.
 #![tactic(auto)]
 
 mod account_lines;
 mod capped;
-mod client_tables;
-mod config;
-mod config_error;
 mod csv_lines;
-mod entries;
 mod import_report;
 mod importing;
-mod key_tables;
 pub mod laws;
-mod plan_tables;
 mod refused_list;
 mod session_lines;
-mod tables;
 mod topup_lines;
 mod voucher_record;
 mod walk;
 
 pub use account_lines::{AccountExport, export_balances, export_overruns};
-pub use acct_site::Config;
 pub use capped::Capped;
-pub use config::config_of;
-pub use config_error::{ConfigError, ConfigKind, ConfigTable};
 pub use csv_lines::ExportError;
 pub use import_report::{Cause, ImportReport, Outcome, Refused, Stopped};
 pub use importing::import;

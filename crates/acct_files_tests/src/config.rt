@@ -1,6 +1,6 @@
 //! Configurations that are read, and the first faults of others.
+use acct_config::{Config, config_of};
 use acct_desk::{DeskKey, Role};
-use acct_files::{Config, config_of};
 use acct_model::{Count, Plan};
 use acct_wire::Client;
 use std::alloc::Global;

@@ -1,6 +1,6 @@
 use Rattle.std.proofs.Common.{inl, refl}
-use Rattle.acct_files.specs.Tables.{top_error}
-use Rattle.acct_files.specs.declared.config_error.ConfigKind.TheVariants.{NotToml}
+use Rattle.acct_config.specs.Tables.{top_error}
+use Rattle.acct_config.specs.declared.config_error.ConfigKind.TheVariants.{NotToml}
 use Rattle.acct_commands.proofs.config_file.config_in.Goals as goal
 
 pub returns-in_default : goal.returns-in_default

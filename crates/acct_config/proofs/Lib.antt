@@ -1,0 +1,5 @@
+pub mod EntryLemmas
+pub mod TableLemmas
+pub mod ClientLemmas
+pub mod PlanLemmas
+pub mod ConfigLemmas

@@ -1,0 +1,4 @@
+-- What private functions and proofs need, and no public contract reaches.
+pub mod ClientTables
+pub mod KeyTables
+pub mod PlanTables
