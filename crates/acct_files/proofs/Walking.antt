@@ -31,25 +31,14 @@ pub appends_nothing : (a : Option (List ℕ)) → Appends a a []
 appends_nothing None = tt
 appends_nothing (Some a) = sym (append-nil a)
 
-pub export_none : {E : Type 0} (header : Fields) (text : E → List ℕ)
-    → export_text header text [] ≡ line header
-export_none header text = append-nil (line header)
-
-pub export_more : {E : Type 0} (header : Fields) (text : E → List ℕ) (entries : List E) (e : E)
-    → export_text header text entries ++ text e ≡ export_text header text (entries ++ e ∷ [])
-export_more header text entries e =
-    append_assoc (line header) (flat_map text entries) (text e)
-    ∙ ap (λ t. line header ++ t)
-    (ap (λ t. flat_map text entries ++ t) (sym (append-nil (text e)))
-    ∙ sym (flat_map-append text entries (e ∷ [])))
-
 -- one entry more was written
-pub grown : {E : Type 0} (header : Fields) (text : E → List ℕ) (entries : List E) (e : E)
-    (a b c : Option (List ℕ)) → Appends a b (export_text header text entries) → Appends b c (text e)
-    → Appends a c (export_text header text (entries ++ e ∷ []))
-grown header text entries e a b c before here =
-    subst (λ t. Appends a c t) (export_more header text entries e)
-    (appends_then a b c (export_text header text entries) (text e) before here)
+pub grown : {E : Type 0} (text : E → List ℕ) (entries : List E) (e : E) (a b c : Option (List ℕ))
+    → Appends a b (flat_map text entries) → Appends b c (text e)
+    → Appends a c (flat_map text (entries ++ e ∷ []))
+grown text entries e a b c before here =
+    subst (λ t. Appends a c t) (ap (λ t. flat_map text entries ++ t) (sym (append-nil (text e)))
+    ∙ sym (flat_map-append text entries (e ∷ [])))
+    (appends_then a b c (flat_map text entries) (text e) before here)
 
 pub if_ok : {T E : Type 0} (r : Result T E) (P Q : T → Type 0) → ((x : T) → P x → Q x) → IfOk r P
     → IfOk r Q

@@ -1,5 +1,5 @@
 //! The walk over the members of a book that an export writes.
-ghost use Rattle.std.specs.Prelude.{◌≡◌, ℕ, List, Option, None, IfOk, OnOk};
+ghost use Rattle.std.specs.Prelude.{◌≡◌, ℕ, List, Option, None, IfOk, OnOk, flat_map};
 ghost use Rattle.std.specs.Io.KnownBytes.{Appends};
 ghost use Rattle.csv.specs.Writing.{text_written};
 ghost use Rattle.acct_book.specs.Content.{Content};
@@ -90,16 +90,36 @@ pub(crate) fn write_members<X: Export, B: Book, W: Write + Drop>(
 {
     let mut lines = export.begin(writer)?;
     let mut fields = ByteRecord::new(alloc);
+    write_each(alloc, book, export, &mut lines, &mut fields)?;
+    finish(lines)
+}
+
+// Writes what is to be written of each member, to a writer that has written the header.
+fn write_each<X: Export, B: Book, W: Write + Drop>(
+    alloc: Global,
+    book: &mut B,
+    export: &X,
+    lines: &mut Writer<W>,
+    fields: &mut ByteRecord,
+) -> Result<(), ExportError>
+    requires { IsBetweenLines lines.old }
+    ensures reads { Looks B.Book book.old book.new result }
+    ensures text { OnOk result ((members : List X.Member)
+        × Appends (text_written W.contents lines.old) (text_written W.contents lines.new)
+        (flat_map (X.text_of export.now) members)
+        × (B.is_open book.new
+        → Meets (X.is_next (B.content book.old)) X.key_of None members)) }
+{
     let mut after: Option<X::Key> = None;
     for _turn in 0..WALK_LIMIT {
         let Some(member) = X::next(book, &after)? else {
-            return finish(lines);
+            return Ok(());
         };
-        export.write(alloc, &mut lines, &mut fields, &member)?;
+        export.write(alloc, lines, fields, &member)?;
         after = Some(X::into_key(member));
     }
     match X::next(book, &after)? {
         Some(_) => Err(ExportError::Unavailable),
-        None => finish(lines),
+        None => Ok(()),
     }
 }
