@@ -1,5 +1,5 @@
 -- The command line as a simple command of clap.
-use Rattle.std.specs.Prelude.{ℕ, pos, true, [], ◌∷◌, Some, codes}
+use Rattle.std.specs.Prelude.{ℕ, pos, true, List, [], ◌∷◌, Some, codes}
 use Rattle.clap.specs.Words.{App, Rule, Text, new_app, new_rule, with_rule, with_subcommand}
 use Rattle.clap.specs.declared.builder.action.ArgAction.TheVariants as action
 use Rattle.clap.specs.declared.builder.value_parser.ValueParser.TheVariants as parser
@@ -82,29 +82,20 @@ book_app name = explained (with_rule (configured_app name) (required database_ru
 abbrev pub export_app : App
 export_app = with_rule (book_app (codes "export")) (required what_rule)
 
--- the same with `[--bind A.B.C.D].. [--desk-bind A.B.C.D]`, of `serve`
-abbrev pub addressed_app : App
-addressed_app =
-    with_rule (with_rule (book_app (codes "serve")) bind_rule) (option_rule (codes "desk-bind"))
+-- a command with these options, from the first on
+abbrev pub with_rules : App → List Rule → App
+with_rules a [] = a
+with_rules a (r ∷ rs) = with_rules (with_rule a r) rs
 
--- the same with `[--radius-port PORT] [--desk-port PORT]`
-abbrev pub listening_app : App
-listening_app =
-    with_rule (with_rule addressed_app (port_rule (codes "radius-port") (codes "1813")))
-    (port_rule (codes "desk-port") (codes "8066"))
-
--- the same with `[--turns N] [--sync HOW]`
-abbrev pub running_app : App
-running_app = with_rule (with_rule listening_app turns_rule) sync_rule
-
--- the same with `[--quiet] [--status FILE]`
-abbrev pub telling_app : App
-telling_app =
-    with_rule (with_rule running_app (flag_rule (codes "quiet"))) (option_rule (codes "status"))
-
--- the same with `[--balances FILE] [--balances-every SECONDS]`
+-- `serve --config FILE --db FILE [--explain] [--bind A.B.C.D].. [--desk-bind A.B.C.D]
+-- [--radius-port PORT] [--desk-port PORT] [--turns N] [--sync HOW] [--quiet] [--status FILE]
+-- [--balances FILE] [--balances-every SECONDS]`
 abbrev pub serve_app : App
-serve_app = with_rule (with_rule telling_app (option_rule (codes "balances"))) balances_every_rule
+serve_app = with_rules (book_app (codes "serve"))
+    (bind_rule ∷ option_rule (codes "desk-bind")
+    ∷ port_rule (codes "radius-port") (codes "1813") ∷ port_rule (codes "desk-port") (codes "8066")
+    ∷ turns_rule ∷ sync_rule ∷ flag_rule (codes "quiet") ∷ option_rule (codes "status")
+    ∷ option_rule (codes "balances") ∷ balances_every_rule ∷ [])
 
 -- a command that has a version
 abbrev pub has_version : App → App
@@ -118,22 +109,13 @@ requires_subcommand a = record a { top = record a.top { subcommand_required = tr
 abbrev pub bare_app : App
 bare_app = requires_subcommand (has_version (new_app (codes "radacctd")))
 
--- the program with its commands that keep no book
-abbrev pub bookless_app : App
-bookless_app = with_subcommand (with_subcommand bare_app feed_app.top) check_app.top
+-- a program with these commands, from the first on
+abbrev pub with_commands : App → List App → App
+with_commands a [] = a
+with_commands a (c ∷ cs) = with_commands (with_subcommand a c.top) cs
 
--- the same with its commands that make a book and serve from it
-abbrev pub serving_app : App
-serving_app =
-    with_subcommand (with_subcommand bookless_app (book_app (codes "init")).top) serve_app.top
-
--- the same with its commands that bring vouchers into a book and write it out
-abbrev pub working_app : App
-working_app =
-    with_subcommand (with_subcommand serving_app (book_app (codes "import")).top) export_app.top
-
--- the program's command line: the same with the commands that change how a book is kept
+-- the program's command line
 abbrev pub app : App
-app =
-    with_subcommand (with_subcommand working_app (book_app (codes "migrate")).top)
-    (book_app (codes "plans")).top
+app = with_commands bare_app
+    (feed_app ∷ check_app ∷ book_app (codes "init") ∷ serve_app ∷ book_app (codes "import")
+    ∷ export_app ∷ book_app (codes "migrate") ∷ book_app (codes "plans") ∷ [])

@@ -20,11 +20,11 @@ pub fn config_option<'a>(alloc: Global) -> Arg<'a>
 }
 
 /// `--db FILE`
-pub fn database_option<'a>(alloc: Global) -> Arg<'a>
+pub fn database_option<'a>(alloc: Global, help: &'a str) -> Arg<'a>
     ensures rule { rule_of result ≡ database_rule }
     ensures local { result.global ≡ false }
 {
-    valued(alloc, "db", "FILE").help("The book, a SQLite database: /var/lib/radacctd/book, say")
+    valued(alloc, "db", "FILE").help(help)
 }
 
 /// `WHAT`
@@ -71,13 +71,14 @@ pub fn desk_bind_option<'a>(alloc: Global) -> Arg<'a>
 }
 
 /// An option for a port.
-pub fn port_option<'a>(alloc: Global, id: &'a str, default: &'a str) -> Arg<'a>
+pub fn port_option<'a>(alloc: Global, id: &'a str, default: &'a str, help: &'a str) -> Arg<'a>
     ensures rule { rule_of result ≡ port_rule id.now default.now }
     ensures local { result.global ≡ false }
 {
     valued(alloc, id, "PORT")
         .value_parser(clap::value_parser!(u16).range(1..))
         .default_value(default)
+        .help(help)
 }
 
 /// `--turns N`
@@ -136,6 +137,15 @@ pub fn balances_every_option<'a>(alloc: Global) -> Arg<'a>
         .value_parser(clap::value_parser!(i64).range(1..=86_400))
         .default_value("60")
         .help("The fewest seconds from one writing of the balances to the next, 1 to 86400")
+}
+
+/// An option that must be given.
+pub fn needed<'a>(option: Arg<'a>) -> Arg<'a>
+    requires { option.global ≡ false }
+    ensures rule { rule_of result ≡ required (rule_of option.entry) }
+    ensures local { result.global ≡ false }
+{
+    option.required(true)
 }
 
 // An option of one value.

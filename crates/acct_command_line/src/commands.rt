@@ -1,18 +1,19 @@
 //! The program's command line, with its commands.
-ghost use Rattle.std.specs.Prelude.{◌≡◌, IfOk, codes};
-ghost use Rattle.clap.specs.Words.{app_of};
-ghost use Rattle.acct_command_line.specs.CommandLine.{app, bare_app, bookless_app, serving_app};
-ghost use Rattle.acct_command_line.specs.CommandLine.{working_app, configured_app};
-ghost use Rattle.acct_command_line.specs.CommandLine.{feed_app, check_app, book_app};
-ghost use Rattle.acct_command_line.specs.CommandLine.{addressed_app, listening_app, running_app};
-ghost use Rattle.acct_command_line.specs.CommandLine.{telling_app, serve_app, export_app};
+//!
+//! A command in the making is handed on as it is, be it made or refused for want of memory, so that
+//! none is dropped on the way.
+ghost use Rattle.std.specs.Prelude.{◌≡◌, false, true, codes};
+ghost use Rattle.clap.specs.Words.{App, Rule, app_of, rule_of, new_app, with_rule, with_subcommand};
+ghost use Rattle.acct_command_line.specs.CommandLine.{app, bare_app, feed_app, check_app, book_app};
+ghost use Rattle.acct_command_line.specs.CommandLine.{configured_app, serve_app, export_app};
+ghost use Rattle.acct_command_line.specs.inner.Made.{IsMade};
 
 use crate::args::{
     balances_every_option, balances_option, bind_option, config_option, database_option,
-    desk_bind_option, explain_flag, port_option, quiet_flag, status_option, sync_option,
+    desk_bind_option, explain_flag, needed, port_option, quiet_flag, status_option, sync_option,
     turns_option, what_option,
 };
-use clap::Command;
+use clap::{Arg, Command};
 use std::alloc::{AllocError, Global};
 
 /// The program's name.
@@ -22,38 +23,17 @@ const VERSION: &str = "0.1.0";
 
 /// The command line.
 pub fn command_line<'a>(alloc: Global) -> Result<Command<'a>, AllocError>
-    ensures { IfOk result (λ c. app_of c ≡ app) }
+    ensures { IsMade app result }
 {
-    working_program(alloc)?
-        .subcommand(migrate_command(alloc)?)?
-        .subcommand(plans_command(alloc)?)
-}
-
-// The program with its commands but for those that change how a book is kept.
-fn working_program<'a>(alloc: Global) -> Result<Command<'a>, AllocError>
-    ensures { IfOk result (λ c. app_of c ≡ working_app) }
-{
-    serving_program(alloc)?
-        .subcommand(import_command(alloc)?)?
-        .subcommand(export_command(alloc)?)
-}
-
-// The program with its commands up to the one that serves.
-fn serving_program<'a>(alloc: Global) -> Result<Command<'a>, AllocError>
-    ensures { IfOk result (λ c. app_of c ≡ serving_app) }
-{
-    bookless_program(alloc)?
-        .subcommand(init_command(alloc)?)?
-        .subcommand(serve_command(alloc)?)
-}
-
-// The program with its commands that keep no book.
-fn bookless_program<'a>(alloc: Global) -> Result<Command<'a>, AllocError>
-    ensures { IfOk result (λ c. app_of c ≡ bookless_app) }
-{
-    bare_program(alloc)
-        .subcommand(feed_command(alloc)?)?
-        .subcommand(check_command(alloc)?)
+    let program = Ok(bare_program(alloc));
+    let program = with_command(program, feed_command(alloc));
+    let program = with_command(program, check_command(alloc));
+    let program = with_command(program, init_command(alloc));
+    let program = with_command(program, serve_command(alloc));
+    let program = with_command(program, import_command(alloc));
+    let program = with_command(program, export_command(alloc));
+    let program = with_command(program, migrate_command(alloc));
+    with_command(program, plans_command(alloc))
 }
 
 // The program without its commands.
@@ -66,106 +46,108 @@ fn bare_program<'a>(alloc: Global) -> Command<'a>
         .subcommand_required(true)
 }
 
-fn feed_command<'a>(alloc: Global) -> Result<Command<'a>, AllocError>
-    ensures { IfOk result (λ c. app_of c ≡ feed_app) }
+// A program with one command more.
+fn with_command<'a>(
+    program: Result<Command<'a>, AllocError>,
+    command: Result<Command<'a>, AllocError>,
+) -> Result<Command<'a>, AllocError>
+    ensures { (a b : App) → IsMade a program.entry → IsMade b command.entry → b.top.is_plain ≡ true
+        → IsMade (with_subcommand a b.top) result }
 {
-    Command::new(alloc, "feed")
-        .about("Answers packets, vouchers and questions from standard input, over a book in memory")
-        .arg(config_option(alloc))?
-        .arg(explain_flag(alloc))
+    let program = program?;
+    let command = command?;
+    program.subcommand(command)
+}
+
+// A command with one option more.
+fn with_option<'a>(
+    command: Result<Command<'a>, AllocError>,
+    option: Arg<'a>,
+) -> Result<Command<'a>, AllocError>
+    requires { option.global ≡ false }
+    ensures { (a : App) (rule : Rule) → IsMade a command.entry → rule_of option.entry ≡ rule
+        → IsMade (with_rule a rule) result }
+{
+    let command = command?;
+    command.arg(option)
+}
+
+// A command without options.
+fn new_command<'a>(alloc: Global, name: &'a str, about: &'a str) -> Result<Command<'a>, AllocError>
+    ensures { IsMade (new_app name.now) result }
+{
+    Ok(Command::new(alloc, name).about(about))
+}
+
+fn feed_command<'a>(alloc: Global) -> Result<Command<'a>, AllocError>
+    ensures { IsMade feed_app result }
+{
+    let about =
+        "Answers packets, vouchers and questions from standard input, over a book in memory";
+    let command = new_command(alloc, "feed", about);
+    let command = with_option(command, config_option(alloc));
+    with_option(command, explain_flag(alloc))
 }
 
 fn check_command<'a>(alloc: Global) -> Result<Command<'a>, AllocError>
-    ensures { IfOk result (λ c. app_of c ≡ check_app) }
+    ensures { IsMade check_app result }
 {
     let about = "Reads a configuration, and says what it has or the first thing that is wrong";
-    configured_command(alloc, "check", about)?
-        .arg(database_option(alloc).help(
-            "A book that is to keep the same plans, a SQLite database",
-        ))?
-        .arg(explain_flag(alloc))
+    let book = "A book that is to keep the same plans, a SQLite database";
+    let command = configured_command(alloc, "check", about);
+    let command = with_option(command, database_option(alloc, book));
+    with_option(command, explain_flag(alloc))
 }
 
 fn serve_command<'a>(alloc: Global) -> Result<Command<'a>, AllocError>
-    ensures { IfOk result (λ c. app_of c ≡ serve_app) }
-{
-    telling_command(alloc)?
-        .arg(balances_option(alloc))?
-        .arg(balances_every_option(alloc))
-}
-
-// `serve` with its options up to the file of its counts.
-fn telling_command<'a>(alloc: Global) -> Result<Command<'a>, AllocError>
-    ensures { IfOk result (λ c. app_of c ≡ telling_app) }
-{
-    running_command(alloc)?
-        .arg(quiet_flag(alloc))?
-        .arg(status_option(alloc))
-}
-
-// `serve` with its options up to how often it syncs.
-fn running_command<'a>(alloc: Global) -> Result<Command<'a>, AllocError>
-    ensures { IfOk result (λ c. app_of c ≡ running_app) }
-{
-    listening_command(alloc)?
-        .arg(turns_option(alloc))?
-        .arg(sync_option(alloc))
-}
-
-// `serve` with its options up to the ports.
-fn listening_command<'a>(alloc: Global) -> Result<Command<'a>, AllocError>
-    ensures { IfOk result (λ c. app_of c ≡ listening_app) }
-{
-    addressed_command(alloc)?
-        .arg(port_option(alloc, "radius-port", "1813").help(
-            "The UDP port for accounting reports, 1 to 65535",
-        ))?
-        .arg(port_option(alloc, "desk-port", "8066").help("The TCP port of the desk, 1 to 65535"))
-}
-
-// `serve` with its options up to the addresses.
-fn addressed_command<'a>(alloc: Global) -> Result<Command<'a>, AllocError>
-    ensures { IfOk result (λ c. app_of c ≡ addressed_app) }
+    ensures { IsMade serve_app result }
 {
     let about = "Answers access servers by RADIUS accounting, and callers of the desk by HTTP";
-    book_command(alloc, "serve", about)?
-        .arg(bind_option(alloc))?
-        .arg(desk_bind_option(alloc))
+    let reports = "The UDP port for accounting reports, 1 to 65535";
+    let desk = "The TCP port of the desk, 1 to 65535";
+    let command = book_command(alloc, "serve", about);
+    let command = with_option(command, bind_option(alloc));
+    let command = with_option(command, desk_bind_option(alloc));
+    let command = with_option(command, port_option(alloc, "radius-port", "1813", reports));
+    let command = with_option(command, port_option(alloc, "desk-port", "8066", desk));
+    let command = with_option(command, turns_option(alloc));
+    let command = with_option(command, sync_option(alloc));
+    let command = with_option(command, quiet_flag(alloc));
+    let command = with_option(command, status_option(alloc));
+    let command = with_option(command, balances_option(alloc));
+    with_option(command, balances_every_option(alloc))
 }
 
 fn init_command<'a>(alloc: Global) -> Result<Command<'a>, AllocError>
-    ensures { IfOk result (λ c. app_of c ≡ book_app (codes "init")) }
+    ensures { IsMade (book_app (codes "init")) result }
 {
-    book_command(
-        alloc,
-        "init",
-        "Makes an empty book in a file, for the plans of a configuration",
-    )
+    let about = "Makes an empty book in a file, for the plans of a configuration";
+    book_command(alloc, "init", about)
 }
 
 fn import_command<'a>(alloc: Global) -> Result<Command<'a>, AllocError>
-    ensures { IfOk result (λ c. app_of c ≡ book_app (codes "import")) }
+    ensures { IsMade (book_app (codes "import")) result }
 {
     let about = "Credits the vouchers of standard input, CSV of voucher,account,sum";
     book_command(alloc, "import", about)
 }
 
 fn export_command<'a>(alloc: Global) -> Result<Command<'a>, AllocError>
-    ensures { IfOk result (λ c. app_of c ≡ export_app) }
+    ensures { IsMade export_app result }
 {
     let about = "Writes the sessions, balances, topups or overruns of a book as CSV";
-    book_command(alloc, "export", about)?.arg(what_option(alloc))
+    with_option(book_command(alloc, "export", about), what_option(alloc))
 }
 
 fn migrate_command<'a>(alloc: Global) -> Result<Command<'a>, AllocError>
-    ensures { IfOk result (λ c. app_of c ≡ book_app (codes "migrate")) }
+    ensures { IsMade (book_app (codes "migrate")) result }
 {
     let about = "Makes a book of an earlier version one of this version, with the same balances";
     book_command(alloc, "migrate", about)
 }
 
 fn plans_command<'a>(alloc: Global) -> Result<Command<'a>, AllocError>
-    ensures { IfOk result (λ c. app_of c ≡ book_app (codes "plans")) }
+    ensures { IsMade (book_app (codes "plans")) result }
 {
     let about = "Adds the plans of a configuration that a book does not keep yet";
     book_command(alloc, "plans", about)
@@ -173,11 +155,12 @@ fn plans_command<'a>(alloc: Global) -> Result<Command<'a>, AllocError>
 
 // A command that keeps a book.
 fn book_command<'a>(alloc: Global, name: &'a str, about: &'a str) -> Result<Command<'a>, AllocError>
-    ensures { IfOk result (λ c. app_of c ≡ book_app name.now) }
+    ensures { IsMade (book_app name.now) result }
 {
-    configured_command(alloc, name, about)?
-        .arg(database_option(alloc).required(true))?
-        .arg(explain_flag(alloc))
+    let book = "The book, a SQLite database: /var/lib/radacctd/book, say";
+    let command = configured_command(alloc, name, about);
+    let command = with_option(command, needed(database_option(alloc, book)));
+    with_option(command, explain_flag(alloc))
 }
 
 // A command that wants a configuration.
@@ -186,9 +169,10 @@ fn configured_command<'a>(
     name: &'a str,
     about: &'a str,
 ) -> Result<Command<'a>, AllocError>
-    ensures { IfOk result (λ c. app_of c ≡ configured_app name.now) }
+    ensures { IsMade (configured_app name.now) result }
 {
-    Command::new(alloc, name)
-        .about(about)
-        .arg(config_option(alloc).required(true))
+    with_option(
+        new_command(alloc, name, about),
+        needed(config_option(alloc)),
+    )
 }
