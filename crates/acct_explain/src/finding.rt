@@ -57,39 +57,79 @@ pub(crate) enum What<'t> {
     Said(&'static str),
 }
 
+// Each text stands in a function of its own, so that the proof of one does not go through the others.
 impl fmt::Display for What<'_> {
     fn fmt<W: fmt::Write>(&self, f: &mut fmt::Formatter<W>) -> fmt::Result {
         match self {
-            What::Syntax(error) => write!(f, "this is not TOML: {}", error.message()),
-            What::Rule { table, field, rule } => {
-                write!(f, "{field} of this [[{table}]] is {rule}")
-            }
-            What::Missing { table, field } => write!(f, "this [[{table}]] has no {field}"),
-            // A name that stands in quotes may have line ends: it is shown with them escaped.
-            What::Unknown { table, name, known } => {
-                write!(f, "{name:?} is no name of a [[{table}]], which has {known}")
-            }
+            What::Syntax(error) => write_syntax(f, error),
+            What::Rule { table, field, rule } => write_rule(f, table, field, rule),
+            What::Missing { table, field } => write_missing(f, table, field),
+            What::Unknown { table, name, known } => write_unknown(f, table, name, known),
             What::Twice {
                 table,
                 field,
-                earlier: Some(line),
-            } => write!(
-                f,
-                "this [[{table}]] has the {field} of the one at line {line}"
-            ),
-            What::Twice {
-                table,
-                field,
-                earlier: None,
-            } => write!(f, "this [[{table}]] has the {field} of an earlier one"),
-            What::UnknownAtTop { name } => {
-                write!(
-                    f,
-                    "{name:?} is no name: there are [[client]], [[plan]] and [[key]]"
-                )
-            }
-            What::NoArray { name } => write!(f, "{name} is written [[{name}]]"),
+                earlier,
+            } => write_twice(f, table, field, *earlier),
+            What::UnknownAtTop { name } => write_unknown_at_top(f, name),
+            What::NoArray { name } => write_no_array(f, name),
             What::Said(text) => f.write_str(text),
         }
     }
+}
+
+fn write_syntax<W: fmt::Write>(f: &mut fmt::Formatter<W>, error: &Error) -> fmt::Result {
+    write!(f, "this is not TOML: {}", error.message())
+}
+
+fn write_rule<W: fmt::Write>(
+    f: &mut fmt::Formatter<W>,
+    table: &str,
+    field: &str,
+    rule: &str,
+) -> fmt::Result {
+    write!(f, "{field} of this [[{table}]] is {rule}")
+}
+
+fn write_missing<W: fmt::Write>(
+    f: &mut fmt::Formatter<W>,
+    table: &str,
+    field: &str,
+) -> fmt::Result {
+    write!(f, "this [[{table}]] has no {field}")
+}
+
+// A name that stands in quotes may have line ends: it is shown with them escaped.
+fn write_unknown<W: fmt::Write>(
+    f: &mut fmt::Formatter<W>,
+    table: &str,
+    name: &str,
+    known: &str,
+) -> fmt::Result {
+    write!(f, "{name:?} is no name of a [[{table}]], which has {known}")
+}
+
+fn write_twice<W: fmt::Write>(
+    f: &mut fmt::Formatter<W>,
+    table: &str,
+    field: &str,
+    earlier: Option<usize>,
+) -> fmt::Result {
+    match earlier {
+        Some(line) => write!(
+            f,
+            "this [[{table}]] has the {field} of the one at line {line}"
+        ),
+        None => write!(f, "this [[{table}]] has the {field} of an earlier one"),
+    }
+}
+
+fn write_unknown_at_top<W: fmt::Write>(f: &mut fmt::Formatter<W>, name: &str) -> fmt::Result {
+    write!(
+        f,
+        "{name:?} is no name: there are [[client]], [[plan]] and [[key]]"
+    )
+}
+
+fn write_no_array<W: fmt::Write>(f: &mut fmt::Formatter<W>, name: &str) -> fmt::Result {
+    write!(f, "{name} is written [[{name}]]")
 }

@@ -3,50 +3,38 @@ ghost use Rattle.std.specs.Prelude.{◌≡◌, ◌≤◌};
 ghost use Rattle.acct_wire.specs.Reasons.{reason_number, reason_name};
 ghost use Rattle.acct_wire.specs.declared.reason.TheConstants.Reason.{COUNT};
 
-use thiserror::Error;
+use std::error::Error;
+use std::fmt;
 
 /// Why a datagram is dropped, in the order in which it is tested. The number of a reason is the one
 /// that operators see.
-#[derive(Clone, Copy, PartialEq, Eq, Debug, Error)]
+#[derive(Clone, Copy, PartialEq, Eq, Debug)]
 pub enum Reason {
     /// No client has the address that it came from (RFC 2866, section 3).
-    #[error("no client has this address")]
     UnknownClient = 1,
     /// It has fewer than 20 octets.
-    #[error("the datagram has fewer than 20 octets")]
     TooShort = 2,
     /// Its Length is below 20, above 4,096 or above the datagram (RFC 2866, section 3).
-    #[error("the Length field is below 20, above 4096 or above the datagram")]
     BadLength = 3,
     /// Its code isn't Accounting-Request.
-    #[error("the packet is no Accounting-Request")]
     WrongCode = 4,
     /// Its authenticator isn't the digest under the client's secret (RFC 2866, section 3).
-    #[error("the authenticator is not that of the client's secret")]
     BadAuthenticator = 5,
     /// The Length of an attribute is below 2 or past the packet's end (RFC 2865, section 5).
-    #[error("the Length of an attribute is below 2 or past the packet's end")]
     BadAttribute = 6,
     /// There is no Acct-Status-Type (RFC 2866, section 5.1).
-    #[error("there is no Acct-Status-Type")]
     NoStatus = 7,
     /// The Acct-Status-Type isn't four octets, or none that is known (RFC 2866, section 5.1).
-    #[error("the Acct-Status-Type is unknown")]
     UnknownStatus = 8,
     /// A report has no Acct-Session-Id (RFC 2866, section 5.5).
-    #[error("there is no Acct-Session-Id")]
     NoSessionId = 9,
     /// A number or address of a report isn't four octets (RFC 2865, section 5).
-    #[error("a number or address is not 4 octets")]
     BadField = 10,
     /// A report's input and output are above 2^63 - 1 octets together.
-    #[error("the total is above 9223372036854775807 octets")]
     TotalTooLarge = 11,
     /// The account's balance would leave its range.
-    #[error("the balance would leave its range")]
     BalanceLimit = 12,
     /// The book or memory refused.
-    #[error("the book is unavailable")]
     Unavailable = 13,
 }
 
@@ -83,4 +71,34 @@ impl Reason {
             Reason::Unavailable => "Unavailable",
         }
     }
+
+    // What is wrong, in words.
+    fn words(self) -> &'static str {
+        match self {
+            Reason::UnknownClient => "no client has this address",
+            Reason::TooShort => "the datagram has fewer than 20 octets",
+            Reason::BadLength => "the Length field is below 20, above 4096 or above the datagram",
+            Reason::WrongCode => "the packet is no Accounting-Request",
+            Reason::BadAuthenticator => "the authenticator is not that of the client's secret",
+            Reason::BadAttribute => {
+                "the Length of an attribute is below 2 or past the packet's end"
+            }
+            Reason::NoStatus => "there is no Acct-Status-Type",
+            Reason::UnknownStatus => "the Acct-Status-Type is unknown",
+            Reason::NoSessionId => "there is no Acct-Session-Id",
+            Reason::BadField => "a number or address is not 4 octets",
+            Reason::TotalTooLarge => "the total is above 9223372036854775807 octets",
+            Reason::BalanceLimit => "the balance would leave its range",
+            Reason::Unavailable => "the book is unavailable",
+        }
+    }
 }
+
+// It is written out, so that its proof has one call, and not one for each reason.
+impl fmt::Display for Reason {
+    fn fmt<W: fmt::Write>(&self, f: &mut fmt::Formatter<W>) -> fmt::Result {
+        f.write_str(self.words())
+    }
+}
+
+impl Error for Reason {}
