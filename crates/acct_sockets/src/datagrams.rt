@@ -4,6 +4,9 @@
 //!    more than one datagram of each other one.
 //! 2. A reply leaves from the socket that gave the last datagram, and so from the address that was
 //!    asked.
+ghost use Rattle.std.specs.Prelude.{◌≡◌, true, length, slice_get, IfSome};
+ghost use Rattle.std.specs.List.{list_any};
+
 use crate::readiness::Readiness;
 use acct_service::Fault;
 use std::alloc::Global;
@@ -51,7 +54,9 @@ impl Datagrams {
     }
 
     /// How many sockets there are.
-    pub fn count(&self) -> usize {
+    pub fn count(&self) -> usize
+        ensures { result ≡ length self.now.inlets.items }
+    {
         self.inlets.len()
     }
 
@@ -80,12 +85,17 @@ impl Datagrams {
     }
 
     /// Whether a datagram may wait, as far as is known.
-    pub fn may_receive(&self) -> bool {
+    pub fn may_receive(&self) -> bool
+        ensures { result ≡ list_any (λ inlet. inlet.may_receive) self.now.inlets.items }
+    {
         self.inlets.iter().any(|inlet| inlet.may_receive)
     }
 
     /// Notes that a datagram may wait at the socket with this place.
-    pub fn rouse(&mut self, place: usize) {
+    pub fn rouse(&mut self, place: usize)
+        ensures { IfSome (slice_get self.new.inlets.items place)
+            (λ inlet. inlet.may_receive ≡ true) }
+    {
         if let Some(inlet) = self.inlets.get_mut(place) {
             inlet.may_receive = true;
         }

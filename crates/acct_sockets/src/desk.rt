@@ -5,7 +5,8 @@
 //! 2. Where no place is free, the caller that came first of those that are silent gives its place
 //!    to one that waits. So strangers who hold every place keep nobody away.
 //! 3. What a turn does for callers is bounded, so that no datagram waits for all of them.
-ghost use Rattle.std.specs.Prelude.{IfOk, IfSome, OnOk};
+ghost use Rattle.std.specs.Prelude.{◌≡◌, None, Some, true, false, IfOk, IfSome, IsTrue, OnOk};
+ghost use Rattle.std.specs.Prelude.{slice_set};
 ghost use Rattle.acct_sockets.specs.inner.Places.{IsAsked, Answers};
 
 use crate::readiness::Readiness;
@@ -57,7 +58,10 @@ impl<R: Net> Desk<R> {
     /// # Errors
     ///
     /// Those of the system, and `OutOfMemory` where there is no room for the places.
-    pub fn new(alloc: Global, listener: R::Listener) -> io::Result<Desk<R>> {
+    pub fn new(alloc: Global, listener: R::Listener) -> io::Result<Desk<R>>
+        ensures accepts { IfOk result (λ desk. desk.may_accept ≡ true) }
+        ensures idle { IfOk result (λ desk. desk.asker ≡ None) }
+    {
         listener.set_nonblocking(true)?;
         let mut places = Vec::with_capacity(alloc, PLACES)?;
         for _ in 0..PLACES {
@@ -75,12 +79,16 @@ impl<R: Net> Desk<R> {
     }
 
     /// The listener.
-    pub fn listener(&self) -> &R::Listener {
+    pub fn listener(&self) -> &R::Listener
+        ensures { result.now ≡ self.now.listener }
+    {
         &self.listener
     }
 
     /// Notes that callers may wait for a place.
-    pub fn rouse(&mut self) {
+    pub fn rouse(&mut self)
+        ensures { self.new ≡ record self.old { may_accept = true } }
+    {
         self.may_accept = true;
     }
 
@@ -92,7 +100,9 @@ impl<R: Net> Desk<R> {
     }
 
     /// Whether something can be done for callers without waiting, as far as is known.
-    pub fn is_busy(&self) -> bool {
+    pub fn is_busy(&self) -> bool
+        ensures { self.now.may_accept ≡ true → self.now.is_full ≡ false → IsTrue result }
+    {
         (self.may_accept && !self.is_full) || self.ready_place().is_some()
     }
 
@@ -125,8 +135,11 @@ impl<R: Net> Desk<R> {
     ///
     /// Where none asked, its connection fails, or memory is refused. It is then given up.
     pub fn answer(&mut self, response: &[u8], now: Instant) -> Result<(), Fault>
-        ensures { OnOk result (Answers R.Stream.contents self.old.asker self.old.places.items
+        ensures taken { OnOk result (Answers R.Stream.contents self.old.asker self.old.places.items
             self.new.places.items response.now) }
+        ensures accepts { self.new.may_accept ≡ self.old.may_accept }
+        ensures next { self.new.next ≡ self.old.next }
+        ensures answered { self.new.asker ≡ None }
     {
         let place = self.asker.take().ok_or(Fault)?;
         self.is_full = false;
@@ -138,7 +151,13 @@ impl<R: Net> Desk<R> {
     }
 
     /// Closes the connection of the caller that asked last and was not answered, if there is one.
-    pub fn forget_asker(&mut self) {
+    pub fn forget_asker(&mut self)
+        ensures places { IfSome self.old.asker (λ place.
+            self.new.places.items ≡ slice_set self.old.places.items place None) }
+        ensures accepts { self.new.may_accept ≡ self.old.may_accept }
+        ensures next { self.new.next ≡ self.old.next }
+        ensures forgotten { self.new.asker ≡ None }
+    {
         if let Some(place) = self.asker.take() {
             self.clear(place);
         }
@@ -252,7 +271,10 @@ impl<R: Net> Desk<R> {
     }
 
     // Closes the connection of the caller at a place, if there is one.
-    fn clear(&mut self, place: usize) {
+    fn clear(&mut self, place: usize)
+        ensures places { self.new.places.items ≡ slice_set self.old.places.items place None }
+        ensures other { self.new ≡ record self.old { is_full = false; places = self.new.places } }
+    {
         self.is_full = false;
         if let Some(caller) = self.places.get_mut(place) {
             *caller = None;

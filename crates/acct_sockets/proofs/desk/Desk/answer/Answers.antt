@@ -17,8 +17,8 @@ found now got slot taken caller places place is there value some =
     slice_get_read places (length places) place (Some caller) refl at.0
     (sym some ∙ value ∙ at.1 (Some caller))
 
-pub returns : goal.returns
-returns g c = record {
+pub returns-clause-taken : goal.returns-clause-taken
+returns-clause-taken g c = record {
   place = c.in_ok-place.place;
   asks = search rules;
   before = c.in_ok-caller.caller;
