@@ -1,3 +1,4 @@
+use Rattle.std.proofs.lemmas.Grind.{common_steps}
 use Rattle.std.proofs.Common.{List, ℕ, true, inl, rules, arith, sym, subst}
 use Rattle.std.specs.Io.KnownBytes.{Consumes}
 use Rattle.std.proofs.KnownBytes.{Consumes-trans}
@@ -40,3 +41,9 @@ loop-preserved g c =
 pub returns-in-None-clause-ends : goal.returns-in-None-clause-ends
 returns-in-None-clause-ends g c =
     inl (rw c.deref-then-is_due.ensures.value at c.in-None.ensures.settled)
+
+pub returns-then-not-branch-clause-prefix : goal.returns-then-not-branch-clause-prefix
+returns-then-not-branch-clause-prefix g c = grind (arith, common_steps)
+
+pub returns-in-None-clause-prefix : goal.returns-in-None-clause-prefix
+returns-in-None-clause-prefix g c = grind (arith, common_steps)

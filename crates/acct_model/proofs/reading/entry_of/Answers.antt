@@ -1,3 +1,5 @@
+use Rattle.std.proofs.Common.{arith}
+use Rattle.std.proofs.lemmas.Grind.{common_steps}
 use Rattle.std.proofs.Common.{◌≡◌, ◌∙◌, rules, sym, ap}
 use Rattle.std.specs.Option.{option_map}
 use Rattle.acct_model.proofs.Refusals.{Refuses-report, refusal_of-report}
@@ -15,3 +17,9 @@ returns-in-Some-report_fault-clause-refused c =
     let fault = Refuses-report c.of-attributes.result c.in-Some-report_fault.fault
     (sym c.in-Some-report_fault.ensures) in
     rw (sym c.of-attributes.ensures) (rw same fault)
+
+pub returns-in_err-report-clause-refused : goal.returns-in_err-report-clause-refused
+returns-in_err-report-clause-refused c = grind (arith, common_steps)
+
+pub returns-clause-accepted : goal.returns-clause-accepted
+returns-clause-accepted c = grind (arith, common_steps)

@@ -1,3 +1,5 @@
+use Rattle.std.proofs.Common.{arith}
+use Rattle.std.proofs.lemmas.Grind.{common_steps}
 use Rattle.std.proofs.Common.{◌≡◌, rules}
 use Rattle.radius_codec.proofs.States.{Fits-proxy_states, StatesLeft_start, StatesLeft_step}
 use Rattle.radius_codec.proofs.response.put_proxy_states.Goals as goal
@@ -26,3 +28,9 @@ loop-kind-preserved-then-kind-eq-PROXY_STATE c = (
 
 pub returns-clause-fits : goal.returns-clause-fits
 returns-clause-fits c = Fits-proxy_states c.args.attributes.now c.iter-kind-items.ensures.fits
+
+pub put_attribute-end-requires-clause-room : goal.put_attribute-end-requires-clause-room
+put_attribute-end-requires-clause-room c = grind (arith, common_steps)
+
+pub returns-clause-octets : goal.returns-clause-octets
+returns-clause-octets c = grind (arith, common_steps)
