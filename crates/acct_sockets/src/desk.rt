@@ -5,9 +5,9 @@
 //! 2. Where no place is free, the caller that came first of those that are silent gives its place
 //!    to one that waits. So strangers who hold every place keep nobody away.
 //! 3. What a turn does for callers is bounded, so that no datagram waits for all of them.
-ghost use Rattle.std.specs.Prelude.{◌≡◌, None, Some, true, false, IfOk, IfSome, IsTrue, OnOk};
+ghost use Rattle.std.specs.Prelude.{◌≡◌, ◌⊎◌, None, Some, true, false, IfOk, IfSome, IsTrue, OnOk};
 ghost use Rattle.std.specs.Prelude.{slice_set};
-ghost use Rattle.acct_sockets.specs.inner.Places.{IsAsked, Answers};
+ghost use Rattle.acct_sockets.specs.inner.Places.{IsAsked, Answers, IsReadyAt, HasReady};
 
 use crate::readiness::Readiness;
 use acct_callers::{Caller, Step};
@@ -101,7 +101,9 @@ impl<R: Net> Desk<R> {
 
     /// Whether something can be done for callers without waiting, as far as is known.
     pub fn is_busy(&self) -> bool
-        ensures { self.now.may_accept ≡ true → self.now.is_full ≡ false → IsTrue result }
+        ensures busy { self.now.may_accept ≡ true → self.now.is_full ≡ false → IsTrue result }
+        ensures idle { (self.now.may_accept ≡ false) ⊎ (self.now.is_full ≡ true) → IsTrue result
+            → HasReady self.now.places.items }
     {
         (self.may_accept && !self.is_full) || self.ready_place().is_some()
     }
@@ -294,7 +296,9 @@ impl<R: Net> Desk<R> {
     }
 
     // The next place whose caller is ready, so that each has its turn.
-    fn ready_place(&self) -> Option<usize> {
+    fn ready_place(&self) -> Option<usize>
+        ensures { IfSome result (IsReadyAt self.now.places.items) }
+    {
         for step in 0..PLACES {
             let place = self.next.wrapping_add(step) % PLACES;
             if let Some(Some(caller)) = self.places.get(place)

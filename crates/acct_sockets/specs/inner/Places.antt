@@ -1,5 +1,5 @@
 -- The places of callers: who asks, and who is answered.
-use Rattle.std.specs.Prelude.{◌≡◌, ℕ, List, Option, Some, None, slice_get, slice_set}
+use Rattle.std.specs.Prelude.{◌≡◌, ℕ, true, List, Option, Some, None, slice_get, slice_set}
 use Rattle.acct_callers.specs.declared.caller.Caller.{Caller}
 use Rattle.acct_callers.specs.declared.caller.Stage.TheVariants as stage
 use Rattle.acct_callers.specs.Going.{Goes}
@@ -8,6 +8,15 @@ module _ {S : Type 0} where
   -- the caller who has this place
   abbrev pub IsAt : List (Option (Caller S)) → ℕ → Caller S → Type 0
   IsAt places place caller = slice_get places place ≡ Some (Some caller)
+
+  -- the caller who has this place is ready
+  abbrev pub IsReadyAt : List (Option (Caller S)) → ℕ → Type 0
+  IsReadyAt places place =
+      (caller : Caller S) × IsAt places place caller × (caller.is_ready ≡ true)
+
+  -- a caller is ready
+  abbrev pub HasReady : List (Option (Caller S)) → Type 0
+  HasReady places = (place : ℕ) × IsReadyAt places place
 
   -- the caller who has the asker's place asks, and is to be answered
   abbrev pub IsAsked : Option ℕ → List (Option (Caller S)) → Type 0
