@@ -4,7 +4,7 @@
 //!    more than one datagram of each other one.
 //! 2. A reply leaves from the socket that gave the last datagram, and so from the address that was
 //!    asked.
-ghost use Rattle.std.specs.Prelude.{◌≡◌, true, length, slice_get, IfSome};
+ghost use Rattle.std.specs.Prelude.{◌≡◌, true, length, slice_get, slice_set, MatchOption};
 ghost use Rattle.std.specs.List.{list_any};
 
 use crate::readiness::Readiness;
@@ -93,8 +93,11 @@ impl Datagrams {
 
     /// Notes that a datagram may wait at the socket with this place.
     pub fn rouse(&mut self, place: usize)
-        ensures { IfSome (slice_get self.new.inlets.items place)
-            (λ inlet. inlet.may_receive ≡ true) }
+        ensures inlets { MatchOption (slice_get self.old.inlets.items place)
+            (self.new.inlets.items ≡ self.old.inlets.items)
+            (λ inlet. self.new.inlets.items ≡ slice_set self.old.inlets.items place
+            (record inlet { may_receive = true })) }
+        ensures last { self.new.last ≡ self.old.last }
     {
         if let Some(inlet) = self.inlets.get_mut(place) {
             inlet.may_receive = true;

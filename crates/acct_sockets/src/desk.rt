@@ -6,7 +6,7 @@
 //!    to one that waits. So strangers who hold every place keep nobody away.
 //! 3. What a turn does for callers is bounded, so that no datagram waits for all of them.
 ghost use Rattle.std.specs.Prelude.{◌≡◌, ◌⊎◌, None, Some, true, false, IfOk, IfSome, IsTrue, OnOk};
-ghost use Rattle.std.specs.Prelude.{slice_set};
+ghost use Rattle.std.specs.Prelude.{slice_set, MatchOption};
 ghost use Rattle.acct_sockets.specs.inner.Places.{IsAsked, Answers, IsReadyAt, HasReady};
 
 use crate::readiness::Readiness;
@@ -93,7 +93,9 @@ impl<R: Net> Desk<R> {
     }
 
     /// Notes that the caller at a place may be ready.
-    pub fn rouse_caller(&mut self, place: usize) {
+    pub fn rouse_caller(&mut self, place: usize)
+        ensures { self.new ≡ record self.old { places = self.new.places } }
+    {
         if let Some(Some(caller)) = self.places.get_mut(place) {
             caller.rouse();
         }
@@ -139,9 +141,11 @@ impl<R: Net> Desk<R> {
     pub fn answer(&mut self, response: &[u8], now: Instant) -> Result<(), Fault>
         ensures taken { OnOk result (Answers R.Stream.contents self.old.asker self.old.places.items
             self.new.places.items response.now) }
-        ensures accepts { self.new.may_accept ≡ self.old.may_accept }
-        ensures next { self.new.next ≡ self.old.next }
-        ensures answered { self.new.asker ≡ None }
+        ensures other { self.new ≡ record self.old {
+          asker = None;
+          is_full = self.new.is_full;
+          places = self.new.places;
+        } }
     {
         let place = self.asker.take().ok_or(Fault)?;
         self.is_full = false;
@@ -154,11 +158,14 @@ impl<R: Net> Desk<R> {
 
     /// Closes the connection of the caller that asked last and was not answered, if there is one.
     pub fn forget_asker(&mut self)
-        ensures places { IfSome self.old.asker (λ place.
-            self.new.places.items ≡ slice_set self.old.places.items place None) }
-        ensures accepts { self.new.may_accept ≡ self.old.may_accept }
-        ensures next { self.new.next ≡ self.old.next }
-        ensures forgotten { self.new.asker ≡ None }
+        ensures places { MatchOption self.old.asker
+            (self.new.places.items ≡ self.old.places.items)
+            (λ place. self.new.places.items ≡ slice_set self.old.places.items place None) }
+        ensures other { self.new ≡ record self.old {
+          asker = None;
+          is_full = self.new.is_full;
+          places = self.new.places;
+        } }
     {
         if let Some(place) = self.asker.take() {
             self.clear(place);
