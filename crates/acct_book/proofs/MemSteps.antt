@@ -142,11 +142,13 @@ session_ok m n b d t row copy key name y z k c x w rows balances =
       rows = λ q. key-updates m n key (Some copy) rows q i;
       balances = λ a. balances a i;
       topups = tree.get_by_text t;
+      plans = None;
     })
     ∙ (λ i. record {
       rows = update same_key (tree.get key_cmp m) (k i) (Some (c i));
       balances = update bytes_eq (balance_at b) (x i) (Some (w i));
       topups = tree.get_by_text t;
+      plans = None;
     })
 
 session_err : (m n : BTreeMap Key RowFacts) (b d : Balances) (t : Topups) → IsUnchanged m n
@@ -155,6 +157,7 @@ session_err m n b d t rows balances = λ i. record {
   rows = λ q. lookup (tree.is_at (key_cmp q)) (rows i);
   balances = λ a. balances a i;
   topups = tree.get_by_text t;
+  plans = None;
 }
 
 -- a row and a balance, set in their maps
@@ -181,11 +184,13 @@ topup_ok m n b d t topup copy key name y z k c x w topups balances =
       rows = tree.get key_cmp t;
       balances = λ a. balances a i;
       topups = λ q. btree_map_updates_text (string_bytes key) m n (Some copy) topups q i;
+      plans = None;
     })
     ∙ (λ i. record {
       rows = tree.get key_cmp t;
       balances = update bytes_eq (balance_at b) (x i) (Some (w i));
       topups = update bytes_eq (tree.get_by_text m) (k i) (Some (c i));
+      plans = None;
     })
 
 topup_err : (m n : Topups) (b d : Balances) (t : BTreeMap Key RowFacts) → IsUnchanged m n
@@ -194,6 +199,7 @@ topup_err m n b d t topups balances = λ i. record {
   rows = tree.get key_cmp t;
   balances = λ a. balances a i;
   topups = λ q. lookup (tree.is_at (λ k. slice_cmp nat_cmp q (string_bytes k))) (topups i);
+  plans = None;
 }
 
 -- a top-up and a balance, set in their maps
@@ -218,4 +224,5 @@ rows-closed m n b t client rows = λ i. record {
       ∙ lookup-map_values (closed_by client) (tree.is_at (key_cmp q)) m.entries) i;
   balances = balance_at b;
   topups = tree.get_by_text t;
+  plans = None;
 }

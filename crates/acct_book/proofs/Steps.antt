@@ -280,6 +280,7 @@ report_stands plans c history r st fits =
           ∙ balances_at plans history next a m (test a) (known-after plans r history a) (own a)
           (other a);
       topups = st.topups;
+      kept = st.kept;
       in_range = λ a. range_at plans history next a m (test a) (own a) (other a) fits
           (st.in_range a);
     })
@@ -376,6 +377,7 @@ topup_new plans c history t st none fits =
           ∙ balances_at plans history next a m (test a) (known a) (own a) (other a);
       topups = λ n. ap (λ o. cond (bytes_eq t.voucher n) (Some t) o) (st.topups n)
           ∙ topups_after history t n h;
+      kept = st.kept;
       in_range = λ a. range_at plans history next a m (test a) (own a) (other a) fits
           (st.in_range a);
     } in
@@ -410,6 +412,7 @@ restart_new plans c history x st =
       rows = λ k. ap (option_map _) (st.rows k) ∙ sym (row_of-restart plans x history k);
       balances = st.balances;
       topups = st.topups;
+      kept = st.kept;
       in_range = st.in_range;
     } in
     record {

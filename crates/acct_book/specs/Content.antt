@@ -1,7 +1,9 @@
--- What a book contains: three maps, each seen as a function.
+-- What a book contains: three maps, each seen as a function, and the plans that it keeps.
 use Rattle.std.specs.Prelude.{◌≡◌, ℕ, ℤ, pos, Bool, ◌&&◌, if◌then◌else◌, bytes_eq, List, Option}
 use Rattle.std.specs.Prelude.{Some, None, unwrap_or, option_map}
 use Rattle.std.specs.Map.{update}
+use Rattle.acct_model.specs.declared.plan.Plan.{Plan}
+use Rattle.acct_model.specs.Plans.{plan_for}
 use Rattle.acct_model.specs.Vouchers.{TopUpFacts}
 use Rattle.acct_book.specs.declared.key.Key.{Key}
 use Rattle.acct_book.specs.declared.row.SessionState.{SessionState}
@@ -16,15 +18,30 @@ same_key a b = bytes_eq a.client b.client && bytes_eq a.session b.session
 abbrev pub key_of : RowFacts → Key
 key_of row = record { client = row.client; session = row.session }
 
--- rows by their keys, balances by account, top-ups by the voucher's number
+-- Rows by their keys, balances by account, top-ups by the voucher's number. A book may keep a list of
+-- plans besides: then this is the plan of each class by that list.
 pub record Content : Type 0 where
   pub rows : Key → Option RowFacts
   pub balances : List ℕ → Option ℤ
   pub topups : List ℕ → Option TopUpFacts
+  pub plans : Option (List ℕ → Option Plan)
 
--- no row, no balance, no top-up
+-- no row, no balance, no top-up, and no list of plans
 abbrev pub empty_content : Content
-empty_content = record { rows = λ key. None; balances = λ account. None; topups = λ number. None }
+empty_content = record {
+  rows = λ key. None;
+  balances = λ account. None;
+  topups = λ number. None;
+  plans = None;
+}
+
+-- no row, no balance, no top-up, in a book that keeps these plans
+abbrev pub empty_keeping : List Plan → Content
+empty_keeping plans = record empty_content { plans = Some (plan_for plans) }
+
+-- the content of a book whose list of plans, if it keeps one, is now this
+abbrev pub keeping : List Plan → Content → Content
+keeping plans content = record content { plans = option_map (λ kept. plan_for plans) content.plans }
 
 -- the balance of an account, which is 0 where none is kept
 abbrev pub kept_balance : Content → List ℕ → ℤ
@@ -36,6 +53,7 @@ with_session content row balance = record {
   rows = update same_key content.rows (key_of row) (Some row);
   balances = update bytes_eq content.balances row.account (Some balance);
   topups = content.topups;
+  plans = content.plans;
 }
 
 -- with this top-up, and this balance of its account
@@ -44,6 +62,7 @@ with_topup content topup balance = record {
   rows = content.rows;
   balances = update bytes_eq content.balances topup.account (Some balance);
   topups = update bytes_eq content.topups topup.voucher (Some topup);
+  plans = content.plans;
 }
 
 -- the cause of a session that a restart of its client closed: NAS Reboot (RFC 2866, section 5.10)
@@ -66,6 +85,7 @@ with_closed content client = record {
   rows = λ key. option_map (closed_by client) (content.rows key);
   balances = content.balances;
   topups = content.topups;
+  plans = content.plans;
 }
 
 -- each row stands under its own key, and each top-up under its own number

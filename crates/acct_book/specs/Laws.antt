@@ -15,7 +15,7 @@ use Rattle.acct_book.specs.declared.key.Key.{Key}
 use Rattle.acct_book.specs.declared.row.SessionState.{SessionState}
 use Rattle.acct_book.specs.declared.row.SessionState.TheVariants.{Live, Closed, Stopped}
 use Rattle.acct_book.specs.Row.{RowFacts}
-use Rattle.acct_book.specs.Content.{Content, key_of}
+use Rattle.acct_book.specs.Content.{Content, key_of, keeping}
 use Rattle.acct_book.specs.Stands.{Stands}
 use Rattle.acct_book.specs.Charge.{class_of_plan, plan_of_row, charge_of_row}
 use Rattle.acct_book.specs.Rows.{name_of, counters, Rank, rank_of, row_of}
@@ -157,8 +157,10 @@ RowsKeepTheirPlans = (plans : List Plan) (history : History) (key : Key) (row : 
     → plan_of_row plans row ≡ plan_of plans history (name_of key)
 
 -- After plans were added that extend the old ones, a content stands for the history with the
--- addition, if it stood for the history by the old ones.
+-- addition, if it stood for the history by the old ones: the same content, but for the list of plans
+-- of a book that keeps one, which is now the new one.
 abbrev pub AdditionsStand : Type 0
 AdditionsStand = (old new : List Plan) (content : Content) (history : History)
     → plans_fault old ≡ None → plans_fault new ≡ None → Extends new old
-    → Stands old content history → Stands new content (PlansAdded (plans_added old new) ∷ history)
+    → Stands old content history
+    → Stands new (keeping new content) (PlansAdded (plans_added old new) ∷ history)

@@ -6,6 +6,7 @@ pub mod Memory
 pub mod Book
 pub mod Walk
 pub mod Stands
+pub mod Addition
 pub mod Effect
 pub mod Step
 pub mod Charge

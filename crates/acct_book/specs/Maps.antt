@@ -1,5 +1,5 @@
 -- Ordered maps, as functions.
-use Rattle.std.specs.Prelude.{ℕ, ℤ, List, Option, Vec, String}
+use Rattle.std.specs.Prelude.{ℕ, ℤ, List, Option, None, Vec, String}
 use Rattle.std.specs.Global.{Global}
 use Rattle.std.specs.declared.cmp.Ordering.{Ordering}
 use Rattle.std.specs.Ordering.{nat_cmp, ordering_then}
@@ -23,11 +23,12 @@ key_cmp a b = ordering_then (octets_cmp a.client b.client) (octets_cmp a.session
 abbrev pub balance_at : BTreeMap (Vec ℕ Global) ℤ → List ℕ → Option ℤ
 balance_at balances account = tree.get_by (λ key. octets_cmp account key.items) balances
 
--- the content of three ordered maps
+-- the content of three ordered maps, in a book that keeps no list of plans
 abbrev pub content_from : BTreeMap Key RowFacts → BTreeMap (Vec ℕ Global) ℤ
     → BTreeMap (String Global) TopUpFacts → Content
 content_from rows balances topups = record {
   rows = tree.get key_cmp rows;
   balances = balance_at balances;
   topups = tree.get_by_text topups;
+  plans = None;
 }

@@ -3,7 +3,7 @@ ghost use Rattle.std.specs.Prelude.{ℕ, List, []};
 ghost use Rattle.acct_model.specs.declared.plan.Plan.{Plan};
 ghost use Rattle.acct_model.specs.History.{History};
 ghost use Rattle.acct_model.specs.Agreement.{BalancesAgree};
-ghost use Rattle.acct_book.specs.Content.{Content, empty_content};
+ghost use Rattle.acct_book.specs.Content.{Content, empty_content, empty_keeping};
 ghost use Rattle.acct_book.specs.Laws.{RowsHaveTheirKeys, RowsAreOfSessions, RowsAreOfReports};
 ghost use Rattle.acct_book.specs.Laws.{RowsAreCharged, RowsSayTheirEnds, EndedStaysEnded};
 ghost use Rattle.acct_book.specs.Laws.{RowsKeepTheirPlans, AdditionsStand};
@@ -22,9 +22,11 @@ pub fn memory_book_stays(book: &MemBook)
     ensures left { (c : Content) → ⟦<MemBook as Book>⟧.left book.now c → ⊥ }
 {}
 
-/// The empty content stands for the empty history, whatever the plans.
+/// The empty content stands for the empty history, whatever the plans: of a book that keeps no list
+/// of plans, and of one that keeps these.
 pub fn empty_content_stands()
-    ensures { (plans : List Plan) → Stands plans empty_content [] }
+    ensures keeps_none { (plans : List Plan) → Stands plans empty_content [] }
+    ensures keeps_these { (plans : List Plan) → Stands plans (empty_keeping plans) [] }
 {}
 
 /// The row of a session names the session: its client and its session id.
@@ -96,8 +98,9 @@ pub fn rows_keep_their_plans()
     ensures { RowsKeepTheirPlans }
 {}
 
-/// A content that stood for a history stands for it with an addition of plans, where the new plans
-/// extend the old ones: no row, no balance and no voucher changes.
+/// A content that stood for a history stands for it with an addition of plans, if the new plans
+/// extend the old ones: no row, no balance and no voucher changes. A book that keeps a list of plans
+/// then keeps the new ones.
 pub fn additions_stand()
     ensures { AdditionsStand }
 {}
