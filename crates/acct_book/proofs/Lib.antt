@@ -34,3 +34,5 @@ pub mod Fixed
 pub mod Parts
 -- why a content stands for a history after plans were added to it
 pub mod Additions
+-- why an empty content stands for the empty history
+pub mod Empty

@@ -18,8 +18,8 @@ same_key a b = bytes_eq a.client b.client && bytes_eq a.session b.session
 abbrev pub key_of : RowFacts → Key
 key_of row = record { client = row.client; session = row.session }
 
--- Rows by their keys, balances by account, top-ups by the voucher's number. A book may keep a list of
--- plans besides: then this is the plan of each class by that list.
+-- Rows by their keys, balances by account, top-ups by the voucher's number. If the book keeps a
+-- list of plans too, the plan of each class by that list.
 pub record Content : Type 0 where
   pub rows : Key → Option RowFacts
   pub balances : List ℕ → Option ℤ
@@ -41,7 +41,8 @@ empty_keeping plans = record empty_content { plans = Some (plan_for plans) }
 
 -- the content of a book whose list of plans, if it keeps one, is now this
 abbrev pub keeping : List Plan → Content → Content
-keeping plans content = record content { plans = option_map (λ kept. plan_for plans) content.plans }
+keeping plans content =
+    record content { plans = option_map (λ kept. plan_for plans) content.plans }
 
 -- the balance of an account, which is 0 where none is kept
 abbrev pub kept_balance : Content → List ℕ → ℤ

@@ -157,8 +157,8 @@ RowsKeepTheirPlans = (plans : List Plan) (history : History) (key : Key) (row : 
     → plan_of_row plans row ≡ plan_of plans history (name_of key)
 
 -- After plans were added that extend the old ones, a content stands for the history with the
--- addition, if it stood for the history by the old ones: the same content, but for the list of plans
--- of a book that keeps one, which is now the new one.
+-- addition, if it stood for the history by the old ones. It is the same content, but if the book
+-- keeps a list of plans, that is now the new one.
 abbrev pub AdditionsStand : Type 0
 AdditionsStand = (old new : List Plan) (content : Content) (history : History)
     → plans_fault old ≡ None → plans_fault new ≡ None → Extends new old

@@ -7,14 +7,15 @@ use Rattle.acct_book.specs.declared.key.Key.{Key}
 use Rattle.acct_book.specs.Rows.{row_of}
 use Rattle.acct_book.specs.Content.{Content}
 
--- The plans that a book keeps, if it keeps a list of them, are these, in whatever order: each class has
--- the same plan by both.
+-- If a book keeps a list of plans, these are its plans, in whatever order: each class has the same
+-- plan by both.
 abbrev pub AreKept : List Plan → Option (List ℕ → Option Plan) → Type 0
-AreKept plans kept = IfSome kept (λ plan_of. (class : List ℕ) → plan_of class ≡ plan_for plans class)
+AreKept plans kept = IfSome kept
+    (λ plan_of. (class : List ℕ) → plan_of class ≡ plan_for plans class)
 
 -- The rows are those of the history's sessions, the balances those of the accounts that own a
--- session or a voucher, the top-ups the first of each number, and every balance is in range. The plans
--- that the book keeps, if it keeps a list of them, are those in force.
+-- session or a voucher, the top-ups the first of each number, and every balance is in range. If the
+-- book keeps a list of plans, these are its plans.
 pub record Stands (plans : List Plan) (content : Content) (history : History) : Type 0 where
   pub rows : (key : Key) → content.rows key ≡ row_of plans history key
   pub balances : (account : List ℕ) → content.balances account

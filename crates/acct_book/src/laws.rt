@@ -99,8 +99,8 @@ pub fn rows_keep_their_plans()
 {}
 
 /// A content that stood for a history stands for it with an addition of plans, if the new plans
-/// extend the old ones: no row, no balance and no voucher changes. A book that keeps a list of plans
-/// then keeps the new ones.
+/// extend the old ones: no row, no balance and no voucher changes. If the book keeps a list of
+/// plans, that is then the new one.
 pub fn additions_stand()
     ensures { AdditionsStand }
 {}

@@ -1,7 +1,7 @@
 -- A new book: its tables, its number and its plans, made in one transaction.
 use Rattle.std.proofs.Common.{◌≡◌, ◌⊎◌, inl, inr, ℕ, pos, List, [], ◌∷◌, ◌++◌, codes, true, false}
 use Rattle.std.proofs.Common.{Bool, Ok, Err, Result, find, option_map, IsTrue, IsOk, OnOk, OnErr}
-use Rattle.std.proofs.Common.{refl, sym, ap, subst, ◌∙◌, arith}
+use Rattle.std.proofs.Common.{refl, sym, ap, subst, ◌∙◌, arith, None, Some}
 use Rattle.sqlite.specs.declared.types.Value.TheVariants.{Null, Int, Text}
 use Rattle.sqlite.specs.Order.{Row, column}
 use Rattle.sqlite.specs.Tree.{Trees}
@@ -17,7 +17,8 @@ use Rattle.sqlite.proofs.StateLemmas.{survives_then}
 use Rattle.sqlite_rules.specs.Lists.{Has}
 use Rattle.sqlite_rules.proofs.ListLemmas.{has_either, has_left, has_right}
 use Rattle.acct_model.specs.declared.plan.Plan.{Plan}
-use Rattle.acct_book.specs.Content.{empty_content}
+use Rattle.acct_model.specs.PlanFaults.{plans_fault}
+use Rattle.acct_book.specs.Content.{empty_content, keeping}
 use Rattle.acct_tables.specs.Tables.{book_schema, no_schema, meta, price_plan, account, voucher}
 use Rattle.acct_tables.specs.Tables.{session, plan_count, session_plan, first_schema, second_schema}
 use Rattle.acct_tables.specs.Tables.{own_number}
@@ -25,10 +26,11 @@ use Rattle.acct_tables.specs.Tidy.{IsTidy}
 use Rattle.acct_tables.specs.Columns.{int_in, session_in_columns, topup_in_columns, columns}
 use Rattle.sqlite_value.specs.Order.{bytes}
 use Rattle.acct_tables.specs.Content.{content_in_tables, is_session, is_account, is_voucher}
-use Rattle.acct_tables.specs.Content.{plans_in_tables, with_plan}
+use Rattle.acct_tables.specs.Content.{content_without_plans, plans_in_tables, with_plan, with_plans}
+use Rattle.acct_tables.specs.Content.{with_list, listed_in_tables}
 use Rattle.acct_tables.specs.Book.{IsBook, IsOpenBook}
 use Rattle.acct_tables.specs.Make.{IsPlanRow, IsCountRow, mode_of, KeepsPrices, KeepsCounts}
-use Rattle.acct_tables.specs.Make.{KeepsNumber, IsNew}
+use Rattle.acct_tables.specs.Make.{KeepsNumber, KeepsPlans, IsNew}
 use Rattle.acct_tables.specs.inner.Columns.{plan_columns, count_columns}
 use Rattle.acct_tables.specs.inner.Inside.{HasFinished}
 use Rattle.acct_tables.specs.inner.NewBook.{HasRun, GoesOn, HasFirstTables, HasPlanTables}
@@ -44,6 +46,7 @@ use Rattle.acct_tables.proofs.WriteLemmas.{inserted, insert_added}
 use Rattle.acct_tables.proofs.FindLemmas.{IsAdded}
 use Rattle.acct_tables.proofs.ValueLemmas.{cast_int, cast_null}
 use Rattle.acct_tables.proofs.CommitLemmas.{of_ok}
+use Rattle.acct_tables.proofs.ListedLemmas.{plans_listed}
 
 -- ---- the tables
 
@@ -125,20 +128,22 @@ no_rows rows none = subst IsTidy (sym none) (record {
 })
 
 content_none : (db : Trees) → db session.tree ≡ [] → db account.tree ≡ [] → db voucher.tree ≡ []
-    → content_in_tables db ≡ empty_content
+    → content_without_plans db ≡ empty_content
 content_none db sessions accounts vouchers = λ i. record {
-  rows = λ key. option_map (with_plan (plans_in_tables db key))
-      (option_map (λ row. session_in_columns (columns row)) (find (is_session key) (sessions i)));
+  rows = λ key. option_map (λ row. session_in_columns (columns row))
+      (find (is_session key) (sessions i));
   balances = λ name. option_map (λ row. int_in (column row 2))
       (find (is_account name) (accounts i));
   topups = λ number. option_map (λ row. topup_in_columns (columns row))
       (find (is_voucher number) (vouchers i));
+  plans = None;
 }
 
-pub content_same : (old new : Trees) → new session.tree ≡ old session.tree → new account.tree
+-- where no table has other rows but those of the plans, the content is as it was but for its list
+content_same : (old new : Trees) → new session.tree ≡ old session.tree → new account.tree
     ≡ old account.tree → new voucher.tree ≡ old voucher.tree
     → new session_plan.tree ≡ old session_plan.tree → content_in_tables new
-    ≡ content_in_tables old
+    ≡ with_list (listed_in_tables new) (content_in_tables old)
 content_same old new sessions accounts vouchers plans = λ i. record {
   rows = λ key. option_map (with_plan (option_map (λ row. bytes (column row 3))
       (find (is_session key) (plans i))))
@@ -147,7 +152,19 @@ content_same old new sessions accounts vouchers plans = λ i. record {
       (find (is_account name) (accounts i));
   topups = λ number. option_map (λ row. topup_in_columns (columns row))
       (find (is_voucher number) (vouchers i));
+  plans = Some (listed_in_tables new);
 }
+
+-- so it is the content of before that keeps these plans
+pub content_keeping : (plans : List Plan) (old new : Trees) → plans_fault plans ≡ None
+    → KeepsPlans plans new → new session.tree ≡ old session.tree → new account.tree
+    ≡ old account.tree → new voucher.tree ≡ old voucher.tree
+    → new session_plan.tree ≡ old session_plan.tree → content_in_tables new
+    ≡ keeping plans (content_in_tables old)
+content_keeping plans old new faultless kept sessions accounts vouchers session_plans =
+    content_same old new sessions accounts vouchers session_plans
+    ∙ ap (λ listed. with_list listed (content_in_tables old))
+    (plans_listed plans new faultless kept)
 
 no_prices : (db : Trees) → db price_plan.tree ≡ [] → KeepsPrices [] db
 no_prices db none = record {
@@ -431,20 +448,29 @@ count_added c first prices counts plan old new n h t =
     }
 
 -- a book with all of them is a new one
-fresh_of : (c : Database) (plans : List Plan) (s : State) → HasPlans c plans s
-    → IsNew plans s.now.trees
-fresh_of c plans s has = let first = has.fresh in let t = has.so_far in record {
-  content = content_same has.first s.now.trees t.sessions t.accounts t.vouchers t.session_plans
-      ∙ first.content;
-  number = number_same has.first s.now.trees t.metas first.number;
-  plans_kept = record { prices = t.prices_kept; counts = t.counts_kept };
-  session_plans = t.session_plans ∙ first.session_plans;
-}
+fresh_of : (c : Database) (plans : List Plan) (s : State) → plans_fault plans ≡ None
+    → HasPlans c plans s → IsNew plans s.now.trees
+fresh_of c plans s faultless has =
+    let first = has.fresh in
+    let t = has.so_far in
+    let kept : KeepsPlans plans s.now.trees = record {
+      prices = t.prices_kept;
+      counts = t.counts_kept;
+    } in
+    record {
+      content = content_keeping plans has.first s.now.trees faultless kept t.sessions t.accounts
+          t.vouchers t.session_plans
+          ∙ ap (λ bare. keeping plans (with_list (listed_in_tables has.first)
+          (with_plans (plans_in_tables has.first) bare))) first.content;
+      number = number_same has.first s.now.trees t.metas first.number;
+      plans_kept = kept;
+      session_plans = t.session_plans ∙ first.session_plans;
+    }
 
 -- ---- the transaction
 
 module _ {S T E F : Type 0} (g : Ghosts S) (old end : Held S) (mid : State) (plans : List Plan)
-    (done : Result T F) (result : Result T E) where
+    (faultless : plans_fault plans ≡ None) (done : Result T F) (result : Result T E) where
   abbrev begun : State
   begun = state g (record old { in_transaction = true })
 
@@ -479,7 +505,7 @@ module _ {S T E F : Type 0} (g : Ghosts S) (old end : Held S) (mid : State) (pla
     new_by : HasCleanDisk last → (r : Result T E) → OnOk r
         (IsOk done × Shows mid last mid.now mid.now false) → OnOk r (IsNew plans last.now.trees)
     new_by clean (Ok x) ok = subst (λ (d : Database). IsNew plans d.trees) (sym ok.1.now_is)
-        (fresh_of begun.committed plans mid (has clean ok.0))
+        (fresh_of begun.committed plans mid faultless (has clean ok.0))
     new_by clean (Err e) ok = tt
 
     made_new : HasCleanDisk last → OnOk result (IsNew plans last.now.trees)
@@ -520,5 +546,5 @@ module _ {S T E F : Type 0} (g : Ghosts S) (old end : Held S) (mid : State) (pla
         (survives_then begun mid last (λ _. ⊥) (λ db. IsOk done × (db ≡ mid.now.trees))
         (IsNew plans) (λ _ db none. absurd none)
         (λ clean db is. subst (IsNew plans) (sym is.1)
-        (fresh_of begun.committed plans mid (has clean is.0))) inside
+        (fresh_of begun.committed plans mid faultless (has clean is.0))) inside
         finished.survives)

@@ -1,6 +1,7 @@
 pub mod QueryLemmas
 pub mod ValueLemmas
 pub mod FindLemmas
+pub mod ListedLemmas
 pub mod WriteLemmas
 pub mod StatementLemmas
 pub mod TextLemmas

@@ -19,7 +19,8 @@ use Rattle.acct_tables.specs.Tidy.{IsTidy}
 use Rattle.acct_tables.specs.Columns.{session_columns, session_plan_columns, topup_columns}
 use Rattle.acct_tables.specs.Columns.{framed_in, framed_octets}
 use Rattle.acct_tables.specs.Content.{content_in_tables, content_without_plans, plans_in_tables}
-use Rattle.acct_tables.specs.Content.{with_plan, with_plans, is_session}
+use Rattle.acct_tables.specs.Content.{with_plan, with_plans, with_list, listed_in_tables}
+use Rattle.acct_tables.specs.Content.{is_session}
 use Rattle.acct_tables.specs.Book.{IsBook, HasSamePlans}
 use Rattle.acct_tables.specs.inner.Inside.{HasPut, with_row, with_balance, with_voucher, HasMade}
 use Rattle.acct_tables.specs.Content.{without_plan}
@@ -40,6 +41,7 @@ use Rattle.acct_tables.specs.declared.statements.TheConstants as texts
 use Rattle.acct_tables.proofs.TextLemmas as t
 use Rattle.acct_tables.proofs.StatementLemmas.{updates, inserts}
 use Rattle.acct_tables.proofs.WriteLemmas.{update_tidy, insert_tidy}
+use Rattle.acct_tables.proofs.ListedLemmas.{same_listed}
 use Rattle.acct_tables.proofs.SessionLemmas as s
 use Rattle.acct_tables.proofs.SessionPlanLemmas as p
 use Rattle.acct_tables.proofs.CloseLemmas as c
@@ -128,39 +130,47 @@ rows_changed : (old new : Trees) (f : Key → Option RowFacts)
       rows = f;
       balances = (content_in_tables old).balances;
       topups = (content_in_tables old).topups;
+      plans = None;
     }
 rows_changed old new f rows accounts vouchers = λ i. record {
   rows = λ key. rows key i;
   balances = a.balances_in (accounts i);
   topups = v.topups_in (vouchers i);
+  plans = None;
 }
 
 balances_changed : (old new : Trees) (f : List ℕ → Option ℤ)
     → ((name : List ℕ) → a.balances_in (new account.tree) name ≡ f name) → new voucher.tree
     ≡ old voucher.tree → new session.tree ≡ old session.tree
-    → new session_plan.tree ≡ old session_plan.tree → content_in_tables new ≡ record {
+    → new session_plan.tree ≡ old session_plan.tree → HasSamePlans old new
+    → content_in_tables new ≡ record {
       rows = (content_in_tables old).rows;
       balances = f;
       topups = (content_in_tables old).topups;
+      plans = (content_in_tables old).plans;
     }
-balances_changed old new f balances vouchers sessions plans = λ i. record {
+balances_changed old new f balances vouchers sessions plans same = λ i. record {
   rows = λ key. option_map (with_plan (p.plans_in (plans i) key)) (s.rows_in (sessions i) key);
   balances = λ name. balances name i;
   topups = v.topups_in (vouchers i);
+  plans = Some (same_listed old new same i);
 }
 
 topups_changed : (old new : Trees) (f : List ℕ → Option TopUpFacts)
     → ((number : List ℕ) → v.topups_in (new voucher.tree) number ≡ f number) → new account.tree
     ≡ old account.tree → new session.tree ≡ old session.tree
-    → new session_plan.tree ≡ old session_plan.tree → content_in_tables new ≡ record {
+    → new session_plan.tree ≡ old session_plan.tree → HasSamePlans old new
+    → content_in_tables new ≡ record {
       rows = (content_in_tables old).rows;
       balances = (content_in_tables old).balances;
       topups = f;
+      plans = (content_in_tables old).plans;
     }
-topups_changed old new f topups accounts sessions plans = λ i. record {
+topups_changed old new f topups accounts sessions plans same = λ i. record {
   rows = λ key. option_map (with_plan (p.plans_in (plans i) key)) (s.rows_in (sessions i) key);
   balances = a.balances_in (accounts i);
   topups = λ number. topups number i;
+  plans = Some (same_listed old new same i);
 }
 
 abbrev IsBookIf : State → Type 0
@@ -323,11 +333,16 @@ with_plans_closed client plans c = λ i. record {
   rows = λ key. closed_with client (plans key) (c.rows key) i;
   balances = c.balances;
   topups = c.topups;
+  plans = c.plans;
 }
 
-with_both : {old new : Key → Option (List ℕ)} {c d : Content} → new ≡ old → c ≡ d
-    → with_plans new c ≡ with_plans old d
-with_both plans content = λ i. with_plans (plans i) (content i)
+-- the content of tables whose sessions are these, whose plans of sessions and list of plans are as
+-- they were
+with_all : (old new : Trees) {plans : Key → Option (List ℕ)} {c : Content} → HasSamePlans old new
+    → plans_in_tables new ≡ plans → content_without_plans new ≡ c
+    → content_in_tables new ≡ with_list (listed_in_tables old) (with_plans plans c)
+with_all old new same plans content = λ i. with_list (same_listed old new same i)
+    (with_plans (plans i) (content i))
 
 pub made_closed : (client : List ℕ) (old new : State) (count : ℕ) → IsBookIf old
     → ExecutesInside 0 texts.CLOSE_SESSIONS_OF_CLIENT.now (Text client ∷ []) old new (Ok count)
@@ -340,16 +355,19 @@ made_closed client old new count books h =
     let kept = session_kept params t.close_filter t.close_project old new count done in
     let tidy = session_tidy t.close_filter t.close_project params old new count book done
     (λ r. refl) (λ r. refl) in
+    let same = same_plans 8 old.now.trees new.now.trees (omega arith)
+    (λ e. absurd (omega (arith, e))) done.applies.tables in
     record {
       shows = h.1;
       book = after_session old.now new.now book done.schema done.sound tidy kept.0 kept.1 kept.2;
-      content = with_both (ap p.plans_in kept.2) (rows_changed old.now.trees new.now.trees
+      content = with_all old.now.trees new.now.trees same (ap p.plans_in kept.2)
+          (rows_changed old.now.trees new.now.trees
           (λ key. option_map (closed_by client) (s.rows_in (old.now.trees session.tree) key))
           (c.closed_rows client old new count book done) kept.0 kept.1)
-          ∙ with_plans_closed client (plans_in_tables old.now.trees)
-          (content_without_plans old.now.trees);
-      same_plans = same_plans 8 old.now.trees new.now.trees (omega arith)
-          (λ e. absurd (omega (arith, e))) done.applies.tables;
+          ∙ ap (with_list (listed_in_tables old.now.trees))
+          (with_plans_closed client (plans_in_tables old.now.trees)
+          (content_without_plans old.now.trees));
+      same_plans = same;
     }
 
 -- ---- session_plan
@@ -370,6 +388,7 @@ bare_same old new accounts vouchers sessions = λ i. record {
   rows = s.rows_in (sessions i);
   balances = a.balances_in (accounts i);
   topups = v.topups_in (vouchers i);
+  plans = None;
 }
 
 -- where a row of the session is kept, an UPDATE sets its plan
@@ -442,26 +461,33 @@ with_plans_row plans c row = λ i. record {
   rows = λ key. planned_row plans c.rows row key (same_key (key_of row) key) i;
   balances = c.balances;
   topups = c.topups;
+  plans = c.plans;
 }
 
 pub made_with_plan : (row : RowFacts) (old mid new : State)
     → HasMadeBare (λ c. with_row c (without_plan row)) old mid
     → HasSetPlan (key_of row) row.plan mid new → HasMade (λ c. with_row c row) old new
-made_with_plan row old mid new first second = record {
-  shows = record {
-    was_open = first.shows.was_open;
-    is_open = second.shows.is_open;
-    now_is = refl;
-    committed_is = second.shows.committed_is ∙ first.shows.committed_is;
-    mode = second.shows.mode;
-  };
-  book = second.book;
-  content = with_both (second.plans ∙ ap (λ plans. update same_key plans (key_of row)
-      (Some row.plan)) first.plans) (second.content ∙ first.content)
-      ∙ with_plans_row (plans_in_tables old.now.trees) (content_without_plans old.now.trees) row;
-  same_plans = same_plans_then old.now.trees mid.now.trees new.now.trees first.same_plans
-      second.same_plans;
-}
+made_with_plan row old mid new first second =
+    let same = same_plans_then old.now.trees mid.now.trees new.now.trees first.same_plans
+    second.same_plans in
+    record {
+      shows = record {
+        was_open = first.shows.was_open;
+        is_open = second.shows.is_open;
+        now_is = refl;
+        committed_is = second.shows.committed_is ∙ first.shows.committed_is;
+        mode = second.shows.mode;
+      };
+      book = second.book;
+      content = with_all old.now.trees new.now.trees same
+          (second.plans
+          ∙ ap (λ plans. update same_key plans (key_of row) (Some row.plan)) first.plans)
+          (second.content ∙ first.content)
+          ∙ ap (with_list (listed_in_tables old.now.trees))
+          (with_plans_row (plans_in_tables old.now.trees)
+          (content_without_plans old.now.trees) row);
+      same_plans = same;
+    }
 
 -- ---- account
 
@@ -484,15 +510,16 @@ made_balance name n old new count books some h =
     let tidy = update_tidy book_schema Enforced account t.name_filter t.balance_project Null
     old.now.trees new.now.trees params done.answer done.selects (λ r. refl) (λ r. refl)
     book.accounts done.applies in
+    let same = same_plans 4 old.now.trees new.now.trees (omega arith)
+    (λ e. absurd (omega (arith, e))) done.applies.tables in
     record {
       shows = h.1;
       book = after_account old.now new.now book done.schema done.sound tidy vouchers sessions
           plans;
       content = balances_changed old.now.trees new.now.trees
           (update bytes_eq (a.balances_in (old.now.trees account.tree)) name (Some n))
-          (a.set_balance name n old new count book done some) vouchers sessions plans;
-      same_plans = same_plans 4 old.now.trees new.now.trees (omega arith)
-          (λ e. absurd (omega (arith, e))) done.applies.tables;
+          (a.set_balance name n old new count book done some) vouchers sessions plans same;
+      same_plans = same;
     }
 
 made_new_balance : (name : List ℕ) (n : ℤ) (old mid new : State) (count more : ℕ) → IsBookIf old
@@ -523,6 +550,11 @@ made_new_balance name n old mid new count more books none first second =
     refl added.applies book'.accounts (next_rowid (mid.now.trees account.tree))
     (ap rowid (a.put_is name n mid new book' added fresh)) in
     let same = a.set_none name n old mid count book done none in
+    let unchanged = same_plans_then old.now.trees mid.now.trees new.now.trees
+    (same_plans 4 old.now.trees mid.now.trees (omega arith)
+    (λ e. absurd (omega (arith, e))) done.applies.tables)
+    (same_plans 4 mid.now.trees new.now.trees (omega arith)
+    (λ e. absurd (omega (arith, e))) added.applies.tables) in
     record {
       shows = record {
         was_open = first.1.was_open;
@@ -537,12 +569,8 @@ made_new_balance name n old mid new count more books none first second =
           (update bytes_eq (a.balances_in (old.now.trees account.tree)) name (Some n))
           (λ key. a.new_balance name n mid new book' added fresh key
           ∙ ap (λ o. cond (bytes_eq name key) (Some n) o) (same key)) (vouchers' ∙ vouchers)
-          (sessions' ∙ sessions) (plans' ∙ plans);
-      same_plans = same_plans_then old.now.trees mid.now.trees new.now.trees
-          (same_plans 4 old.now.trees mid.now.trees (omega arith)
-          (λ e. absurd (omega (arith, e))) done.applies.tables)
-          (same_plans 4 mid.now.trees new.now.trees (omega arith)
-          (λ e. absurd (omega (arith, e))) added.applies.tables);
+          (sessions' ∙ sessions) (plans' ∙ plans) unchanged;
+      same_plans = unchanged;
     }
 
 -- ---- voucher
@@ -566,15 +594,16 @@ made_topup topup old new count books some h =
     let tidy = update_tidy book_schema Enforced voucher t.name_filter t.topup_project Null
     old.now.trees new.now.trees params done.answer done.selects (λ r. refl) (λ r. refl)
     book.vouchers done.applies in
+    let same = same_plans 6 old.now.trees new.now.trees (omega arith)
+    (λ e. absurd (omega (arith, e))) done.applies.tables in
     record {
       shows = h.1;
       book = after_voucher old.now new.now book done.schema done.sound tidy accounts sessions
           plans;
       content = topups_changed old.now.trees new.now.trees
           (update bytes_eq (v.topups_in (old.now.trees voucher.tree)) topup.voucher (Some topup))
-          (v.set_topup topup old new count book done some) accounts sessions plans;
-      same_plans = same_plans 6 old.now.trees new.now.trees (omega arith)
-          (λ e. absurd (omega (arith, e))) done.applies.tables;
+          (v.set_topup topup old new count book done some) accounts sessions plans same;
+      same_plans = same;
     }
 
 made_new_topup : (topup : TopUpFacts) (old mid new : State) (count more : ℕ) → IsBookIf old
@@ -605,6 +634,11 @@ made_new_topup topup old mid new count more books none first second =
     refl added.applies book'.vouchers (next_rowid (mid.now.trees voucher.tree))
     (ap rowid (v.put_is topup mid new book' added fresh)) in
     let same = v.set_none topup old mid count book done none in
+    let unchanged = same_plans_then old.now.trees mid.now.trees new.now.trees
+    (same_plans 6 old.now.trees mid.now.trees (omega arith)
+    (λ e. absurd (omega (arith, e))) done.applies.tables)
+    (same_plans 6 mid.now.trees new.now.trees (omega arith)
+    (λ e. absurd (omega (arith, e))) added.applies.tables) in
     record {
       shows = record {
         was_open = first.1.was_open;
@@ -619,12 +653,8 @@ made_new_topup topup old mid new count more books none first second =
           (update bytes_eq (v.topups_in (old.now.trees voucher.tree)) topup.voucher (Some topup))
           (λ key. v.new_topup topup mid new book' added fresh key
           ∙ ap (λ o. cond (bytes_eq topup.voucher key) (Some topup) o) (same key))
-          (accounts' ∙ accounts) (sessions' ∙ sessions) (plans' ∙ plans);
-      same_plans = same_plans_then old.now.trees mid.now.trees new.now.trees
-          (same_plans 6 old.now.trees mid.now.trees (omega arith)
-          (λ e. absurd (omega (arith, e))) done.applies.tables)
-          (same_plans 6 mid.now.trees new.now.trees (omega arith)
-          (λ e. absurd (omega (arith, e))) added.applies.tables);
+          (accounts' ∙ accounts) (sessions' ∙ sessions) (plans' ∙ plans) unchanged;
+      same_plans = unchanged;
     }
 
 -- ---- an UPDATE, and an INSERT where it met no row

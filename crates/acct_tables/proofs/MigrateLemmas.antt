@@ -16,6 +16,7 @@ use Rattle.sqlite_value.specs.Order.{bytes}
 use Rattle.sqlite_rules.specs.Lists.{Has}
 use Rattle.acct_model.specs.declared.plan.Plan.{Plan}
 use Rattle.acct_model.specs.Plans.{plan_for}
+use Rattle.acct_model.specs.PlanFaults.{plans_fault}
 use Rattle.acct_book.specs.declared.key.Key.{Key}
 use Rattle.acct_book.specs.Charge.{class_of_plan}
 use Rattle.acct_tables.specs.Tables.{book_schema, meta, price_plan, account, voucher}
@@ -24,7 +25,7 @@ use Rattle.acct_tables.specs.Tidy.{IsTidy}
 use Rattle.acct_tables.specs.Columns.{columns, int_in, session_in_columns, topup_in_columns}
 use Rattle.acct_tables.specs.Content.{content_in_tables, plans_in_tables, with_plan, is_session}
 use Rattle.acct_tables.specs.Content.{is_account, is_voucher}
-use Rattle.acct_tables.specs.Make.{HasNumber, IsCountRow, KeepsPrices}
+use Rattle.acct_tables.specs.Make.{HasNumber, IsCountRow, KeepsPrices, KeepsPlans}
 use Rattle.acct_tables.specs.Look.{HasNumberAlone}
 use Rattle.acct_tables.specs.Migrate.{migrated, with_own_plan, number_of, KeepsOlderPlans}
 use Rattle.acct_tables.specs.inner.Columns.{count_columns}
@@ -41,6 +42,7 @@ use Rattle.acct_tables.proofs.StatementLemmas.{updates, inserts, HasUpdated}
 use Rattle.acct_tables.proofs.WriteLemmas.{update_mapped, rewritten, inserted, insert_added}
 use Rattle.acct_tables.proofs.WriteLemmas.{insert_tidy}
 use Rattle.acct_tables.proofs.FindLemmas.{IsMapped, IsAdded, found_is, find_has}
+use Rattle.acct_tables.proofs.ListedLemmas.{plans_listed}
 use Rattle.acct_tables.proofs.ValueLemmas.{cast_int, cast_null, text_equal}
 use Rattle.acct_tables.proofs.KeyLemmas.{one_session_plan}
 use Rattle.acct_tables.proofs.CreateLemmas.{no_rows, no_counts, counts_same, prices_same}
@@ -400,8 +402,8 @@ class_written plans last row more rowid_at client id class old new n rowid_is cl
 
 -- ---- all of it
 
-module _ (plans : List Plan) (last : Option ℤ) (s : State) (w : HasWritten plans plans last s)
-    (none : ShowsNext last s.now.trees []) where
+module _ (plans : List Plan) (faultless : plans_fault plans ≡ None) (last : Option ℤ) (s : State)
+    (w : HasWritten plans plans last s) (none : ShowsNext last s.now.trees []) where
   -- the plan of a session that is there
   plan_kept : (key : Key) (r : Row) → Has (s.now.trees session.tree) r → is_session key r ≡ true
       → plans_in_tables s.now.trees key ≡ Some
@@ -429,6 +431,9 @@ module _ (plans : List Plan) (last : Option ℤ) (s : State) (w : HasWritten pla
           ap (λ plan. Some (with_plan plan (session_in_columns (columns r))))
           (plan_kept key r here.0 here.1)
 
+  kept : KeepsPlans plans s.now.trees
+  kept = record { prices = w.prices_kept; counts = w.counts_kept }
+
   content_is : content_in_tables s.now.trees ≡ migrated plans s.committed.trees
   content_is = λ i. record {
     rows = λ key. (row_is key ∙ ap (λ rows. option_map (with_own_plan plans)
@@ -438,6 +443,7 @@ module _ (plans : List Plan) (last : Option ℤ) (s : State) (w : HasWritten pla
         (find (is_account name) (w.accounts i));
     topups = λ number. option_map (λ row. topup_in_columns (columns row))
         (find (is_voucher number) (w.vouchers i));
+    plans = Some (plans_listed plans s.now.trees faultless kept i);
   }
 
   pub all_migrated : HasMigrated plans s
@@ -448,6 +454,6 @@ module _ (plans : List Plan) (last : Option ℤ) (s : State) (w : HasWritten pla
     is = record {
       content = content_is;
       number = w.number;
-      plans_kept = record { prices = w.prices_kept; counts = w.counts_kept };
+      plans_kept = kept;
     };
   }

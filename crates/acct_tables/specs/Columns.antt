@@ -5,6 +5,9 @@ use Rattle.sqlite.specs.declared.types.Value.{Value}
 use Rattle.sqlite.specs.declared.types.Value.TheVariants.{Null, Int, Real, Text, Blob}
 use Rattle.sqlite.specs.Order.{Row, column}
 use Rattle.sqlite_value.specs.Order.{bytes}
+use Rattle.acct_model.specs.declared.plan.Plan.{Plan}
+use Rattle.acct_model.specs.declared.plan.Count.{Count}
+use Rattle.acct_model.specs.declared.plan.Count.TheVariants.{Both, Input, Output}
 use Rattle.acct_model.specs.Vouchers.{TopUpFacts}
 use Rattle.acct_book.specs.declared.row.SessionState.{SessionState}
 use Rattle.acct_book.specs.declared.row.SessionState.TheVariants.{Live, Closed, Stopped}
@@ -106,6 +109,30 @@ topup_in_columns at = record {
   account = bytes (at 1);
   sum = count_in (at 2);
   when = count_in (at 3);
+}
+
+abbrev pub count_by_mode : ℤ → Option Count
+count_by_mode (pos zero) = Some Both
+count_by_mode (pos (suc zero)) = Some Input
+count_by_mode (pos (suc (suc zero))) = Some Output
+count_by_mode (pos (suc (suc (suc n)))) = None
+count_by_mode (negsuc n) = None
+
+-- what a plan counts: 0 both directions, 1 the input, 2 the output, and nothing else says it
+abbrev pub mode_in : Value → Option Count
+mode_in Null = None
+mode_in (Int n) = count_by_mode n
+mode_in (Real x) = None
+mode_in (Text t) = None
+mode_in (Blob b) = None
+
+-- a plan by its class, its row's columns (the class, then block and unit) and what it counts
+abbrev pub plan_in_columns : List ℕ → (ℕ → Value) → Count → Plan
+plan_in_columns class at count = record {
+  class = class;
+  block = count_in (at 1);
+  unit = count_in (at 2);
+  count = count;
 }
 
 -- the columns of a row, which come after its rowid

@@ -7,7 +7,7 @@ use Rattle.sqlite_rules.specs.Lists.{Has}
 use Rattle.acct_model.specs.declared.plan.Plan.{Plan}
 use Rattle.acct_model.specs.declared.plan.Count.{Count}
 use Rattle.acct_model.specs.declared.plan.Count.TheVariants.{Both, Input, Output}
-use Rattle.acct_book.specs.Content.{empty_content}
+use Rattle.acct_book.specs.Content.{empty_keeping}
 use Rattle.acct_tables.specs.Tables.{meta, price_plan, plan_count, session_plan, own_number}
 use Rattle.acct_tables.specs.Content.{content_in_tables}
 
@@ -60,7 +60,7 @@ pub record KeepsNumber (n : ℤ) (db : Trees) : Type 0 where
 
 -- the tables of an empty book that was made with these plans
 pub record IsNew (plans : List Plan) (db : Trees) : Type 0 where
-  pub content : content_in_tables db ≡ empty_content
+  pub content : content_in_tables db ≡ empty_keeping plans
   pub number : KeepsNumber own_number db
   pub plans_kept : KeepsPlans plans db
   pub session_plans : db session_plan.tree ≡ []

@@ -39,12 +39,13 @@ schema_of Second = second_schema
 abbrev pub with_own_plan : List Plan → RowFacts → RowFacts
 with_own_plan plans row = record row { plan = class_of_plan (plan_for plans row.class) }
 
--- what the older tables hold, and each session the plan of its class
+-- what the older tables hold, and each session the plan of its class, in a book of these plans
 abbrev pub migrated : List Plan → Trees → Content
 migrated plans db = record {
   rows = λ key. option_map (with_own_plan plans) ((content_without_plans db).rows key);
   balances = (content_without_plans db).balances;
   topups = (content_without_plans db).topups;
+  plans = Some (plan_for plans);
 }
 
 -- the tables of a book of these plans that was made of older tables

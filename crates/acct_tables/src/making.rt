@@ -48,6 +48,7 @@ pub fn make_book<S: Alter>(conn: &mut Connection<S>, plans: &Plans) -> Result<()
 {
     let is_idle = conn.is_autocommit();
     prove!(is_idle);
+    plans.have_no_fault();
     let mut tx = conn.transaction();
     let done = fill(&mut tx, plans.list());
     finish(tx, done)

@@ -49,6 +49,7 @@ fn add_next_class<S: Alter>(
         (HasMigrated plans.now (state S.Store tx.new.conn.now))
         (λ id. HasWritten plans.now plans.now (Some id) (state S.Store tx.new.conn.now))) }
 {
+    plans.have_no_fault();
     let rows = session_after(tx, last)?;
     match rows.first() {
         Some(columns) => Ok(Some(add_class(tx, plans, columns)?)),

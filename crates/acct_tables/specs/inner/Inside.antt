@@ -25,6 +25,7 @@ with_row content row = record {
   rows = update same_key content.rows (key_of row) (Some row);
   balances = content.balances;
   topups = content.topups;
+  plans = content.plans;
 }
 
 -- with this balance of an account
@@ -33,6 +34,7 @@ with_balance content name balance = record {
   rows = content.rows;
   balances = update bytes_eq content.balances name (Some balance);
   topups = content.topups;
+  plans = content.plans;
 }
 
 -- with this voucher
@@ -41,6 +43,7 @@ with_voucher content topup = record {
   rows = content.rows;
   balances = content.balances;
   topups = update bytes_eq content.topups topup.voucher (Some topup);
+  plans = content.plans;
 }
 
 -- ---- the call

@@ -10,7 +10,7 @@ use Rattle.acct_tables.specs.Tables.{voucher, session, plan_count, session_plan}
 use Rattle.acct_tables.specs.Book.{IsBook, IsOpenBook}
 use Rattle.acct_book.specs.Content.{empty_content}
 use Rattle.acct_tables.specs.Tables.{own_number}
-use Rattle.acct_tables.specs.Content.{content_in_tables}
+use Rattle.acct_tables.specs.Content.{content_without_plans}
 use Rattle.acct_tables.specs.Make.{IsNew, KeepsNumber, KeepsPrices, KeepsCounts}
 
 -- the first five tables are there, and none has a row
@@ -86,7 +86,7 @@ HasPlansOver committed first plans s = HasPlansSoFar committed first plans plans
 
 -- the tables have a book's schema number, and nothing besides
 pub record HasNumberOnly (db : Trees) : Type 0 where
-  pub content : content_in_tables db ≡ empty_content
+  pub content : content_without_plans db ≡ empty_content
   pub number : KeepsNumber own_number db
   pub session_plans : db session_plan.tree ≡ []
 

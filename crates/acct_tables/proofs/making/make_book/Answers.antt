@@ -15,8 +15,8 @@ returns-clause-made g c =
     subst (λ h. HasCleanDisk (state g.S.Store h) → OnOk c.finish.result
     (IsNewBook c.args.plans.now (state g.S.Store h))) same
     (new_book g.S.Store old end (state g.S.Store c.fill-done.new.tx.conn.now) c.args.plans.now
-    c.fill-done.result c.finish.result filled.quiet.kept filled.done filled.quiet.survives
-    c.finish.ensures)
+    c.have_no_fault.ensures c.fill-done.result c.finish.result filled.quiet.kept filled.done
+    filled.quiet.survives c.finish.ensures)
 
 pub returns-clause-survives : goal.returns-clause-survives
 returns-clause-survives g c =
@@ -26,5 +26,6 @@ returns-clause-survives g c =
     let filled = rw (c.transaction-tx.ensures.begun, c.list.ensures) at c.fill-done.ensures in
     subst (λ h. Survives (state g.S.Store old) (state g.S.Store h) (IsNew c.args.plans.now)) same
     (made_survives g.S.Store old end (state g.S.Store c.fill-done.new.tx.conn.now)
-    c.args.plans.now c.fill-done.result c.finish.result filled.quiet.kept filled.done
+    c.args.plans.now c.have_no_fault.ensures
+    c.fill-done.result c.finish.result filled.quiet.kept filled.done
     filled.quiet.survives c.finish.ensures)

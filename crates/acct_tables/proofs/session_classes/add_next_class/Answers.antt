@@ -36,6 +36,6 @@ returns-clause-written g c clean =
     let written = written_on c.args.plans.now c.args.plans.now c.args.last old mid same
     (c.requires early same.0.was_open) in
     let none = none_shown c.in_ok-rows.rows.items _ c.deref.ensures.value c.in-None.ensures.value in
-    all_migrated c.args.plans.now c.args.last mid written (subst (λ (d : Database).
-    ShowsNext c.args.last d.trees []) (sym same.0.now_is) (subst (ShowsNext c.args.last
-    old.now.trees) none (c.in_ok-rows.ensures.shown clean)))
+    all_migrated c.args.plans.now c.have_no_fault.ensures c.args.last mid written
+    (subst (λ (d : Database). ShowsNext c.args.last d.trees []) (sym same.0.now_is)
+    (subst (ShowsNext c.args.last old.now.trees) none (c.in_ok-rows.ensures.shown clean)))
