@@ -145,7 +145,7 @@ none_alike these those class plan none some alike =
     absurd (cc (none, there))
 
 -- what prices each class alike has one plan for each class
-same_plans : (these those : List Plan) → PriceAlike these those → SamePlans these those
+pub same_plans : (these those : List Plan) → PriceAlike these those → SamePlans these those
 same_plans these those alike class =
     elim (find (has_class class) these) as (λ one. find (has_class class) these ≡ one
     → one ≡ find (has_class class) those) [

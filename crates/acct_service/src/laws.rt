@@ -18,8 +18,10 @@ pub fn life_settles()
     ensures { LifeSettles }
 {}
 
-/// What a crash leaves of a book that was served or imported into, or to whose plans others were
-/// added, is a history from which `life_settles` goes on: this span of a life, and a stop.
+/// What a crash leaves of a book that was served or imported into is a history from which
+/// `life_settles` goes on: this span of a life, and a stop. The same holds of a book to which plans
+/// were added. If the addition was killed or failed, the book may also be as it was, with the plans
+/// that it had. The next start may have the plans in another order.
 pub fn stops_are_lived<B: Book>()
     ensures { StopsAreLived B.Book }
 {}
