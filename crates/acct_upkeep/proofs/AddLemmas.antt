@@ -18,14 +18,10 @@ use Rattle.sqlite_rules.proofs.ListLemmas.{contains_had, some_has, some_from, al
 use Rattle.acct_model.specs.declared.plan.Plan.{Plan}
 use Rattle.acct_model.specs.declared.plan.Count.{Count}
 use Rattle.acct_model.specs.declared.plan.Count.TheVariants.{Both, Input, Output}
-use Rattle.acct_model.specs.Faults.{first_fault_after}
 use Rattle.acct_model.specs.Plans.{Extends, has_class, plans_added}
-use Rattle.acct_model.specs.PlanFaults.{plan_fault, default_fault, plans_fault}
-use Rattle.acct_model.specs.Faults.{first_fault}
-use Rattle.acct_model.proofs.Faults.{first_none, second_none}
+use Rattle.acct_model.specs.PlanFaults.{plans_fault}
 use Rattle.std.proofs.lemmas.List.Elements.{All-contains}
 use Rattle.acct_model.proofs.Lists.{all_listed}
-use Rattle.acct_model.proofs.PlanLaws.{apart}
 use Rattle.acct_model.proofs.Same.{Decides-bytes_eq}
 use Rattle.acct_tables.specs.Tables.{book_schema, plan_count, own_number}
 use Rattle.acct_tables.specs.declared.plan_table.PlanTable.TheVariants.{Prices, Counts}
@@ -47,33 +43,11 @@ use Rattle.acct_tables.specs.declared.statements.TheConstants as texts
 use Rattle.acct_upkeep.proofs.PlanLemmas.{price_of_shown, shown_of_price, prices_shown, shown_prices}
 use Rattle.acct_upkeep.proofs.PlanLemmas.{count_of_shown, shown_of_count, all_counts_shown}
 use Rattle.acct_upkeep.proofs.PlanLemmas.{all_shown_counts}
-use Rattle.acct_tables.proofs.CreateLemmas.{content_same}
+use Rattle.acct_tables.proofs.CreateLemmas.{content_keeping}
+use Rattle.acct_tables.proofs.ListedLemmas.{one_of_class}
 use Rattle.acct_tables.proofs.MigrateLemmas.{alone_same}
 
 -- ---- one plan for each class
-
--- plans without a fault are told apart by their classes
-one_plan : (earlier plans : List Plan) → first_fault_after plan_fault earlier plans ≡ None
-    → (p q : Plan) → Has plans p → Has plans q → p.class ≡ q.class → p ≡ q
-one_plan earlier [] none p q hp hq same = absurd hp
-one_plan earlier (x ∷ plans) none p q hp hq same =
-    let rest = second_none (plan_fault earlier x)
-    (first_fault_after plan_fault (earlier ++ x ∷ []) plans) none in
-    let far = λ (other : Plan). λ (there : Has plans other).
-    (apart (earlier ++ x ∷ []) plans rest).1 x other
-    (contains_had (earlier ++ x ∷ []) x (has_right earlier (x ∷ []) x (inl refl)))
-    (contains_had plans other there) in
-    go hp hq far (λ one other. one_plan (earlier ++ x ∷ []) plans rest p q one other same)
-  where
-    go : Has (x ∷ plans) p → Has (x ∷ plans) q
-        → ((other : Plan) → Has plans other → x.class ≢ other.class)
-        → (Has plans p → Has plans q → p ≡ q) → p ≡ q
-    go (inl first) (inl second) far later = first ∙ sym second
-    go (inl first) (inr there) far later = absurd (far q there
-        (ap (λ (r : Plan). r.class) (sym first) ∙ same))
-    go (inr there) (inl second) far later = absurd (far p there
-        (ap (λ (r : Plan). r.class) (sym second) ∙ sym same))
-    go (inr one) (inr other) far later = later one other
 
 blob_is : (b c : List ℕ) → ◌≡◌ {A = Value} (Blob b) (Blob c) → b ≡ c
 blob_is b c e = cc
@@ -94,8 +68,7 @@ count_is Output Output e = refl
 
 module _ (plans : List Plan) (db : Trees) (faultless : plans_fault plans ≡ None) where
   unique : (p q : Plan) → Has plans p → Has plans q → p.class ≡ q.class → p ≡ q
-  unique = one_plan [] plans
-      (first_none (first_fault plan_fault plans) (default_fault plans) faultless)
+  unique = one_of_class plans faultless
 
   -- two plans of one price row, or of one count row, have one class
   same_class : (p q : Plan) (row : Row) → column row 1 ≡ Blob p.class → column row 1 ≡ Blob q.class
@@ -238,20 +211,23 @@ plan_there c first plans plan s there = same_members c first plans (plans ++ pla
 
 -- all of them were added
 pub all_added : (c : Database) (first : Trees) (shown plans : List Plan) (s : State)
-    → ((p : Plan) → Has shown p → Has plans p) → HasNumberAlone own_number first
+    → plans_fault plans ≡ None → ((p : Plan) → Has shown p → Has plans p)
+    → HasNumberAlone own_number first
     → HasPlansOver c first (shown ++ plans) s → HasAdded plans first s.now.trees
-all_added c first shown plans s among number t =
+all_added c first shown plans s faultless among number t =
     let up : (p : Plan) → Has (shown ++ plans) p → Has plans p =
     λ p h. elim (has_either shown plans p h) [ inl was ↦ among p was | inr now ↦ now ] in
     let down : (p : Plan) → Has plans p → Has (shown ++ plans) p =
     λ p h. has_right shown plans p h in
+    let kept : KeepsPlans plans s.now.trees = record {
+      prices = same_prices (shown ++ plans) plans s.now.trees up down t.prices_kept;
+      counts = same_counts (shown ++ plans) plans s.now.trees up down t.counts_kept;
+    } in
     record {
-      content = content_same first s.now.trees t.sessions t.accounts t.vouchers t.session_plans;
+      content = content_keeping plans first s.now.trees faultless kept t.sessions t.accounts
+          t.vouchers t.session_plans;
       number = alone_same own_number first s.now.trees t.metas number;
-      plans_kept = record {
-        prices = same_prices (shown ++ plans) plans s.now.trees up down t.prices_kept;
-        counts = same_counts (shown ++ plans) plans s.now.trees up down t.counts_kept;
-      };
+      plans_kept = kept;
     }
 
 -- ---- the answers for both tables
@@ -453,14 +429,14 @@ other_not_added plans db Unavailable other it = tt
 -- ---- the transaction
 
 pub added_all : {S : Type 0} (g : Ghosts S) (old : Held S) (mid : State) (plans : List Plan)
-    (rows : List Row) (shown : List Plan) → IsTrue (state g old).is_open
+    (rows : List Row) (shown : List Plan) → plans_fault plans ≡ None → IsTrue (state g old).is_open
     → (state g old).now ≡ (state g old).committed → IsBook (state g old).now
     → HasNumberAlone own_number (state g old).now.trees → AreAmong plans (state g old).now.trees
     → ShowsPrices (state g old).now.trees rows → AreShownOf plans rows shown
     → ((c : Database) (first : Trees) (kept : List Plan) → AreShownOf plans rows kept
     → HasPlansOver c first kept (state g (record old { in_transaction = true }))
     → HasPlansOver c first (kept ++ plans) mid) → HasBecome (HasAdded plans) mid
-added_all g old mid plans rows shown o settled book number among told those f =
+added_all g old mid plans rows shown faultless o settled book number among told those f =
     let s = state g (record old { in_transaction = true }) in
     let kept = shown_kept plans s.now.trees among rows told shown those in
     let t = f s.committed s.now.trees shown those (record {
@@ -480,5 +456,6 @@ added_all g old mid plans rows shown o settled book number among told those f =
       book = t.book;
       is = subst (λ (d : Database). HasAdded plans d.trees mid.now.trees)
           (settled ∙ sym t.on.committed_is)
-          (all_added s.committed s.now.trees shown plans mid (λ p h. ((those p).0 h).0) number t);
+          (all_added s.committed s.now.trees shown plans mid faultless
+          (λ p h. ((those p).0 h).0) number t);
     }

@@ -4,6 +4,7 @@ use Rattle.sqlite.specs.Tree.{Trees}
 use Rattle.sqlite.specs.Effect.{Database}
 use Rattle.acct_model.specs.declared.plan.Plan.{Plan}
 use Rattle.acct_model.specs.Plans.{Extends}
+use Rattle.acct_book.specs.Content.{keeping}
 use Rattle.acct_tables.specs.declared.sql_book_error.SqlBookError.{SqlBookError}
 use Rattle.acct_tables.specs.declared.sql_book_error.SqlBookError.TheVariants.{NotABook, PlansDiffer}
 use Rattle.acct_tables.specs.declared.sql_book_error.SqlBookError.TheVariants.{WrongSchema}
@@ -19,9 +20,10 @@ pub record AreExtended (plans : List Plan) (db : Trees) : Type 0 where
   pub kept : KeepsPlans old db
   pub extended : Extends plans old
 
--- the tables of a book of these plans, which contains what it contained before
+-- the tables of a book of these plans, which contains what it contained before, but for its list of
+-- plans
 pub record HasAdded (plans : List Plan) (old new : Trees) : Type 0 where
-  pub content : content_in_tables new ≡ content_in_tables old
+  pub content : content_in_tables new ≡ keeping plans (content_in_tables old)
   pub number : HasNumberAlone own_number new
   pub plans_kept : KeepsPlans plans new
 

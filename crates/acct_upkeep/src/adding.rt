@@ -1,6 +1,6 @@
 //! Plans that are added to a book, in one transaction.
 ghost use Rattle.std.specs.Prelude.{◌≡◌, ◌↔◌, ◌++◌, ◌∷◌, [], false, List, length, IsTrue, IfOk};
-ghost use Rattle.std.specs.Prelude.{IfErr, OnOk, OnErr};
+ghost use Rattle.std.specs.Prelude.{IfErr, OnOk, OnErr, None};
 ghost use Rattle.std.specs.List.{AllByRecursion};
 ghost use Rattle.sqlite.specs.Tree.{Trees};
 ghost use Rattle.sqlite.specs.Effect.{Database};
@@ -9,6 +9,7 @@ ghost use Rattle.sqlite.specs.Held.{state};
 ghost use Rattle.sqlite_rules.specs.Lists.{Has};
 ghost use Rattle.acct_model.specs.declared.plan.Plan.{Plan};
 ghost use Rattle.acct_model.specs.Plans.{plans_added};
+ghost use Rattle.acct_model.specs.PlanFaults.{plans_fault};
 ghost use Rattle.acct_tables.specs.declared.plan_table.PlanTable.TheVariants.{Prices, Counts};
 ghost use Rattle.acct_tables.specs.Tables.{own_number};
 ghost use Rattle.acct_tables.specs.Book.{is_sound_at};
@@ -134,6 +135,7 @@ fn write_missing<S: Alter>(
     prices: &[sqlite::Row],
 ) -> Result<(), Refused>
     requires idle { IsIdle (state S.Store conn.old) }
+    requires faultless { plans_fault plans.now ≡ None }
     requires open { is_sound_at S.Store conn.old → IsTrue (state S.Store conn.old).is_open }
     requires book { HoldsBook S.Store conn.old }
     requires number { Holds S.Store (λ s. HasNumberAlone own_number s.now.trees) conn.old }

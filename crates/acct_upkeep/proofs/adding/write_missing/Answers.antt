@@ -22,9 +22,9 @@ returns-clause-made g c =
     (arith, added.quiet.survives.clean, clean) in
     let o = c.requires.open early in
     answered c.add_missing-done.result (added_all g.S.Store old mid c.args.plans.now
-    c.args.prices.now some.0 o (c.requires.idle.settled early o) (c.requires.book early o)
-    (c.requires.number early o) (c.requires.among early o) (c.requires.shown early o) some.1)
-    (added.done clean) in
+    c.args.prices.now some.0 c.requires.faultless o (c.requires.idle.settled early o)
+    (c.requires.book early o) (c.requires.number early o) (c.requires.among early o)
+    (c.requires.shown early o) some.1) (added.done clean) in
     subst (λ h. HasCleanDisk (state g.S.Store h) → OnOk c.finish.result
     (IsBookOf (HasAdded c.args.plans.now) (state g.S.Store old).now.trees (state g.S.Store h))) same
     (book_of g.S.Store old end mid (HasAdded c.args.plans.now) c.add_missing-done.result
@@ -45,9 +45,9 @@ returns-clause-undone g c =
     (arith, added.quiet.survives.clean, clean) in
     let o = c.requires.open early in
     answered c.add_missing-done.result (added_all g.S.Store old mid c.args.plans.now
-    c.args.prices.now some.0 o (c.requires.idle.settled early o) (c.requires.book early o)
-    (c.requires.number early o) (c.requires.among early o) (c.requires.shown early o) some.1)
-    (added.done clean) in
+    c.args.prices.now some.0 c.requires.faultless o (c.requires.idle.settled early o)
+    (c.requires.book early o) (c.requires.number early o) (c.requires.among early o)
+    (c.requires.shown early o) some.1) (added.done clean) in
     subst (λ h. HasCleanDisk (state g.S.Store h) → IsTrue (state g.S.Store h).is_open
     → OnErr c.finish.result ((state g.S.Store h).now ≡ (state g.S.Store old).now)) same
     (undone_of g.S.Store old end mid (HasAdded c.args.plans.now) c.add_missing-done.result
@@ -68,9 +68,9 @@ returns-clause-survives g c =
     (arith, added.quiet.survives.clean, clean) in
     let o = c.requires.open early in
     answered c.add_missing-done.result (added_all g.S.Store old mid c.args.plans.now
-    c.args.prices.now some.0 o (c.requires.idle.settled early o) (c.requires.book early o)
-    (c.requires.number early o) (c.requires.among early o) (c.requires.shown early o) some.1)
-    (added.done clean) in
+    c.args.prices.now some.0 c.requires.faultless o (c.requires.idle.settled early o)
+    (c.requires.book early o) (c.requires.number early o) (c.requires.among early o)
+    (c.requires.shown early o) some.1) (added.done clean) in
     subst (λ h. Survives (state g.S.Store old) (state g.S.Store h)
     (HasAdded c.args.plans.now (state g.S.Store old).now.trees)) same
     (survives_of g.S.Store old end mid (HasAdded c.args.plans.now) c.add_missing-done.result
