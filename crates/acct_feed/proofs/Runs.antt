@@ -11,7 +11,7 @@ use Rattle.std.proofs.KnownBytes.{Appends-nil, Appends-trans, Appends-kept}
 use Rattle.std.proofs.lemmas.List.{append-nil}
 use Rattle.acct_model.specs.declared.plan.Plan.{Plan}
 use Rattle.acct_book.specs.declared.book.Book.{Ghosts}
-use Rattle.acct_book.specs.Content.{empty_content}
+use Rattle.acct_book.specs.Stands.{Stands}
 use Rattle.acct_wire.specs.declared.client.Client.{Client}
 use Rattle.acct_feed.specs.Lines.{IsCut, AreCut}
 use Rattle.acct_feed.specs.Feed.{AnswersLine, AnswersAll, Ran, RanAfresh}
@@ -112,7 +112,7 @@ module _ {B : Type 0} (b : Ghosts B) (clients : List Client) (plans : List Plan)
 
   -- What was answered over a new book is so after the writer was flushed.
   pub ran_afresh : (first last : B) (input : List ℕ) (before between after : Option (List ℕ))
-      → b.is_open first × (b.content first ≡ empty_content)
+      → b.is_open first × Stands plans (b.content first) []
       → Ran b clients plans first last input [] true before
       between → Keeps between after
       → RanAfresh b clients plans input before after

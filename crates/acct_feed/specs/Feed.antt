@@ -13,9 +13,10 @@ use Rattle.acct_book.specs.declared.key.Key.{Key}
 use Rattle.acct_book.specs.declared.book.Unavailable.{Unavailable as Refusal}
 use Rattle.acct_book.specs.declared.recording.Recorded.{Recorded}
 use Rattle.acct_book.specs.declared.recording.RecordError.{RecordError}
-use Rattle.acct_book.specs.Content.{empty_content, kept_balance}
+use Rattle.acct_book.specs.Content.{kept_balance}
 use Rattle.acct_book.specs.Effect.{Effect, effect_of}
 use Rattle.acct_book.specs.Row.{RowFacts}
+use Rattle.acct_book.specs.Stands.{Stands}
 use Rattle.acct_book.specs.Step.{Looks, Does}
 use Rattle.acct_wire.specs.declared.answering.Outcome.{Outcome}
 use Rattle.acct_wire.specs.declared.client.Client.{Client}
@@ -143,10 +144,10 @@ module _ {B : Type 0} (b : Ghosts B) (clients : List Client) (plans : List Plan)
     pub printed : Appends before after (flat_map printed_text answers)
     pub good_is : good ≡ list_all is_good answers
 
-  -- All lines of an input were good and were answered over a book that was empty before, and their
-  -- answers were printed.
+  -- All lines of an input were good and were answered over a book that was empty before, of these
+  -- plans, and their answers were printed.
   pub record RanAfresh (input : List ℕ) (before after : Option (List ℕ)) : Type 0 where
     pub first : B
-    pub is_new : b.is_open first × (b.content first ≡ empty_content)
+    pub is_new : b.is_open first × Stands plans (b.content first) []
     pub last : B
     pub ran : Ran first last input [] true before after
