@@ -24,7 +24,8 @@ impl From<AllocError> for Unavailable {
     }
 }
 
-/// A book of rows by key, balances by account and top-ups by number.
+/// A book of rows by key, balances by account and top-ups by number. If it keeps a list of plans,
+/// no call changes that.
 ///
 /// # Errors
 ///

@@ -1,4 +1,5 @@
 mod StoodLemmas
+mod AdditionLemmas
 mod ColumnLemmas
 mod KeptPlanLemmas
 mod TiedLemmas

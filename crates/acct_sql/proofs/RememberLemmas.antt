@@ -123,6 +123,7 @@ closes_none content client ended = λ i. record {
   rows = λ key. stays (content.rows key) (ended key) i;
   balances = content.balances;
   topups = content.topups;
+  plans = content.plans;
 }
   where
     as_it_is : (row : RowFacts) (b : Bool) (s : SessionState) → bytes_eq client row.client ≡ b

@@ -39,5 +39,6 @@ migrated_stands plans db history stood = record {
       (plan-frozen plans history (name_of key) (adds_for_none history stood.no_additions));
   balances = stood.balances;
   topups = stood.topups;
+  kept = λ class. refl;
   in_range = stood.in_range;
 }

@@ -1,17 +1,23 @@
 -- What stands in a table, column by column.
-use Rattle.std.specs.Prelude.{◌≡◌, ℕ, ℤ, suc, true, List, [], ◌∷◌}
+use Rattle.std.specs.Prelude.{◌≡◌, ℕ, ℤ, suc, true, List, [], ◌∷◌, None}
 use Rattle.sqlite.specs.declared.types.Value.{Value}
 use Rattle.sqlite.specs.declared.types.Value.TheVariants.{Int, Blob}
 use Rattle.sqlite.specs.Order.{Row}
 use Rattle.sqlite.specs.Tree.{Trees}
 use Rattle.sqlite_rules.specs.Lists.{Has}
+use Rattle.acct_model.specs.declared.plan.Plan.{Plan}
+use Rattle.acct_model.specs.Plans.{plan_for}
+use Rattle.acct_model.specs.PlanFaults.{plans_fault}
 use Rattle.acct_model.specs.Vouchers.{TopUpFacts}
+use Rattle.acct_model.specs.History.{History}
 use Rattle.acct_book.specs.Row.{RowFacts}
 use Rattle.acct_book.specs.Content.{key_of}
+use Rattle.acct_book.specs.Stands.{Stands}
 use Rattle.acct_tables.specs.Tables.{account, voucher, session, session_plan}
 use Rattle.acct_tables.specs.Columns.{session_columns, session_plan_columns, topup_columns}
 use Rattle.acct_tables.specs.Columns.{columns}
-use Rattle.acct_tables.specs.Content.{is_session, is_account, is_voucher}
+use Rattle.acct_tables.specs.Content.{is_session, is_account, is_voucher, content_in_tables}
+use Rattle.acct_tables.specs.Make.{KeepsPlans}
 
 -- the columns are these values, from the first on
 abbrev pub AreColumns : Row → (ℕ → Value) → Type 0
@@ -47,3 +53,10 @@ pub record KeepsBalance (name : List ℕ) (balance : ℤ) (db : Trees) : Type 0 
   pub says : AreColumns (Blob name ∷ Int balance ∷ []) (columns row)
   pub alone : (other : Row) → Has (db account.tree) other → is_account name other ≡ true
       → other ≡ row
+
+-- If tables keep these plans, and their content stands for a history by those, then both are one
+-- set of plans: each class has the same plan by both.
+abbrev pub KeptAreInForce : Type 0
+KeptAreInForce = (kept plans : List Plan) (db : Trees) (history : History) → plans_fault kept ≡ None
+    → KeepsPlans kept db → Stands plans (content_in_tables db) history
+    → (class : List ℕ) → plan_for kept class ≡ plan_for plans class

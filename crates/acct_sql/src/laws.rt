@@ -3,7 +3,7 @@ ghost use Rattle.std.specs.Prelude.{◌≡◌, ℤ, Some};
 ghost use Rattle.sqlite.specs.Held.{state};
 ghost use Rattle.acct_book.specs.Content.{key_of};
 ghost use Rattle.acct_tables.specs.Book.{IsBookOver};
-ghost use Rattle.acct_sql.specs.Kept.{KeepsSession, KeepsTopUp, KeepsBalance};
+ghost use Rattle.acct_sql.specs.Kept.{KeepsSession, KeepsTopUp, KeepsBalance, KeptAreInForce};
 
 use crate::sql_book::SqlBook;
 use acct_book::{Book, Row};
@@ -49,3 +49,10 @@ pub fn balances_are_their_columns<S: Alter>(book: &SqlBook<S>, account: &[u8])
 {
     book.rests();
 }
+
+/// The plans that tables keep are those in force at the end of a history that their content stands
+/// for: each class has the same plan by both. So a book that `adopt` takes with the plans of a
+/// configuration stands for no history by other ones.
+pub fn kept_plans_are_in_force()
+    ensures { KeptAreInForce }
+{}

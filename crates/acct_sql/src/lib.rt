@@ -1,8 +1,8 @@
 //! The book of a RADIUS accounting server in SQLite tables, over any store that `sqlite` can write.
 //!
-//! 1. The content of the book is what the tables `session`, `session_plan`, `account` and `voucher`
-//!    hold, column by column (`acct_tables/specs/Content.antt`). `create` and `adopt` say so of the
-//!    book that they give.
+//! 1. The content of the book is what the tables `session`, `session_plan`, `account`, `voucher`,
+//!    `price_plan` and `plan_count` hold, column by column (`acct_tables/specs/Content.antt`).
+//!    `create` and `adopt` say so of the book that they give.
 //! 2. A call that writes is one transaction: of each table an UPDATE by key, and an INSERT where
 //!    that met no row.
 //! 3. A call that reads is a transaction too, which writes nothing: so a read of a store that was
@@ -12,7 +12,8 @@
 //!    schema don't say so, and an UPDATE goes by them. `create` makes it so, `adopt` tests it, each
 //!    write keeps it.
 //! 6. No call of a book writes the schema number, the plans, or what they count: in what it shows,
-//!    and in what a crash may leave, they stay (`acct_tables/specs/Book.antt`, `LeavesPlans`).
+//!    and in what a crash may leave, they stay (`acct_tables/specs/Book.antt`, `LeavesPlans`). The
+//!    plans are part of the content, so whoever records in a book keeps them.
 //! 7. A row whose columns break a bound of a session counts by its columns, and each call that
 //!    would show it answers `Unavailable`. So does each call that would show a session of which no
 //!    plan is kept.

@@ -63,6 +63,7 @@ impl<S: Alter> SqlBook<S> {
     ghost use Rattle.acct_tables.specs.Content.{content_in_tables, content_without_plans};
     ghost use Rattle.acct_tables.specs.Book.{IsOpenBook, IsResting, IsBookOver};
     ghost use Rattle.acct_book.specs.Stands.{Stands};
+    ghost use Rattle.acct_book.specs.Addition.{AddsAtMost};
     ghost use Rattle.acct_model.specs.declared.plan.Plan.{Plan};
     ghost use Rattle.acct_model.specs.Plans.{Extends, plans_added};
     ghost use Rattle.acct_model.specs.PlanFaults.{plans_fault};
@@ -262,6 +263,10 @@ impl<S: Alter> SqlBook<S> {
             (HasAdded plans.now (state S.Store conn).now.trees)) }
         ensures crash_err { IfErr result (λ e. Survives (state S.Store conn) (state S.Store e.1)
             (HasAdded plans.now (state S.Store conn).now.trees)) }
+        ensures leaves { IfOk result (λ done. AddsAtMost ⟦<SqlBook<S> as Book>⟧ plans.now conn
+            done.0) }
+        ensures leaves_err { IfErr result (λ e. AddsAtMost ⟦<SqlBook<S> as Book>⟧ plans.now conn
+            e.1) }
     {
         let is_idle = conn.is_autocommit();
         prove!(is_idle);

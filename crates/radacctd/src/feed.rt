@@ -1,6 +1,6 @@
 //! `feed` over an empty book, whose tables are kept in memory.
-ghost use Rattle.std.specs.Prelude.{◌≡◌, ◌≢◌, List, ℕ, IfOk, IfSome};
-ghost use Rattle.acct_book.specs.Content.{empty_content};
+ghost use Rattle.std.specs.Prelude.{◌≡◌, ◌≢◌, List, [], ℕ, IfOk, IfSome};
+ghost use Rattle.acct_book.specs.Stands.{Stands};
 ghost use Rattle.acct_feed.specs.Feed.{RanAfresh};
 
 use acct_book::{Book, Unavailable};
@@ -40,7 +40,7 @@ pub fn run_feed<R: Read + Drop, W: Write>(
 // An empty book in tables that are kept in memory.
 fn empty_book(alloc: Global, plans: &Plans) -> Result<SqlBook<MemStore>, Unavailable>
     ensures { IfOk result (λ book. ⟦<SqlBook<MemStore> as Book>⟧.is_open book
-        × (⟦<SqlBook<MemStore> as Book>⟧.content book ≡ empty_content)) }
+        × Stands plans.now (⟦<SqlBook<MemStore> as Book>⟧.content book) []) }
 {
     let connection = Connection::open_in_memory(alloc)?;
     match SqlBook::create(alloc, connection, plans) {

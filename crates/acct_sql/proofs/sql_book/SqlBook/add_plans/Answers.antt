@@ -6,6 +6,7 @@ use Rattle.acct_book.specs.Stands.{Stands}
 use Rattle.acct_book.proofs.Additions.{additions_stand}
 use Rattle.acct_tables.specs.Content.{content_in_tables}
 use Rattle.acct_upkeep.specs.inner.Adding.{IsBookAddedTo}
+use Rattle.acct_sql.proofs.AdditionLemmas.{left_by_addition}
 use Rattle.acct_sql.proofs.TiedLemmas.{tied}
 use Rattle.acct_sql.proofs.sql_book.SqlBook.add_plans.Goals as goal
 
@@ -22,3 +23,15 @@ returns-in-Ok-clause-stands g c clean = λ old history kept fine stood.
 
 pub returns-in-Ok-clause-tables : goal.returns-in-Ok-clause-tables
 returns-in-Ok-clause-tables g c = tied g.S.Store _
+
+pub returns-in-Ok-clause-leaves : goal.returns-in-Ok-clause-leaves
+returns-in-Ok-clause-leaves g c = record {
+  leaves = left_by_addition c.args.plans.now (state g.S.Store c.args.conn)
+      (state g.S.Store c.add_to_book.new.conn) c.add_to_book.ensures.survives;
+}
+
+pub returns-in-Err-clause-leaves_err : goal.returns-in-Err-clause-leaves_err
+returns-in-Err-clause-leaves_err g c = record {
+  leaves = left_by_addition c.args.plans.now (state g.S.Store c.args.conn)
+      (state g.S.Store c.add_to_book.new.conn) c.add_to_book.ensures.survives;
+}
