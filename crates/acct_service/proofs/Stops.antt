@@ -19,7 +19,7 @@ use Rattle.acct_files.specs.Importing.{Imports}
 use Rattle.acct_files.specs.Importing as importing
 use Rattle.acct_service.specs.Machine.{Visit}
 use Rattle.acct_service.specs.Serving.{Leads, MayLeave}
-use Rattle.acct_service.specs.Life.{Span, served, imported, extended, PriceAlike, MayExtend}
+use Rattle.acct_service.specs.Life.{Span, served, imported, extended, MayExtend}
 use Rattle.acct_service.specs.Life.{plans_after, Goes, HasTried}
 use Rattle.acct_service.specs.Stops.{IsLivedOn, LeavesOnly, LivesOnBy, StopsAreLived}
 use Rattle.acct_service.proofs.Resent.{same_plans}

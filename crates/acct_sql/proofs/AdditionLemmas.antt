@@ -1,15 +1,10 @@
 -- What an addition of plans may leave, and which plans are in force.
-use Rattle.std.proofs.Common.{◌≡◌, ◌⊎◌, inl, inr, List, None, sym, ap, ◌∙◌}
-use Rattle.sqlite.specs.Tree.{Trees}
+use Rattle.std.proofs.Common.{◌≡◌, ◌⊎◌, inl, inr, List, sym, ap, ◌∙◌}
 use Rattle.sqlite.specs.State.{State, HasCleanDisk, Survives}
 use Rattle.acct_model.specs.declared.plan.Plan.{Plan}
-use Rattle.acct_model.specs.PlanFaults.{plans_fault}
-use Rattle.acct_model.specs.History.{History}
 use Rattle.acct_book.specs.Content.{Content, keeping}
-use Rattle.acct_book.specs.Stands.{Stands}
 use Rattle.acct_tables.specs.Book.{Left}
 use Rattle.acct_tables.specs.Content.{content_in_tables}
-use Rattle.acct_tables.specs.Make.{KeepsPlans}
 use Rattle.acct_tables.proofs.ListedLemmas.{plans_listed}
 use Rattle.acct_upkeep.specs.Add.{HasAdded}
 use Rattle.acct_sql.specs.Kept.{KeptAreInForce}
