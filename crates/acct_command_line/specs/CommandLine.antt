@@ -1,5 +1,5 @@
 -- The command line as a simple command of clap.
-use Rattle.std.specs.Prelude.{ℕ, pos, true, List, [], ◌∷◌, Some, codes}
+use Rattle.std.specs.Prelude.{ℕ, pos, true, false, List, [], ◌∷◌, Some, codes}
 use Rattle.clap.specs.Words.{App, Rule, Text, new_app, new_rule, with_rule, with_subcommand}
 use Rattle.clap.specs.declared.builder.action.ArgAction.TheVariants as action
 use Rattle.clap.specs.declared.builder.value_parser.ValueParser.TheVariants as parser
@@ -54,9 +54,17 @@ turns_rule = number_rule (codes "turns") 9223372036854775807 (codes "92233720368
 abbrev pub sync_rule : Rule
 sync_rule = default_rule (codes "sync") (codes "twice")
 
--- `--balances-every SECONDS`
+-- an option that has a rule on another one
+abbrev pub tied : Rule → Rule
+tied r = record r { is_free = false }
+
+-- `--balances-every SECONDS`, alone
+abbrev pub seconds_rule : Rule
+seconds_rule = number_rule (codes "balances-every") 86400 (codes "60")
+
+-- `--balances-every SECONDS`, which may only be given with `--balances`
 abbrev pub balances_every_rule : Rule
-balances_every_rule = number_rule (codes "balances-every") 86400 (codes "60")
+balances_every_rule = tied seconds_rule
 
 -- a command that has a configuration: `--explain`
 abbrev pub explained : App → App
@@ -89,7 +97,7 @@ with_rules a (r ∷ rs) = with_rules (with_rule a r) rs
 
 -- `serve --config FILE --db FILE [--explain] [--bind A.B.C.D].. [--desk-bind A.B.C.D]
 -- [--radius-port PORT] [--desk-port PORT] [--turns N] [--sync HOW] [--quiet] [--status FILE]
--- [--balances FILE] [--balances-every SECONDS]`
+-- [--balances FILE [--balances-every SECONDS]]`
 abbrev pub serve_app : App
 serve_app = with_rules (book_app (codes "serve"))
     (bind_rule ∷ option_rule (codes "desk-bind")

@@ -3,6 +3,7 @@ use Rattle.std.specs.Prelude.{◌≡◌, ◌≤◌, ◌<◌, ◌^◌, ⊤, ℕ, 
 use Rattle.std.specs.Prelude.{Option, Some, None, IfSome, codes}
 use Rattle.std.specs.Option.{option_or}
 use Rattle.clap.specs.Words.{Row, Text, all_of, first_of, one_of}
+use Rattle.clap.specs.Takes.{is_given}
 use Rattle.acct_feed.specs.Numbers.{number_up_to}
 use Rattle.acct_command_line.specs.declared.job.Order.{Order}
 use Rattle.acct_command_line.specs.declared.job.Job.{Job}
@@ -58,9 +59,11 @@ syncs_name Twice = codes "twice"
 abbrev pub IsSyncs : List Row → Syncs → Type 0
 IsSyncs rows syncs = first_of (codes "sync") rows ≡ Some (syncs_name syncs)
 
--- the file of balances that the options name, if they name one
+-- the file of balances that the options name, if they name one; if they name none, the words give
+-- no seconds for it either
 abbrev pub IsBalances : List Row → Option BalancesFile → Type 0
-IsBalances rows None = first_of (codes "balances") rows ≡ None
+IsBalances rows None =
+    (first_of (codes "balances") rows ≡ None) × (is_given (codes "balances-every") rows ≡ false)
 IsBalances rows (Some balances) =
     (first_of (codes "balances") rows ≡ Some balances.file)
     × IsNumber (codes "balances-every") rows 86400 balances.seconds

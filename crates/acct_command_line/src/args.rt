@@ -1,13 +1,13 @@
 //! The options of the commands.
-ghost use Rattle.std.specs.Prelude.{◌≡◌, false, codes};
+ghost use Rattle.std.specs.Prelude.{◌≡◌, false, codes, IfOk};
 ghost use Rattle.clap.specs.Words.{rule_of};
 ghost use Rattle.acct_command_line.specs.CommandLine.{config_rule, database_rule, what_rule};
 ghost use Rattle.acct_command_line.specs.CommandLine.{bind_rule, option_rule, flag_rule, required};
 ghost use Rattle.acct_command_line.specs.CommandLine.{port_rule, turns_rule, sync_rule};
-ghost use Rattle.acct_command_line.specs.CommandLine.{balances_every_rule};
+ghost use Rattle.acct_command_line.specs.CommandLine.{balances_every_rule, seconds_rule, tied};
 
 use clap::{Arg, ArgAction};
-use std::alloc::Global;
+use std::alloc::{AllocError, Global};
 
 /// `--config FILE`
 pub fn config_option<'a>(alloc: Global) -> Arg<'a>
@@ -128,9 +128,21 @@ pub fn balances_option<'a>(alloc: Global) -> Arg<'a>
     valued(alloc, "balances", "FILE").help("A file to write the balances of all accounts into")
 }
 
-/// `--balances-every SECONDS`
-pub fn balances_every_option<'a>(alloc: Global) -> Arg<'a>
-    ensures rule { rule_of result ≡ balances_every_rule }
+/// `--balances-every SECONDS`, which may only be given with `--balances`.
+///
+/// # Errors
+///
+/// Only where memory is refused.
+pub fn balances_every_option<'a>(alloc: Global) -> Result<Arg<'a>, AllocError>
+    ensures rule { IfOk result (λ option. rule_of option ≡ balances_every_rule) }
+    ensures local { IfOk result (λ option. option.global ≡ false) }
+{
+    needing(seconds_option(alloc), "balances")
+}
+
+// `--balances-every SECONDS`, alone.
+fn seconds_option<'a>(alloc: Global) -> Arg<'a>
+    ensures rule { rule_of result ≡ seconds_rule }
     ensures local { result.global ≡ false }
 {
     valued(alloc, "balances-every", "SECONDS")
@@ -146,6 +158,15 @@ pub fn needed<'a>(option: Arg<'a>) -> Arg<'a>
     ensures local { result.global ≡ false }
 {
     option.required(true)
+}
+
+// An option that may only be given with another one.
+fn needing<'a>(option: Arg<'a>, other: &'a str) -> Result<Arg<'a>, AllocError>
+    requires { option.global ≡ false }
+    ensures rule { IfOk result (λ tied_one. rule_of tied_one ≡ tied (rule_of option.entry)) }
+    ensures local { IfOk result (λ tied_one. tied_one.global ≡ false) }
+{
+    option.requires_arg(other)
 }
 
 // An option of one value.

@@ -105,6 +105,7 @@ fn serve_command<'a>(alloc: Global) -> Result<Command<'a>, AllocError>
     let about = "Answers access servers by RADIUS accounting, and callers of the desk by HTTP";
     let reports = "The UDP port for accounting reports, 1 to 65535";
     let desk = "The TCP port of the desk, 1 to 65535";
+    let balances_every = balances_every_option(alloc)?;
     let command = book_command(alloc, "serve", about);
     let command = with_option(command, bind_option(alloc));
     let command = with_option(command, desk_bind_option(alloc));
@@ -115,7 +116,7 @@ fn serve_command<'a>(alloc: Global) -> Result<Command<'a>, AllocError>
     let command = with_option(command, quiet_flag(alloc));
     let command = with_option(command, status_option(alloc));
     let command = with_option(command, balances_option(alloc));
-    with_option(command, balances_every_option(alloc))
+    with_option(command, balances_every)
 }
 
 fn init_command<'a>(alloc: Global) -> Result<Command<'a>, AllocError>

@@ -1,11 +1,13 @@
 //! What was found for an option.
 ghost use Rattle.std.specs.Prelude.{◌≡◌, IfOk, IfSome, map};
 ghost use Rattle.clap.specs.Words.{all_of, first_of, rows_of, found_of};
+ghost use Rattle.clap.specs.Takes.{is_given as given_by_words};
 ghost use Rattle.acct_command_line.specs.Orders.{IsFlag, IsNumber};
 
 use acct_feed::number_up_to;
 use acct_model::Text;
 use clap::ArgMatches;
+use clap::parser::ValueSource;
 use std::alloc::{AllocError, Global};
 
 /// The greatest number of a port.
@@ -73,4 +75,15 @@ pub fn flag_option(options: &ArgMatches<'_>, id: &str) -> bool
     ensures { IsFlag id.now (rows_of (found_of options.now)) result }
 {
     options.get_flag(id)
+}
+
+/// Whether the words give an option. Its default does not count.
+pub fn is_given(options: &ArgMatches<'_>, id: &str) -> bool
+    ensures { result ≡ given_by_words id.now (rows_of (found_of options.now)) }
+{
+    match options.value_source(id) {
+        Some(ValueSource::DefaultValue) => false,
+        Some(ValueSource::CommandLine) => true,
+        None => options.contains_id(id),
+    }
 }

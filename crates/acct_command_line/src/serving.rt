@@ -6,7 +6,9 @@ ghost use Rattle.acct_command_line.specs.Orders.{IsListening, IsNumber, IsServin
 ghost use Rattle.acct_command_line.specs.Orders.{IsTelling, syncs_name};
 
 use crate::job::{BalancesFile, Listening, Serving, Syncs, Telling};
-use crate::options::{flag_option, number_option, port_option, text_option, texts_option};
+use crate::options::{
+    flag_option, is_given, number_option, port_option, text_option, texts_option,
+};
 use acct_model::Text;
 use clap::ArgMatches;
 use std::alloc::{AllocError, Global};
@@ -120,6 +122,7 @@ fn telling_of(alloc: Global, options: &ArgMatches<'_>) -> Result<Option<Telling>
     let status = text_option(alloc, options, "status")?;
     let balances = match text_option(alloc, options, "balances")? {
         Some(file) => Some(BalancesFile { file, seconds }),
+        None if is_given(options, "balances-every") => return Ok(None),
         None => None,
     };
     Ok(Some(Telling {

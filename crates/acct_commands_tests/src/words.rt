@@ -43,7 +43,7 @@ impl Eprint for Streams {
 }
 
 // Words, how the program ends, and how many texts it prints to standard output and standard error.
-static WORDS: [(&[&str], Status, (u32, u32)); 9] = [
+static WORDS: [(&[&str], Status, (u32, u32)); 10] = [
     (&["radacctd", "feed", "x"], WrongWords, (0, 1)),
     (&["radacctd"], WrongWords, (0, 1)),
     (&["radacctd", "fed"], WrongWords, (0, 1)),
@@ -53,6 +53,20 @@ static WORDS: [(&[&str], Status, (u32, u32)); 9] = [
     (&["radacctd", "feed", "--help"], Done, (1, 0)),
     (&["radacctd", "--version"], Done, (1, 0)),
     (&["radacctd", "-V"], Done, (1, 0)),
+    (
+        &[
+            "radacctd",
+            "serve",
+            "--config",
+            "a",
+            "--db",
+            "b",
+            "--balances-every",
+            "60",
+        ],
+        WrongWords,
+        (0, 1),
+    ),
 ];
 
 #[test]
@@ -66,7 +80,7 @@ fn reads_command_lines(rt: HostRuntime) -> Result<(), Fail> {
 // Words after the program's name, and what they ask for: the job, its files, and of a server its
 // addresses, the desk's, both ports, turns, syncs, what it tells, and the two files; a plus where
 // more is told of a fault. None where they name no job.
-static ORDERS: [(&str, Option<&str>); 43] = [
+static ORDERS: [(&str, Option<&str>); 44] = [
     ("feed", Some("feed none")),
     ("feed --config a", Some("feed a")),
     ("feed --explain", Some("feed none +")),
@@ -147,9 +161,14 @@ static ORDERS: [(&str, Option<&str>); 43] = [
         "serve --config a --db b --turns 7 --balances-every 86400 --balances d",
         Some("serve a b at 127.0.0.1 desk 127.0.0.1 1813 8066 7 Twice loud none d/86400"),
     ),
+    // Seconds for no file, also those of the default.
     (
         "serve --config a --db b --turns 7 --balances-every 86400",
-        Some("serve a b at 127.0.0.1 desk 127.0.0.1 1813 8066 7 Twice loud none none"),
+        None,
+    ),
+    (
+        "serve --balances-every 60 --config a --db b --turns 7 --status c",
+        None,
     ),
     (
         "serve --config a --db b --turns 7 --balances d --balances-every 0",
