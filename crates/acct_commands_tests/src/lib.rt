@@ -2,15 +2,9 @@
 #![tactic(auto)]
 
 #[cfg(test)]
-mod addresses;
-#[cfg(test)]
 mod balances;
 #[cfg(test)]
-mod callers;
-#[cfg(test)]
 mod checking;
-#[cfg(test)]
-mod loopback;
 #[cfg(test)]
 mod rounds;
 #[cfg(test)]
@@ -21,6 +15,8 @@ mod site;
 mod status;
 #[cfg(test)]
 mod turns;
+#[cfg(test)]
+mod uploads;
 #[cfg(test)]
 mod watching;
 #[cfg(test)]

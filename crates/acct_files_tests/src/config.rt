@@ -383,18 +383,18 @@ address = '0.0.0.0'
 name = 'a'
 ";
 
-fn is_client(client: &Client, name: &str, address: [u8; 4], secret: &[u8]) -> bool {
+pub(crate) fn is_client(client: &Client, name: &str, address: [u8; 4], secret: &[u8]) -> bool {
     client.name.as_str() == name && client.address == address && client.secret.as_slice() == secret
 }
 
 // Whether a plan has these members, and counts both directions.
-fn is_plan(plan: &Plan, class: &[u8], block: u64, unit: u64) -> bool {
+pub(crate) fn is_plan(plan: &Plan, class: &[u8], block: u64, unit: u64) -> bool {
     plan.class.as_slice() == class
         && (plan.block, plan.unit, plan.count) == (block, unit, Count::Both)
 }
 
 // Whether a key has a token and is that of an account, or of the cashier where there is none.
-fn is_key(key: &DeskKey, token: &str, account: Option<&[u8]>) -> bool {
+pub(crate) fn is_key(key: &DeskKey, token: &str, account: Option<&[u8]>) -> bool {
     let owner = match &key.role {
         Role::Account(octets) => Some(octets.as_slice()),
         Role::Cashier => None,

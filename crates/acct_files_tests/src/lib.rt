@@ -11,3 +11,5 @@ mod imports;
 mod limits;
 #[cfg(test)]
 mod refused_memory;
+#[cfg(test)]
+mod sizes;

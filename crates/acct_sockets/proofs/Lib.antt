@@ -1,1 +1,2 @@
+mod InletLemmas
 mod PlaceLemmas

@@ -1,5 +1,5 @@
 //! The clock's moment.
-ghost use Rattle.std.specs.Prelude.{◌≡◌, ◌<◌, ◌^◌, ◌/◌};
+ghost use Rattle.std.specs.Prelude.{◌≡◌, ◌<◌, ◌-◌, ◌^◌, ◌/◌, min};
 ghost use Rattle.std.specs.Time.{system_time_nanos};
 
 use acct_feed::LAST_MOMENT;
@@ -17,9 +17,7 @@ pub fn moment_of<R: Clock>(runtime: &R) -> u64
 
 /// The whole seconds of a time since 1970, at most 2^53 - 1.
 pub fn seconds_of(time: SystemTime) -> u64
-    ensures within { result < 2 ^ 53 }
-    ensures exact { system_time_nanos time / 1_000_000_000 < 2 ^ 53
-        → result ≡ system_time_nanos time / 1_000_000_000 }
+    ensures { result ≡ min (system_time_nanos time / 1_000_000_000) (2 ^ 53 - 1) }
 {
     match time.duration_since(UNIX_EPOCH) {
         Ok(since) => since.as_secs().min(LAST_MOMENT),

@@ -4,8 +4,13 @@
 //!    more than one datagram of each other one.
 //! 2. A reply leaves from the socket that gave the last datagram, and so from the address that was
 //!    asked.
-ghost use Rattle.std.specs.Prelude.{◌≡◌, true, length, slice_get, slice_set, MatchOption};
-ghost use Rattle.std.specs.List.{list_any};
+//! 3. A receive that would have to wait found nothing. Each other one that gives no datagram is a
+//!    fault, also where a signal interrupted it.
+ghost use Rattle.std.specs.Prelude.{◌≡◌, ◌<◌, true, false, length, slice_get, slice_set, MatchOption};
+ghost use Rattle.std.specs.Prelude.{◌↔◌, IfOk, IfSome, IsErrAnd, IsOkAnd};
+ghost use Rattle.std.specs.List.{All, list_any, position};
+ghost use Rattle.acct_sockets.specs.inner.Inlets.{MayReceiveAt};
+ghost use Rattle.std.specs.IoError.{error_kind};
 
 use crate::readiness::Readiness;
 use acct_service::Fault;
@@ -105,28 +110,50 @@ impl Datagrams {
     }
 
     /// Notes that a datagram may wait at each socket.
-    pub fn rouse_all(&mut self) {
+    pub fn rouse_all(&mut self)
+        ensures roused { All (λ inlet. inlet.may_receive ≡ true) self.new.inlets.items }
+        ensures last { self.new.last ≡ self.old.last }
+    {
         for inlet in self.inlets.iter_mut() {
             inlet.may_receive = true;
         }
     }
 
     /// Receives a datagram into the room, if one waits. It gives its size and where it came from.
+    /// Where it gives none, no socket may have one, as far as is known.
     ///
     /// # Errors
     ///
     /// Where the system fails.
-    pub fn receive(&mut self, room: &mut [u8]) -> Result<Option<(usize, SocketAddrV4)>, Fault> {
-        for _ in 0..self.inlets.len() {
-            let next = self.last.wrapping_add(1);
-            self.last = if next < self.inlets.len() { next } else { 0 };
-            if let Some(inlet) = self.inlets.get_mut(self.last)
-                && let Some(received) = inlet.receive(room)?
-            {
-                return Ok(Some(received));
+    pub fn receive(&mut self, room: &mut [u8]) -> Result<Option<(usize, SocketAddrV4)>, Fault>
+        ensures { IfOk result (λ received. received ≡ None
+            → list_any (λ inlet. inlet.may_receive) self.new.inlets.items ≡ false) }
+    {
+        while let Some(place) = self.next_place() {
+            self.last = place;
+            let inlet = self.inlets.get_mut(place).ok_or(Fault)?;
+            match inlet.receive(room)? {
+                Some(received) => return Ok(Some(received)),
+                None => {}
             }
         }
         Ok(None)
+    }
+
+    // The place of the next socket at which a datagram may wait, so that each has its turn.
+    fn next_place(&self) -> Option<usize>
+        ensures none { result ≡ None
+            → list_any (λ inlet. inlet.may_receive) self.now.inlets.items ≡ false }
+        ensures some { IfSome result (MayReceiveAt self.now.inlets.items) }
+    {
+        let inlets = self.inlets.as_slice();
+        if self.last < inlets.len() {
+            let next = self.last + 1;
+            if let Some(place) = first_place(&inlets[next..]) {
+                return Some(next + place);
+            }
+        }
+        first_place(inlets)
     }
 
     /// Sends a reply to the last datagram.
@@ -154,19 +181,16 @@ impl Inlet {
     }
 
     // The datagram that waits here, if one does.
-    fn receive(&mut self, room: &mut [u8]) -> Result<Option<(usize, SocketAddrV4)>, Fault> {
+    fn receive(&mut self, room: &mut [u8]) -> Result<Option<(usize, SocketAddrV4)>, Fault>
+        ensures same { self.new ≡ record self.old { may_receive = self.new.may_receive } }
+        ensures none { IfOk result (λ received. received ≡ None → self.new.may_receive ≡ false) }
+    {
         if !self.may_receive {
             return Ok(None);
         }
-        match self.socket.recv_from(room) {
-            Ok((size, SocketAddr::V4(source))) => Ok(Some((size, source))),
-            Err(error) if error.kind() == ErrorKind::WouldBlock => {
-                self.may_receive = false;
-                Ok(None)
-            }
-            Err(error) if error.kind() == ErrorKind::Interrupted => Ok(None),
-            Ok((_, SocketAddr::V6(_))) | Err(_) => Err(Fault),
-        }
+        let received = outcome_of(self.socket.recv_from(room))?;
+        self.may_receive = received.is_some();
+        Ok(received)
     }
 
     // Sends a datagram. Where the system has no room for it now, this waits until it has.
@@ -180,5 +204,30 @@ impl Inlet {
             }
             sent => sent,
         }
+    }
+}
+
+// The place of the first socket at which a datagram may wait.
+fn first_place(inlets: &[Inlet]) -> Option<usize>
+    ensures first { result ≡ position (λ inlet. inlet.may_receive) inlets.now }
+    ensures within { IfSome result (λ place. place < length inlets.now) }
+{
+    inlets.iter().position(|inlet| inlet.may_receive)
+}
+
+// What a receive came to.
+fn outcome_of(
+    received: io::Result<(usize, SocketAddr)>,
+) -> Result<Option<(usize, SocketAddrV4)>, Fault>
+    ensures none { (result ≡ Ok None) ↔ IsErrAnd received (λ error.
+        error_kind error ≡ ErrorKind.WouldBlock) }
+    ensures some { IfOk result (λ outcome. IfSome outcome (λ datagram. IsOkAnd received (λ given.
+        (datagram.0 ≡ given.0) × (given.1 ≡ SocketAddr.V4 datagram.1)))) }
+{
+    match received {
+        Ok((size, SocketAddr::V4(source))) => Ok(Some((size, source))),
+        Ok((_, SocketAddr::V6(_))) => Err(Fault),
+        Err(error) if error.kind() == ErrorKind::WouldBlock => Ok(None),
+        Err(_) => Err(Fault),
     }
 }

@@ -6,8 +6,10 @@
 //!    to one that waits. So strangers who hold every place keep nobody away.
 //! 3. What a turn does for callers is bounded, so that no datagram waits for all of them.
 ghost use Rattle.std.specs.Prelude.{◌≡◌, ◌⊎◌, None, Some, true, false, IfOk, IfSome, IsTrue, OnOk};
-ghost use Rattle.std.specs.Prelude.{slice_set, MatchOption};
-ghost use Rattle.acct_sockets.specs.inner.Places.{IsAsked, Answers, IsReadyAt, HasReady};
+ghost use Rattle.std.specs.Prelude.{◌↔◌, slice_get, slice_set, IsOk, MatchOption};
+ghost use Rattle.std.specs.IoError.{error_kind};
+ghost use Rattle.acct_sockets.specs.inner.Places.{IsAsked, Answers, IsReadyAt, HasReady, IsRoused};
+ghost use Rattle.acct_sockets.specs.inner.Places.{HasAsked};
 
 use crate::readiness::Readiness;
 use acct_callers::{Caller, Step};
@@ -94,10 +96,16 @@ impl<R: Net> Desk<R> {
 
     /// Notes that the caller at a place may be ready.
     pub fn rouse_caller(&mut self, place: usize)
-        ensures { self.new ≡ record self.old { places = self.new.places } }
+        ensures roused { IsRoused (slice_get self.old.places.items place) place
+            self.old.places.items self.new.places.items }
+        ensures other { self.new ≡ record self.old { places = self.new.places } }
     {
-        if let Some(Some(caller)) = self.places.get_mut(place) {
+        let Some(slot) = self.places.get_mut(place) else {
+            return;
+        };
+        if let Some(mut caller) = slot.take() {
             caller.rouse();
+            *slot = Some(caller);
         }
     }
 
@@ -208,15 +216,23 @@ impl<R: Net> Desk<R> {
         left
     }
 
-    // What an accept that failed comes to. One that found nobody, or for which the system has no
-    // means now, isn't tried again before somebody else comes or a turn had nothing to do.
-    fn put_off(&mut self, error: &io::Error) -> Result<(), Fault> {
+    // What an accept that failed comes to: a fault, unless nobody was there. One that found nobody,
+    // or for which the system has no means now, isn't tried again before somebody else comes or a
+    // turn had nothing to do. After one that was interrupted, or whose caller has gone again, others
+    // may still wait.
+    fn put_off(&mut self, error: &io::Error) -> Result<(), Fault>
+        ensures none { IsOk result ↔ (error_kind error.now ≡ ErrorKind.WouldBlock) }
+        ensures other { self.new ≡ record self.old { may_accept = self.new.may_accept } }
+        ensures again { IsTrue self.new.may_accept ↔ (IsTrue self.old.may_accept
+            × ((error_kind error.now ≡ ErrorKind.Interrupted)
+            ⊎ (error_kind error.now ≡ ErrorKind.ConnectionAborted))) }
+    {
         match error.kind() {
-            ErrorKind::Interrupted | ErrorKind::ConnectionAborted => Ok(()),
             ErrorKind::WouldBlock => {
                 self.may_accept = false;
                 Ok(())
             }
+            ErrorKind::Interrupted | ErrorKind::ConnectionAborted => Err(Fault),
             _ => {
                 self.may_accept = false;
                 Err(Fault)
@@ -248,8 +264,11 @@ impl<R: Net> Desk<R> {
         room: &mut [u8],
         now: Instant,
     ) -> Result<Option<Octets>, Fault>
-        ensures { IfOk result (λ heard. IfSome heard (λ _.
+        ensures asked { IfOk result (λ heard. IfSome heard (λ _.
             IsAsked self.new.asker self.new.places.items)) }
+        ensures heard { IfOk result (λ heard. IfSome heard (HasAsked
+            R.Stream.remaining R.Stream.contents self.new.asker
+            self.old.places.items self.new.places.items)) }
     {
         let slot = self.places.get_mut(place).ok_or(Fault)?;
         let mut caller = slot.take().ok_or(Fault)?;

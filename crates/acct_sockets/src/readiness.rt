@@ -1,4 +1,6 @@
 //! Which sockets need not wait.
+ghost use Rattle.std.specs.Prelude.{◌≡◌, ◌+◌, ◌-◌, ◌<◌, ◌^◌, IfOk};
+
 use mio::unix::SourceFd;
 use mio::{Events, Interest, Poll, Token};
 use std::alloc::Global;
@@ -13,6 +15,7 @@ use std::time::Duration;
 pub struct Readiness {
     poll: Poll,
     events: Events<Global>,
+    waits: u64,
 }
 
 impl Readiness {
@@ -21,10 +24,13 @@ impl Readiness {
     /// # Errors
     ///
     /// Those of the system, and `OutOfMemory`.
-    pub fn new<R: Net>(runtime: &R, alloc: Global, room: usize) -> io::Result<Readiness> {
+    pub fn new<R: Net>(runtime: &R, alloc: Global, room: usize) -> io::Result<Readiness>
+        ensures { IfOk result (λ readiness. readiness.waits ≡ 0) }
+    {
         Ok(Readiness {
             poll: Poll::new(runtime)?,
             events: Events::with_capacity(alloc, room)?,
+            waits: 0,
         })
     }
 
@@ -58,12 +64,16 @@ impl Readiness {
             .register(&mut SourceFd(&descriptor), Token(number), interest)
     }
 
-    /// Waits until a socket is ready, and no longer than this.
+    /// Waits until a socket is ready, and no longer than this. It counts its waits.
     ///
     /// # Errors
     ///
     /// Those of the system.
-    pub fn wait(&mut self, patience: Duration) -> io::Result<()> {
+    pub fn wait(&mut self, patience: Duration) -> io::Result<()>
+        requires { self.old.waits < 2 ^ 64 - 1 }
+        ensures { self.new.waits ≡ self.old.waits + 1 }
+    {
+        self.waits += 1;
         self.poll.poll(&mut self.events, Some(patience))
     }
 

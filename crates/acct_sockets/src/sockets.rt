@@ -1,14 +1,17 @@
 //! The sockets of a server: datagrams of access servers, and callers of the desk.
 //!
 //! 1. A turn waits up to 20 milliseconds until a datagram came or something can be done for a
-//!    caller, and not at all where that is known already. No read and no write waits.
+//!    caller, and not at all where that is known already. No read waits, and no write to a caller.
+//!    A reply to a datagram waits where the system has no room for it.
 //! 2. Datagrams and callers take turns: after a datagram callers are heard first, and after a
 //!    request or a fault of a caller a datagram goes first.
-//! 3. A wait in which nothing came is a turn without an event. Every other fault is counted.
+//! 3. A wait in which nothing came is a turn without an event: then no socket for datagrams may
+//!    have one, as far as is known. Every fault is counted.
 //! 4. A reply to a datagram leaves from the address that was asked, and the sockets at several
 //!    addresses take turns.
 //! 5. Room for a datagram is made once, and not for each turn.
-ghost use Rattle.std.specs.Prelude.{◌≡◌, None, IfOk};
+ghost use Rattle.std.specs.Prelude.{◌≡◌, ◌+◌, ◌-◌, ◌<◌, ◌^◌, false, None, IfOk};
+ghost use Rattle.std.specs.List.{list_any};
 
 use crate::clock::moment_of;
 use crate::datagrams::Datagrams;
@@ -32,11 +35,12 @@ const LISTENER: usize = PLACES;
 /// The number under which the first socket for datagrams is watched. Those above are of the others.
 const DATAGRAMS: usize = PLACES + 1;
 
-/// The sockets of a server, with the callers that are connected.
+/// The sockets of a server, with the callers that are connected. Each turn waits once.
 pub struct Sockets<'r, R: Net> {
     ports: Ports<'r, R>,
     turns: u64,
     failures: u64,
+    ghost waited: { ports.readiness.waits ≡ turns },
 }
 
 // It is written out, so that a caller does not prove again how each part is dropped.
@@ -173,7 +177,9 @@ impl<'r, R: Net + Clock> Ports<'r, R> {
         alloc: Global,
         datagrams: Datagrams,
         desk: Desk<R>,
-    ) -> io::Result<Ports<'r, R>> {
+    ) -> io::Result<Ports<'r, R>>
+        ensures { IfOk result (λ ports. ports.readiness.waits ≡ 0) }
+    {
         let watched = DATAGRAMS.saturating_add(datagrams.count());
         let readiness = Readiness::new(runtime, alloc, watched)?;
         datagrams.watch(&readiness, DATAGRAMS)?;
@@ -190,7 +196,12 @@ impl<'r, R: Net + Clock> Ports<'r, R> {
     }
 
     // What comes in a turn. A caller that was not answered in the last one is given up.
-    fn come(&mut self) -> Result<Option<Event>, Fault> {
+    fn come(&mut self) -> Result<Option<Event>, Fault>
+        requires { self.old.readiness.waits < 2 ^ 64 - 1 }
+        ensures waits { self.new.readiness.waits ≡ self.old.readiness.waits + 1 }
+        ensures idle { IfOk result (λ came. came ≡ None → list_any (λ inlet. inlet.may_receive)
+            self.new.datagrams.inlets.items ≡ false) }
+    {
         self.desk.forget_asker();
         self.look()?;
         let (came, is_callers) = if self.are_callers_first {
@@ -210,7 +221,10 @@ impl<'r, R: Net + Clock> Ports<'r, R> {
 
     // Looks which sockets are ready, and waits for one where none was left. Each is tried again
     // after a wait in which none was: so nobody waits for long whom the system did not tell of.
-    fn look(&mut self) -> Result<(), Fault> {
+    fn look(&mut self) -> Result<(), Fault>
+        requires { self.old.readiness.waits < 2 ^ 64 - 1 }
+        ensures { self.new.readiness.waits ≡ self.old.readiness.waits + 1 }
+    {
         let is_busy = self.datagrams.may_receive() || self.desk.is_busy();
         let patience = if is_busy { 0 } else { PATIENCE };
         let waited = self.readiness.wait(Duration::from_millis(patience));
@@ -230,7 +244,10 @@ impl<'r, R: Net + Clock> Ports<'r, R> {
     }
 
     // What a caller asks, if one does now.
-    fn hear(&mut self) -> Result<Option<Event>, Fault> {
+    fn hear(&mut self) -> Result<Option<Event>, Fault>
+        ensures waits { self.new.readiness.waits ≡ self.old.readiness.waits }
+        ensures datagrams { self.new.datagrams ≡ self.old.datagrams }
+    {
         let now = Instant::now(self.runtime).map_err(|_| Fault)?;
         let asked = self
             .desk
@@ -239,7 +256,11 @@ impl<'r, R: Net + Clock> Ports<'r, R> {
     }
 
     // The datagram that waits, if one does.
-    fn receive(&mut self) -> Result<Option<Event>, Fault> {
+    fn receive(&mut self) -> Result<Option<Event>, Fault>
+        ensures waits { self.new.readiness.waits ≡ self.old.readiness.waits }
+        ensures idle { IfOk result (λ came. came ≡ None → list_any (λ inlet. inlet.may_receive)
+            self.new.datagrams.inlets.items ≡ false) }
+    {
         let Some((size, source)) = self.datagrams.receive(self.room.as_mut_slice())? else {
             return Ok(None);
         };
@@ -264,7 +285,9 @@ impl<'r, R: Net + Clock> Ports<'r, R> {
     }
 
     // Sends octets to where an event came from.
-    fn send(&mut self, what: &What, bytes: &[u8]) -> Result<(), Fault> {
+    fn send(&mut self, what: &What, bytes: &[u8]) -> Result<(), Fault>
+        ensures { self.new.readiness.waits ≡ self.old.readiness.waits }
+    {
         match what {
             What::Datagram { source, port, .. } => {
                 let to = SocketAddrV4::new(Ipv4Addr::from(*source), *port);

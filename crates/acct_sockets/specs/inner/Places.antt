@@ -2,7 +2,8 @@
 use Rattle.std.specs.Prelude.{◌≡◌, ℕ, true, List, Option, Some, None, slice_get, slice_set}
 use Rattle.acct_callers.specs.declared.caller.Caller.{Caller}
 use Rattle.acct_callers.specs.declared.caller.Stage.TheVariants as stage
-use Rattle.acct_callers.specs.Going.{Goes}
+use Rattle.acct_callers.specs.declared.caller.Step.TheVariants as step
+use Rattle.acct_callers.specs.Going.{Goes, GoesOn}
 
 module _ {S : Type 0} where
   -- the caller who has this place
@@ -35,3 +36,24 @@ module _ {S : Type 0} where
     pub after : Caller S
     pub others : new ≡ slice_set old place (Some after)
     pub goes : Goes (held before.stream) (held after.stream) response after.stage
+
+  -- the caller who has this place, if one has it, is ready, and every other place is as before
+  abbrev pub IsRoused : Option (Option (Caller S)) → ℕ → List (Option (Caller S))
+      → List (Option (Caller S)) → Type 0
+  IsRoused (Some (Some caller)) place old new =
+      new ≡ slice_set old place (Some (record caller { is_ready = true }))
+  IsRoused (Some None) place old new = new ≡ slice_set old place None
+  IsRoused None place old new = new ≡ old
+
+  -- The caller who has the asker's place asks with this request: it came of him by one step, from
+  -- how he was there before. Every other place is as before.
+  pub record HasAsked (left held : S → Option (List ℕ)) (asker : Option ℕ)
+      (old new : List (Option (Caller S))) (request : List ℕ) : Type 0 where
+    pub place : ℕ
+    pub asks : asker ≡ Some place
+    pub before : Caller S
+    pub was : IsAt old place before
+    pub after : Caller S
+    pub others : new ≡ slice_set old place (Some after)
+    pub goes : GoesOn (left before.stream) (left after.stream)
+        (held before.stream) (held after.stream) before.stage after.stage (step.Asks request)

@@ -1,5 +1,5 @@
 //! Several addresses on loopback: who is asked where, and from where each reply leaves.
-use crate::callers::{echoes, gets, next};
+use crate::callers::{REQUEST, echoes, gets, next};
 use crate::turns::reply;
 use acct_service::{Exchange, What};
 use acct_sockets::Sockets;
@@ -7,8 +7,6 @@ use std::io::Write;
 use std::net::{Ipv4Addr, SocketAddr, TcpStream, UdpSocket};
 use std::test::Fail;
 use std::time::Duration;
-
-const REQUEST: &[u8] = b"GET /me/balance HTTP/1.1\r\nDesk-Key: al-key-0000000001\r\n\r\n";
 
 // The loopback address with this number.
 fn local(number: u8) -> [u8; 4] {

@@ -10,7 +10,8 @@ use std::time::{Duration, Instant};
 
 const LOOPBACK: [u8; 4] = [127, 0, 0, 1];
 
-const REQUEST: &[u8] = b"GET /me/balance HTTP/1.1\r\nDesk-Key: al-key-0000000001\r\n\r\n";
+pub(crate) const REQUEST: &[u8] =
+    b"GET /me/balance HTTP/1.1\r\nDesk-Key: al-key-0000000001\r\n\r\n";
 
 // Sockets on loopback, and the port of their desk.
 fn bound<'r>(rt: &'r HostRuntime) -> Result<(Sockets<'r, HostRuntime>, u16), Fail> {
@@ -22,7 +23,7 @@ fn bound<'r>(rt: &'r HostRuntime) -> Result<(Sockets<'r, HostRuntime>, u16), Fai
 }
 
 // A caller that has sent these octets to the desk at a port.
-fn caller(rt: &HostRuntime, desk: u16, octets: &[u8]) -> Result<TcpStream, Fail> {
+pub(crate) fn caller(rt: &HostRuntime, desk: u16, octets: &[u8]) -> Result<TcpStream, Fail> {
     let mut stream = TcpStream::connect(rt, ("127.0.0.1", desk))?;
     stream.set_read_timeout(Some(Duration::from_secs(5)))?;
     stream.write_all(octets)?;
