@@ -5,7 +5,7 @@
 //! 2. Where no place is free, the caller that came first of those that are silent gives its place
 //!    to one that waits. So strangers who hold every place keep nobody away.
 //! 3. What a turn does for callers is bounded, so that no datagram waits for all of them.
-ghost use Rattle.std.specs.Prelude.{◌≡◌, ◌⊎◌, None, Some, true, false, IfOk, IfSome, IsTrue, OnOk};
+ghost use Rattle.std.specs.Prelude.{◌≡◌, ◌⊎◌, None, Some, true, false, IfOk, IfSome, IsTrue, OnErr, OnOk};
 ghost use Rattle.std.specs.Prelude.{◌↔◌, slice_get, slice_set, IsOk, MatchOption};
 ghost use Rattle.std.specs.IoError.{error_kind};
 ghost use Rattle.acct_sockets.specs.inner.Places.{IsAsked, Answers, IsReadyAt, HasReady, IsRoused};
@@ -149,6 +149,9 @@ impl<R: Net> Desk<R> {
     pub fn answer(&mut self, response: &[u8], now: Instant) -> Result<(), Fault>
         ensures taken { OnOk result (Answers R.Stream.contents self.old.asker self.old.places.items
             self.new.places.items response.now) }
+        ensures failed { OnErr result (MatchOption self.old.asker
+            (self.new.places.items ≡ self.old.places.items)
+            (λ place. self.new.places.items ≡ slice_set self.old.places.items place None)) }
         ensures other { self.new ≡ record self.old {
           asker = None;
           is_full = self.new.is_full;

@@ -9,7 +9,7 @@ use acct_site::Config;
 use acct_sockets::Sockets;
 use acct_wire::{Client, Clients};
 use std::alloc::Global;
-use std::net::UdpSocket;
+use std::net::{TcpStream, UdpSocket};
 use std::test::Fail;
 use std::time::Duration;
 
@@ -77,31 +77,43 @@ const RESPONSE: &[u8] = b"HTTP/1.1 200 OK\r\nContent-Type: application/json\r\n\
     Content-Length: 40\r\nConnection: close\r\n\r\n\
     {\"account\":\"al\",\"balance\":0,\"overrun\":0}";
 
-// Whether the next datagram has these octets.
-fn receives(alloc: Global, client: &UdpSocket, wanted: &[u8]) -> Result<bool, Fail> {
-    let mut room = vec![in alloc; 0; 5_000]?;
+// A client that sent its datagram, and a guest that sent its request.
+fn both_ask(
+    rt: &HostRuntime,
+    (radius, desk): (u16, u16),
+    datagram: &[u8],
+    request: &[u8],
+) -> Result<(UdpSocket, TcpStream), Fail> {
+    let client = UdpSocket::bind(rt, "127.0.0.1:0")?;
     client.set_read_timeout(Some(Duration::from_millis(1_000)))?;
-    let (count, _) = client.recv_from(room.as_mut_slice())?;
-    Ok(&room[..count] == wanted)
+    client.send_to(datagram, ("127.0.0.1", radius))?;
+    Ok((client, caller(rt, desk, request)?))
+}
+
+// Whether the next datagram has these octets.
+fn receives(client: &UdpSocket, room: &mut [u8], wanted: &[u8]) -> bool {
+    match client.recv_from(room) {
+        Ok((count, _)) => &room[..count] == wanted,
+        Err(_) => false,
+    }
 }
 
 // Whether a datagram and a request that wait already are answered, the one by this answer and the
 // other by the balance, and nothing else comes.
 fn serves(rt: &HostRuntime, datagram: &[u8], answer: &[u8], request: &[u8]) -> Result<bool, Fail> {
     let config = loopback_site(rt.alloc())?;
+    let mut room = vec![in rt.alloc(); 0; 5_000]?;
     let Ok(mut sockets) = Sockets::bind(rt, rt.alloc(), &[HERE], HERE, 0, 0) else {
         return Err("no sockets".into());
     };
-    let (radius, desk) = sockets.ports()?;
-    let client = UdpSocket::bind(rt, "127.0.0.1:0")?;
-    client.send_to(datagram, ("127.0.0.1", radius))?;
-    let mut guest = caller(rt, desk, request)?;
+    let ports = sockets.ports()?;
+    let (client, mut guest) = both_ask(rt, ports, datagram, request)?;
     let mut book = MemBook::new(rt.alloc());
     let served = serve(rt.alloc(), &config, &mut book, &mut sockets, 64);
     let counts = (served.events, served.replies, served.faults);
     Ok(
         counts == (2, 2, 0)
-            && receives(rt.alloc(), &client, answer)?
+            && receives(&client, room.as_mut_slice(), answer)
             && gets(rt.alloc(), &mut guest, RESPONSE),
     )
 }
