@@ -1,0 +1,18 @@
+//! Tests that a book in tables gives what one in memory gives, by all that operators use, and that
+//! neither ends at a size.
+#![tactic(auto)]
+
+#[cfg(test)]
+mod books;
+#[cfg(test)]
+mod refusals;
+#[cfg(test)]
+mod reports;
+#[cfg(test)]
+mod rows;
+#[cfg(test)]
+mod scripts;
+#[cfg(test)]
+mod site;
+#[cfg(test)]
+mod sizes;
