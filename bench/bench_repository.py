@@ -64,6 +64,14 @@ def lines_below(crates):
     return found
 
 
+def give(source, target):
+    """Gives a file of a library a second name. The kit replaces such a file, and never changes it."""
+    try:
+        os.link(source, target)
+    except OSError:
+        shutil.copy2(source, target)
+
+
 def made(name, folder, takes_libraries=True):
     """Makes the repository of a program in this folder, and returns the folder of its crate.
 
@@ -76,7 +84,7 @@ def made(name, folder, takes_libraries=True):
         shutil.copytree(source, target, ignore=shutil.ignore_patterns("out"))
         library = os.path.join(source, "out", "rlib")
         if takes_libraries and os.path.isdir(library):
-            shutil.copytree(library, os.path.join(target, "out", "rlib"))
+            shutil.copytree(library, os.path.join(target, "out", "rlib"), copy_function=give)
     program = os.path.join(folder, "crates", f"{name}_program")
     for path, source in sources_of(name).items():
         os.makedirs(os.path.dirname(os.path.join(program, path)), exist_ok=True)
