@@ -7,7 +7,6 @@ pub mod Figures
 pub mod Fresh
 pub mod Imports
 pub mod NewSite
-pub mod Serving
 pub mod Sights
 pub mod Tally
 pub mod Told

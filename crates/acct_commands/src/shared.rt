@@ -5,13 +5,13 @@ use std::io::{ErrorKind, Write};
 
 /// A writer that several hold, who write in turn.
 #[derive(Clone, Copy)]
-pub(crate) struct Shared<'w, W> {
+pub struct Shared<'w, W> {
     writer: &'w RefCell<W>,
 }
 
 impl<'w, W> Shared<'w, W> {
     /// Another holder of a writer.
-    pub(crate) fn new(writer: &'w RefCell<W>) -> Shared<'w, W> {
+    pub fn new(writer: &'w RefCell<W>) -> Shared<'w, W> {
         Shared { writer }
     }
 }

@@ -101,6 +101,42 @@ fn takes_what_is_right(rt: HostRuntime) -> Result<(), Fail> {
     Ok(())
 }
 
+// Writes a text into a file as if that was so many seconds after 1970.
+fn write_text_at(rt: &HostRuntime, name: &str, text: &str, moment: u64) -> Result<(), Fail> {
+    fs::write(rt, name, text)?;
+    let file = File::options().write(true).open(rt, name)?;
+    let Some(time) = SystemTime::UNIX_EPOCH.checked_add(Duration::from_secs(moment)) else {
+        return Err("no moment".into());
+    };
+    file.set_modified(time)?;
+    Ok(())
+}
+
+// A key that takes the place of another one of as many octets.
+const OLD_KEY: &str = "[[key]]\ntoken = \"al-key-0000000001\"\naccount = \"al\"\n";
+
+const NEW_KEY: &str = "[[key]]\ntoken = \"bo-key-0000000002\"\naccount = \"bo\"\n";
+
+// Whether a change that leaves a file as long as it was is seen.
+fn sees_another_text(rt: &HostRuntime, name: &str) -> Result<bool, Fail> {
+    let file = Text::from_str(rt.alloc(), name)?;
+    write_text_at(rt, name, OLD_KEY, 1_000_000_000)?;
+    let mut site = SiteFile::new(rt, &file);
+    let is_same = site.look(rt.alloc(), 3000).is_none();
+    write_text_at(rt, name, NEW_KEY, 1_000_000_001)?;
+    let Some(Ok(read)) = site.look(rt.alloc(), 3001) else {
+        return Ok(false);
+    };
+    Ok(is_same && read.octets.as_slice() == NEW_KEY.as_bytes())
+}
+
+#[test]
+fn sees_a_change_of_equal_length(rt: HostRuntime) -> Result<(), Fail> {
+    assert!(rt; sees_another_text(&rt, "rotated-site.toml")?);
+    fs::remove_file(&rt, "rotated-site.toml")?;
+    Ok(())
+}
+
 const TOLD: &str = "config: read again: 2 clients, 1 plans, 1 keys\n\
     config: BadKey in Key 0; the old one stays\n\
     config: read again: 1 clients, 1 plans, 0 keys\n\

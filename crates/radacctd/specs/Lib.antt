@@ -1,5 +1,1 @@
-pub mod Commands
-pub mod Faults
-pub mod Files
-pub mod Jobs
-pub mod inner
+pub mod Syncs

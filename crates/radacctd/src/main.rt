@@ -6,27 +6,16 @@
 //! script.
 #![tactic(auto)]
 
-ghost use Rattle.std.specs.Prelude.{◌≢◌, IfOk};
-ghost use Rattle.acct_command_line.specs.Orders.{HasBounds, IsBounded};
-
-mod checking;
-mod command;
-mod database;
+mod by_syncs;
 mod explaining;
-mod feed;
-mod left;
-mod making;
-mod serving;
+mod order;
 
-use crate::command::{Outcome, run};
-use crate::explaining::explain_fault;
-use crate::serving::serve;
-use acct_command_line::{Job, Order, Paths, Serving, Syncs, job_of, tell};
-use acct_commands::{Errors, Fault, end};
+use crate::order::carry_out;
+use acct_command_line::{job_of, tell};
 use acct_explain::explain_words;
 use acct_feed::Status;
-use sqlite::{Unknown, Wary};
-use std::io::{BufWriter, Write};
+use acct_serving::Errors;
+use std::io::BufWriter;
 use std::process::ExitCode;
 use std::{env, io};
 
@@ -38,16 +27,27 @@ fn main(rt: HostRuntime) -> ExitCode {
             return ExitCode::from(Status::WrongWords);
         }
     };
-    match job_of(rt.alloc(), words) {
-        Ok(order) => ExitCode::from(run_on_standard_streams(&rt, &order)),
+    let order = match job_of(rt.alloc(), words) {
+        Ok(order) => order,
         Err(error) => {
             let status = tell(&rt, &error);
             if status == Status::WrongWords {
                 explain_wrong_words(&rt);
             }
-            ExitCode::from(status)
+            return ExitCode::from(status);
         }
-    }
+    };
+    let output = BufWriter::new(rt.alloc(), rt.stdout());
+    let drops = BufWriter::new(rt.alloc(), rt.stderr());
+    let site = BufWriter::new(rt.alloc(), rt.stderr());
+    let (Ok(output), Ok(drops), Ok(site)) = (output, drops, site) else {
+        let _ = println!(rt; "unavailable");
+        return ExitCode::from(Status::Unavailable);
+    };
+    let drops = Some(drops);
+    let errors = Errors { drops, site };
+    let (status, _ran) = carry_out(&rt, &order, rt.stdin(), output, errors, &mut rt.stderr());
+    ExitCode::from(status)
 }
 
 // Tells more of words that are wrong, where they ask for that.
@@ -64,85 +64,4 @@ fn words_of(rt: &HostRuntime) -> io::Result<Vec<String>> {
         words.push(word)?;
     }
     Ok(words)
-}
-
-// Does a job over standard input, output and error, and says how it ended.
-fn run_on_standard_streams(rt: &HostRuntime, order: &Order) -> Status
-    requires { HasBounds order.now.job }
-{
-    let output = BufWriter::new(rt.alloc(), rt.stdout());
-    let drops = BufWriter::new(rt.alloc(), rt.stderr());
-    let site = BufWriter::new(rt.alloc(), rt.stderr());
-    match (output, drops, site) {
-        (Ok(output), Ok(drops), Ok(site)) => {
-            let drops = Some(drops);
-            let ended = run_as_it_syncs(rt, &order.job, output, Errors { drops, site });
-            let status = end(&mut rt.stderr(), ended);
-            if let Err(fault) = ended
-                && order.explains
-            {
-                explain_fault(rt, &order.job, fault, &mut rt.stderr());
-            }
-            status
-        }
-        _ => {
-            let _ = println!(rt; "unavailable");
-            Status::Unavailable
-        }
-    }
-}
-
-// Does a job over files of which is supposed what its syncs want: of all but a server that syncs
-// once the least. So no other job stands in the program a second time.
-fn run_as_it_syncs<W: Write + Drop, E: Write + Drop>(
-    rt: &HostRuntime,
-    job: &Job,
-    output: W,
-    errors: Errors<E>,
-) -> Result<Status, Fault>
-    requires { HasBounds job.now }
-    ensures other { IfOk result (λ status. status ≢ Status.WrongWords) }
-{
-    match job {
-        Job::Serve { paths, serving } => match serving.syncs {
-            Syncs::Once => serve_syncing_once(rt, paths, serving, output, errors),
-            Syncs::Twice => run_syncing_twice(rt, job, output, errors),
-        },
-        _ => run_syncing_twice(rt, job, output, errors),
-    }
-}
-
-// `serve` over files of which a torn write is supposed to leave each octet old or new.
-fn serve_syncing_once<W: Write + Drop, E: Write + Drop>(
-    rt: &HostRuntime,
-    paths: &Paths,
-    serving: &Serving,
-    mut output: W,
-    errors: Errors<E>,
-) -> Result<Status, Fault>
-    requires { IsBounded serving.now }
-    ensures other { IfOk result (λ status. status ≢ Status.WrongWords) }
-{
-    match serve(rt, paths, serving, &mut output, errors, Unknown) {
-        Ok((status, _files)) => Ok(status),
-        Err((fault, _left)) => Err(fault),
-    }
-}
-
-// Does a job over files of which nothing is supposed of a torn write.
-fn run_syncing_twice<W: Write + Drop, E: Write + Drop>(
-    rt: &HostRuntime,
-    job: &Job,
-    output: W,
-    errors: Errors<E>,
-) -> Result<Status, Fault>
-    requires { HasBounds job.now }
-    ensures other { IfOk result (λ status. status ≢ Status.WrongWords) }
-{
-    let Outcome {
-        ended,
-        output: _output,
-        left: _left,
-    } = run(rt, job, rt.stdin(), output, errors, Wary);
-    ended
 }

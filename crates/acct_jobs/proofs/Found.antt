@@ -1,0 +1,95 @@
+-- What is found in the files of a book, and what is left of them.
+use Rattle.std.proofs.Common.{◌≡◌, ◌≢◌, ◌⊎◌, inl, inr, List, IsTrue, sym, subst, ap, ◌∙◌, arith}
+use Rattle.sqlite_disk.specs.declared.Disk.{Ghosts}
+use Rattle.sqlite_wal.specs.Recovery.{Image}
+use Rattle.sqlite_wal.proofs.LogLemmas.{SeenMayStay}
+use Rattle.sqlite_trees.specs.Tree.{Trees}
+use Rattle.sqlite_store.specs.declared.store.FileStore.{FileStore}
+use Rattle.sqlite_store.specs.Laws.{settled_at}
+use Rattle.sqlite.specs.Effect.{Database}
+use Rattle.sqlite.specs.Held.{Held}
+use Rattle.sqlite.specs.State.{HasCleanDisk, Survives}
+use Rattle.sqlite.specs.Files.{file_state}
+use Rattle.acct_model.specs.declared.plan.Plan.{Plan}
+use Rattle.acct_sql.specs.Look.{LooksAtTables}
+use Rattle.acct_commands.specs.declared.fault.Fault.{Fault}
+use Rattle.acct_jobs.specs.declared.left.Left.{Left}
+use Rattle.acct_jobs.specs.declared.left.Left.TheVariants as left
+use Rattle.acct_jobs.specs.Files.{AreHeldIn, WasHeldIn, HoldsStill}
+use Rattle.acct_jobs.specs.inner.Files.{IsOpenedOn}
+use Rattle.acct_jobs.specs.Files.{IsUnread, IsRefused, HasNotMade, HasNotMigrated, HasNotAdded}
+
+module _ {D : Type 0} {g : Ghosts D} where
+  -- an open that failed is a refusal to adopt, and to make
+  pub unread_refused : (image : Image) (plans : List Plan) (told : Fault) (rest : Left D g)
+      → IsUnread image told rest → IsRefused image plans told rest
+  unread_refused image plans told left.Nothing h = h
+  unread_refused image plans told (left.Unopened it) h = h
+  unread_refused image plans told (left.Open last) h = absurd h
+  unread_refused image plans told (left.Unclosed it) h = absurd h
+  unread_refused image plans told (left.Closed files) h = absurd h
+
+  pub unread_unmade : (image : Image) (plans : List Plan) (told : Fault) (rest : Left D g)
+      → IsUnread image told rest → HasNotMade image plans told rest
+  unread_unmade image plans told left.Nothing h = h
+  unread_unmade image plans told (left.Unopened it) h = h
+  unread_unmade image plans told (left.Open last) h = absurd h
+  unread_unmade image plans told (left.Unclosed it) h = absurd h
+  unread_unmade image plans told (left.Closed files) h = absurd h
+
+  pub unread_unmigrated : (image : Image) (plans : List Plan) (told : Fault) (rest : Left D g)
+      → IsUnread image told rest → HasNotMigrated image plans told rest
+  unread_unmigrated image plans told left.Nothing h = h
+  unread_unmigrated image plans told (left.Unopened it) h = h
+  unread_unmigrated image plans told (left.Open last) h = absurd h
+  unread_unmigrated image plans told (left.Unclosed it) h = absurd h
+  unread_unmigrated image plans told (left.Closed files) h = absurd h
+
+  pub unread_unadded : (image : Image) (plans : List Plan) (told : Fault) (rest : Left D g)
+      → IsUnread image told rest → HasNotAdded image plans told rest
+  unread_unadded image plans told left.Nothing h = h
+  unread_unadded image plans told (left.Unopened it) h = h
+  unread_unadded image plans told (left.Open last) h = absurd h
+  unread_unadded image plans told (left.Unclosed it) h = absurd h
+  unread_unadded image plans told (left.Closed files) h = absurd h
+
+  module _ (image : Image) (first : Held (FileStore D g)) (found : IsOpenedOn image first) where
+    -- what an open finds is what the files held
+    pub was_held : HasCleanDisk (file_state first) → WasHeldIn image (file_state first).now
+    was_held clean =
+        let it = found clean in
+        let held : AreHeldIn image (file_state first).committed.trees =
+        record { holds = it.1.holds; found = it.1.reads } in
+        record {
+          sound = (it.0.1 it.0.0.is_open).0;
+          trees = subst (λ (d : Database). AreHeldIn image d.trees) (sym it.0.0.clean) held;
+        }
+
+    -- a crash right after it leaves that
+    pub may_leave_held : SeenMayStay g → HasCleanDisk (file_state first) → (db : Trees)
+        → (file_state first).may_leave db → AreHeldIn image db
+    may_leave_held stays clean db may =
+        let it = found clean in
+        let is : db ≡ (file_state first).committed.trees =
+        settled_at first.store stays db it.0.0.is_open may in
+        subst (AreHeldIn image) (sym is) (record { holds = it.1.holds; found = it.1.reads })
+
+    module _ (last : Held (FileStore D g))
+        (looks : LooksAtTables (file_state first) (file_state last)) where
+      pub was_clean : HasCleanDisk (file_state last) → HasCleanDisk (file_state first)
+      was_clean clean = omega (arith, looks.survives.clean, clean)
+
+      pub reads_held : HasCleanDisk (file_state last) → IsTrue (file_state last).is_open
+          → AreHeldIn image (file_state last).now.trees
+      reads_held clean is_open = subst (λ (d : Database). AreHeldIn image d.trees)
+          (sym (looks.same clean is_open)) (was_held (was_clean clean)).trees
+
+      -- what only looked leaves the files as they were
+      pub holds_still : SeenMayStay g → HoldsStill image last
+      holds_still stays = record {
+        reads = reads_held;
+        leaves = λ clean db may. elim (looks.survives.crash clean db may) [
+          | inl old ↦ may_leave_held stays (was_clean clean) db old
+          | inr none ↦ absurd none
+        ];
+      }

@@ -1,0 +1,54 @@
+use Rattle.std.proofs.Common.{◌∙◌, sym, None}
+use Rattle.acct_jobs.proofs.Ended.{ended_so}
+use Rattle.acct_jobs.proofs.command.run.Goals as goal
+
+pub returns-in-Feed-clause-does : goal.returns-in-Feed-clause-does
+returns-in-Feed-clause-does g c =
+    let out = c.without_book.ensures in
+    let did = c.feed-ended.ensures in
+    rw (c.in-Feed.is, out.output) (
+      (λ done. rw c.as_ref.ensures.value at (did.done (sym out.same ∙ done))),
+      rw out.same did.refused,
+      out.left,
+    )
+
+pub returns-in-Check-clause-does : goal.returns-in-Check-clause-does
+returns-in-Check-clause-does g c =
+    rw c.in-Check.is (rw c.as_ref-in-Check.ensures.value at c.check.ensures.does)
+
+pub returns-in-Init-clause-does : goal.returns-in-Init-clause-does
+returns-in-Init-clause-does g c =
+    let out = c.with_book.ensures in
+    rw (c.in-Init.is, out.output)
+    (ended_so _ _ c.init-ending.result _ _ out.ok out.err c.init-ending.ensures.made
+    c.init-ending.ensures.failed)
+
+pub returns-in-Serve-clause-does : goal.returns-in-Serve-clause-does
+returns-in-Serve-clause-does g c = rw c.in-Serve.is (c.run_server.ensures.does None)
+
+pub returns-in-Import-clause-does : goal.returns-in-Import-clause-does
+returns-in-Import-clause-does g c =
+    let out = c.with_book-in-Import.ensures in
+    rw (c.in-Import.is, out.output) (
+      c.moment_of-moment.result,
+      c.moment_of-moment.ensures,
+      ended_so _ _ c.import-ending.result _ _ out.ok out.err c.import-ending.ensures.closed
+          c.import-ending.ensures.failed,
+    )
+
+pub returns-in-Export-clause-does : goal.returns-in-Export-clause-does
+returns-in-Export-clause-does g c = rw c.in-Export.is c.export.ensures.does
+
+pub returns-in-Migrate-clause-does : goal.returns-in-Migrate-clause-does
+returns-in-Migrate-clause-does g c =
+    let out = c.with_book-in-Migrate.ensures in
+    rw (c.in-Migrate.is, out.output)
+    (ended_so _ _ c.migrate-ending.result _ _ out.ok out.err c.migrate-ending.ensures.made
+    c.migrate-ending.ensures.failed)
+
+pub returns-in-AddPlans-clause-does : goal.returns-in-AddPlans-clause-does
+returns-in-AddPlans-clause-does g c =
+    let out = c.with_book-in-AddPlans.ensures in
+    rw (c.in-AddPlans.is, out.output)
+    (ended_so _ _ c.add_plans-ending.result _ _ out.ok out.err c.add_plans-ending.ensures.added
+    c.add_plans-ending.ensures.failed)

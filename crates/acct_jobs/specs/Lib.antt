@@ -1,0 +1,5 @@
+pub mod Commands
+pub mod Faults
+pub mod Files
+pub mod Jobs
+pub mod inner

@@ -1,0 +1,108 @@
+//! `check`: a configuration, and the book of a file where one is given.
+ghost use Rattle.std.specs.Prelude.{◌≢◌, ◌≡◌, ◌⊎◌, IfOk, IfErr};
+ghost use Rattle.std.specs.Option.{option_copied};
+ghost use Rattle.std.specs.Io.KnownBytes.{Appends};
+ghost use Rattle.sqlite.specs.State.{HasCleanDisk};
+ghost use Rattle.sqlite.specs.Files.{file_state};
+ghost use Rattle.sqlite_wal.specs.Files.{image_at};
+ghost use Rattle.acct_commands.specs.Checks.{sizes_line};
+ghost use Rattle.acct_jobs.specs.Files.{IsBookOf};
+ghost use Rattle.acct_jobs.specs.Jobs.{DoesCheck, ChecksBook, IsChecked, IsUnchecked, FailsToCheck};
+ghost use Rattle.acct_jobs.specs.Jobs.{text_of};
+
+use crate::command::{Outcome, config_of, without_book};
+use crate::database::{FileConnection, adopted};
+use crate::left::Left;
+use acct_commands::{Fault, run_check, write_sizes};
+use acct_feed::Status;
+use acct_model::Text;
+use acct_site::Config;
+use sqlite::{FileFrom, Start};
+use std::io::Write;
+
+/// `check` of the configuration in a file, and of the book in another one, if that is given: whether
+/// it keeps the plans of the configuration. It stays as it is.
+pub(crate) fn check<S: Start, W: Write + Drop>(
+    runtime: &HostRuntime,
+    config: &Text,
+    database: Option<&Text>,
+    mut output: W,
+    start: S,
+) -> Outcome<W, FileFrom<S>>
+    ensures other { IfOk result.ended (λ status. status ≢ Status.WrongWords) }
+    ensures does { DoesCheck (image_at S.Start) (option_copied database.entry)
+        (W.contents output) (text_of W.contents result.output) result.ended result.left }
+{
+    match database {
+        None => {
+            let ended = run_check(runtime, runtime.alloc(), config, &mut output);
+            without_book(ended, output)
+        }
+        Some(file) => check_book(runtime, config, file, output, start),
+    }
+}
+
+// `check` of a configuration and a book.
+fn check_book<S: Start, W: Write + Drop>(
+    runtime: &HostRuntime,
+    config: &Text,
+    file: &Text,
+    mut output: W,
+    start: S,
+) -> Outcome<W, FileFrom<S>>
+    ensures other { IfOk result.ended (λ status. status ≢ Status.WrongWords) }
+    ensures does { ChecksBook (image_at S.Start) (W.contents output)
+        (text_of W.contents result.output) result.ended result.left }
+{
+    match checked_from(runtime, config, file, &mut output, start) {
+        Ok(connection) => Outcome {
+            ended: Ok(Status::Done),
+            output: Some(output),
+            left: Left::Open(connection),
+        },
+        Err((fault, left)) => Outcome {
+            ended: Err(fault),
+            output: Some(output),
+            left,
+        },
+    }
+}
+
+// The book in a file, which keeps the plans of the configuration in another one, once the sizes of
+// that were told.
+fn checked_from<S: Start, W: Write>(
+    runtime: &HostRuntime,
+    config: &Text,
+    file: &Text,
+    output: &mut W,
+    start: S,
+) -> Result<FileConnection<S>, (Fault, Left<FileFrom<S>>)>
+    ensures checked { IfOk result (IsChecked (image_at S.Start) (W.contents output.old)
+        (W.contents output.new)) }
+    ensures failed { IfErr result (λ e. FailsToCheck (image_at S.Start) e.0 e.1) }
+{
+    let config = config_of(runtime, config)?;
+    checked(runtime, &config, file, output, start)
+}
+
+// The same with this configuration.
+fn checked<S: Start, W: Write>(
+    runtime: &HostRuntime,
+    config: &Config,
+    file: &Text,
+    output: &mut W,
+    start: S,
+) -> Result<FileConnection<S>, (Fault, Left<FileFrom<S>>)>
+    ensures checked { IfOk result (λ last. (HasCleanDisk (file_state last)
+        → IsBookOf (image_at S.Start) config.now.plans last)) }
+    ensures told { IfOk result (λ last. Appends (W.contents output.old) (W.contents output.new)
+        (sizes_line config.now)) }
+    ensures refused { IfErr result (λ e.
+        IsUnchecked (image_at S.Start) config.now.plans e.0 e.1) }
+{
+    let connection = adopted(runtime, file, &config.plans, start)?.into_connection();
+    match write_sizes(output, config) {
+        Ok(_) => Ok(connection),
+        Err(fault) => Err((fault, Left::Open(connection))),
+    }
+}

@@ -1,0 +1,383 @@
+//! Each job over the files of a book.
+//!
+//! `export` only reads the book, and leaves its files as they are. The other jobs that keep a book
+//! close it at their end.
+ghost use Rattle.std.specs.Prelude.{◌≢◌, ◌≡◌, ◌⊎◌, ◌<◌, ◌^◌, ℕ, Ok, Err, IfOk, IfErr, OnOk};
+ghost use Rattle.std.specs.Prelude.{true, false, None, Some, List, Option};
+ghost use Rattle.std.specs.Io.KnownBytes.{Appends};
+ghost use Rattle.sqlite_wal.specs.Files.{image_at};
+ghost use Rattle.acct_site.specs.declared.config.Config.{Config};
+ghost use Rattle.acct_command_line.specs.Orders.{HasBounds, IsBounded};
+ghost use Rattle.acct_jobs.specs.Commands.{Closes, Fails, Worked, WritesOut, FailsToExport};
+ghost use Rattle.acct_jobs.specs.Commands.{refused, IsNotClosed};
+ghost use Rattle.acct_book.specs.Step.{Looks};
+ghost use Rattle.acct_commands.specs.Exports.{IsExportFault};
+ghost use Rattle.acct_jobs.specs.Files.{Copies};
+ghost use Rattle.acct_jobs.specs.Jobs.{DoesJob, HasNoConfig, WorksAndCloses, FailsAtWork};
+ghost use Rattle.acct_jobs.specs.Jobs.{ExportsBook, ExportsNothing, FeedsScript};
+ghost use Rattle.acct_jobs.specs.Jobs.{text_of, IsSiteOf};
+ghost use Rattle.acct_commands.specs.Checks.{IsUnchecked};
+ghost use Rattle.std.specs.Option.{option_copied};
+ghost use Rattle.acct_commands.specs.Imports.{Runs};
+
+use crate::checking::check;
+use crate::database::{FileConnection, adopted, close};
+use crate::feed::run_feed;
+use crate::left::Left;
+use crate::making::{add_plans, init, migrate};
+use crate::serving::serve;
+use acct_book::Book;
+use acct_command_line::{Export, Job, Paths, Serving};
+use acct_commands::{Fault, read_config, run_export, run_import};
+use acct_feed::Status;
+use acct_model::{Plans, Text};
+use acct_samples::sample_config;
+use acct_service::Exchange;
+use acct_serving::Errors;
+use acct_site::Config;
+use acct_sockets::{Sockets, moment_of};
+use acct_sql::SqlBook;
+use sqlite::{Alter, Connection, FileFrom, FileStore, Files, MemStore, Start};
+use sqlite_disk::Disk;
+use std::alloc::Global;
+use std::io;
+use std::io::{Read, Write};
+
+/// How a command ended, with its output where that was not lost, and what it left of its files.
+#[derive(Drop)]
+pub struct Outcome<W, D: Disk> {
+    /// Its status, or the fault that ended it.
+    pub ended: Result<Status, Fault>,
+    /// Its output.
+    pub output: Option<W>,
+    /// What it left of the book's files.
+    pub left: Left<D>,
+}
+
+/// The end of a command that closes its book, or what a fault left.
+pub(crate) type Ending<S> = Result<(Status, Files<FileFrom<S>>), (Fault, Left<FileFrom<S>>)>;
+
+/// Does a job over these streams, and says how it ended. The book's files held what `S` says. What
+/// a server tells while it runs goes to `errors`, its drops and counts only where it isn't quiet.
+pub fn run<S: Start, I: Read + Drop, W: Write + Drop, E: Write + Drop>(
+    runtime: &HostRuntime,
+    job: &Job,
+    input: I,
+    mut output: W,
+    errors: Errors<E>,
+    start: S,
+) -> Outcome<W, FileFrom<S>>
+    requires { HasBounds job.now }
+    ensures other { IfOk result.ended (λ status. status ≢ Status.WrongWords) }
+    ensures does { DoesJob (image_at S.Start) ⟦<SqlBook<FileStore<FileFrom<S>>> as Book>⟧
+        ⟦<Sockets<'static, HostRuntime> as Exchange>⟧ ⟦<SqlBook<MemStore> as Book>⟧
+        (I.remaining input) (W.contents output) (text_of W.contents result.output) job.now
+        result.ended result.left }
+{
+    match job {
+        Job::Feed { config } => {
+            let ended = feed(runtime, config.as_ref(), input, &mut output);
+            without_book(ended, output)
+        }
+        Job::Check { config, database } => {
+            check(runtime, config, database.as_ref(), output, start)
+        }
+        Job::Init { paths } => {
+            let ending = init(runtime, paths, &mut output, start);
+            with_book(ending, output)
+        }
+        Job::Serve { paths, serving } => {
+            run_server(runtime, paths, serving, output, errors, start)
+        }
+        Job::Import { paths } => {
+            let moment = moment_of(runtime);
+            let ending = import(runtime, paths, moment, input, &mut output, start);
+            with_book(ending, output)
+        }
+        Job::Export { paths, what } => export(runtime, paths, *what, output, start),
+        Job::Migrate { paths } => {
+            let ending = migrate(runtime, paths, &mut output, start);
+            with_book(ending, output)
+        }
+        Job::AddPlans { paths } => {
+            let ending = add_plans(runtime, paths, &mut output, start);
+            with_book(ending, output)
+        }
+    }
+}
+
+/// Does the job `serve`, as `run` does. So a program can serve over files of which it supposes
+/// something else than of those of its other jobs, and has none of these in it twice.
+pub fn run_server<S: Start, W: Write + Drop, E: Write + Drop>(
+    runtime: &HostRuntime,
+    paths: &Paths,
+    serving: &Serving,
+    mut output: W,
+    errors: Errors<E>,
+    start: S,
+) -> Outcome<W, FileFrom<S>>
+    requires { IsBounded serving.now }
+    ensures other { IfOk result.ended (λ status. status ≢ Status.WrongWords) }
+    ensures does { (text : Option (List ℕ)) → DoesJob (image_at S.Start)
+        ⟦<SqlBook<FileStore<FileFrom<S>>> as Book>⟧
+        ⟦<Sockets<'static, HostRuntime> as Exchange>⟧ ⟦<SqlBook<MemStore> as Book>⟧
+        text (W.contents output) (text_of W.contents result.output) (Job.Serve paths.now serving.now)
+        result.ended result.left }
+{
+    let ending = serve(runtime, paths, serving, &mut output, errors, start);
+    with_book(ending, output)
+}
+
+/// The outcome of a command that has no book.
+pub(crate) fn without_book<W: Write, D: Disk>(
+    ended: Result<Status, Fault>,
+    output: W,
+) -> Outcome<W, D>
+    requires { IfOk ended (λ status. status ≢ Status.WrongWords) }
+    ensures same { result.ended ≡ ended }
+    ensures output { text_of W.contents result.output ≡ W.contents output }
+    ensures left { result.left ≡ Left.Nothing }
+    ensures other { IfOk result.ended (λ status. status ≢ Status.WrongWords) }
+{
+    Outcome {
+        ended,
+        output: Some(output),
+        left: Left::Nothing,
+    }
+}
+
+// The outcome of a command that closes its book.
+fn with_book<W: Write, D: Disk>(
+    ending: Result<(Status, Files<D>), (Fault, Left<D>)>,
+    output: W,
+) -> Outcome<W, D>
+    requires { IfOk ending (λ done. done.0 ≢ Status.WrongWords) }
+    ensures ok { IfOk ending (λ done. (result.ended ≡ Ok done.0)
+        × (result.left ≡ Left.Closed done.1)) }
+    ensures err { IfErr ending (λ e. (result.ended ≡ Err e.0) × (result.left ≡ e.1)) }
+    ensures output { text_of W.contents result.output ≡ W.contents output }
+    ensures other { IfOk result.ended (λ status. status ≢ Status.WrongWords) }
+{
+    match ending {
+        Ok((status, files)) => Outcome {
+            ended: Ok(status),
+            output: Some(output),
+            left: Left::Closed(files),
+        },
+        Err((fault, left)) => Outcome {
+            ended: Err(fault),
+            output: Some(output),
+            left,
+        },
+    }
+}
+
+// `feed` with the configuration of a file, or that of the sample site.
+fn feed<I: Read + Drop, W: Write + Drop>(
+    runtime: &HostRuntime,
+    file: Option<&Text>,
+    input: I,
+    output: &mut W,
+) -> Result<Status, Fault>
+    ensures other { IfOk result (λ status. status ≢ Status.WrongWords) }
+    ensures refused { IfErr result (IsUnchecked None) }
+    ensures done { result ≡ Ok Status.Done → (config : Config)
+        × IsSiteOf (option_copied file.entry) config
+        × FeedsScript ⟦<SqlBook<MemStore> as Book>⟧ config (I.remaining input)
+        (W.contents output.old) (W.contents output.new) }
+{
+    let alloc = runtime.alloc();
+    let config = match file {
+        Some(file) => read_config(runtime, alloc, file)?,
+        None => match sample_config(alloc) {
+            Ok(config) => config,
+            Err(_) => {
+                writeln!(output, "unavailable")?;
+                output.flush()?;
+                return Ok(Status::Unavailable);
+            }
+        },
+    };
+    Ok(run_feed(alloc, config, input, output))
+}
+
+/// Closes the book of a command that ended so. After a fault its files stay open.
+pub(crate) fn finished<S: Start>(
+    ended: Result<Status, Fault>,
+    connection: FileConnection<S>,
+) -> Ending<S>
+    ensures closed { IfOk result (λ done. (ended ≡ Ok done.0) × Copies connection done.1) }
+    ensures failed { IfErr result (λ e. IsNotClosed ended connection e.0 e.1) }
+{
+    match ended {
+        Ok(status) => match close(connection) {
+            Ok(files) => Ok((status, files)),
+            Err(failed) => Err(failed),
+        },
+        Err(fault) => Err((fault, Left::Open(connection))),
+    }
+}
+
+/// The configuration of a command that keeps a book, before any file of the book is opened.
+pub(crate) fn config_of<D: Disk>(
+    runtime: &HostRuntime,
+    file: &Text,
+) -> Result<Config, (Fault, Left<D>)>
+    ensures { IfErr result (λ e. HasNoConfig e.0 e.1) }
+{
+    match read_config(runtime, runtime.alloc(), file) {
+        Ok(config) => Ok(config),
+        Err(fault) => Err((fault, Left::Nothing)),
+    }
+}
+
+// `import` into the book of a file, at this moment.
+fn import<S: Start, I: Read + Drop, W: Write>(
+    runtime: &HostRuntime,
+    paths: &Paths,
+    moment: u64,
+    input: I,
+    output: &mut W,
+    start: S,
+) -> Ending<S>
+    requires { moment < 2 ^ 53 }
+    ensures other { IfOk result (λ done. done.0 ≢ Status.WrongWords) }
+    ensures closed { IfOk result (λ done. WorksAndCloses (image_at S.Start)
+        (λ config ended first last. Runs ⟦<SqlBook<FileStore<FileFrom<S>>> as Book>⟧
+        config.plans moment (I.remaining input) first last (W.contents output.old)
+        (W.contents output.new) ended) done.0 done.1) }
+    ensures failed { IfErr result (λ e. FailsAtWork (image_at S.Start)
+        (λ config ended first last. Runs ⟦<SqlBook<FileStore<FileFrom<S>>> as Book>⟧
+        config.plans moment (I.remaining input) first last (W.contents output.old)
+        (W.contents output.new) ended) e.0 e.1) }
+{
+    let config = config_of(runtime, &paths.config)?;
+    imported(
+        runtime,
+        &config,
+        &paths.database,
+        moment,
+        input,
+        output,
+        start,
+    )
+}
+
+// The same with this configuration, at this moment.
+fn imported<S: Start, I: Read + Drop, W: Write>(
+    runtime: &HostRuntime,
+    config: &Config,
+    file: &Text,
+    moment: u64,
+    input: I,
+    output: &mut W,
+    start: S,
+) -> Ending<S>
+    requires { moment < 2 ^ 53 }
+    ensures other { IfOk result (λ done. done.0 ≢ Status.WrongWords) }
+    ensures closed { IfOk result (λ done. Closes (image_at S.Start) config.now.plans
+        (λ ended first last. Runs ⟦<SqlBook<FileStore<FileFrom<S>>> as Book>⟧
+        config.now.plans moment
+        (I.remaining input) first last (W.contents output.old) (W.contents output.new) ended)
+        done.0 done.1) }
+    ensures failed { IfErr result (λ e. Fails (image_at S.Start) config.now.plans
+        (λ ended first last. Runs ⟦<SqlBook<FileStore<FileFrom<S>>> as Book>⟧
+        config.now.plans moment
+        (I.remaining input) first last (W.contents output.old) (W.contents output.new) ended)
+        e.0 e.1) }
+{
+    let book = adopted(runtime, file, &config.plans, start)?;
+    let (ended, connection) = credited(runtime.alloc(), &config.plans, book, moment, input, output);
+    finished(ended, connection)
+}
+
+// Credits the vouchers of an input to a book in any store, and hands back its connection.
+fn credited<T: Alter + Drop, I: Read + Drop, W: Write>(
+    alloc: Global,
+    plans: &Plans,
+    mut book: SqlBook<T>,
+    moment: u64,
+    input: I,
+    output: &mut W,
+) -> (Result<Status, Fault>, Connection<T>)
+    requires { moment < 2 ^ 53 }
+    ensures other { IfOk result.0 (λ status. status ≢ Status.WrongWords) }
+    ensures runs { Runs ⟦<SqlBook<T> as Book>⟧ plans.now moment (I.remaining input) book result.1
+        (W.contents output.old) (W.contents output.new) result.0 }
+{
+    let ended = run_import(alloc, plans, &mut book, moment, input, output);
+    (ended, book.into_connection())
+}
+
+// `export` of the book of a file.
+fn export<S: Start, W: Write + Drop>(
+    runtime: &HostRuntime,
+    paths: &Paths,
+    what: Export,
+    output: W,
+    start: S,
+) -> Outcome<W, FileFrom<S>>
+    ensures other { IfOk result.ended (λ status. status ≢ Status.WrongWords) }
+    ensures does { ExportsBook (image_at S.Start) ⟦<SqlBook<FileStore<FileFrom<S>>> as Book>⟧ what
+        (W.contents output) (text_of W.contents result.output) result.ended result.left
+        ⊎ ExportsNothing (image_at S.Start) ⟦<SqlBook<FileStore<FileFrom<S>>> as Book>⟧
+        result.ended result.left }
+{
+    let config = match read_config(runtime, runtime.alloc(), &paths.config) {
+        Ok(config) => config,
+        Err(fault) => return without_book(Err(fault), output),
+    };
+    match exported(runtime, &config, &paths.database, what, output, start) {
+        Ok((output, connection)) => Outcome {
+            ended: Ok(Status::Done),
+            output: Some(output),
+            left: Left::Open(connection),
+        },
+        Err((fault, left)) => Outcome {
+            ended: Err(fault),
+            output: None,
+            left,
+        },
+    }
+}
+
+// The same with this configuration. The files stay as they are: an export needs no close.
+fn exported<S: Start, W: Write + Drop>(
+    runtime: &HostRuntime,
+    config: &Config,
+    file: &Text,
+    what: Export,
+    output: W,
+    start: S,
+) -> Result<(W, FileConnection<S>), (Fault, Left<FileFrom<S>>)>
+    ensures exported { IfOk result (λ done. Worked (image_at S.Start) config.now.plans
+        (WritesOut ⟦<SqlBook<FileStore<FileFrom<S>>> as Book>⟧ config.now.plans what
+        (W.contents output) (W.contents done.0)) done.1) }
+    ensures failed { IfErr result (λ e. FailsToExport
+        ⟦<SqlBook<FileStore<FileFrom<S>>> as Book>⟧ (image_at S.Start) config.now.plans e.0 e.1) }
+{
+    let book = adopted(runtime, file, &config.plans, start)?;
+    match written_out(runtime.alloc(), what, &config.plans, book, output) {
+        Ok(done) => Ok(done),
+        Err((fault, connection)) => Err((fault, Left::Open(connection))),
+    }
+}
+
+// Writes a book in any store out, and hands back its connection.
+fn written_out<T: Alter + Drop, W: Write + Drop>(
+    alloc: Global,
+    what: Export,
+    plans: &Plans,
+    mut book: SqlBook<T>,
+    output: W,
+) -> Result<(W, Connection<T>), (Fault, Connection<T>)>
+    ensures exported { IfOk result (λ done. WritesOut ⟦<SqlBook<T> as Book>⟧ plans.now what
+        (W.contents output) (W.contents done.0) book done.1) }
+    ensures failed { IfErr result (λ e. Looks ⟦<SqlBook<T> as Book>⟧ book e.1 (refused e.0)
+        × IsExportFault e.0) }
+{
+    match run_export(alloc, what, plans, &mut book, output) {
+        Ok(writer) => Ok((writer, book.into_connection())),
+        Err(fault) => Err((fault, book.into_connection())),
+    }
+}

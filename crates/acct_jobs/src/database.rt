@@ -1,0 +1,317 @@
+//! The book in a file.
+//!
+//! What the files held is a parameter of each call, `S: Start`, which no code can read. An error
+//! hands back what it left of them.
+ghost use Rattle.std.specs.Prelude.{◌≡◌, true, false, IfOk, IfErr};
+ghost use Rattle.std.specs.Fs.{asks_create, asks_create_new, asks_truncate};
+ghost use Rattle.sqlite_wal.specs.Files.{image_at};
+ghost use Rattle.sqlite_wal.specs.Recovery.{Image};
+ghost use Rattle.sqlite.specs.State.{HasCleanDisk};
+ghost use Rattle.sqlite.specs.Files.{file_state};
+ghost use Rattle.acct_jobs.specs.Faults.{store_fault_of};
+ghost use Rattle.acct_jobs.specs.Files.{IsBookOf, IsMadeIn, IsRefused, HasNotMade, IsUnread};
+ghost use Rattle.acct_jobs.specs.Files.{IsMigratedIn, HasNotMigrated, IsAddedIn, HasNotAdded};
+ghost use Rattle.acct_jobs.specs.Files.{Copies, IsUnclosed};
+ghost use Rattle.acct_jobs.specs.inner.Files.{IsOpenedOn};
+
+use crate::left::Left;
+use acct_commands::{Fault, StoreFault};
+use acct_model::{Plans, Text};
+use acct_sql::{SqlBook, SqlBookError};
+use sqlite::{Connection, FileFrom, FileStore, Files, Start};
+use sqlite_disk::Disk;
+use std::alloc::Global;
+use std::fs::{OpenOptions, metadata};
+use std::os::unix::fs::OpenOptionsExt;
+
+// The octets of the header of a SQLite database: but for an empty one, no database has fewer.
+const HEADER_OCTETS: u64 = 100;
+
+// The octets of the header of a log. One that has no more has no frame.
+const LOG_HEADER_OCTETS: u64 = 32;
+
+/// A book in a file that held what `S` says.
+pub type FileBook<S> = SqlBook<FileStore<FileFrom<S>>>;
+
+/// The connection of such a book.
+pub type FileConnection<S> = Connection<FileStore<FileFrom<S>>>;
+
+/// Makes an empty book in a file, and the file too where it isn't there, which then its owner alone
+/// can read and write, as its log. It gives the connection to the book.
+///
+/// # Errors
+///
+/// `CannotOpen` where the file cannot be opened, else that of `SqlBook::create`, with what is left
+/// of the files. They hold what they held, but for a crash, which may leave the new book.
+pub fn made<S: Start>(
+    runtime: &HostRuntime,
+    file: &Text,
+    plans: &Plans,
+    start: S,
+) -> Result<FileConnection<S>, (Fault, Left<FileFrom<S>>)>
+    ensures made { IfOk result (λ book. HasCleanDisk (file_state book)
+        → IsMadeIn (image_at S.Start) plans.now book) }
+    ensures refused { IfErr result (λ e. HasNotMade (image_at S.Start) plans.now e.0 e.1) }
+{
+    keep_private(runtime, file);
+    let connection = opened(runtime, file, start)?;
+    created(runtime.alloc(), connection, plans)
+}
+
+/// The book in a file that is there: it tells what the tables in the file held.
+///
+/// # Errors
+///
+/// `CannotOpen` if no regular file is there, if it has 1 to 99 octets, if it is empty beside a log
+/// that has frames, or if it cannot be opened; else that of `SqlBook::adopt`, with what is left of the files, which hold what they held.
+pub fn adopted<S: Start>(
+    runtime: &HostRuntime,
+    file: &Text,
+    plans: &Plans,
+    start: S,
+) -> Result<FileBook<S>, (Fault, Left<FileFrom<S>>)>
+    ensures adopted { IfOk result (λ book. HasCleanDisk (file_state book)
+        → IsBookOf (image_at S.Start) plans.now book) }
+    ensures refused { IfErr result (λ e. IsRefused (image_at S.Start) plans.now e.0 e.1) }
+{
+    // An open makes a file that isn't there, makes a database of a text that is shorter than a
+    // header, and waits at a pipe: a slip in a name is to do none of it.
+    if !may_be_database(runtime, file) {
+        return Err((Fault::CannotOpen, Left::Nothing));
+    }
+    let connection = opened(runtime, file, start)?;
+    taken(runtime.alloc(), connection, plans)
+}
+
+/// The connection to the book of schema number 1 or 2 in a file that is there, as one of today's.
+///
+/// # Errors
+///
+/// `CannotOpen` if no regular file is there, if it has 1 to 99 octets, if it is empty beside a log
+/// that has frames, or if it cannot be opened; else that of `SqlBook::migrate`, with what is left of the files. They hold what they held, but for a
+/// crash, which may leave the migrated book.
+pub fn migrated<S: Start>(
+    runtime: &HostRuntime,
+    file: &Text,
+    plans: &Plans,
+    start: S,
+) -> Result<FileConnection<S>, (Fault, Left<FileFrom<S>>)>
+    ensures migrated { IfOk result (λ book. HasCleanDisk (file_state book)
+        → IsMigratedIn (image_at S.Start) plans.now book) }
+    ensures refused { IfErr result (λ e. HasNotMigrated (image_at S.Start) plans.now e.0 e.1) }
+{
+    if !may_be_database(runtime, file) {
+        return Err((Fault::CannotOpen, Left::Nothing));
+    }
+    let connection = opened(runtime, file, start)?;
+    raised(runtime.alloc(), connection, plans)
+}
+
+/// The connection to the book in a file that is there, with the plans that it did not keep yet, and
+/// how many they are.
+///
+/// # Errors
+///
+/// `CannotOpen` if no regular file is there, if it has 1 to 99 octets, if it is empty beside a log
+/// that has frames, or if it cannot be opened; else that of `SqlBook::add_plans`, with what is left of the files. They hold what they held, but for
+/// a crash, which may leave the book with the added plans.
+pub fn extended<S: Start>(
+    runtime: &HostRuntime,
+    file: &Text,
+    plans: &Plans,
+    start: S,
+) -> Result<(FileConnection<S>, u64), (Fault, Left<FileFrom<S>>)>
+    ensures added { IfOk result (λ done. HasCleanDisk (file_state done.0)
+        → IsAddedIn (image_at S.Start) plans.now done.1 done.0) }
+    ensures refused { IfErr result (λ e. HasNotAdded (image_at S.Start) plans.now e.0 e.1) }
+{
+    if !may_be_database(runtime, file) {
+        return Err((Fault::CannotOpen, Left::Nothing));
+    }
+    let connection = opened(runtime, file, start)?;
+    grown(runtime.alloc(), connection, plans)
+}
+
+/// Closes a book: what its log holds is copied into its file. It hands back the two files, which
+/// then hold the last commit, the file of the book alone too.
+///
+/// # Errors
+///
+/// `Unavailable` where that fails. File and log together still hold all that was accepted.
+pub fn close<S: Start>(
+    connection: FileConnection<S>,
+) -> Result<Files<FileFrom<S>>, (Fault, Left<FileFrom<S>>)>
+    ensures copied { IfOk result (λ files. Copies connection files) }
+    ensures kept { IfErr result (λ e. IsUnclosed connection e.0 e.1) }
+{
+    match connection.close_files() {
+        Ok(files) => Ok(files),
+        Err((_, rest)) => { Err((Fault::Store(StoreFault::Unavailable), Left::Unclosed(rest))) }
+    }
+}
+
+// Makes the files of a new book so that no other user can read them: an open would leave that to the
+// umask. Files that are there stay as they are. What can't be made here, the open tells of.
+fn keep_private(runtime: &HostRuntime, file: &Text) {
+    make_private(runtime, file.as_str());
+    if let Ok(log) = format!(in runtime.alloc(); "{}-wal", file.as_str()) {
+        make_private(runtime, &log);
+    }
+}
+
+// Makes an empty file that its owner alone can read and write, if none is there.
+fn make_private(runtime: &HostRuntime, file: &str) {
+    let _ = private_options().open(runtime, file);
+}
+
+// How a file is made that its owner alone can read and write: as a new one. A file that is there
+// is not opened, so it keeps what it has.
+fn private_options() -> OpenOptions
+    ensures new { asks_create_new result ≡ true }
+    ensures kept { asks_truncate result ≡ false }
+    ensures other { asks_create result ≡ false }
+{
+    let mut options = OpenOptions::new();
+    // First, since no contract says what `mode` leaves of the others.
+    options.mode(0o600);
+    options
+        .write(true)
+        .create(false)
+        .truncate(false)
+        .create_new(true);
+    options
+}
+
+// Whether a file is there that may be a database: a regular one that has room for a header, or an
+// empty one without a log that would be read in its place.
+fn may_be_database(runtime: &HostRuntime, file: &Text) -> bool {
+    match metadata(runtime, file.as_str()) {
+        Ok(found) if found.is_file() && found.len() == 0 => !has_log(runtime, file),
+        Ok(found) => found.is_file() && found.len() >= HEADER_OCTETS,
+        Err(_) => false,
+    }
+}
+
+// Whether the log of a database has a frame. One whose name finds no memory counts as one that has.
+fn has_log(runtime: &HostRuntime, file: &Text) -> bool {
+    let Ok(log) = format!(in runtime.alloc(); "{}-wal", file.as_str()) else {
+        return true;
+    };
+    match metadata(runtime, log.as_str()) {
+        Ok(found) => found.len() > LOG_HEADER_OCTETS,
+        Err(_) => false,
+    }
+}
+
+// The connection to a new book in a database, which was opened over files that held an image.
+fn created<D: Disk + Drop>(
+    alloc: Global,
+    connection: Connection<FileStore<D>>,
+    plans: &Plans,
+) -> Result<Connection<FileStore<D>>, (Fault, Left<D>)>
+    requires { (file_state connection).in_transaction ≡ false }
+    ensures made { (image : Image) → IsOpenedOn image connection
+        → IfOk result (λ book. HasCleanDisk (file_state book) → IsMadeIn image plans.now book) }
+    ensures refused { (image : Image) → IsOpenedOn image connection
+        → IfErr result (λ e. HasNotMade image plans.now e.0 e.1) }
+{
+    match SqlBook::create(alloc, connection, plans) {
+        Ok(book) => Ok(book.into_connection()),
+        Err((error, connection)) => {
+            Err((Fault::Store(store_fault(error)), Left::Open(connection)))
+        }
+    }
+}
+
+// The book that a database is, which was opened over files that held an image.
+fn taken<D: Disk + Drop>(
+    alloc: Global,
+    connection: Connection<FileStore<D>>,
+    plans: &Plans,
+) -> Result<SqlBook<FileStore<D>>, (Fault, Left<D>)>
+    requires { (file_state connection).in_transaction ≡ false }
+    ensures adopted { (image : Image) → IsOpenedOn image connection
+        → IfOk result (λ book. HasCleanDisk (file_state book) → IsBookOf image plans.now book) }
+    ensures refused { (image : Image) → IsOpenedOn image connection
+        → IfErr result (λ e. IsRefused image plans.now e.0 e.1) }
+{
+    match SqlBook::adopt(alloc, connection, plans) {
+        Ok(book) => Ok(book),
+        Err((error, connection)) => {
+            Err((Fault::Store(store_fault(error)), Left::Open(connection)))
+        }
+    }
+}
+
+// The connection to the book of today's that an older one is made, in a database that was opened
+// over files that held an image.
+fn raised<D: Disk + Drop>(
+    alloc: Global,
+    connection: Connection<FileStore<D>>,
+    plans: &Plans,
+) -> Result<Connection<FileStore<D>>, (Fault, Left<D>)>
+    requires { (file_state connection).in_transaction ≡ false }
+    ensures migrated { (image : Image) → IsOpenedOn image connection
+        → IfOk result (λ book. HasCleanDisk (file_state book)
+        → IsMigratedIn image plans.now book) }
+    ensures refused { (image : Image) → IsOpenedOn image connection
+        → IfErr result (λ e. HasNotMigrated image plans.now e.0 e.1) }
+{
+    match SqlBook::migrate(alloc, connection, plans) {
+        Ok(book) => Ok(book.into_connection()),
+        Err((error, connection)) => {
+            Err((Fault::Store(store_fault(error)), Left::Open(connection)))
+        }
+    }
+}
+
+// The connection to the book that a database is, with the plans that it did not keep yet, in a
+// database that was opened over files that held an image.
+fn grown<D: Disk + Drop>(
+    alloc: Global,
+    connection: Connection<FileStore<D>>,
+    plans: &Plans,
+) -> Result<(Connection<FileStore<D>>, u64), (Fault, Left<D>)>
+    requires { (file_state connection).in_transaction ≡ false }
+    ensures added { (image : Image) → IsOpenedOn image connection
+        → IfOk result (λ done. HasCleanDisk (file_state done.0)
+        → IsAddedIn image plans.now done.1 done.0) }
+    ensures refused { (image : Image) → IsOpenedOn image connection
+        → IfErr result (λ e. HasNotAdded image plans.now e.0 e.1) }
+{
+    match SqlBook::add_plans(alloc, connection, plans) {
+        Ok((book, count)) => Ok((book.into_connection(), count)),
+        Err((error, connection)) => {
+            Err((Fault::Store(store_fault(error)), Left::Open(connection)))
+        }
+    }
+}
+
+// The database in a file, as it was found.
+fn opened<S: Start>(
+    runtime: &HostRuntime,
+    file: &Text,
+    start: S,
+) -> Result<FileConnection<S>, (Fault, Left<FileFrom<S>>)>
+    ensures found { IfOk result (IsOpenedOn (image_at S.Start)) }
+    ensures idle { IfOk result (λ c. (file_state c).in_transaction ≡ false) }
+    ensures unread { IfErr result (λ e. IsUnread (image_at S.Start) e.0 e.1) }
+{
+    match Connection::open_from(runtime, file.as_str(), false, start) {
+        Ok(connection) => Ok(connection),
+        Err((_, Some(rest))) => Err((Fault::CannotOpen, Left::Unopened(rest))),
+        Err((_, None)) => Err((Fault::CannotOpen, Left::Nothing)),
+    }
+}
+
+// What is wrong with a book.
+fn store_fault(error: SqlBookError) -> StoreFault
+    ensures { result ≡ store_fault_of error }
+{
+    match error {
+        SqlBookError::NotABook => StoreFault::NotABook,
+        SqlBookError::PlansDiffer => StoreFault::PlansDiffer,
+        SqlBookError::WrongSchema(_) => StoreFault::WrongSchema,
+        SqlBookError::Unavailable => StoreFault::Unavailable,
+    }
+}

@@ -1,0 +1,135 @@
+//! Files that are no book, and configurations that are long.
+use crate::trial::{Command, came, comes, write_sites};
+use acct_feed::Status;
+use std::fs;
+use std::os::unix::fs::PermissionsExt;
+use std::test::Fail;
+
+// Commands that take the book `slip-book`.
+static TAKING: [Command<'static>; 4] = [
+    ("check --config slip.toml --db slip-book", ""),
+    (
+        "import --config slip.toml --db slip-book",
+        "voucher,account,sum\n",
+    ),
+    ("export --config slip.toml --db slip-book topups", ""),
+    (
+        "serve --config slip.toml --db slip-book --turns 1 --radius-port 1 --desk-port 1",
+        "",
+    ),
+];
+
+// Whether each of these commands says only this of the book.
+fn is_refused(rt: &HostRuntime, faults: &str) -> Result<bool, Fail> {
+    for command in &TAKING {
+        if !comes(rt, *command, (Status::Unavailable, "", faults))? {
+            return Ok(false);
+        }
+    }
+    Ok(true)
+}
+
+// A name with no file behind it makes none. A file of few octets is not opened, nor is an empty one
+// beside a log that has more than its header.
+#[test]
+fn a_slip_makes_no_file(rt: HostRuntime) -> Result<(), Fail> {
+    write_sites(&rt, ["slip.toml", "slip-more.toml", "slip-other.toml"])?;
+    let unopened = "db: cannot open\n";
+    assert!(rt; is_refused(&rt, unopened)? && !fs::exists(&rt, "slip-book")?);
+    for length in [1, 99] {
+        fs::write(&rt, "slip-book", [7; 99].get(..length).unwrap_or(&[]))?;
+        assert!(rt; is_refused(&rt, unopened)? && has_length(&rt, "slip-book", length)?);
+    }
+    fs::write(&rt, "slip-book", "")?;
+    fs::write(&rt, "slip-book-wal", [7; 33])?;
+    assert!(rt; is_refused(&rt, unopened)? && has_length(&rt, "slip-book", 0)?);
+    fs::remove_file(&rt, "slip-book-wal")?;
+    assert!(rt; becomes_a_book(&rt)?);
+    Ok(())
+}
+
+// Whether a file has so many octets.
+fn has_length(rt: &HostRuntime, name: &str, length: usize) -> Result<bool, Fail> {
+    Ok(fs::metadata(rt, name)?.len() == length as u64)
+}
+
+// Whether an empty file is an empty database to each command, and becomes a book only by `init`.
+fn becomes_a_book(rt: &HostRuntime) -> Result<bool, Fail> {
+    let made = (Status::Done, "book made\n", "");
+    let sizes = (Status::Done, "ok: 1 clients, 2 plans, 2 keys\n", "");
+    Ok(
+        is_refused(rt, "db: NotABook\n")?
+            && comes(rt, ("init --config slip.toml --db slip-book", ""), made)?
+            && comes(rt, ("check --config slip.toml --db slip-book", ""), sizes)?,
+    )
+}
+
+// A new book, and its log, are for their owner alone.
+#[test]
+fn a_new_book_is_private(rt: HostRuntime) -> Result<(), Fail> {
+    write_sites(&rt, ["own.toml", "own-more.toml", "own-other.toml"])?;
+    let made = (Status::Done, "book made\n", "");
+    assert!(rt; comes(&rt, ("init --config own.toml --db own-book", ""), made)?);
+    assert!(rt; is_private(&rt, "own-book")? && is_private(&rt, "own-book-wal")?);
+    Ok(())
+}
+
+// Whether a file is for its owner alone.
+fn is_private(rt: &HostRuntime, name: &str) -> Result<bool, Fail> {
+    Ok(fs::metadata(rt, name)?.permissions().mode() & 0o777 == 0o600)
+}
+
+// A configuration of 600 keys is read to its end.
+#[test]
+fn a_long_configuration_is_read_whole(rt: HostRuntime) -> Result<(), Fail> {
+    fs::write(&rt, "long.toml", long_site(&rt)?.as_str())?;
+    let sizes = (Status::Done, "ok: 0 clients, 1 plans, 600 keys\n", "");
+    assert!(rt; comes(&rt, ("check --config long.toml", ""), sizes)?);
+    Ok(())
+}
+
+// A configuration of 600 keys, of more than 40,000 octets.
+fn long_site(rt: &HostRuntime) -> Result<String, Fail> {
+    let mut text = String::from_str(
+        rt.alloc(),
+        "[[plan]]\nclass = \"default\"\nblock = 1000000\nunit = 5\n",
+    )?;
+    for number in 0..600_u32 {
+        let token = number + 100_000;
+        let key = format!(in rt.alloc();
+            "[[key]]\ntoken = \"key-of-guest-{token}\"\naccount = \"guest {token}\"\n"
+        )?;
+        text.push_str(key.as_str())?;
+    }
+    Ok(text)
+}
+
+// An upload of 300 wrong lines is told line by line.
+#[test]
+fn each_refused_line_is_told(rt: HostRuntime) -> Result<(), Fail> {
+    write_sites(&rt, ["wrong.toml", "wrong-more.toml", "wrong-other.toml"])?;
+    let made = (Status::Done, "book made\n", "");
+    assert!(rt; comes(&rt, ("init --config wrong.toml --db wrong-book", ""), made)?);
+    assert!(rt; tells_each(&rt)?);
+    Ok(())
+}
+
+// Whether 300 wrong lines are told, from the first to the last.
+fn tells_each(rt: &HostRuntime) -> Result<bool, Fail> {
+    let mut upload = String::from_str(rt.alloc(), "voucher,account,sum\n")?;
+    for _ in 0..300_u32 {
+        upload.push_str("V-1,al,0\n")?;
+    }
+    let came = came(
+        rt,
+        (
+            "import --config wrong.toml --db wrong-book",
+            upload.as_str(),
+        ),
+    )?;
+    let text = came.text();
+    Ok(
+        text.starts_with("added 0, repeated 0, refused 300\n2: BadSum\n3: BadSum\n")
+            && text.ends_with("\n301: BadSum\n"),
+    )
+}

@@ -1,0 +1,12 @@
+//! `serve`: access servers and callers of the desk, answered over a book.
+//!
+//! 1. `Watcher::serve` is what happens once the sockets are bound, over any exchange, book and
+//!    rounds: what the exchange tells of its calls is what was answered.
+//! 2. `run_serve` binds the sockets, and is then that.
+#![tactic(auto)]
+
+mod sockets_server;
+mod watcher;
+
+pub use sockets_server::{Errors, run_serve};
+pub use watcher::Watcher;

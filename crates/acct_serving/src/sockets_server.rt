@@ -1,0 +1,204 @@
+//! A server over sockets: they are bound, and then it is watched over them.
+ghost use Rattle.std.specs.Prelude.{◌≡◌, ◌<◌, ◌^◌, IfOk, IfErr, OnErr};
+ghost use Rattle.acct_serving.specs.Serving.{EndsAfresh, RunsServer, IsUnbound, ended_of};
+
+use crate::watcher::Watcher;
+use acct_book::Book;
+use acct_command_line::{Listening, Serving, Telling};
+use acct_commands::{
+    Fault, FileRounds, KeptBalances, Shared, SiteSource, StatusFile, StoreFault, Watch,
+};
+use acct_feed::Status;
+use acct_model::{Text, address_of};
+use acct_run::Ended;
+use acct_service::{Exchange, Until};
+use acct_site::Config;
+use acct_sockets::{Sockets, moment_of};
+use std::alloc::{AllocError, Global};
+use std::cell::RefCell;
+use std::fs::Files;
+use std::io::{ErrorKind, Write};
+use std::net::Net;
+use std::time::Clock;
+
+/// Where a server tells what the caller of the program should see.
+#[derive(Drop)]
+pub struct Errors<E: Drop> {
+    /// The drops and the counts of each minute, if these are told.
+    pub drops: Option<E>,
+    /// What became of its files.
+    pub site: E,
+}
+
+/// Serves a configuration over a book for so many turns, at the addresses and the ports that
+/// `serving` has. It binds all sockets, and is then `Watcher::serve` over them.
+///
+/// While it runs it tells on `errors`, if it may, what it drops and how much comes. It keeps the
+/// files up that `serving` names, and takes the configuration that `source` has, if that changed,
+/// for the turns that follow: `FileRounds`.
+///
+/// # Errors
+///
+/// `CannotBind`, and `NoMemory` where there is no room for datagrams or names; the book and the
+/// output are then as they were. `Store(Unavailable)` where the book was found shut, which ends the
+/// turns: whoever started the program is to start it again. `CannotWrite` where the output failed:
+/// before the first turn, or after the last one.
+pub fn run_serve<
+    'r,
+    R: Net + Clock + Files,
+    S: SiteSource + Drop,
+    B: Book,
+    W: Write,
+    E: Write + Drop,
+>(
+    runtime: &'r R,
+    alloc: Global,
+    config: &Config,
+    source: S,
+    book: &mut B,
+    serving: &Serving,
+    output: &mut W,
+    errors: Errors<E>,
+) -> Result<Status, Fault>
+    requires { serving.now.turns < 2 ^ 63 }
+    ensures done { IfOk result (λ status. status ≡ Status.Done) }
+    ensures serves { RunsServer B.Book ⟦<Sockets<'r, R> as Exchange>⟧ config.now serving.now.turns
+        (W.contents output.old) (W.contents output.new) result book.old book.new }
+{
+    let served = serve_sockets(
+        runtime, alloc, config, source, book, serving, output, errors,
+    );
+    match served {
+        Ok((_sockets, ended)) => status_of(ended),
+        Err(fault) => Err(fault),
+    }
+}
+
+// How `serve` ends.
+fn status_of(ended: Ended) -> Result<Status, Fault>
+    ensures status { result ≡ ended_of ended }
+    ensures done { IfOk result (λ status. status ≡ Status.Done) }
+{
+    match ended {
+        Ended::Told(_, Until::AllMade) => Ok(Status::Done),
+        Ended::Told(_, Until::Shut) | Ended::Untold(_, Until::Shut) => {
+            Err(Fault::Store(StoreFault::Unavailable))
+        }
+        Ended::Untold(_, Until::AllMade) | Ended::NotBegun => Err(Fault::CannotWrite),
+    }
+}
+
+// Binds all sockets, and is then `Watcher::serve` over them. They are handed back as the last turn
+// left them.
+fn serve_sockets<
+    'r,
+    R: Net + Clock + Files,
+    S: SiteSource + Drop,
+    B: Book,
+    W: Write,
+    E: Write + Drop,
+>(
+    runtime: &'r R,
+    alloc: Global,
+    config: &Config,
+    source: S,
+    book: &mut B,
+    serving: &Serving,
+    output: &mut W,
+    errors: Errors<E>,
+) -> Result<(Sockets<'r, R>, Ended), Fault>
+    requires { serving.now.turns < 2 ^ 63 }
+    ensures serves { IfOk result (λ done. EndsAfresh B.Book ⟦<Sockets<'r, R> as Exchange>⟧
+        config.now serving.now.turns book.old book.new done.0 (W.contents output.old)
+        (W.contents output.new) done.1) }
+    ensures unbound { OnErr result ((book.new ≡ book.old) × (output.new ≡ output.old)) }
+    ensures why { IfErr result IsUnbound }
+{
+    let Errors { drops, site } = errors;
+    let site = RefCell::new(site);
+    let balances = balances_file(runtime, alloc, &serving.telling)?;
+    let mut rounds = FileRounds::new(runtime, source, balances, Shared::new(&site));
+    let counts = status_file(runtime, alloc, &serving.telling, Shared::new(&site))?;
+    let sockets = bound(runtime, alloc, &serving.listening)?;
+    let watcher = Watcher {
+        clock: runtime,
+        drops: watch_on(drops),
+        counts,
+    };
+    let turns = serving.turns;
+    Ok(watcher.serve(alloc, config, book, sockets, &mut rounds, turns, output))
+}
+
+// What tells on a writer what is dropped and how much comes, if that is told.
+fn watch_on<E: Write + Drop>(drops: Option<E>) -> Option<Watch<E>> {
+    match drops {
+        Some(writer) => Some(Watch::new(writer)),
+        None => None,
+    }
+}
+
+// The file of the counts, if one is named, of a server that starts now.
+fn status_file<'r, R: Clock + Files, E: Write + Drop>(
+    runtime: &'r R,
+    alloc: Global,
+    telling: &Telling,
+    errors: E,
+) -> Result<Option<StatusFile<'r, R, E>>, AllocError> {
+    match &telling.status {
+        Some(name) => {
+            let started_at = moment_of(runtime);
+            let status = StatusFile::new(runtime, alloc, name, started_at, errors)?;
+            Ok(Some(status))
+        }
+        None => Ok(None),
+    }
+}
+
+// The file of all balances, if one is named.
+fn balances_file<'r, R: Files>(
+    runtime: &'r R,
+    alloc: Global,
+    telling: &Telling,
+) -> Result<Option<KeptBalances<'r, R>>, AllocError> {
+    match &telling.balances {
+        Some(balances) => Ok(Some(KeptBalances::new(runtime, alloc, balances)?)),
+        None => Ok(None),
+    }
+}
+
+// The sockets at the addresses and the ports that were asked for.
+fn bound<'r, R: Net + Clock>(
+    runtime: &'r R,
+    alloc: Global,
+    listening: &Listening,
+) -> Result<Sockets<'r, R>, Fault>
+    ensures fresh { IfOk result (λ s. (s.turns ≡ 0) × (s.failures ≡ 0)) }
+    ensures why { IfErr result IsUnbound }
+{
+    let addresses = addresses_of(alloc, &listening.addresses)?;
+    let Some(desk) = address_of(listening.desk_address.as_str()) else {
+        return Err(Fault::CannotBind);
+    };
+    let (radius_port, desk_port) = (listening.radius_port, listening.desk_port);
+    match Sockets::bind(runtime, alloc, &addresses, desk, radius_port, desk_port) {
+        Ok(sockets) => Ok(sockets),
+        Err(error) if error.kind() == ErrorKind::OutOfMemory => Err(Fault::NoMemory),
+        Err(_) => Err(Fault::CannotBind),
+    }
+}
+
+// The addresses that these texts spell.
+fn addresses_of(alloc: Global, texts: &[Text]) -> Result<Vec<[u8; 4]>, Fault>
+    ensures why { IfErr result IsUnbound }
+{
+    let mut addresses = Vec::new(alloc);
+    for text in texts {
+        let Some(address) = address_of(text.as_str()) else {
+            return Err(Fault::CannotBind);
+        };
+        if addresses.push(address).is_err() {
+            return Err(Fault::NoMemory);
+        }
+    }
+    Ok(addresses)
+}

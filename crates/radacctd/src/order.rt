@@ -1,0 +1,108 @@
+//! How an order of the command line is carried out.
+ghost use Rattle.std.specs.Prelude.{◌≡◌, ◌≢◌, IfOk};
+ghost use Rattle.sqlite_wal.specs.Files.{image_at};
+ghost use Rattle.acct_command_line.specs.Orders.{HasBounds};
+ghost use Rattle.acct_commands.specs.Endings.{ended_status};
+ghost use Rattle.acct_jobs.specs.Jobs.{DoesJob, text_of};
+ghost use Rattle.radacctd.specs.Syncs.{EitherWay, SyncsOnce};
+
+use crate::by_syncs::BySyncs;
+use crate::explaining::explain_fault;
+use acct_book::Book;
+use acct_command_line::{Job, Order, Syncs};
+use acct_commands::{Fault, end};
+use acct_feed::Status;
+use acct_jobs::{Outcome, run, run_server};
+use acct_service::Exchange;
+use acct_serving::Errors;
+use acct_sockets::Sockets;
+use acct_sql::SqlBook;
+use sqlite::{FileFrom, FileStore, MemStore, Start, Unknown, Wary};
+use std::io::{Read, Write};
+
+/// What a job came to over the files of a book.
+type Ran<W> = BySyncs<Outcome<W, FileFrom<Unknown>>, Outcome<W, FileFrom<Wary>>>;
+
+/// Does the job of an order over these streams, and gives the exit status, with what the job came
+/// to. A fault that ended it is printed on `faults`, with what is known of it if the order asks for
+/// that.
+pub(crate) fn carry_out<I: Read + Drop, W: Write + Drop, E: Write + Drop, F: Write>(
+    runtime: &HostRuntime,
+    order: &Order,
+    input: I,
+    output: W,
+    errors: Errors<E>,
+    faults: &mut F,
+) -> (Status, Ran<W>)
+    requires { HasBounds order.now.job }
+    ensures status { EitherWay result.1 (λ once. result.0 ≡ ended_status once.ended)
+        (λ twice. result.0 ≡ ended_status twice.ended) }
+    ensures syncs { EitherWay result.1 (λ once. SyncsOnce order.now.job)
+        (λ twice. SyncsOnce order.now.job → ⊥) }
+    ensures does { EitherWay result.1
+        (λ once. DoesJob (image_at ⟦<Unknown as Start>⟧)
+        ⟦<SqlBook<FileStore<FileFrom<Unknown>>> as Book>⟧
+        ⟦<Sockets<'static, HostRuntime> as Exchange>⟧ ⟦<SqlBook<MemStore> as Book>⟧
+        (I.remaining input) (W.contents output) (text_of W.contents once.output) order.now.job
+        once.ended once.left)
+        (λ twice. DoesJob (image_at ⟦<Wary as Start>⟧)
+        ⟦<SqlBook<FileStore<FileFrom<Wary>>> as Book>⟧
+        ⟦<Sockets<'static, HostRuntime> as Exchange>⟧ ⟦<SqlBook<MemStore> as Book>⟧
+        (I.remaining input) (W.contents output) (text_of W.contents twice.output) order.now.job
+        twice.ended twice.left) }
+{
+    let ran = run_as_it_syncs(runtime, &order.job, input, output, errors);
+    let ended = ended_of(&ran);
+    let status = end(faults, ended);
+    if let Err(fault) = ended
+        && order.explains
+    {
+        explain_fault(runtime, &order.job, fault, faults);
+    }
+    (status, ran)
+}
+
+// Does a job over files of which is assumed what its syncs allow: of all but a server that syncs
+// once the least. So no other job is in the program twice.
+fn run_as_it_syncs<I: Read + Drop, W: Write + Drop, E: Write + Drop>(
+    runtime: &HostRuntime,
+    job: &Job,
+    input: I,
+    output: W,
+    errors: Errors<E>,
+) -> Ran<W>
+    requires { HasBounds job.now }
+    ensures other { EitherWay result
+        (λ once. IfOk once.ended (λ status. status ≢ Status.WrongWords))
+        (λ twice. IfOk twice.ended (λ status. status ≢ Status.WrongWords)) }
+    ensures syncs { EitherWay result (λ once. SyncsOnce job.now)
+        (λ twice. SyncsOnce job.now → ⊥) }
+    ensures does { EitherWay result
+        (λ once. DoesJob (image_at ⟦<Unknown as Start>⟧)
+        ⟦<SqlBook<FileStore<FileFrom<Unknown>>> as Book>⟧
+        ⟦<Sockets<'static, HostRuntime> as Exchange>⟧ ⟦<SqlBook<MemStore> as Book>⟧
+        (I.remaining input) (W.contents output) (text_of W.contents once.output) job.now
+        once.ended once.left)
+        (λ twice. DoesJob (image_at ⟦<Wary as Start>⟧)
+        ⟦<SqlBook<FileStore<FileFrom<Wary>>> as Book>⟧
+        ⟦<Sockets<'static, HostRuntime> as Exchange>⟧ ⟦<SqlBook<MemStore> as Book>⟧
+        (I.remaining input) (W.contents output) (text_of W.contents twice.output) job.now
+        twice.ended twice.left) }
+{
+    match job {
+        Job::Serve { paths, serving } if serving.syncs == Syncs::Once => {
+            BySyncs::Once(run_server(runtime, paths, serving, output, errors, Unknown))
+        }
+        _ => BySyncs::Twice(run(runtime, job, input, output, errors, Wary)),
+    }
+}
+
+// How a job ended.
+fn ended_of<W: Write>(ran: &Ran<W>) -> Result<Status, Fault>
+    ensures { EitherWay ran.now (λ once. result ≡ once.ended) (λ twice. result ≡ twice.ended) }
+{
+    match ran {
+        BySyncs::Once(outcome) => outcome.ended,
+        BySyncs::Twice(outcome) => outcome.ended,
+    }
+}
