@@ -103,6 +103,19 @@ fn each_replies(rt: &HostRuntime, count: u8, asked: &[u8]) -> Result<bool, Fail>
     Ok(sockets.failures() == 0)
 }
 
+// Whether each of ten datagrams that wait came to another address than the one before it.
+fn alternate(sockets: &mut Sockets<'_, HostRuntime>) -> Result<bool, Fail> {
+    let mut before = answer(sockets)?;
+    for _ in 1..10 {
+        let now = answer(sockets)?;
+        if now == before {
+            return Ok(false);
+        }
+        before = now;
+    }
+    Ok(true)
+}
+
 // Of two addresses neither waits for more than one datagram of the other one.
 #[test]
 fn addresses_take_turns(rt: HostRuntime) -> Result<(), Fail> {
@@ -111,12 +124,7 @@ fn addresses_take_turns(rt: HostRuntime) -> Result<(), Fail> {
     for place in [0, 0, 0, 0, 0, 1, 1, 1, 1, 1] {
         ask(&sockets, &client, place)?;
     }
-    let mut before = answer(&mut sockets)?;
-    for _ in 1..10 {
-        let now = answer(&mut sockets)?;
-        assert!(rt; now != before);
-        before = now;
-    }
+    assert!(rt; alternate(&mut sockets)?);
     Ok(())
 }
 

@@ -130,14 +130,41 @@ fn is_heard_to_its_end<X: Exchange>(
     )
 }
 
+// Whether each of them is.
+fn are_heard_to_their_ends<X: Exchange>(
+    rt: &HostRuntime,
+    desk: u16,
+    exchange: &mut X,
+) -> Result<bool, Fail> {
+    for octets in &CLOSED_AFTER {
+        if !is_heard_to_its_end(rt, desk, exchange, octets)? {
+            return Ok(false);
+        }
+    }
+    Ok(true)
+}
+
 #[test]
 fn answers_a_caller_that_closed_its_side(rt: HostRuntime) -> Result<(), Fail> {
     let (mut sockets, desk) = bound(&rt)?;
-    for octets in &CLOSED_AFTER {
-        assert!(rt; is_heard_to_its_end(&rt, desk, &mut sockets, octets)?);
-    }
-    assert!(rt; sockets.failures() == 0);
+    let are_heard = are_heard_to_their_ends(&rt, desk, &mut sockets)?;
+    assert!(rt; are_heard && sockets.failures() == 0);
     Ok(())
+}
+
+// Whether another caller is heard before each octet that this one sends of its request.
+fn are_others_heard<X: Exchange>(
+    rt: &HostRuntime,
+    desk: u16,
+    exchange: &mut X,
+    slow: &mut TcpStream,
+) -> Result<bool, Fail> {
+    for octet in REQUEST {
+        if !is_heard(rt, desk, exchange, 8)? || slow.write_all(&[*octet]).is_err() {
+            return Ok(false);
+        }
+    }
+    Ok(true)
 }
 
 // A request that comes in pieces is one event, once it is whole, and others come meanwhile.
@@ -145,10 +172,9 @@ fn answers_a_caller_that_closed_its_side(rt: HostRuntime) -> Result<(), Fail> {
 fn hears_others_while_a_request_comes(rt: HostRuntime) -> Result<(), Fail> {
     let (mut sockets, desk) = bound(&rt)?;
     let mut slow = caller(&rt, desk, b"")?;
-    for octet in REQUEST {
-        assert!(rt; is_heard(&rt, desk, &mut sockets, 8)? && slow.write_all(&[*octet]).is_ok());
-    }
-    assert!(rt; is_echoed(rt.alloc(), &mut sockets, 8, &mut slow) && sockets.failures() == 0);
+    let are_heard = are_others_heard(&rt, desk, &mut sockets, &mut slow)?;
+    let is_echoed = is_echoed(rt.alloc(), &mut sockets, 8, &mut slow);
+    assert!(rt; are_heard && is_echoed && sockets.failures() == 0);
     Ok(())
 }
 
@@ -181,10 +207,8 @@ fn gives_up_who_is_silent(rt: HostRuntime) -> Result<(), Fail> {
     let (mut sockets, desk) = bound(&rt)?;
     let mut silent = caller(&rt, desk, b"")?;
     let mut dripping = caller(&rt, desk, b"G")?;
-    assert!(rt;
-        faults_within(&rt, &mut sockets, &mut dripping, 1, (1_900, 3_500))?
-            && gets(rt.alloc(), &mut silent, b"")
-    );
+    let is_given_up = faults_within(&rt, &mut sockets, &mut dripping, 1, (1_900, 3_500))?;
+    assert!(rt; is_given_up && gets(rt.alloc(), &mut silent, b""));
     Ok(())
 }
 
@@ -193,8 +217,9 @@ fn gives_up_who_is_silent(rt: HostRuntime) -> Result<(), Fail> {
 fn gives_up_who_never_asks(rt: HostRuntime) -> Result<(), Fail> {
     let (mut sockets, desk) = bound(&rt)?;
     let mut dripping = caller(&rt, desk, b"G")?;
-    assert!(rt; faults_within(&rt, &mut sockets, &mut dripping, 1, (3_900, 5_500))?);
-    assert!(rt; is_heard(&rt, desk, &mut sockets, 8)? && sockets.failures() == 1);
+    let is_given_up = faults_within(&rt, &mut sockets, &mut dripping, 1, (3_900, 5_500))?;
+    let is_next_heard = is_heard(&rt, desk, &mut sockets, 8)?;
+    assert!(rt; is_given_up && is_next_heard && sockets.failures() == 1);
     Ok(())
 }
 
@@ -253,21 +278,49 @@ fn is_answered<X: Exchange>(exchange: &mut X, response: &[u8]) -> bool {
     reply(exchange, &event, response).is_ok()
 }
 
+// Whether a caller that takes its response slowly gets all of it, in more than two seconds.
+fn is_answered_slowly<X: Exchange>(
+    rt: &HostRuntime,
+    desk: u16,
+    exchange: &mut X,
+    response: &[u8],
+) -> Result<bool, Fail> {
+    let mut slow = caller(rt, desk, REQUEST)?;
+    let begun = Instant::now(rt)?;
+    Ok(
+        is_answered(exchange, response)
+            && takes_slowly(rt, desk, exchange, &mut slow, response)?
+            && begun.elapsed(rt)? > Duration::from_secs(2),
+    )
+}
+
 // A response that its caller takes slowly goes whole, though it takes more than two seconds, and
 // keeps nobody waiting.
 #[test]
 fn answers_a_slow_caller(rt: HostRuntime) -> Result<(), Fail> {
     let (mut sockets, desk) = bound(&rt)?;
     let response = long_response(rt.alloc(), 2_048)?;
-    let mut slow = caller(&rt, desk, REQUEST)?;
-    let begun = Instant::now(&rt)?;
-    assert!(rt;
-        is_answered(&mut sockets, response.as_slice())
-            && takes_slowly(&rt, desk, &mut sockets, &mut slow, response.as_slice())?
-            && begun.elapsed(&rt)? > Duration::from_secs(2)
-            && sockets.failures() == 0
-    );
+    let is_taken = is_answered_slowly(&rt, desk, &mut sockets, response.as_slice())?;
+    assert!(rt; is_taken && sockets.failures() == 0);
     Ok(())
+}
+
+// Whether a caller that takes nothing for more than two seconds gets all of its response then.
+fn is_waited_for<X: Exchange>(
+    rt: &HostRuntime,
+    desk: u16,
+    exchange: &mut X,
+    response: &[u8],
+) -> Result<bool, Fail> {
+    let mut deaf = caller(rt, desk, REQUEST)?;
+    let is_answered = is_answered(exchange, response);
+    let begun = Instant::now(rt)?;
+    Ok(
+        is_answered
+            && is_quiet(exchange, 150)
+            && begun.elapsed(rt)? > Duration::from_secs(2)
+            && takes_slowly(rt, desk, exchange, &mut deaf, response)?,
+    )
 }
 
 // One that takes nothing for more than two seconds, and all of it then.
@@ -275,15 +328,8 @@ fn answers_a_slow_caller(rt: HostRuntime) -> Result<(), Fail> {
 fn waits_for_a_caller_that_takes_nothing(rt: HostRuntime) -> Result<(), Fail> {
     let (mut sockets, desk) = bound(&rt)?;
     let response = long_response(rt.alloc(), 2_048)?;
-    let mut deaf = caller(&rt, desk, REQUEST)?;
-    assert!(rt; is_answered(&mut sockets, response.as_slice()));
-    let begun = Instant::now(&rt)?;
-    assert!(rt;
-        is_quiet(&mut sockets, 150)
-            && begun.elapsed(&rt)? > Duration::from_secs(2)
-            && takes_slowly(&rt, desk, &mut sockets, &mut deaf, response.as_slice())?
-            && sockets.failures() == 0
-    );
+    let is_taken = is_waited_for(&rt, desk, &mut sockets, response.as_slice())?;
+    assert!(rt; is_taken && sockets.failures() == 0);
     Ok(())
 }
 
@@ -324,38 +370,73 @@ fn gets_its_own(alloc: Global, number: usize, stream: &mut TcpStream) -> Result<
     Ok(gets(alloc, stream, request.as_bytes()))
 }
 
+// Whether each caller gets its own request.
+fn each_gets_its_own(alloc: Global, streams: &mut [TcpStream]) -> Result<bool, Fail> {
+    for (number, stream) in streams.iter_mut().enumerate() {
+        if !gets_its_own(alloc, number, stream)? {
+            return Ok(false);
+        }
+    }
+    Ok(true)
+}
+
 // More callers at once than there are places get each the response to its own request.
 #[test]
 fn answers_many_at_once(rt: HostRuntime) -> Result<(), Fail> {
     let (mut sockets, desk) = bound(&rt)?;
     let mut streams = callers(&rt, desk, 100)?;
-    assert!(rt; echo_all(&mut sockets, 200) && sockets.failures() == 0);
-    for (number, stream) in streams.iter_mut().enumerate() {
-        assert!(rt; gets_its_own(rt.alloc(), number, stream)?);
-    }
+    let are_answered = echo_all(&mut sockets, 200) && sockets.failures() == 0;
+    assert!(rt; are_answered && each_gets_its_own(rt.alloc(), streams.as_mut_slice())?);
     Ok(())
+}
+
+// So many callers that send nothing, each of which was accepted.
+fn silent_callers<X: Exchange>(
+    rt: &HostRuntime,
+    desk: u16,
+    exchange: &mut X,
+    count: usize,
+) -> Result<Vec<TcpStream>, Fail> {
+    let mut silent = Vec::new(rt.alloc());
+    for _ in 0..count {
+        silent.push(caller(rt, desk, b"")?)?;
+        if !is_quiet(exchange, 2) {
+            return Err("an event".into());
+        }
+    }
+    Ok(silent)
+}
+
+// Whether a new caller is heard within a second, after a turn in which another one is given up.
+fn is_heard_after_a_fault<X: Exchange>(
+    rt: &HostRuntime,
+    desk: u16,
+    exchange: &mut X,
+) -> Result<bool, Fail> {
+    let mut guest = caller(rt, desk, REQUEST)?;
+    let begun = Instant::now(rt)?;
+    Ok(
+        matches!(&next(exchange, 4), Err(Fault))
+            && is_echoed(rt.alloc(), exchange, 4, &mut guest)
+            && begun.elapsed(rt)? < Duration::from_millis(1_000),
+    )
+}
+
+// Whether the first of these callers has lost its connection.
+fn has_first_gone(alloc: Global, silent: &mut [TcpStream]) -> bool {
+    match silent.first_mut() {
+        Some(first) => gets(alloc, first, b""),
+        None => false,
+    }
 }
 
 // Strangers at every place keep nobody away: the first of them gives way.
 #[test]
 fn hears_past_silent_callers(rt: HostRuntime) -> Result<(), Fail> {
     let (mut sockets, desk) = bound(&rt)?;
-    let mut silent = Vec::new(rt.alloc());
-    for _ in 0..64 {
-        silent.push(caller(&rt, desk, b"")?)?;
-        assert!(rt; is_quiet(&mut sockets, 2));
-    }
-    let mut guest = caller(&rt, desk, REQUEST)?;
-    let begun = Instant::now(&rt)?;
-    assert!(rt;
-        matches!(&next(&mut sockets, 4), Err(Fault))
-            && is_echoed(rt.alloc(), &mut sockets, 4, &mut guest)
-            && begun.elapsed(&rt)? < Duration::from_millis(1_000)
-            && sockets.failures() == 1
-    );
-    if let Some(first) = silent.first_mut() {
-        assert!(rt; gets(rt.alloc(), first, b""));
-    }
+    let mut silent = silent_callers(&rt, desk, &mut sockets, 64)?;
+    let is_heard = is_heard_after_a_fault(&rt, desk, &mut sockets)? && sockets.failures() == 1;
+    assert!(rt; is_heard && has_first_gone(rt.alloc(), silent.as_mut_slice()));
     Ok(())
 }
 
@@ -372,18 +453,31 @@ fn is_turn_of_a_caller<X: Exchange>(exchange: &mut X, is_caller: bool) -> bool {
     reply(exchange, &event, b"x").is_ok() && is_right
 }
 
+// A client that sent ten datagrams.
+fn asks_often(rt: &HostRuntime, radius: u16) -> Result<UdpSocket, Fail> {
+    let client = UdpSocket::bind(rt, "127.0.0.1:0")?;
+    for _ in 0..10 {
+        client.send_to(START, ("127.0.0.1", radius))?;
+    }
+    Ok(client)
+}
+
+// Whether callers and datagrams come one after the other, a caller first.
+fn alternate<X: Exchange>(exchange: &mut X) -> bool {
+    for turn in 0..20 {
+        if !is_turn_of_a_caller(exchange, turn % 2 == 0) {
+            return false;
+        }
+    }
+    true
+}
+
 // Datagrams and callers that wait take turns.
 #[test]
 fn takes_turns(rt: HostRuntime) -> Result<(), Fail> {
     let (mut sockets, desk) = bound(&rt)?;
-    let (radius, _) = sockets.ports()?;
-    let client = UdpSocket::bind(&rt, "127.0.0.1:0")?;
-    for _ in 0..10 {
-        client.send_to(START, ("127.0.0.1", radius))?;
-    }
+    let _client = asks_often(&rt, sockets.radius_port(0)?)?;
     let _streams = callers(&rt, desk, 10)?;
-    for turn in 0..20 {
-        assert!(rt; is_turn_of_a_caller(&mut sockets, turn % 2 == 0));
-    }
+    assert!(rt; alternate(&mut sockets));
     Ok(())
 }

@@ -12,14 +12,15 @@ use std::os::fd::{AsRawFd, RawFd};
 use std::test::Fail;
 use std::time::{Clock, Duration};
 
-// The machine's sockets, but that the first accept fails so, and its clock, but for the date.
+// The machine's sockets, but that the first accept of each listener fails so, and its clock, but
+// for the date.
 #[derive(Drop)]
-struct Flaky<'r> {
-    host: &'r HostRuntime,
-    fault: ErrorKind,
+struct Flaky {
+    host: HostRuntime,
+    fault: Cell<ErrorKind>,
 }
 
-impl Clock for Flaky<'_> {
+impl Clock for Flaky {
     fn monotonic(&self) -> io::Result<Duration> {
         self.host.monotonic()
     }
@@ -29,24 +30,24 @@ impl Clock for Flaky<'_> {
     }
 }
 
-impl Net for Flaky<'_> {
+impl Net for Flaky {
     type Stream = TcpStream;
 
     type Listener = FlakyListener;
 
     fn bind(&self, addr: SocketAddr) -> io::Result<FlakyListener> {
         Ok(FlakyListener {
-            listener: TcpListener::bind(self.host, addr)?,
-            fault: Cell::new(Some(self.fault)),
+            listener: TcpListener::bind(&self.host, addr)?,
+            fault: Cell::new(Some(self.fault.get())),
         })
     }
 
     fn connect(&self, addr: SocketAddr) -> io::Result<TcpStream> {
-        TcpStream::connect(self.host, addr)
+        TcpStream::connect(&self.host, addr)
     }
 
     fn bind_udp(&self, addr: SocketAddr) -> io::Result<UdpSocket> {
-        UdpSocket::bind(self.host, addr)
+        UdpSocket::bind(&self.host, addr)
     }
 }
 
@@ -102,22 +103,26 @@ fn is_heard_after_a_fault<X: Exchange>(exchange: &mut X) -> bool {
 }
 
 // Whether one failed accept is counted, and its caller is heard in a later turn.
-fn counts(rt: &HostRuntime, fault: ErrorKind) -> Result<bool, Fail> {
-    let flaky = Flaky { host: rt, fault };
-    let here = [127, 0, 0, 1];
-    let Ok(mut sockets) = Sockets::bind(&flaky, rt.alloc(), &[here], here, 0, 0) else {
+fn counts(flaky: &Flaky, fault: ErrorKind) -> Result<bool, Fail> {
+    flaky.fault.set(fault);
+    let (alloc, here) = (flaky.host.alloc(), [127, 0, 0, 1]);
+    let Ok(mut sockets) = Sockets::bind(flaky, alloc, &[here], here, 0, 0) else {
         return Err("no sockets".into());
     };
     let (_, desk) = sockets.ports()?;
-    let mut guest = caller(rt, desk, REQUEST)?;
+    let mut guest = caller(&flaky.host, desk, REQUEST)?;
     let is_heard = is_heard_after_a_fault(&mut sockets);
-    Ok(is_heard && gets(rt.alloc(), &mut guest, REQUEST) && sockets.failures() == 1)
+    Ok(is_heard && gets(alloc, &mut guest, REQUEST) && sockets.failures() == 1)
 }
 
 #[test]
 fn counts_failed_accepts(rt: HostRuntime) -> Result<(), Fail> {
+    let flaky = Flaky {
+        host: rt,
+        fault: Cell::new(ErrorKind::Other),
+    };
     for fault in FAULTS {
-        assert!(rt; counts(&rt, fault)?);
+        assert!(flaky.host; counts(&flaky, fault)?);
     }
     Ok(())
 }
