@@ -16,15 +16,15 @@ pub type Command<'a> = (&'a str, &'a str);
 pub type Wanted<'a> = (Status, &'a str, &'a str);
 
 /// What came of one.
-pub struct Came {
+pub struct Printed {
     status: Status,
     output: Vec<u8>,
     faults: Vec<u8>,
 }
 
-impl Drop for Came {
+impl Drop for Printed {
     fn drop(self) {
-        let Came {
+        let Printed {
             status: _,
             output: _,
             faults: _,
@@ -32,7 +32,7 @@ impl Drop for Came {
     }
 }
 
-impl Came {
+impl Printed {
     /// Whether it is this.
     pub fn is(&self, (status, output, faults): Wanted<'_>) -> bool {
         self.status == status
@@ -47,7 +47,7 @@ impl Came {
 }
 
 /// Gives a command to the program, and what comes of it.
-pub fn came(rt: &HostRuntime, (line, input): Command<'_>) -> Result<Came, Fail> {
+pub fn came(rt: &HostRuntime, (line, input): Command<'_>) -> Result<Printed, Fail> {
     let Ok(order) = job_of(rt.alloc(), words_of(rt.alloc(), line)?) else {
         return Err("no command".into());
     };
@@ -63,7 +63,7 @@ pub fn came(rt: &HostRuntime, (line, input): Command<'_>) -> Result<Came, Fail> 
     } = run(rt, &order.job, input.as_bytes(), output, errors, Wary);
     let mut faults = Vec::new(rt.alloc());
     let status = end(&mut faults, ended);
-    Ok(Came {
+    Ok(Printed {
         status,
         output: output.unwrap_or(Vec::new(rt.alloc())),
         faults,
