@@ -1,9 +1,9 @@
-"""The programs of this folder, and the temporary repository that each of them is built in.
+"""The programs of this folder, and the temporary repository in which each of them is built.
 
 A program is `NAME_program.rattle`. The gate reads no `.rattle` file, so it does not prove a program
 each time; `.ci/benches` reads each of them far enough to see that it compiles. A line `mod WORD;`
-of a program is the file `NAME_WORD.rattle`, or `WORD.rattle` if several programs share it. The
-crates that it stands on are those that its `use` lines name and, by crates.txt, all below them.
+of a program is the file `NAME_WORD.rattle`, or `WORD.rattle` if several programs share it. Its
+crates are those that its `use` lines name and, by crates.txt, all below them.
 """
 
 import os

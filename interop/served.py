@@ -1,4 +1,4 @@
-"""The program serving a site on loopback, and what it is held to."""
+"""The program serving a site on loopback, and the checks that tests share."""
 
 import json
 import os
