@@ -1,13 +1,13 @@
-/* Sends datagrams over loopback and waits for their replies, keeping a number of them on their way;
- * or answers each datagram by itself, as the plain echo that a server is held against.
+/* Sends datagrams over loopback and waits for their replies, with a number of them in flight; or
+ * echoes each datagram, for a comparison with a server.
  *
  *   server_sender echo PORT
  *   server_sender send PORT WINDOW FILE
  *   server_sender pace PORT RATE FILE
  *
- * `send` keeps so many on their way. `pace` sends so many a second, whatever comes back, and counts
- * the time to a reply from the moment at which its datagram was due, so that one stall of the
- * server shows in all that it held up.
+ * `send` keeps WINDOW datagrams in flight. `pace` sends RATE a second, whatever is answered. It counts
+ * the time to a reply from the moment at which its datagram was due. So one stall of the server shows
+ * in all datagrams that it delayed.
  *
  * FILE holds datagrams, each after its size as two octets, the high one first. The second octet of
  * a datagram is its identifier, the number of the datagram modulo 256; a reply has it at the same
