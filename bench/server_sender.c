@@ -5,9 +5,9 @@
  *   server_sender send PORT WINDOW FILE
  *   server_sender pace PORT RATE FILE
  *
- * `send` keeps WINDOW datagrams in flight. `pace` sends RATE a second, whatever is answered. It counts
- * the time to a reply from the moment at which its datagram was due. So one stall of the server shows
- * in all datagrams that it delayed.
+ * `send` keeps WINDOW datagrams in flight. `pace` sends RATE a second, whatever is answered. It
+ * counts the time to a reply from the moment at which its datagram was due. So one stall of the
+ * server shows in all datagrams that it delayed.
  *
  * FILE holds datagrams, each after its size as two octets, the high one first. The second octet of
  * a datagram is its identifier, the number of the datagram modulo 256; a reply has it at the same
