@@ -1,7 +1,11 @@
 # Completes the words of radacctd in bash. bin/pages makes this file of the program's help.
 _filedir_of_radacctd() {
     compopt -o filenames
-    mapfile -t COMPREPLY < <(compgen -f -- "$1")
+    if (($# == 1)); then
+        mapfile -t COMPREPLY < <(compgen -f -- "$1")
+    else
+        mapfile -t COMPREPLY < <(compgen -f -X "!$2" -- "$1"; compgen -d -- "$1")
+    fi
 }
 
 _radacctd() {
@@ -11,18 +15,18 @@ _radacctd() {
     case $previous in
         --config) _filedir_of_radacctd "$current"; return ;;
         --db) _filedir_of_radacctd "$current"; return ;;
+        --status) _filedir_of_radacctd "$current" '*.prom'; return ;;
+        --balances) _filedir_of_radacctd "$current" '*.csv'; return ;;
         --bind) words='127.0.0.1' ;;
         --desk-bind) words='' ;;
         --radius-port) words='1813' ;;
         --desk-port) words='8066' ;;
         --turns) words='9223372036854775807' ;;
-        --sync) words='twice' ;;
-        --status) _filedir_of_radacctd "$current"; return ;;
-        --balances) _filedir_of_radacctd "$current"; return ;;
+        --sync) words='once twice' ;;
         --balances-every) words='60' ;;
         *) case $command in
             feed) words='--config --explain --help' ;;
-            check) words='--config --db --explain --help' ;;
+            check) words='--config --db --status --balances --explain --help' ;;
             init) words='--config --db --explain --help' ;;
             serve) words='--config --db --explain --bind --desk-bind --radius-port --desk-port --turns --sync --quiet --status --balances --balances-every --help' ;;
             import) words='--config --db --explain --help' ;;

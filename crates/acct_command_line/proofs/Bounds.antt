@@ -15,7 +15,7 @@ seconds rows (Some balances) asked = (asked.1.3, asked.1.4)
 pub bounded : (name : Text) (rows : List Row) (asked : Job) → WordsAskFor name rows asked
     → HasBounds asked
 bounded name rows (job.Feed config) asked = tt
-bounded name rows (job.Check config database) asked = tt
+bounded name rows (job.Check config database kept) asked = tt
 bounded name rows (job.Init paths) asked = tt
 bounded name rows (job.Serve paths serving) asked = record {
   turns = omega (arith, asked.2.1.4);

@@ -78,10 +78,6 @@ feed_app = explained (with_rule (new_app (codes "feed")) config_rule)
 abbrev pub configured_app : Text → App
 configured_app name = with_rule (new_app name) (required config_rule)
 
--- `check --config FILE [--db FILE] [--explain]`
-abbrev pub check_app : App
-check_app = explained (with_rule (configured_app (codes "check")) database_rule)
-
 -- a command that keeps a book: `--config FILE --db FILE [--explain]`
 abbrev pub book_app : Text → App
 book_app name = explained (with_rule (configured_app name) (required database_rule))
@@ -94,6 +90,11 @@ export_app = with_rule (book_app (codes "export")) (required what_rule)
 abbrev pub with_rules : App → List Rule → App
 with_rules a [] = a
 with_rules a (r ∷ rs) = with_rules (with_rule a r) rs
+
+-- `check --config FILE [--db FILE] [--status FILE] [--balances FILE] [--explain]`
+abbrev pub check_app : App
+check_app = explained (with_rules (configured_app (codes "check"))
+    (database_rule ∷ option_rule (codes "status") ∷ option_rule (codes "balances") ∷ []))
 
 -- `serve --config FILE --db FILE [--explain] [--bind A.B.C.D].. [--desk-bind A.B.C.D]
 -- [--radius-port PORT] [--desk-port PORT] [--turns N] [--sync HOW] [--quiet] [--status FILE]

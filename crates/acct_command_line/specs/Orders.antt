@@ -18,6 +18,7 @@ use Rattle.acct_command_line.specs.declared.job.Syncs.TheVariants.{Once, Twice}
 use Rattle.acct_command_line.specs.declared.job.Telling.{Telling}
 use Rattle.acct_command_line.specs.declared.job.BalancesFile.{BalancesFile}
 use Rattle.acct_command_line.specs.declared.job.Paths.{Paths}
+use Rattle.acct_command_line.specs.declared.job.KeptNames.{KeptNames}
 
 -- the option has this number, from 1 to the given one
 abbrev pub IsNumber : Text → List Row → ℕ → ℕ → Type 0
@@ -87,6 +88,12 @@ ArePaths rows paths =
     (first_of (codes "config") rows ≡ Some paths.config)
     × (first_of (codes "db") rows ≡ Some paths.database)
 
+-- the files that the options say a server is to write
+abbrev pub AreKeptNames : List Row → KeptNames → Type 0
+AreKeptNames rows kept =
+    (first_of (codes "status") rows ≡ kept.status)
+    × (first_of (codes "balances") rows ≡ kept.balances)
+
 -- the name of what is written
 abbrev pub export_name : Export → Text
 export_name Sessions = codes "sessions"
@@ -102,9 +109,9 @@ IsExport rows what = first_of (codes "what") rows ≡ Some (export_name what)
 abbrev pub WordsAskFor : Text → List Row → Job → Type 0
 WordsAskFor name rows (job.Feed config) =
     (name ≡ codes "feed") × (first_of (codes "config") rows ≡ config)
-WordsAskFor name rows (job.Check config database) =
+WordsAskFor name rows (job.Check config database kept) =
     (name ≡ codes "check") × (first_of (codes "config") rows ≡ Some config)
-    × (first_of (codes "db") rows ≡ database)
+    × (first_of (codes "db") rows ≡ database) × AreKeptNames rows kept
 WordsAskFor name rows (job.Init paths) = (name ≡ codes "init") × ArePaths rows paths
 WordsAskFor name rows (job.Serve paths serving) =
     (name ≡ codes "serve") × ArePaths rows paths × IsServing rows serving
@@ -132,7 +139,7 @@ pub record IsBounded (serving : Serving) : Type 0 where
 -- the numbers of a job are within their bounds
 abbrev pub HasBounds : Job → Type 0
 HasBounds (job.Feed config) = ⊤
-HasBounds (job.Check config database) = ⊤
+HasBounds (job.Check config database kept) = ⊤
 HasBounds (job.Init paths) = ⊤
 HasBounds (job.Serve paths serving) = IsBounded serving
 HasBounds (job.Import paths) = ⊤

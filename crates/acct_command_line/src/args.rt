@@ -116,7 +116,7 @@ pub fn status_option<'a>(alloc: Global) -> Arg<'a>
     ensures local { result.global ≡ false }
 {
     valued(alloc, "status", "FILE").help(
-        "A file to write the counts of what came into, in Prometheus' text form",
+        "A file to write counts into, in Prometheus' text form; what another program wrote is kept",
     )
 }
 
@@ -125,7 +125,9 @@ pub fn balances_option<'a>(alloc: Global) -> Arg<'a>
     ensures rule { rule_of result ≡ option_rule (codes "balances") }
     ensures local { result.global ≡ false }
 {
-    valued(alloc, "balances", "FILE").help("A file to write the balances of all accounts into")
+    valued(alloc, "balances", "FILE").help(
+        "A file to write the balances of all accounts into; what another program wrote is kept",
+    )
 }
 
 /// `--balances-every SECONDS`, which may only be given with `--balances`.

@@ -18,8 +18,8 @@ use std::alloc::{AllocError, Global};
 
 /// The program's name.
 pub const PROGRAM: &str = "radacctd";
-/// The program's version.
-const VERSION: &str = "0.1.0";
+/// The program's version, and the number of the schema of the books that it keeps.
+const VERSION: &str = "0.1.0 (schema 3)";
 
 /// The command line.
 pub fn command_line<'a>(alloc: Global) -> Result<Command<'a>, AllocError>
@@ -96,6 +96,8 @@ fn check_command<'a>(alloc: Global) -> Result<Command<'a>, AllocError>
     let book = "A book that is to keep the same plans, a SQLite database";
     let command = configured_command(alloc, "check", about);
     let command = with_option(command, database_option(alloc, book));
+    let command = with_option(command, status_option(alloc));
+    let command = with_option(command, balances_option(alloc));
     with_option(command, explain_flag(alloc))
 }
 

@@ -32,6 +32,8 @@ pub enum Job {
         config: Text,
         /// The file of the book that is to have its plans, if one is named.
         database: Option<Text>,
+        /// The files that a server is to write.
+        kept: KeptNames,
     },
     /// Makes a book.
     Init {
@@ -77,6 +79,7 @@ impl Drop for Job {
             Job::Check {
                 config: _,
                 database: _,
+                kept: _,
             } => {}
             Job::Init { paths: _ } => {}
             Job::Serve {
@@ -105,6 +108,24 @@ impl Drop for Paths {
         let Paths {
             config: _,
             database: _,
+        } = self;
+    }
+}
+
+/// The names of the files that a server writes from time to time.
+pub struct KeptNames {
+    /// The file of its counts, if one is named.
+    pub status: Option<Text>,
+    /// The file of all balances, if one is named.
+    pub balances: Option<Text>,
+}
+
+// It is written out, so that a caller does not prove again how each part is dropped.
+impl Drop for KeptNames {
+    fn drop(self) {
+        let KeptNames {
+            status: _,
+            balances: _,
         } = self;
     }
 }

@@ -9,6 +9,8 @@ mod serving;
 mod telling;
 mod words;
 
-pub use job::{BalancesFile, Export, Job, Listening, Order, Paths, Serving, Syncs, Telling};
+pub use job::{
+    BalancesFile, Export, Job, KeptNames, Listening, Order, Paths, Serving, Syncs, Telling,
+};
 pub use telling::tell;
 pub use words::job_of;

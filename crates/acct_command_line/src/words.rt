@@ -2,11 +2,12 @@
 ghost use Rattle.std.specs.Prelude.{◌≡◌, IfOk, IfSome, codes, map, string_bytes};
 ghost use Rattle.clap.specs.Words.{first_of, rows_of, found_of, subcommand_of};
 ghost use Rattle.acct_command_line.specs.CommandLine.{app};
-ghost use Rattle.acct_command_line.specs.Orders.{ArePaths, HasBounds, IsExport, NamesJob};
+ghost use Rattle.acct_command_line.specs.Orders.{AreKeptNames, ArePaths, HasBounds, IsExport};
+ghost use Rattle.acct_command_line.specs.Orders.{NamesJob};
 ghost use Rattle.acct_command_line.specs.Orders.{WordsAskFor, export_name};
 
 use crate::commands::{PROGRAM, command_line};
-use crate::job::{Export, Job, Order, Paths};
+use crate::job::{Export, Job, KeptNames, Order, Paths};
 use crate::options::{flag_option, text_option};
 use crate::serving::serving_of;
 use clap::error::ErrorKind;
@@ -50,12 +51,27 @@ fn asked(alloc: Global, name: &str, options: &ArgMatches<'_>) -> Result<Option<J
     };
     let database = text_option(alloc, options, "db")?;
     if name == "check" {
-        return Ok(Some(Job::Check { config, database }));
+        let kept = kept_names(alloc, options)?;
+        return Ok(Some(Job::Check {
+            config,
+            database,
+            kept,
+        }));
     }
     let Some(database) = database else {
         return Ok(None);
     };
     asked_of_book(alloc, name, Paths { config, database }, options)
+}
+
+// The files that the options of `check` say a server is to write.
+fn kept_names(alloc: Global, options: &ArgMatches<'_>) -> Result<KeptNames, AllocError>
+    ensures { IfOk result (AreKeptNames (rows_of (found_of options.now))) }
+{
+    Ok(KeptNames {
+        status: text_option(alloc, options, "status")?,
+        balances: text_option(alloc, options, "balances")?,
+    })
 }
 
 // What the options of a command ask for that keeps a book.

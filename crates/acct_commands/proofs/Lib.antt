@@ -2,3 +2,5 @@
 pub mod Readings
 -- the places of a log of drops
 pub mod Places
+-- what holds of the elements of a list up to a place
+pub mod Elements

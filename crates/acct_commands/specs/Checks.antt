@@ -45,6 +45,7 @@ IsNoConfig text fault.StoreMemory = ⊥
 IsNoConfig text fault.CannotBind = ⊥
 IsNoConfig text fault.CannotWrite = ⊥
 IsNoConfig text fault.NoMemory = ⊥
+IsNoConfig text fault.WouldOverwrite = ⊥
 
 -- why a text was not checked: it is no configuration, or its sizes could not be written
 abbrev pub IsUnchecked : Option (List ℕ) → Fault → Type 0

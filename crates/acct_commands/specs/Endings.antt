@@ -25,6 +25,7 @@ fault_text fault.StoreMemory = codes "db: Memory"
 fault_text fault.CannotBind = codes "socket: cannot bind"
 fault_text fault.CannotWrite = codes "cannot write"
 fault_text fault.NoMemory = codes "out of memory"
+fault_text fault.WouldOverwrite = codes "file: would be overwritten"
 
 -- how a command ends that a fault ends
 abbrev pub fault_status : Fault → Status
@@ -36,6 +37,7 @@ fault_status fault.StoreMemory = status.Unavailable
 fault_status fault.CannotBind = status.Socket
 fault_status fault.CannotWrite = status.Refused
 fault_status fault.NoMemory = status.Unavailable
+fault_status fault.WouldOverwrite = status.Refused
 
 -- how a command ends
 abbrev pub ended_status : Result Status Fault → Status

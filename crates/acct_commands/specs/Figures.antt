@@ -1,10 +1,14 @@
 -- What a server counted since its start, in the text form of Prometheus.
 use Rattle.std.specs.Prelude.{ℕ, List, [], ◌∷◌, ◌++◌, codes, decimal, flat_map}
+use Rattle.std.specs.Prelude.{Option, None, Some, Bool, if◌then◌else◌}
 use Rattle.acct_wire.specs.Reasons.{reason_number, reason_name}
 use Rattle.acct_wire.specs.declared.reason.Reason.{Reason}
 use Rattle.acct_wire.specs.declared.reason.Reason.TheVariants as reason
 use Rattle.acct_commands.specs.Tally.{drops_for}
 use Rattle.acct_commands.specs.declared.tally.Tally.{Tally}
+use Rattle.acct_commands.specs.declared.tally.Arrivals.{Arrivals}
+use Rattle.acct_commands.specs.declared.gauges.BalancesWritten.{BalancesWritten}
+use Rattle.acct_commands.specs.declared.figures.State.{State}
 use Rattle.acct_commands.specs.declared.figures.Figures.{Figures}
 
 -- `# HELP NAME ABOUT`, and `# TYPE NAME KIND`
@@ -64,8 +68,65 @@ moments_text started_at last_event_at =
     ++ metric_text (codes "gauge") (codes "radacctd_last_event_time_seconds")
     (codes "When the last event came, in seconds since 1970, or 0.") last_event_at
 
+-- how many reports and requests at the desk came, and when the last ones did
+abbrev pub arrivals_text : Arrivals → Arrivals → List ℕ
+arrivals_text reports requests =
+    metric_text (codes "counter") (codes "radacctd_reports_total")
+    (codes "Datagrams that came.") reports.count
+    ++ metric_text (codes "counter") (codes "radacctd_desk_requests_total")
+    (codes "Requests that came at the desk.") requests.count
+    ++ metric_text (codes "gauge") (codes "radacctd_last_report_time_seconds")
+    (codes "When the last datagram came, in seconds since 1970, or 0.") reports.last_at
+    ++ metric_text (codes "gauge") (codes "radacctd_last_desk_request_time_seconds")
+    (codes "When the last request came at the desk, in seconds since 1970, or 0.")
+    requests.last_at
+
+-- when the file of balances was written
+abbrev pub balances_at : ℕ → List ℕ
+balances_at moment =
+    metric_text (codes "gauge") (codes "radacctd_balances_time_seconds")
+    (codes "When the file of balances was written, in seconds since 1970, or 0.") moment
+
+-- that, and what it has
+abbrev pub balances_text : Option BalancesWritten → List ℕ
+balances_text None = balances_at 0
+balances_text (Some written) =
+    balances_at written.at
+    ++ metric_text (codes "gauge") (codes "radacctd_accounts")
+    (codes "Accounts in the file of balances.") written.accounts
+    ++ metric_text (codes "gauge") (codes "radacctd_overdrawn_accounts")
+    (codes "Accounts in the file of balances with a balance below 0.") written.overdrawn
+
+-- a value, if it is known
+abbrev pub known_text : List ℕ → List ℕ → Option ℕ → List ℕ
+known_text name about None = []
+known_text name about (Some value) = metric_text (codes "gauge") name about value
+
+-- which program it is
+abbrev pub build_text : List ℕ
+build_text =
+    codes "# HELP radacctd_build_info The program and the schema of its books.\n# TYPE radacctd_build_info gauge\nradacctd_build_info{version=\"0.1.0\",schema=\"3\"} 1\n"
+
+-- 1 or 0
+abbrev pub value_of : Bool → ℕ
+value_of is_so = if is_so then 1 else 0
+
+-- the state of a server
+abbrev pub state_text : State → List ℕ
+state_text state =
+    metric_text (codes "gauge") (codes "radacctd_config_is_current")
+    (codes "Whether the configuration in force is the one in the file.")
+    (value_of state.is_current)
+    ++ balances_text state.balances
+    ++ known_text (codes "radacctd_book_octets") (codes "The octets of the file of the book.")
+    state.book_octets
+    ++ known_text (codes "radacctd_log_octets") (codes "The octets of the log of the book.")
+    state.log_octets
+    ++ build_text
+
 -- all of it
 abbrev pub figures_text : Figures → List ℕ
 figures_text figures =
     tally_text figures.tally ++ drops_text figures.dropped
     ++ moments_text figures.started_at figures.last_event_at
+    ++ arrivals_text figures.reports figures.requests ++ state_text figures.state

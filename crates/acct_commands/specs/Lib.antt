@@ -6,6 +6,7 @@ pub mod Exports
 pub mod Figures
 pub mod Fresh
 pub mod Imports
+pub mod KeptNames
 pub mod NewSite
 pub mod Sights
 pub mod Tally

@@ -1,10 +1,13 @@
 -- What comes to a server, counted call by call of its exchange.
 use Rattle.std.specs.Prelude.{◌+◌, ◌-◌, ◌^◌, ℕ, min, Bool, true, false, Option, Some, None, Result}
-use Rattle.std.specs.Prelude.{Ok, Err, List, slice_index, slice_set, if◌then◌else◌}
+use Rattle.std.specs.Prelude.{Ok, Err, List, slice_index, slice_set, if◌then◌else◌, not}
 use Rattle.acct_wire.specs.declared.reason.Reason.{Reason}
 use Rattle.acct_wire.specs.Reasons.{reason_number}
 use Rattle.acct_service.specs.declared.event.Event.{Event}
+use Rattle.acct_service.specs.declared.event.What.{What}
+use Rattle.acct_service.specs.declared.event.What.TheVariants.{Datagram, Desk}
 use Rattle.acct_service.specs.declared.exchange.Fault.{Fault}
+use Rattle.acct_commands.specs.declared.tally.Arrivals.{Arrivals}
 use Rattle.acct_commands.specs.declared.tally.Tally.{Tally}
 
 -- nothing yet
@@ -30,11 +33,39 @@ with_came (Ok (Some event)) tally = record tally { events = plus_one tally.event
 with_came (Ok None) tally = tally
 with_came (Err fault) tally = with_fault tally
 
+-- when the last event came, once this came in a turn
+abbrev pub last_event : Result (Option Event) Fault → ℕ → ℕ
+last_event (Ok (Some event)) last = event.moment
+last_event (Ok None) last = last
+last_event (Err fault) last = last
+
+abbrev pub is_datagram : What → Bool
+is_datagram (Datagram source port bytes) = true
+is_datagram (Desk bytes) = false
+
 -- an event came in a turn, which is to be answered
 abbrev pub is_event : Result (Option Event) Fault → Bool
 is_event (Ok (Some event)) = true
 is_event (Ok None) = false
 is_event (Err fault) = false
+
+-- a datagram came in a turn
+abbrev pub is_report : Result (Option Event) Fault → Bool
+is_report (Ok (Some event)) = is_datagram event.what
+is_report (Ok None) = false
+is_report (Err fault) = false
+
+-- a request at the desk came in a turn
+abbrev pub is_request : Result (Option Event) Fault → Bool
+is_request (Ok (Some event)) = not (is_datagram event.what)
+is_request (Ok None) = false
+is_request (Err fault) = false
+
+-- what came of one kind, once this came: how many, and when the last one did
+abbrev pub with_arrival : Bool → Result (Option Event) Fault → Arrivals → Arrivals
+with_arrival is_one came arrivals =
+    if is_one then record { count = plus_one arrivals.count; last_at = last_event came arrivals.last_at }
+    else arrivals
 
 -- with a reply that was asked for, which was taken or not
 abbrev pub with_reply : Bool → Tally → Tally
@@ -54,9 +85,3 @@ drops_for dropped reason = slice_index dropped (reason_number reason - 1)
 abbrev pub with_drop_for : Reason → List ℕ → List ℕ
 with_drop_for reason dropped =
     slice_set dropped (reason_number reason - 1) (plus_one (drops_for dropped reason))
-
--- when the last event came, once this came in a turn
-abbrev pub last_event : Result (Option Event) Fault → ℕ → ℕ
-last_event (Ok (Some event)) last = event.moment
-last_event (Ok None) last = last
-last_event (Err fault) last = last

@@ -5,9 +5,11 @@
 //! changes nothing else, and is told once until it can be again.
 ghost use Rattle.acct_book.specs.inner.Step.{OnlyLooks};
 
+use crate::counted_lines::CountedLines;
 use crate::exporting::run_export;
 use crate::fault::Fault;
 use crate::fresh_file::FreshFile;
+use crate::gauges::{BalancesWritten, Gauges};
 use acct_book::Book;
 use acct_command_line::{BalancesFile, Export};
 use acct_model::Plans;
@@ -36,14 +38,15 @@ impl<'r, R: Files> KeptBalances<'r, R> {
         Ok(KeptBalances { runtime, file })
     }
 
-    /// Writes all balances where that is due at a moment, in seconds since 1970. Why it cannot is
-    /// told on `errors`.
+    /// Writes all balances if that is due at a moment, in seconds since 1970, and notes in `gauges`
+    /// what was written. Why it cannot is printed on `errors`.
     pub fn keep<B: Book, E: Write>(
         &mut self,
         alloc: Global,
         plans: &Plans,
         book: &mut B,
         moment: u64,
+        gauges: &Gauges,
         errors: &mut E,
     )
         ensures { OnlyLooks B.Book book.old book.new }
@@ -52,22 +55,34 @@ impl<'r, R: Files> KeptBalances<'r, R> {
             return;
         }
         let written = write_file(self.runtime, alloc, &self.file, plans, book);
-        let _ = self.file.note("balances", written, errors);
+        let noted = match written {
+            Ok((accounts, overdrawn)) => {
+                gauges.note_balances(BalancesWritten {
+                    at: moment,
+                    accounts,
+                    overdrawn,
+                });
+                Ok(())
+            }
+            Err(fault) => Err(fault),
+        };
+        let _ = self.file.note("balances", noted, errors);
     }
 }
 
-// Writes all balances into a file: `export balances`, which says what is written of the book.
+// Writes all balances into a file: `export balances`, which says what is written of the book. It
+// gives the numbers of accounts and of those that are overdrawn.
 fn write_file<R: Files, B: Book>(
     runtime: &R,
     alloc: Global,
     file: &FreshFile,
     plans: &Plans,
     book: &mut B,
-) -> Result<(), Fault>
+) -> Result<(u64, u64), Fault>
     ensures { OnlyLooks B.Book book.old book.new }
 {
-    let writer = file.begin(runtime)?;
-    let _written = run_export(alloc, Export::Balances, plans, book, writer)?;
+    let writer = CountedLines::new(file.begin(runtime)?);
+    let written = run_export(alloc, Export::Balances, plans, book, writer)?;
     file.finish(runtime)?;
-    Ok(())
+    Ok((written.accounts(), written.overdrawn()))
 }

@@ -3,7 +3,7 @@ ghost use Rattle.std.specs.Prelude.{◌≡◌, IfOk, IfErr, OnOk, None};
 ghost use Rattle.std.specs.Io.KnownBytes.{Appends};
 ghost use Rattle.acct_commands.specs.Checks.{TellsSizes, IsUnchecked, sizes_line};
 
-use crate::config_file::config_from;
+use crate::config_file::{config_from, is_waited_for};
 use crate::fault::Fault;
 use acct_feed::Status;
 use acct_model::Text;
@@ -18,7 +18,7 @@ use std::io::{Read, Write};
 ///
 /// # Errors
 ///
-/// `CannotRead` where the file cannot be opened, and those of `check_from`.
+/// `CannotRead` if the file cannot be opened, or would be waited for; and those of `check_from`.
 pub fn run_check<R: Files, W: Write>(
     runtime: &R,
     alloc: Global,
@@ -29,6 +29,9 @@ pub fn run_check<R: Files, W: Write>(
     ensures sizes { OnOk result (TellsSizes None (W.contents output.old) (W.contents output.new)) }
     ensures refused { IfErr result (IsUnchecked None) }
 {
+    if is_waited_for(runtime, file.as_str()) {
+        return Err(Fault::CannotRead);
+    }
     match File::open(runtime, file.as_str()) {
         Ok(mut reader) => check_from(alloc, &mut reader, output),
         Err(_) => Err(Fault::CannotRead),

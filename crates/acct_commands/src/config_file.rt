@@ -12,7 +12,7 @@ use acct_site::Config;
 use std::alloc::Global;
 use std::fs::{File, Files};
 use std::io::Read;
-use std::str;
+use std::{fs, str};
 
 /// The configuration in a file.
 ///
@@ -43,16 +43,33 @@ pub fn config_from<R: Read>(alloc: Global, reader: &mut R) -> Result<Config, Fau
 ///
 /// # Errors
 ///
-/// `CannotRead` where it cannot be opened, and those of `read_input`.
+/// `CannotRead` if it cannot be opened, or would be waited for; and those of `read_input`.
 pub(crate) fn read_file<R: Files>(
     runtime: &R,
     alloc: Global,
     file: &Text,
 ) -> Result<Octets, InputFault> {
+    if is_waited_for(runtime, file.as_str()) {
+        return Err(InputFault::CannotRead);
+    }
     match File::open(runtime, file.as_str()) {
         Ok(mut reader) => octets_of(alloc, &mut reader),
         Err(_) => Err(InputFault::CannotRead),
     }
+}
+
+/// Whether to open a file could wait for another program without end, as at a named pipe. What the
+/// program was given open is read as it comes: standard input, and a shell's `<(command)`.
+pub(crate) fn is_waited_for<R: Files>(runtime: &R, file: &str) -> bool {
+    match fs::metadata(runtime, file) {
+        Ok(found) => !found.is_file() && !is_given_open(file),
+        Err(_) => false,
+    }
+}
+
+// Whether a file is one that the program was given open.
+fn is_given_open(file: &str) -> bool {
+    file == "/dev/stdin" || file.starts_with("/dev/fd/") || file.starts_with("/proc/self/fd/")
 }
 
 // All octets that a reader has left.

@@ -41,6 +41,8 @@ pub enum Fault {
     CannotWrite,
     /// Memory was refused.
     NoMemory,
+    /// A file that is written from time to time would take the place of another one.
+    WouldOverwrite,
 }
 
 impl fmt::Display for Fault {
@@ -56,6 +58,7 @@ impl fmt::Display for Fault {
             Fault::CannotBind => f.write_str("socket: cannot bind"),
             Fault::CannotWrite => f.write_str("cannot write"),
             Fault::NoMemory => f.write_str("out of memory"),
+            Fault::WouldOverwrite => f.write_str("file: would be overwritten"),
         }
     }
 }
@@ -79,7 +82,8 @@ impl Fault {
         ensures other { result ≢ Status.WrongWords }
     {
         match self {
-            Fault::CannotRead | Fault::Config(_) | Fault::CannotWrite => Status::Refused,
+            Fault::CannotRead | Fault::Config(_) | Fault::CannotWrite | Fault::WouldOverwrite =>
+                Status::Refused,
             Fault::CannotOpen | Fault::Store(_) | Fault::StoreMemory | Fault::NoMemory => {
                 Status::Unavailable
             }

@@ -3,10 +3,12 @@ ghost use Rattle.std.specs.Prelude.{◌≡◌, ◌++◌, Some, OnOk, codes};
 ghost use Rattle.std.specs.Io.KnownBytes.{Appends};
 ghost use Rattle.acct_commands.specs.Figures.{metric_text, head_text, drops_metric_text};
 ghost use Rattle.acct_commands.specs.Figures.{all_reasons, tally_text, drops_text, moments_text};
-ghost use Rattle.acct_commands.specs.Figures.{figures_text, drops_lines};
+ghost use Rattle.acct_commands.specs.Figures.{figures_text, drops_lines, arrivals_text, state_text};
+ghost use Rattle.acct_commands.specs.Figures.{balances_text, known_text, build_text, value_of};
 ghost use Rattle.acct_commands.specs.Tally.{drops_for};
 
-use crate::tally::Tally;
+use crate::gauges::BalancesWritten;
+use crate::tally::{Arrivals, Tally};
 use acct_wire::Reason;
 use std::io::Write;
 use std::{fmt, io};
@@ -20,8 +22,27 @@ pub struct Figures {
     pub dropped: [u64; Reason::COUNT],
     /// When the server started, in seconds since 1970.
     pub started_at: u64,
-    /// When the last event came, in seconds since 1970: 0 where none came yet.
+    /// When the last event came, in seconds since 1970: 0 if none came yet.
     pub last_event_at: u64,
+    /// The datagrams that came.
+    pub reports: Arrivals,
+    /// The requests that came at the desk.
+    pub requests: Arrivals,
+    /// What the server shows of its state.
+    pub state: State,
+}
+
+/// What a server shows of its state beside its counts.
+#[derive(Clone, Copy)]
+pub struct State {
+    /// Whether the configuration in force is the one in the file.
+    pub is_current: bool,
+    /// The last writing of the file of balances, if it was written.
+    pub balances: Option<BalancesWritten>,
+    /// The octets of the book's file, if they are known.
+    pub book_octets: Option<u64>,
+    /// The octets of its log, if they are known.
+    pub log_octets: Option<u64>,
 }
 
 // What a metric is told to be.
@@ -83,10 +104,21 @@ pub fn write_figures<W: Write>(output: &mut W, figures: &Figures) -> io::Result<
     ensures { OnOk result (Appends (W.contents output.old) (W.contents output.new)
         (figures_text figures.now)) }
 {
+    write_parts(output, figures)?;
+    output.flush()
+}
+
+// Writes what was counted.
+fn write_parts<W: Write>(output: &mut W, figures: &Figures) -> io::Result<()>
+    ensures { OnOk result (Appends (W.contents output.old) (W.contents output.new)
+        (figures_text figures.now)) }
+{
     write_tally(output, &figures.tally)?;
     write_drops(output, &figures.dropped)?;
     write_moments(output, figures)?;
-    output.flush()
+    write_arrivals(output, &figures.reports, &figures.requests)?;
+    write_state(output, &figures.state)?;
+    Ok(())
 }
 
 // Writes one count.
@@ -234,5 +266,102 @@ fn write_moments<W: Write>(output: &mut W, figures: &Figures) -> io::Result<()>
         "radacctd_last_event_time_seconds",
         about,
         figures.last_event_at,
+    )
+}
+
+// Writes how many reports and requests at the desk came, and when the last ones did.
+fn write_arrivals<W: Write>(
+    output: &mut W,
+    reports: &Arrivals,
+    requests: &Arrivals,
+) -> io::Result<()>
+    ensures { OnOk result (Appends (W.contents output.old) (W.contents output.new)
+        (arrivals_text reports.now requests.now)) }
+{
+    let about = "Datagrams that came.";
+    write_count(output, "radacctd_reports_total", about, reports.count)?;
+    let about = "Requests that came at the desk.";
+    write_count(
+        output,
+        "radacctd_desk_requests_total",
+        about,
+        requests.count,
+    )?;
+    let name = "radacctd_last_report_time_seconds";
+    let about = "When the last datagram came, in seconds since 1970, or 0.";
+    write_moment(output, name, about, reports.last_at)?;
+    let name = "radacctd_last_desk_request_time_seconds";
+    let about = "When the last request came at the desk, in seconds since 1970, or 0.";
+    write_moment(output, name, about, requests.last_at)?;
+    Ok(())
+}
+
+// Writes the state of a server.
+fn write_state<W: Write>(output: &mut W, state: &State) -> io::Result<()>
+    ensures { OnOk result (Appends (W.contents output.old) (W.contents output.new)
+        (state_text state.now)) }
+{
+    let about = "Whether the configuration in force is the one in the file.";
+    let is_current = value_of(state.is_current);
+    write_moment(output, "radacctd_config_is_current", about, is_current)?;
+    write_balances(output, state.balances)?;
+    let about = "The octets of the file of the book.";
+    write_known(output, "radacctd_book_octets", about, state.book_octets)?;
+    let about = "The octets of the log of the book.";
+    write_known(output, "radacctd_log_octets", about, state.log_octets)?;
+    write_build(output)?;
+    Ok(())
+}
+
+// 1 or 0.
+fn value_of(is_so: bool) -> u64
+    ensures { result ≡ value_of is_so }
+{
+    if is_so { 1 } else { 0 }
+}
+
+// Writes when the file of balances was written, and what it has.
+fn write_balances<W: Write>(output: &mut W, balances: Option<BalancesWritten>) -> io::Result<()>
+    ensures { OnOk result (Appends (W.contents output.old) (W.contents output.new)
+        (balances_text balances)) }
+{
+    let name = "radacctd_balances_time_seconds";
+    let about = "When the file of balances was written, in seconds since 1970, or 0.";
+    let Some(written) = balances else {
+        return write_moment(output, name, about, 0);
+    };
+    write_moment(output, name, about, written.at)?;
+    let about = "Accounts in the file of balances.";
+    write_moment(output, "radacctd_accounts", about, written.accounts)?;
+    let about = "Accounts in the file of balances with a balance below 0.";
+    let name = "radacctd_overdrawn_accounts";
+    write_moment(output, name, about, written.overdrawn)?;
+    Ok(())
+}
+
+// Writes a value, if it is known.
+fn write_known<W: Write>(
+    output: &mut W,
+    name: &'static str,
+    about: &'static str,
+    value: Option<u64>,
+) -> io::Result<()>
+    ensures { OnOk result (Appends (W.contents output.old) (W.contents output.new)
+        (known_text name.now about.now value)) }
+{
+    match value {
+        Some(value) => write_moment(output, name, about, value),
+        None => Ok(()),
+    }
+}
+
+// Writes which program it is.
+fn write_build<W: Write>(output: &mut W) -> io::Result<()>
+    ensures { OnOk result (Appends (W.contents output.old) (W.contents output.new) build_text) }
+{
+    output.write_all(
+        b"# HELP radacctd_build_info The program and the schema of its books.\n\
+        # TYPE radacctd_build_info gauge\n\
+        radacctd_build_info{version=\"0.1.0\",schema=\"3\"} 1\n",
     )
 }

@@ -1,40 +1,37 @@
 //! The configuration that takes the place of another one while a server runs.
 //!
-//! 1. What is read of its text is taken where it is right and has the same plans in the same order.
-//!    Plans are added to a book that is not served.
-//! 2. What was read is told, taken or not.
-ghost use Rattle.std.specs.Prelude.{◌≡◌, ◌↔◌, Some, IsTrue, OnOk, ◌++◌, ◌∷◌, []};
+//! 1. The clients and keys of a text are taken if the text is right. The plans stay those that the
+//!    server began with: plans are added to a book that is not served.
+//! 2. What was read is printed, taken or not, and the first plan that differs.
+ghost use Rattle.std.specs.Prelude.{◌≡◌, ◌↔◌, Some, Err, IsTrue, IfOk, IfErr, IfSome, OnOk, ◌++◌};
+ghost use Rattle.std.specs.Prelude.{◌∷◌, [], string_bytes};
 ghost use Rattle.std.specs.Io.KnownBytes.{Appends};
-ghost use Rattle.acct_commands.specs.NewSite.{read_again_text, sizes_of, kept_line, why_text};
-ghost use Rattle.acct_commands.specs.NewSite.{Judges, Takes};
+ghost use Rattle.acct_model.specs.Plans.{Extends};
+ghost use Rattle.acct_config.specs.Tables.{top_error};
+ghost use Rattle.acct_commands.specs.Checks.{IsRead};
+ghost use Rattle.acct_commands.specs.NewSite.{read_again_text, sizes_of, kept_line, change_text};
+ghost use Rattle.acct_commands.specs.NewSite.{plan_change_text, IsInForce, IsChange, Takes};
 
 use crate::config_file::config_in;
 use crate::fault::Fault;
+use acct_config::{ConfigError, ConfigKind, ConfigTable};
 use acct_feed::InputFault;
-use acct_model::{Octets, Plan, Plans};
+use acct_model::{Octets, Plan, Plans, show};
 use acct_site::Config;
 use std::alloc::Global;
 use std::io::Write;
 use std::{fmt, io};
 
-// Why a configuration was not taken.
-#[derive(Clone, Copy)]
-enum NotTaken {
-    // It cannot be read, or is wrong.
-    Wrong(Fault),
-    // It has other plans.
-    PlansDiffer,
-}
+// What is printed of plans that differ if there is no memory to name one.
+const UNNAMED: &str = "; the plans differ, and stay";
 
-impl fmt::Display for NotTaken {
-    ghost output = { λ why. Some (why_text why) };
-
-    fn fmt<W: fmt::Write>(&self, f: &mut fmt::Formatter<W>) -> fmt::Result {
-        match self {
-            NotTaken::Wrong(fault) => write!(f, "{fault}"),
-            NotTaken::PlansDiffer => f.write_str("config: PlansDiffer"),
-        }
-    }
+/// What was taken of a reading of the configuration.
+#[derive(Drop)]
+pub struct Taken {
+    /// The configuration for the turns that follow, if it is another one.
+    pub site: Option<Config>,
+    /// Whether the configuration in force has all that the text has.
+    pub is_current: bool,
 }
 
 // How much a configuration has that is taken.
@@ -57,56 +54,116 @@ impl fmt::Display for Sizes {
     }
 }
 
-/// What takes the place of a configuration with these plans, of what was read of its text. What
-/// that has, or why it stays, is told on `errors`.
+// How the plan of a class in a text differs from the one in force.
+#[derive(Clone, Copy, PartialEq, Eq)]
+enum Change {
+    // No plan in force has the class.
+    New,
+    // No plan of the text has the class.
+    Missing,
+    // The plan in force is another one.
+    Other,
+}
+
+impl fmt::Display for Change {
+    ghost output = { λ change. Some (change_text change) };
+
+    fn fmt<W: fmt::Write>(&self, f: &mut fmt::Formatter<W>) -> fmt::Result {
+        match self {
+            Change::New => f.write_str("is new"),
+            Change::Missing => f.write_str("is missing"),
+            Change::Other => f.write_str("is changed"),
+        }
+    }
+}
+
+/// What takes the place of a configuration with these plans, of what was read of its text: the
+/// clients and keys, if the text is right. What that has, or why the old one stays, is printed on
+/// `errors`.
 pub fn take_site<E: Write>(
     alloc: Global,
     read: Result<Octets, InputFault>,
     plans: &Plans,
     errors: &mut E,
-) -> Option<Config>
-    ensures { Takes plans.now (Some read) result }
+) -> Taken
+    ensures taken { Takes plans.now (Some read) result.site }
+    ensures current { IsTrue result.is_current → IsInForce plans.now read }
 {
     match judge(alloc, read, plans) {
-        Ok(site) => {
-            let _ = write_read_again(errors, sizes_of(&site));
-            Some(site)
+        Ok((site, is_current, change)) => {
+            let _ = match &change {
+                Some(text) => write_read_again(errors, sizes_of(&site), text.as_str()),
+                None if is_current => write_read_again(errors, sizes_of(&site), ""),
+                None => write_read_again(errors, sizes_of(&site), UNNAMED),
+            };
+            Taken {
+                site: Some(site),
+                is_current,
+            }
         }
-        Err(why) => {
-            let _ = write_kept(errors, why);
-            None
+        Err(fault) => {
+            let _ = write_kept(errors, fault);
+            Taken {
+                site: None,
+                is_current: false,
+            }
         }
     }
 }
 
-// The configuration that was read, if it has these plans.
-fn judge(alloc: Global, read: Result<Octets, InputFault>, plans: &Plans) -> Result<Config, NotTaken>
-    ensures { Judges plans.now read result }
+// The configuration that was read, with these plans in the place of its own; whether it has the same
+// plans; and the first one that differs, as it is printed, if there is one.
+fn judge(
+    alloc: Global,
+    read: Result<Octets, InputFault>,
+    plans: &Plans,
+) -> Result<(Config, bool, Option<String>), Fault>
+    ensures taken { IfOk result (λ judged. Takes plans.now (Some read) (Some judged.0)) }
+    ensures current { IfOk result (λ judged. IsTrue judged.1 → IsInForce plans.now read) }
+    ensures refused { IfErr result (λ fault. IsRead read (Err fault)) }
 {
-    let site = match config_in(alloc, read) {
-        Ok(site) => site,
-        Err(fault) => return Err(NotTaken::Wrong(fault)),
+    let mut site = config_in(alloc, read)?;
+    let is_current = have_same(&site.plans, plans);
+    let change = match plan_change(&site.plans, plans) {
+        Some((plan, how)) => shown_change(alloc, plan, how),
+        None => None,
     };
-    if have_same(site.plans.list(), plans.list()) {
-        Ok(site)
-    } else {
-        Err(NotTaken::PlansDiffer)
+    match copied(alloc, plans) {
+        Some(plans) => {
+            site.plans = plans;
+            Ok((site, is_current, change))
+        }
+        None => Err(no_memory()),
     }
 }
 
-// Whether these are the same plans in the same order.
-fn have_same(plans: &[Plan], others: &[Plan]) -> bool
-    ensures { IsTrue result ↔ (plans.now ≡ others.now) }
+// Whether two lists have the same plans, in whatever order.
+fn have_same(plans: &Plans, others: &Plans) -> bool
+    ensures { IsTrue result ↔ (Extends plans.now others.now × Extends others.now plans.now) }
 {
-    if plans.len() != others.len() {
-        return false;
-    }
-    for place in 0..plans.len() {
-        if !is_same(&plans[place], &others[place]) {
-            return false;
+    plans.extends(others) && others.extends(plans)
+}
+
+// The first plan of a text that is another one in force, or none there, and how it differs; else the
+// first one in force that the text has no more.
+fn plan_change<'p>(own: &'p Plans, in_force: &'p Plans) -> Option<(&'p Plan, Change)>
+    ensures { IfSome result (λ change. IsChange own.now in_force.now change.0.now change.1) }
+{
+    for plan in own.list() {
+        let kept = in_force.plan_of(plan.class.as_slice());
+        if kept.class != plan.class {
+            return Some((plan, Change::New));
+        }
+        if !is_same(kept, plan) {
+            return Some((plan, Change::Other));
         }
     }
-    true
+    for plan in in_force.list() {
+        if own.plan_of(plan.class.as_slice()).class != plan.class {
+            return Some((plan, Change::Missing));
+        }
+    }
+    None
 }
 
 fn is_same(plan: &Plan, other: &Plan) -> bool
@@ -116,6 +173,52 @@ fn is_same(plan: &Plan, other: &Plan) -> bool
         && plan.block == other.block
         && plan.unit == other.unit
         && plan.count == other.count
+}
+
+// How a plan differs, as it is printed; none if there is no memory for it.
+fn shown_change(alloc: Global, plan: &Plan, how: Change) -> Option<String>
+    ensures { IfSome result (λ text. string_bytes text ≡ plan_change_text plan.now how) }
+{
+    let Ok(class) = show(alloc, plan.class.as_slice()) else {
+        return None;
+    };
+    match format!(in alloc; "; plan {class} {how}; the plans stay") {
+        Ok(text) => Some(text),
+        Err(_) => None,
+    }
+}
+
+// The same plans again; none if there is no memory for them.
+fn copied(alloc: Global, plans: &Plans) -> Option<Plans>
+    ensures { IfSome result (λ copy. copy ≡ plans.now) }
+{
+    let mut copies = Vec::new(alloc);
+    for plan in plans.list() {
+        let Ok(class) = plan.class.copy(alloc) else {
+            return None;
+        };
+        let copy = Plan {
+            class,
+            block: plan.block,
+            unit: plan.unit,
+            count: plan.count,
+        };
+        if copies.push(copy).is_err() {
+            return None;
+        }
+    }
+    Plans::new(copies).ok()
+}
+
+// There was no memory for the plans.
+fn no_memory() -> Fault
+    ensures { result ≡ Fault.Config (top_error ConfigKind.Memory) }
+{
+    Fault::Config(ConfigError {
+        kind: ConfigKind::Memory,
+        table: ConfigTable::Top,
+        index: 0,
+    })
 }
 
 // How much a configuration has.
@@ -129,17 +232,17 @@ fn sizes_of(site: &Config) -> Sizes
     }
 }
 
-// Tells how much a configuration has that was taken.
-fn write_read_again<E: Write>(errors: &mut E, sizes: Sizes) -> io::Result<()>
+// Prints how much a configuration has that was taken, and which plan of its text differs.
+fn write_read_again<E: Write>(errors: &mut E, sizes: Sizes, change: &str) -> io::Result<()>
     ensures { OnOk result (Appends (E.contents errors.old) (E.contents errors.new)
-        (read_again_text sizes ++ 10 ∷ [])) }
+        (read_again_text sizes ++ change.now ++ 10 ∷ [])) }
 {
-    writeln!(errors, "{sizes}")?;
+    writeln!(errors, "{sizes}{change}")?;
     errors.flush()
 }
 
-// Tells why a configuration was not taken.
-fn write_kept<E: Write>(errors: &mut E, why: NotTaken) -> io::Result<()>
+// Prints why a configuration was not taken.
+fn write_kept<E: Write>(errors: &mut E, why: Fault) -> io::Result<()>
     ensures { OnOk result (Appends (E.contents errors.old) (E.contents errors.new)
         (kept_line why)) }
 {

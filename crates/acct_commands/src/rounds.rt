@@ -1,10 +1,11 @@
-//! What the program's server does between its slices of turns: it keeps the file of balances up,
-//! and takes another configuration where the text of that changed.
+//! What the program's server does between its slices of turns: it writes the file of balances, if
+//! that is due, and takes another configuration, if the text of that changed.
 ghost use Rattle.std.specs.Prelude.{◌≡◌};
 ghost use Rattle.acct_book.specs.inner.Step.{OnlyLooks};
 ghost use Rattle.acct_commands.specs.NewSite.{LooksAndTakes};
 
 use crate::balances_file::KeptBalances;
+use crate::gauges::Gauges;
 use crate::new_site::take_site;
 use crate::site_source::SiteSource;
 use acct_book::Book;
@@ -16,12 +17,14 @@ use std::fs::Files;
 use std::io::Write;
 use std::time::Clock;
 
-/// A look at what belongs to a server: the text of its configuration, and the file of all balances,
-/// if it has one. What it tells goes to a writer. The clock is asked once in a round.
+/// Polls what belongs to a server: the text of its configuration, and the file of all balances, if
+/// it has one. What it prints goes to a writer, and what it finds is noted in gauges. The clock is
+/// read once in a round.
 pub struct FileRounds<'r, R, S: Drop, E: Drop> {
     runtime: &'r R,
     source: S,
     balances: Option<KeptBalances<'r, R>>,
+    gauges: &'r Gauges,
     errors: E,
 }
 
@@ -32,6 +35,7 @@ impl<'r, R, S: Drop, E: Drop> Drop for FileRounds<'r, R, S, E> {
             runtime: _,
             source: _,
             balances: _,
+            gauges: _,
             errors: _,
         } = self;
     }
@@ -43,6 +47,7 @@ impl<'r, R: Files + Clock, S: SiteSource + Drop, E: Write + Drop> FileRounds<'r,
         runtime: &'r R,
         source: S,
         balances: Option<KeptBalances<'r, R>>,
+        gauges: &'r Gauges,
         errors: E,
     ) -> FileRounds<'r, R, S, E>
         ensures { result.source ≡ source }
@@ -51,6 +56,7 @@ impl<'r, R: Files + Clock, S: SiteSource + Drop, E: Write + Drop> FileRounds<'r,
             runtime,
             source,
             balances,
+            gauges,
             errors,
         }
     }
@@ -69,9 +75,12 @@ impl<'r, R: Files + Clock, S: SiteSource + Drop, E: Write + Drop> Rounds
     ) -> Option<Config> {
         let moment = moment_of(self.runtime);
         if let Some(balances) = &mut self.balances {
-            balances.keep(alloc, &config.plans, book, moment, &mut self.errors);
+            let errors = &mut self.errors;
+            balances.keep(alloc, &config.plans, book, moment, self.gauges, errors);
         }
         let read = self.source.look(alloc, moment)?;
-        take_site(alloc, read, &config.plans, &mut self.errors)
+        let taken = take_site(alloc, read, &config.plans, &mut self.errors);
+        self.gauges.note_config(taken.is_current);
+        taken.site
     }
 }

@@ -2,20 +2,23 @@
 //! the text form of Prometheus.
 //!
 //! It is written before the first turn's event is counted, then at most once in ten seconds, at the
-//! next turn, and at the end. What cannot be written changes nothing else, and is told once until
+//! next turn, and at the end. What cannot be written changes nothing else, and is printed once until
 //! it can be again.
 ghost use Rattle.std.specs.Prelude.{◌≡◌, ◌^◌, ◌<◌, false, IfOk, replicate};
 ghost use Rattle.acct_commands.specs.Tally.{no_tally, with_mute, with_came, with_reply, with_drop};
-ghost use Rattle.acct_commands.specs.Tally.{is_event, with_drop_for, last_event};
+ghost use Rattle.acct_commands.specs.Tally.{is_event, with_drop_for, last_event, with_arrival};
+ghost use Rattle.acct_commands.specs.Tally.{is_report, is_request};
 
 use crate::fault::Fault as Trouble;
-use crate::figures::{Figures, write_figures};
+use crate::figures::{Figures, State, write_figures};
 use crate::fresh_file::FreshFile;
-use crate::tally::Meter;
+use crate::gauges::Gauges;
+use crate::tally::{Arrivals, Meter};
 use acct_model::Text;
-use acct_service::{Event, Fault};
+use acct_service::{Event, Fault, What};
 use acct_wire::Reason;
 use std::alloc::{AllocError, Global};
+use std::fs;
 use std::fs::Files;
 use std::io::{BufWriter, Write};
 
@@ -33,6 +36,9 @@ pub struct StatusFile<'r, R, E> {
     dropped: [u64; Reason::COUNT],
     started_at: u64,
     last_event_at: u64,
+    reports: Arrivals,
+    requests: Arrivals,
+    state: StateSource<'r, R>,
     errors: E,
 }
 
@@ -47,8 +53,68 @@ impl<'r, R, E: Drop> Drop for StatusFile<'r, R, E> {
             dropped: _,
             started_at: _,
             last_event_at: _,
+            reports: _,
+            requests: _,
+            state: _,
             errors: _,
         } = self;
+    }
+}
+
+/// Where the state of a server is read: its gauges, and the files of its book.
+pub struct StateSource<'r, R> {
+    runtime: &'r R,
+    gauges: &'r Gauges,
+    book: Text,
+    log: Text,
+}
+
+// It is written out, so that a caller does not prove again how each part is dropped.
+impl<'r, R> Drop for StateSource<'r, R> {
+    fn drop(self) {
+        let StateSource {
+            runtime: _,
+            gauges: _,
+            book: _,
+            log: _,
+        } = self;
+    }
+}
+
+impl<'r, R: Files> StateSource<'r, R> {
+    /// The state of a server that has these gauges and the book in this file.
+    pub fn new(
+        runtime: &'r R,
+        alloc: Global,
+        gauges: &'r Gauges,
+        book: &Text,
+    ) -> Result<StateSource<'r, R>, AllocError> {
+        let name = book.as_str();
+        let log = format!(in alloc; "{name}-wal")?;
+        Ok(StateSource {
+            runtime,
+            gauges,
+            book: book.copy(alloc)?,
+            log: Text { text: log },
+        })
+    }
+
+    // The state as it is now.
+    fn read(&self) -> State {
+        State {
+            is_current: self.gauges.is_current(),
+            balances: self.gauges.balances(),
+            book_octets: octets_of(self.runtime, &self.book),
+            log_octets: octets_of(self.runtime, &self.log),
+        }
+    }
+}
+
+// How many octets a file has, if that is known.
+fn octets_of<R: Files>(runtime: &R, file: &Text) -> Option<u64> {
+    match fs::metadata(runtime, file.as_str()) {
+        Ok(found) => Some(found.len()),
+        Err(_) => None,
     }
 }
 
@@ -60,6 +126,7 @@ impl<'r, R: Files, E: Write> StatusFile<'r, R, E> {
         alloc: Global,
         name: &Text,
         started_at: u64,
+        state: StateSource<'r, R>,
         errors: E,
     ) -> Result<StatusFile<'r, R, E>, AllocError>
     where
@@ -73,6 +140,9 @@ impl<'r, R: Files, E: Write> StatusFile<'r, R, E> {
             dropped: [0; Reason::COUNT],
             started_at,
             last_event_at: 0,
+            reports: Arrivals::none(),
+            requests: Arrivals::none(),
+            state,
             errors,
         })
     }
@@ -83,12 +153,17 @@ impl<'r, R: Files, E: Write> StatusFile<'r, R, E> {
         ensures dropped { result.dropped ≡ self.now.dropped }
         ensures started { result.started_at ≡ self.now.started_at }
         ensures last { result.last_event_at ≡ self.now.last_event_at }
+        ensures reports { result.reports ≡ self.now.reports }
+        ensures requests { result.requests ≡ self.now.requests }
     {
         Figures {
             tally: self.meter.tally,
             dropped: self.dropped,
             started_at: self.started_at,
             last_event_at: self.last_event_at,
+            reports: self.reports,
+            requests: self.requests,
+            state: self.state.read(),
         }
     }
 
@@ -100,6 +175,10 @@ impl<'r, R: Files, E: Write> StatusFile<'r, R, E> {
         ensures dropped { self.new.dropped ≡ self.old.dropped }
         ensures last { self.new.last_event_at ≡ last_event came.now self.old.last_event_at }
         ensures started { self.new.started_at ≡ self.old.started_at }
+        ensures reports { self.new.reports
+            ≡ with_arrival (is_report came.now) came.now self.old.reports }
+        ensures requests { self.new.requests
+            ≡ with_arrival (is_request came.now) came.now self.old.requests }
     {
         self.meter.note_mute();
         if self.file.is_due(moment) {
@@ -108,6 +187,10 @@ impl<'r, R: Files, E: Write> StatusFile<'r, R, E> {
         self.meter.note_came(came);
         if let Ok(Some(event)) = came {
             self.last_event_at = event.moment;
+            match &event.what {
+                What::Datagram { .. } => self.reports = self.reports.and_at(event.moment),
+                What::Desk { .. } => self.requests = self.requests.and_at(event.moment),
+            }
         }
     }
 
@@ -137,6 +220,8 @@ impl<'r, R: Files, E: Write> StatusFile<'r, R, E> {
         ensures dropped { self.new.dropped ≡ self.old.dropped }
         ensures last { self.new.last_event_at ≡ self.old.last_event_at }
         ensures started { self.new.started_at ≡ self.old.started_at }
+        ensures reports { self.new.reports ≡ self.old.reports }
+        ensures requests { self.new.requests ≡ self.old.requests }
     {
         let figures = self.figures();
         let written = write_file(self.runtime, self.alloc, &self.file, &figures);
@@ -155,6 +240,9 @@ impl<'r, R: Files, E: Write> StatusFile<'r, R, E> {
             dropped: _,
             started_at: _,
             last_event_at: _,
+            reports: _,
+            requests: _,
+            state: _,
             errors,
         } = self;
         errors

@@ -1,7 +1,7 @@
 //! What came to a server, counted call by call of its exchange.
 ghost use Rattle.std.specs.Prelude.{◌≡◌, false};
 ghost use Rattle.acct_commands.specs.Tally.{no_tally, with_mute, with_came, with_reply, with_drop};
-ghost use Rattle.acct_commands.specs.Tally.{is_event};
+ghost use Rattle.acct_commands.specs.Tally.{is_event, plus_one};
 
 use acct_service::{Event, Fault};
 
@@ -31,6 +31,35 @@ impl Tally {
             drops: 0,
             mute: 0,
             faults: 0,
+        }
+    }
+}
+
+/// What came of one kind: reports, or requests at the desk. Past 2^64 - 1 the count stays.
+#[derive(Clone, Copy, PartialEq, Eq)]
+pub struct Arrivals {
+    /// How many came.
+    pub count: u64,
+    /// When the last one came, in seconds since 1970: 0 if none came yet.
+    pub last_at: u64,
+}
+
+impl Arrivals {
+    /// Nothing yet.
+    pub fn none() -> Arrivals {
+        Arrivals {
+            count: 0,
+            last_at: 0,
+        }
+    }
+
+    // With one more, at a moment.
+    pub(crate) fn and_at(self, moment: u64) -> Arrivals
+        ensures { result ≡ record { count = plus_one self.count; last_at = moment } }
+    {
+        Arrivals {
+            count: self.count.saturating_add(1),
+            last_at: moment,
         }
     }
 }

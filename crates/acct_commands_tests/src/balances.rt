@@ -3,9 +3,9 @@ ghost use Rattle.std.specs.Prelude.{◌<◌, ◌^◌};
 
 use acct_book::{Book, MemBook};
 use acct_command_line::{BalancesFile, Export};
-use acct_commands::{KeptBalances, run_export, run_import};
+use acct_commands::{BalancesWritten, Gauges, KeptBalances, run_export, run_import};
 use acct_fakes::ShutBook;
-use acct_model::Text;
+use acct_model::{Text, TopUp};
 use acct_samples::sample_config;
 use acct_site::Config;
 use std::alloc::Global;
@@ -80,16 +80,17 @@ fn is_kept_up(
     config: &Config,
     book: &mut MemBook,
     kept: &mut KeptBalances<'_, HostRuntime>,
+    gauges: &Gauges,
     told: &mut Vec<u8>,
 ) -> Result<bool, Fail> {
     let alloc = rt.alloc();
     credit(alloc, config, book, TWO_VOUCHERS)?;
-    kept.keep(alloc, &config.plans, book, 3000, told);
+    kept.keep(alloc, &config.plans, book, 3000, gauges, told);
     let begins = has(rt, config, book, "kept-balances", FIRST)?;
     credit(alloc, config, book, LATER_VOUCHER)?;
-    kept.keep(alloc, &config.plans, book, 3004, told);
+    kept.keep(alloc, &config.plans, book, 3004, gauges, told);
     let stays = reads(rt, "kept-balances", FIRST)?;
-    kept.keep(alloc, &config.plans, book, 3005, told);
+    kept.keep(alloc, &config.plans, book, 3005, gauges, told);
     let goes_on = has(rt, config, book, "kept-balances", SECOND)?;
     let is_renamed = !fs::exists(rt, "kept-balances.new")?;
     fs::remove_file(rt, "kept-balances")?;
@@ -102,7 +103,60 @@ fn keeps_up_with_the_book(rt: HostRuntime) -> Result<(), Fail> {
     let mut book = MemBook::new(rt.alloc());
     let mut told = Vec::new(rt.alloc());
     let mut kept = KeptBalances::new(&rt, rt.alloc(), &asked(rt.alloc(), "kept-balances")?)?;
-    assert!(rt; is_kept_up(&rt, &config, &mut book, &mut kept, &mut told)? && told.is_empty());
+    let gauges = Gauges::new();
+    assert!(rt;
+        is_kept_up(&rt, &config, &mut book, &mut kept, &gauges, &mut told)? && told.is_empty()
+    );
+    let written = BalancesWritten {
+        at: 3005,
+        accounts: 2,
+        overdrawn: 0,
+    };
+    assert!(rt; gauges.balances() == Some(written));
+    Ok(())
+}
+
+const OVERDRAWN: &str = "account,balance,overrun\nal,-10,10\nbo,0,0\ncy,-200,200\n";
+
+// Accounts that owe are counted apart.
+#[test]
+fn counts_who_is_overdrawn(rt: HostRuntime) -> Result<(), Fail> {
+    let config = sample_config(rt.alloc())?;
+    let mut book = MemBook::new(rt.alloc());
+    for (number, account, balance) in [("V-1", "al", -10), ("V-2", "bo", 0), ("V-3", "cy", -200)] {
+        owe(rt.alloc(), &mut book, number, account, balance)?;
+    }
+    let mut told = Vec::new(rt.alloc());
+    let mut kept = KeptBalances::new(&rt, rt.alloc(), &asked(rt.alloc(), "owing-balances")?)?;
+    let gauges = Gauges::new();
+    kept.keep(
+        rt.alloc(),
+        &config.plans,
+        &mut book,
+        3000,
+        &gauges,
+        &mut told,
+    );
+    let written = BalancesWritten {
+        at: 3000,
+        accounts: 3,
+        overdrawn: 2,
+    };
+    assert!(rt; gauges.balances() == Some(written) && reads(&rt, "owing-balances", OVERDRAWN)?);
+    fs::remove_file(&rt, "owing-balances")?;
+    Ok(())
+}
+
+// Gives an account a voucher and this balance.
+fn owe(
+    alloc: Global,
+    book: &mut MemBook,
+    number: &str,
+    account: &str,
+    balance: i64,
+) -> Result<(), Fail> {
+    let topup = TopUp::new(alloc, number, account.as_bytes(), 1, 1000)?;
+    book.put_topup(&topup, balance)?;
     Ok(())
 }
 
@@ -119,10 +173,11 @@ fn tells<B: Book>(
 ) -> Result<bool, Fail> {
     let mut told = Vec::new(rt.alloc());
     let mut kept = KeptBalances::new(rt, rt.alloc(), &asked(rt.alloc(), name)?)?;
+    let gauges = Gauges::new();
     for moment in &DUE {
-        kept.keep(rt.alloc(), &config.plans, book, *moment, &mut told);
+        kept.keep(rt.alloc(), &config.plans, book, *moment, &gauges, &mut told);
     }
-    Ok(told.as_slice() == wanted.as_bytes())
+    Ok(told.as_slice() == wanted.as_bytes() && gauges.balances().is_none())
 }
 
 // Where it cannot be written, that is told once.

@@ -2,7 +2,7 @@
 ghost use Rattle.std.specs.Prelude.{◌<◌, ◌^◌};
 
 use acct_book::MemBook;
-use acct_commands::{FileRounds, SiteFile, config_from};
+use acct_commands::{FileRounds, Gauges, SiteFile, config_from};
 use acct_model::{Octets, Text};
 use acct_service::lists::{ListExchange, Planned};
 use acct_service::{Call, Event, Rounds, Served, Until, What, serve_in_slices};
@@ -109,11 +109,12 @@ fn answers_by_what_is_new(rt: HostRuntime) -> Result<(), Fail> {
     let site = SiteFile::new(&rt, &file);
     fs::write(&rt, name, NEW)?;
     let mut told = Vec::new(rt.alloc());
-    let mut rounds = FileRounds::new(&rt, site, None, &mut told);
+    let gauges = Gauges::new();
+    let mut rounds = FileRounds::new(&rt, site, None, &gauges, &mut told);
     let is_served = serves_old_and_new(rt.alloc(), &mut rounds)?;
     drop(rounds);
     let wanted = "config: read again: 1 clients, 1 plans, 1 keys\n";
-    assert!(rt; is_served && told.as_slice() == wanted.as_bytes());
+    assert!(rt; is_served && told.as_slice() == wanted.as_bytes() && gauges.is_current());
     fs::remove_file(&rt, name)?;
     Ok(())
 }

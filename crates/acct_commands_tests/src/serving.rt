@@ -1,6 +1,6 @@
 //! What a server prints over an exchange, and what it does where it can't print.
-use acct_book::MemBook;
-use acct_fakes::ShutBook;
+use acct_book::{Book, MemBook};
+use acct_fakes::{FailingBook, ShutBook};
 use acct_model::Octets;
 use acct_run::{Ended, serve_exchange};
 use acct_samples::sample_config;
@@ -117,9 +117,10 @@ const START: &[u8] = b"\x04\x07\x00\x22\xa0\x21\x9d\xa7\x81\xbf\x21\x71\x05\xbb\
     \x0e\x94\x28\x06\x00\x00\x00\x01\x2c\x04\x73\x31\x01\x04\x61\x6c";
 
 // A list of two turns, in each of which the client sends its Start.
-fn starts(alloc: Global) -> Result<Vec<Planned>, Fail> {
+fn starts(alloc: Global, moments: &[u16]) -> Result<Vec<Planned>, Fail> {
     let mut planned = Vec::new(alloc);
-    for moment in [1000, 1005] {
+    for moment in moments {
+        let moment = u64::from(*moment);
         let what = What::Datagram {
             source: [10, 0, 0, 1],
             port: 1024,
@@ -133,17 +134,22 @@ fn starts(alloc: Global) -> Result<Vec<Planned>, Fail> {
     Ok(planned)
 }
 
-// Whether a server of 1,000 turns over a book that shuts at the write after so many ends so, makes
-// so many turns, and prints this.
-fn ends_after(alloc: Global, writes: u64, wanted: (Ended, u64), text: &str) -> Result<bool, Fail> {
+// Whether a server of 1,000 turns over a book, to which these Starts come, ends so, makes so many
+// turns, and prints this.
+fn ends_over<B: Book>(
+    alloc: Global,
+    book: &mut B,
+    moments: &[u16],
+    wanted: (Ended, u64),
+    text: &str,
+) -> Result<bool, Fail> {
     let config = sample_config(alloc)?;
-    let mut book = ShutBook::new(alloc, writes);
-    let mut exchange = ListExchange::new(alloc, starts(alloc)?);
+    let mut exchange = ListExchange::new(alloc, starts(alloc, moments)?);
     let mut output = Vec::new(alloc);
     let ended = serve_exchange(
         alloc,
         &config,
-        &mut book,
+        book,
         &mut exchange,
         &mut NoRounds,
         1000,
@@ -152,12 +158,12 @@ fn ends_after(alloc: Global, writes: u64, wanted: (Ended, u64), text: &str) -> R
     Ok((ended, exchange.turns()) == wanted && output.as_slice() == text.as_bytes())
 }
 
-// Two datagrams, of which so many are answered and the others refused by the book.
-fn answered(replies: u64, refused: u64) -> Served {
+// Datagrams, of which so many are answered and the others refused by the book.
+fn answered(replies: u32, refused: u32) -> Served {
     let mut served = Served::none();
-    served.events = 2;
-    served.replies = replies;
-    served.dropped[12] = refused;
+    served.events = u64::from(replies) + u64::from(refused);
+    served.replies = u64::from(replies);
+    served.dropped[12] = u64::from(refused);
     served
 }
 
@@ -167,9 +173,26 @@ fn answered(replies: u64, refused: u64) -> Served {
 fn ends_where_the_book_is_shut(rt: HostRuntime) -> Result<(), Fail> {
     let shut = (Ended::Told(answered(0, 2), Until::Shut), 256);
     let text = "serving\nevents 2, replies 0, mute 0, faults 0\ndropped 13: 2\n";
-    assert!(rt; ends_after(rt.alloc(), 0, shut, text)?);
+    let mut book = ShutBook::new(rt.alloc(), 0);
+    assert!(rt; ends_over(rt.alloc(), &mut book, &[1000, 1005], shut, text)?);
     let open = (Ended::Told(answered(2, 0), Until::AllMade), 1000);
     let text = "serving\nevents 2, replies 2, mute 0, faults 0\n";
-    assert!(rt; ends_after(rt.alloc(), 2, open, text)?);
+    let mut book = ShutBook::new(rt.alloc(), 2);
+    assert!(rt; ends_over(rt.alloc(), &mut book, &[1000, 1005], open, text)?);
+    Ok(())
+}
+
+// A server whose book can be read, and refused each report of a slice, ends after that. One that
+// recorded another report of the slice goes on.
+#[test]
+fn ends_where_the_book_is_stuck(rt: HostRuntime) -> Result<(), Fail> {
+    let stuck = (Ended::Told(answered(0, 1), Until::Stuck), 256);
+    let text = "serving\nevents 1, replies 0, mute 0, faults 0\ndropped 13: 1\n";
+    let mut book = FailingBook::new(MemBook::new(rt.alloc()), 1);
+    assert!(rt; ends_over(rt.alloc(), &mut book, &[1000], stuck, text)?);
+    let open = (Ended::Told(answered(1, 1), Until::AllMade), 1000);
+    let text = "serving\nevents 2, replies 1, mute 0, faults 0\ndropped 13: 1\n";
+    let mut book = FailingBook::new(MemBook::new(rt.alloc()), 1);
+    assert!(rt; ends_over(rt.alloc(), &mut book, &[1000, 1005], open, text)?);
     Ok(())
 }

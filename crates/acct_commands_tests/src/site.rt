@@ -1,6 +1,6 @@
 //! The configuration that is read again while a server runs, and what is told of the clock.
 use acct_commands::{SiteFile, SiteSource, config_from, note_clock, take_site};
-use acct_model::Text;
+use acct_model::{Octets, Plan, Text};
 use acct_site::Config;
 use std::alloc::Global;
 use std::fs;
@@ -17,6 +17,8 @@ const OTHER_CLIENT: &str = "[[client]]\nname = \"ap2\"\naddress = \"10.0.0.2\"\n
 const PLAN: &str = "[[plan]]\nclass = \"default\"\nblock = 1000000\nunit = 5\n";
 
 const OTHER_PLAN: &str = "[[plan]]\nclass = \"default\"\nblock = 1000000\nunit = 6\n";
+
+const GOLD: &str = "[[plan]]\nclass = \"gold\"\nblock = 1048576\nunit = 10\n";
 
 const KEY: &str = "[[key]]\ntoken = \"al-key-0000000001\"\naccount = \"al\"\n";
 
@@ -54,17 +56,18 @@ fn taken(
     told: &mut Vec<u8>,
 ) -> Option<Config> {
     let read = site.look(rt.alloc(), moment)?;
-    take_site(rt.alloc(), read, &config.plans, told)
+    take_site(rt.alloc(), read, &config.plans, told).site
 }
 
 // The parts of a text, the moment at which a file of it is looked at first, and how many clients and
 // keys are taken of it.
-static CHANGES: [([&str; 4], u32, Option<(usize, usize)>); 5] = [
+static CHANGES: [([&str; 4], u32, Option<(usize, usize)>); 6] = [
     ([CLIENT, OTHER_CLIENT, PLAN, KEY], 3000, Some((2, 1))),
     ([CLIENT, OTHER_CLIENT, PLAN, WRONG_KEY], 3002, None),
     ([CLIENT, PLAN, "", ""], 3004, Some((1, 0))),
-    ([CLIENT, OTHER_PLAN, KEY, ""], 3006, None),
-    ([CLIENT, PLAN, OTHER_PLAN, OTHER_CLIENT], 3008, None),
+    ([CLIENT, OTHER_PLAN, KEY, ""], 3006, Some((1, 1))),
+    ([CLIENT, PLAN, GOLD, OTHER_CLIENT], 3008, Some((2, 0))),
+    ([CLIENT, PLAN, OTHER_PLAN, OTHER_CLIENT], 3010, None),
 ];
 
 // Whether what is in a file is taken at the second look at it, and at no other one.
@@ -81,7 +84,7 @@ fn is_taken_once(
         && taken(rt, site, config, first + 2, told).is_none()
 }
 
-// A change is seen once, taken where it is right and has the same plans, and told.
+// A change is seen once, its clients and keys are taken if it is right, and it is told.
 #[test]
 fn takes_what_is_right(rt: HostRuntime) -> Result<(), Fail> {
     let name = "changing-site.toml";
@@ -140,7 +143,8 @@ fn sees_a_change_of_equal_length(rt: HostRuntime) -> Result<(), Fail> {
 const TOLD: &str = "config: read again: 2 clients, 1 plans, 1 keys\n\
     config: BadKey in Key 0; the old one stays\n\
     config: read again: 1 clients, 1 plans, 0 keys\n\
-    config: PlansDiffer; the old one stays\n\
+    config: read again: 1 clients, 1 plans, 1 keys; plan default is changed; the plans stay\n\
+    config: read again: 2 clients, 1 plans, 0 keys; plan gold is new; the plans stay\n\
     config: TwicePlanned in Plan 1; the old one stays\n\
     file: cannot read; the old one stays\n";
 
@@ -151,6 +155,62 @@ fn write_at(rt: &HostRuntime, name: &str, moment: u64) -> Result<(), Fail> {
         return Err("no moment".into());
     };
     file.set_modified(time)?;
+    Ok(())
+}
+
+// What is taken of a text for a site of the plans `default` and `gold`: whether it is current, and
+// what is printed.
+static ORDERS: [([&str; 3], bool, &str); 3] = [
+    (
+        [CLIENT, GOLD, PLAN],
+        true,
+        "config: read again: 1 clients, 2 plans, 0 keys\n",
+    ),
+    (
+        [CLIENT, PLAN, KEY],
+        false,
+        "config: read again: 1 clients, 2 plans, 1 keys; plan gold is missing; the plans stay\n",
+    ),
+    (
+        [CLIENT, WRONG_KEY, PLAN],
+        false,
+        "config: BadKey in Key 0; the old one stays\n",
+    ),
+];
+
+// Whether this is taken of a text: the plans in force stay, in their order.
+fn is_taken_so(
+    alloc: Global,
+    config: &Config,
+    (parts, is_current, wanted): ([&str; 3], bool, &str),
+) -> Result<bool, Fail> {
+    let [first, second, third] = parts;
+    let text = format!(in alloc; "{first}{second}{third}")?;
+    let mut told = Vec::new(alloc);
+    let octets = Octets::from_slice(alloc, text.as_bytes())?;
+    let taken = take_site(alloc, Ok(octets), &config.plans, &mut told);
+    let begins = match &taken.site {
+        Some(site) => site.plans.list().first().is_some_and(is_default),
+        None => true,
+    };
+    Ok(begins && taken.is_current == is_current && told.as_slice() == wanted.as_bytes())
+}
+
+// Whether a plan is that of all classes without one.
+fn is_default(plan: &Plan) -> bool {
+    plan.class.as_slice() == b"default".as_slice()
+}
+
+// Plans in another order are the same plans. One that differs is named, and the others stay.
+#[test]
+fn names_the_plan_that_differs(rt: HostRuntime) -> Result<(), Fail> {
+    let text = format!(in rt.alloc(); "{CLIENT}{PLAN}{GOLD}")?;
+    let Ok(config) = config_from(rt.alloc(), &mut text.as_bytes()) else {
+        return Err("no configuration".into());
+    };
+    for row in &ORDERS {
+        assert!(rt; is_taken_so(rt.alloc(), &config, *row)?);
+    }
     Ok(())
 }
 

@@ -2,7 +2,10 @@
 ghost use Rattle.std.specs.Prelude.{◌<◌, ◌^◌};
 
 use crate::turns::{drops, reply, turn};
-use acct_commands::{Figures, StatusFile, Tally, Watch, Watched, write_figures};
+use acct_commands::{
+    Arrivals, BalancesWritten, Figures, Gauges, State, StateSource, StatusFile, Tally, Watch,
+    Watched, write_figures,
+};
 use acct_model::{Octets, Text};
 use acct_service::lists::{ListExchange, Planned};
 use acct_service::{Event, Exchange, What};
@@ -46,7 +49,43 @@ const TEXT: &str = "# HELP radacctd_events_total Datagrams and requests that cam
     # HELP radacctd_last_event_time_seconds \
     When the last event came, in seconds since 1970, or 0.\n\
     # TYPE radacctd_last_event_time_seconds gauge\n\
-    radacctd_last_event_time_seconds 1700003600\n";
+    radacctd_last_event_time_seconds 1700003600\n\
+    # HELP radacctd_reports_total Datagrams that came.\n\
+    # TYPE radacctd_reports_total counter\n\
+    radacctd_reports_total 701\n\
+    # HELP radacctd_desk_requests_total Requests that came at the desk.\n\
+    # TYPE radacctd_desk_requests_total counter\n\
+    radacctd_desk_requests_total 200\n\
+    # HELP radacctd_last_report_time_seconds \
+    When the last datagram came, in seconds since 1970, or 0.\n\
+    # TYPE radacctd_last_report_time_seconds gauge\n\
+    radacctd_last_report_time_seconds 1700003600\n\
+    # HELP radacctd_last_desk_request_time_seconds \
+    When the last request came at the desk, in seconds since 1970, or 0.\n\
+    # TYPE radacctd_last_desk_request_time_seconds gauge\n\
+    radacctd_last_desk_request_time_seconds 1700003500\n\
+    # HELP radacctd_config_is_current Whether the configuration in force is the one in the file.\n\
+    # TYPE radacctd_config_is_current gauge\n\
+    radacctd_config_is_current 1\n\
+    # HELP radacctd_balances_time_seconds \
+    When the file of balances was written, in seconds since 1970, or 0.\n\
+    # TYPE radacctd_balances_time_seconds gauge\n\
+    radacctd_balances_time_seconds 1700003400\n\
+    # HELP radacctd_accounts Accounts in the file of balances.\n\
+    # TYPE radacctd_accounts gauge\n\
+    radacctd_accounts 34\n\
+    # HELP radacctd_overdrawn_accounts Accounts in the file of balances with a balance below 0.\n\
+    # TYPE radacctd_overdrawn_accounts gauge\n\
+    radacctd_overdrawn_accounts 7\n\
+    # HELP radacctd_book_octets The octets of the file of the book.\n\
+    # TYPE radacctd_book_octets gauge\n\
+    radacctd_book_octets 69632\n\
+    # HELP radacctd_log_octets The octets of the log of the book.\n\
+    # TYPE radacctd_log_octets gauge\n\
+    radacctd_log_octets 41\n\
+    # HELP radacctd_build_info The program and the schema of its books.\n\
+    # TYPE radacctd_build_info gauge\n\
+    radacctd_build_info{version=\"0.1.0\",schema=\"3\"} 1\n";
 
 #[test]
 fn writes_each_figure(rt: HostRuntime) -> Result<(), Fail> {
@@ -61,6 +100,18 @@ fn writes_each_figure(rt: HostRuntime) -> Result<(), Fail> {
         dropped: [21, 22, 23, 24, 25, 26, 27, 28, 29, 30, 31, 32, 33],
         started_at: 1_700_000_000,
         last_event_at: 1_700_003_600,
+        reports: arrivals(701, 1_700_003_600),
+        requests: arrivals(200, 1_700_003_500),
+        state: State {
+            is_current: true,
+            balances: Some(BalancesWritten {
+                at: 1_700_003_400,
+                accounts: 34,
+                overdrawn: 7,
+            }),
+            book_octets: Some(69_632),
+            log_octets: Some(41),
+        },
     };
     let mut output = Vec::new(rt.alloc());
     write_figures(&mut output, &figures)?;
@@ -68,7 +119,12 @@ fn writes_each_figure(rt: HostRuntime) -> Result<(), Fail> {
     Ok(())
 }
 
-// What a server counted that started at 990 and dropped nothing but datagrams that were too short.
+fn arrivals(count: u64, last_at: u64) -> Arrivals {
+    Arrivals { count, last_at }
+}
+
+// What a server counted that started at 990, dropped nothing but datagrams that were too short, and
+// has no file of balances, and a book of five octets without a log.
 fn figures(tally: Tally, last_event_at: u64) -> Figures {
     let mut dropped = [0; Reason::COUNT];
     dropped[1] = tally.drops;
@@ -77,6 +133,14 @@ fn figures(tally: Tally, last_event_at: u64) -> Figures {
         dropped,
         started_at: 990,
         last_event_at,
+        reports: arrivals(tally.events, last_event_at),
+        requests: Arrivals::none(),
+        state: State {
+            is_current: true,
+            balances: None,
+            book_octets: Some(5),
+            log_octets: None,
+        },
     }
 }
 
@@ -117,13 +181,16 @@ fn no_watch() -> Option<Watch<Vec<u8>>> {
 // An exchange of three datagrams, at these moments, whose counts are kept in a file.
 fn watched<'r, E: Write + Drop>(
     rt: &'r HostRuntime,
+    gauges: &'r Gauges,
     name: &str,
     moments: [u32; 3],
     told: E,
 ) -> Result<Watched<'r, HostRuntime, ListExchange, Vec<u8>, E>, Fail> {
     let exchange = ListExchange::new(rt.alloc(), datagrams(rt.alloc(), moments)?);
     let name = Text::from_str(rt.alloc(), name)?;
-    let status = StatusFile::new(rt, rt.alloc(), &name, 990, told)?;
+    let book = Text::from_str(rt.alloc(), "status-book")?;
+    let state = StateSource::new(rt, rt.alloc(), gauges, &book)?;
+    let status = StatusFile::new(rt, rt.alloc(), &name, 990, state, told)?;
     Ok(Watched::new(rt, exchange, no_watch(), Some(status)))
 }
 
@@ -151,8 +218,10 @@ fn is_kept<X: Exchange>(rt: &HostRuntime, exchange: &mut X) -> Result<bool, Fail
 // exchange that counts its calls: a drop, a reply, and an event without an answer.
 #[test]
 fn keeps_a_file(rt: HostRuntime) -> Result<(), Fail> {
+    fs::write(&rt, "status-book", "12345")?;
     let told = Vec::new(rt.alloc());
-    let mut watched = watched(&rt, "kept-status", [1000, 1009, 1010], told)?;
+    let gauges = Gauges::new();
+    let mut watched = watched(&rt, &gauges, "kept-status", [1000, 1009, 1010], told)?;
     let is_kept = is_kept(&rt, &mut watched)?;
     watched.finish();
     let tally = Tally {
@@ -168,6 +237,7 @@ fn keeps_a_file(rt: HostRuntime) -> Result<(), Fail> {
             && !fs::exists(&rt, "kept-status.new")?
     );
     fs::remove_file(&rt, "kept-status")?;
+    fs::remove_file(&rt, "status-book")?;
     Ok(())
 }
 
@@ -180,7 +250,14 @@ fn comes<X: Exchange>(exchange: &mut X) -> bool {
 #[test]
 fn tells_once_that_it_cannot(rt: HostRuntime) -> Result<(), Fail> {
     let mut told = Vec::new(rt.alloc());
-    let mut watched = watched(&rt, "no-folder/status", [1000, 1010, 1020], &mut told)?;
+    let gauges = Gauges::new();
+    let mut watched = watched(
+        &rt,
+        &gauges,
+        "no-folder/status",
+        [1000, 1010, 1020],
+        &mut told,
+    )?;
     let all_come = comes(&mut watched) && comes(&mut watched) && comes(&mut watched);
     watched.finish();
     assert!(rt; all_come && told.as_slice() == b"status: cannot write\n".as_slice());

@@ -1,5 +1,5 @@
 //! Words of the command line, and where their texts go.
-use acct_command_line::{Job, Listening, Order, Paths, Serving, Telling, job_of, tell};
+use acct_command_line::{Job, KeptNames, Listening, Order, Paths, Serving, Telling, job_of, tell};
 use acct_feed::Status;
 use acct_feed::Status::{Done, WrongWords};
 use acct_model::Text;
@@ -80,14 +80,21 @@ fn reads_command_lines(rt: HostRuntime) -> Result<(), Fail> {
 // Words after the program's name, and what they ask for: the job, its files, and of a server its
 // addresses, the desk's, both ports, turns, syncs, what it tells, and the two files; a plus where
 // more is told of a fault. None where they name no job.
-static ORDERS: [(&str, Option<&str>); 44] = [
+static ORDERS: [(&str, Option<&str>); 45] = [
     ("feed", Some("feed none")),
     ("feed --config a", Some("feed a")),
     ("feed --explain", Some("feed none +")),
     ("check", None),
-    ("check --config a", Some("check a none")),
-    ("check --db b --config a", Some("check a b")),
-    ("check --config a --explain", Some("check a none +")),
+    ("check --config a", Some("check a none none none")),
+    ("check --db b --config a", Some("check a b none none")),
+    (
+        "check --config a --explain",
+        Some("check a none none none +"),
+    ),
+    (
+        "check --balances e --config a --status d --db b",
+        Some("check a b d e"),
+    ),
     ("init --config a --db b", Some("init a b")),
     ("init --config a --db b --explain", Some("init a b +")),
     ("init --config a", None),
@@ -240,9 +247,11 @@ fn is_shown(alloc: Global, order: &Order, wanted: Option<&str>) -> Result<bool, 
 fn shown_job(alloc: Global, job: &Job) -> Result<String, Fail> {
     match job {
         Job::Feed { config } => Ok(format!(in alloc; "feed {}", name_of(config))?),
-        Job::Check { config, database } => {
-            Ok(format!(in alloc; "check {} {}", config.as_str(), name_of(database))?)
-        }
+        Job::Check {
+            config,
+            database,
+            kept,
+        } => shown_check(alloc, config, database, kept),
         Job::Init { paths } => shown_paths(alloc, "init", paths),
         Job::Serve { paths, serving } => shown_serving(alloc, paths, serving),
         Job::Import { paths } => shown_paths(alloc, "import", paths),
@@ -253,6 +262,17 @@ fn shown_job(alloc: Global, job: &Job) -> Result<String, Fail> {
         Job::Migrate { paths } => shown_paths(alloc, "migrate", paths),
         Job::AddPlans { paths } => shown_paths(alloc, "plans", paths),
     }
+}
+
+fn shown_check(
+    alloc: Global,
+    config: &Text,
+    database: &Option<Text>,
+    kept: &KeptNames,
+) -> Result<String, Fail> {
+    let (config, database) = (config.as_str(), name_of(database));
+    let (status, balances) = (name_of(&kept.status), name_of(&kept.balances));
+    Ok(format!(in alloc; "check {config} {database} {status} {balances}")?)
 }
 
 fn shown_paths(alloc: Global, command: &str, paths: &Paths) -> Result<String, Fail> {

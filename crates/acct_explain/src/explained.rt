@@ -93,13 +93,71 @@ fn explain_file<R: Files, E: Write>(
     }
 }
 
-/// Writes one line that says which words the argument of `export` takes, where the words of the
-/// command line, the program's name first, are of `export` with `--explain` and have none of them;
-/// else nothing. A writer that fails changes nothing.
+// An option of words, and the words that it takes.
+#[derive(Clone, Copy)]
+struct Choice {
+    option: &'static str,
+    takes: &'static str,
+    words: &'static [&'static str],
+}
+
+static CHOICES: [Choice; 1] = [Choice {
+    option: "--sync",
+    takes: "once or twice",
+    words: &["once", "twice"],
+}];
+
+// An option of a number, the least and the greatest.
+#[derive(Clone, Copy)]
+struct Range {
+    option: &'static str,
+    least: u64,
+    most: u64,
+}
+
+static RANGES: [Range; 4] = [
+    Range {
+        option: "--radius-port",
+        least: 1,
+        most: 65_535,
+    },
+    Range {
+        option: "--desk-port",
+        least: 1,
+        most: 65_535,
+    },
+    Range {
+        option: "--turns",
+        least: 1,
+        most: 9_223_372_036_854_775_807,
+    },
+    Range {
+        option: "--balances-every",
+        least: 1,
+        most: 86_400,
+    },
+];
+
+// The words that the argument of `export` takes.
+const EXPORTS: [&str; 4] = ["sessions", "balances", "topups", "overruns"];
+
+/// Writes one line that says which argument of a command line is wrong, if the words, the program's
+/// name first, have `--explain` among them, and that is known: an option whose word or number is none
+/// that it takes, or the argument of `export`. A writer that fails changes nothing.
 pub fn explain_words<E: Write>(words: &[String], errors: &mut E) {
-    let is_export = words.get(1).is_some_and(|word| word.as_str() == "export");
-    let explains = words.iter().any(|word| word.as_str() == "--explain");
-    if is_export && explains && !words.iter().any(|word| is_what(word.as_str())) {
+    if !words.iter().any(|word| word.as_str() == "--explain") {
+        return;
+    }
+    if let Some(choice) = CHOICES.iter().find(|choice| is_other(words, choice)) {
+        let (option, takes) = (choice.option, choice.takes);
+        let _ = writeln!(errors, "explained: {option} takes {takes}");
+    } else if let Some(range) = RANGES.iter().find(|range| is_outside(words, range)) {
+        let (option, least, most) = (range.option, range.least, range.most);
+        let _ = writeln!(
+            errors,
+            "explained: {option} takes a number from {least} to {most}"
+        );
+    } else if has_no_export(words) {
         let _ = writeln!(
             errors,
             "explained: WHAT is sessions, balances, topups or overruns"
@@ -107,7 +165,38 @@ pub fn explain_words<E: Write>(words: &[String], errors: &mut E) {
     }
 }
 
-// Whether a word says what of a book is written.
-fn is_what(word: &str) -> bool {
-    matches!(word, "sessions" | "balances" | "topups" | "overruns")
+// Whether a command line gives an option a word that it doesn't take.
+fn is_other(words: &[String], choice: &Choice) -> bool {
+    value_of(words, choice.option).is_some_and(|value| !choice.words.contains(&value))
+}
+
+// Whether a command line gives an option a number that it doesn't take, or no number.
+fn is_outside(words: &[String], range: &Range) -> bool {
+    value_of(words, range.option).is_some_and(|value| match value.parse::<u64>() {
+        Ok(number) => number < range.least || number > range.most,
+        Err(_) => true,
+    })
+}
+
+// The value that follows an option in a command line, or stands behind its `=`.
+fn value_of<'w>(words: &'w [String], option: &str) -> Option<&'w str> {
+    for (place, word) in words.iter().enumerate() {
+        let Some(rest) = word.as_str().strip_prefix(option) else {
+            continue;
+        };
+        if rest.is_empty() {
+            let next = words.get(place.saturating_add(1))?;
+            return Some(next.as_str());
+        }
+        if let Some(value) = rest.strip_prefix('=') {
+            return Some(value);
+        }
+    }
+    None
+}
+
+// Whether a command line is of `export` and has none of the words that it takes.
+fn has_no_export(words: &[String]) -> bool {
+    let is_export = words.get(1).is_some_and(|word| word.as_str() == "export");
+    is_export && !words.iter().any(|word| EXPORTS.contains(&word.as_str()))
 }

@@ -4,6 +4,7 @@
 //! and says where it is wrong and what would be right. It changes no file.
 #![tactic(auto)]
 
+mod book;
 mod config;
 mod explained;
 mod fields;
@@ -11,7 +12,10 @@ mod files;
 mod finding;
 mod headers;
 mod locks;
+mod sockets;
 mod tables;
 
+pub use book::{explain_plans, explain_tables};
 pub use config::explain_config;
 pub use explained::{Explained, explain, explain_words};
+pub use sockets::{Wanted, explain_sockets};

@@ -2,6 +2,12 @@
 #![tactic(auto)]
 
 #[cfg(test)]
+mod books;
+#[cfg(test)]
 mod configurations;
 #[cfg(test)]
 mod files;
+#[cfg(test)]
+mod sockets;
+#[cfg(test)]
+mod words;

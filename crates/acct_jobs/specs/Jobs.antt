@@ -23,6 +23,7 @@ use Rattle.acct_command_line.specs.declared.job.Job.TheVariants as job
 use Rattle.acct_command_line.specs.declared.job.Export.{Export}
 use Rattle.acct_commands.specs.Checks.{IsNoConfig, TellsSizes, sizes_line}
 use Rattle.acct_commands.specs.Checks as check
+use Rattle.acct_commands.specs.KeptNames.{NamesSome}
 use Rattle.acct_commands.specs.Imports.{Runs}
 use Rattle.acct_serving.specs.Serving.{RunsServer}
 use Rattle.acct_commands.specs.declared.fault.Fault.{Fault}
@@ -69,6 +70,18 @@ pub record FeedsScript {B : Type 0} (b : book.Ghosts B) (config : Config) (text 
   pub input : List ℕ
   pub read : IfSome text (λ all. input ≡ all)
   pub ran : RanAfresh b config.clients config.plans input before after
+
+-- A file that a command names, to be written by a server, would take the place of another one, or
+-- there was no memory to find out. Nothing was done.
+module _ {D : Type 0} {g : disk.Ghosts D} {A B : Type 0} where
+  pub record KeepsOthers (status : Option A) (balances : Option B) (before after : Option (List ℕ))
+      (ended : Result Status Fault) (rest : Left D g) : Type 0 where
+    pub named : NamesSome status balances
+    pub told : Fault
+    pub ended_is : ended ≡ Err told
+    pub why : (told ≡ fault.WouldOverwrite) ⊎ (told ≡ fault.NoMemory)
+    pub unprinted : after ≡ before
+    pub nothing : rest ≡ left.Nothing
 
 -- ---- commands that keep a book
 
@@ -247,11 +260,14 @@ module _ {D : Type 0} {g : disk.Ghosts D} where
           (ended ≡ Ok status.Done
           → (config : Config) × IsSiteOf file config × FeedsScript m config text before after)
           × IfErr ended (check.IsUnchecked None) × (rest ≡ left.Nothing)
-      DoesJob (job.Check file database) ended rest = DoesCheck database before after ended rest
+      DoesJob (job.Check file database kept) ended rest =
+          KeepsOthers kept.status kept.balances before after ended rest
+          ⊎ DoesCheck database before after ended rest
       DoesJob (job.Init paths) ended rest =
           ClosesOrFails (MakesNew b before after) FailsToMakeNew ended rest
       DoesJob (job.Serve paths serving) ended rest =
-          ClosesOrFails (WorksAndCloses (HasServed serving.turns))
+          KeepsOthers serving.telling.status serving.telling.balances before after ended rest
+          ⊎ ClosesOrFails (WorksAndCloses (HasServed serving.turns))
           (FailsAtWork (HasServed serving.turns)) ended rest
       DoesJob (job.Import paths) ended rest = (moment : ℕ) × (moment < 2 ^ 53)
           × ClosesOrFails (WorksAndCloses (HasImported moment)) (FailsAtWork (HasImported moment))

@@ -6,23 +6,64 @@ ghost use Rattle.sqlite.specs.State.{HasCleanDisk};
 ghost use Rattle.sqlite.specs.Files.{file_state};
 ghost use Rattle.sqlite_wal.specs.Files.{image_at};
 ghost use Rattle.acct_commands.specs.Checks.{sizes_line};
+ghost use Rattle.acct_commands.specs.KeptNames.{NamesSome};
 ghost use Rattle.acct_jobs.specs.Files.{IsBookOf};
 ghost use Rattle.acct_jobs.specs.Jobs.{DoesCheck, ChecksBook, IsChecked, IsUnchecked, FailsToCheck};
-ghost use Rattle.acct_jobs.specs.Jobs.{text_of};
+ghost use Rattle.acct_jobs.specs.Jobs.{text_of, KeepsOthers};
 
 use crate::command::{Outcome, config_of, without_book};
 use crate::database::{FileConnection, adopted};
 use crate::left::Left;
-use acct_commands::{Fault, run_check, write_sizes};
+use acct_command_line::KeptNames;
+use acct_commands::{Fault, ServerFiles, keep_others, run_check, write_sizes};
 use acct_feed::Status;
 use acct_model::Text;
 use acct_site::Config;
 use sqlite::{FileFrom, Start};
 use std::io::Write;
 
-/// `check` of the configuration in a file, and of the book in another one, if that is given: whether
-/// it keeps the plans of the configuration. It stays as it is.
+/// `check` of the configuration in a file, of the files that a server is to write, and of the book in
+/// another file, if that is given: whether it keeps the plans of the configuration. It stays as it
+/// is.
 pub(crate) fn check<S: Start, W: Write + Drop>(
+    runtime: &HostRuntime,
+    config: &Text,
+    database: Option<&Text>,
+    kept: &KeptNames,
+    output: W,
+    start: S,
+) -> Outcome<W, FileFrom<S>>
+    ensures other { IfOk result.ended (λ status. status ≢ Status.WrongWords) }
+    ensures does { KeepsOthers kept.now.status kept.now.balances (W.contents output)
+        (text_of W.contents result.output) result.ended result.left
+        ⊎ DoesCheck (image_at S.Start) (option_copied database.entry) (W.contents output)
+        (text_of W.contents result.output) result.ended result.left }
+{
+    match keep_others(runtime, files_of(config, database, kept)) {
+        Ok(()) => check_files(runtime, config, database, output, start),
+        Err(fault) => without_book(Err(fault), output),
+    }
+}
+
+// The files of a server, by name, as `check` is given them.
+fn files_of<'a>(
+    config: &'a Text,
+    database: Option<&'a Text>,
+    kept: &'a KeptNames,
+) -> ServerFiles<'a>
+    ensures { NamesSome result.status result.balances
+        → NamesSome kept.now.status kept.now.balances }
+{
+    ServerFiles {
+        config,
+        database,
+        status: kept.status.as_ref(),
+        balances: kept.balances.as_ref(),
+    }
+}
+
+// `check` of a configuration, and of a book, if one is given.
+fn check_files<S: Start, W: Write + Drop>(
     runtime: &HostRuntime,
     config: &Text,
     database: Option<&Text>,

@@ -17,6 +17,7 @@ ghost use Rattle.acct_jobs.specs.Jobs.{DoesJob, HasNoConfig, WorksAndCloses, Fai
 ghost use Rattle.acct_jobs.specs.Jobs.{ExportsBook, ExportsNothing, FeedsScript};
 ghost use Rattle.acct_jobs.specs.Jobs.{text_of, IsSiteOf};
 ghost use Rattle.acct_commands.specs.Checks.{IsUnchecked};
+ghost use Rattle.acct_commands.specs.KeptNames.{NamesSome};
 ghost use Rattle.std.specs.Option.{option_copied};
 ghost use Rattle.acct_commands.specs.Imports.{Runs};
 
@@ -27,8 +28,8 @@ use crate::left::Left;
 use crate::making::{add_plans, init, migrate};
 use crate::serving::serve;
 use acct_book::Book;
-use acct_command_line::{Export, Job, Paths, Serving};
-use acct_commands::{Fault, read_config, run_export, run_import};
+use acct_command_line::{Export, Job, Paths, Serving, Telling};
+use acct_commands::{Fault, ServerFiles, keep_others, read_config, run_export, run_import};
 use acct_feed::Status;
 use acct_model::{Plans, Text};
 use acct_samples::sample_config;
@@ -79,9 +80,11 @@ pub fn run<S: Start, I: Read + Drop, W: Write + Drop, E: Write + Drop>(
             let ended = feed(runtime, config.as_ref(), input, &mut output);
             without_book(ended, output)
         }
-        Job::Check { config, database } => {
-            check(runtime, config, database.as_ref(), output, start)
-        }
+        Job::Check {
+            config,
+            database,
+            kept,
+        } => check(runtime, config, database.as_ref(), kept, output, start),
         Job::Init { paths } => {
             let ending = init(runtime, paths, &mut output, start);
             with_book(ending, output)
@@ -106,8 +109,8 @@ pub fn run<S: Start, I: Read + Drop, W: Write + Drop, E: Write + Drop>(
     }
 }
 
-/// Does the job `serve`, as `run` does. So a program can serve over files of which it supposes
-/// something else than of those of its other jobs, and has none of these in it twice.
+/// Does the job `serve`, as `run` does. A program that assumes something else of a torn write while
+/// it serves calls this, so that its other jobs are compiled only once.
 pub fn run_server<S: Start, W: Write + Drop, E: Write + Drop>(
     runtime: &HostRuntime,
     paths: &Paths,
@@ -124,8 +127,29 @@ pub fn run_server<S: Start, W: Write + Drop, E: Write + Drop>(
         text (W.contents output) (text_of W.contents result.output) (Job.Serve paths.now serving.now)
         result.ended result.left }
 {
-    let ending = serve(runtime, paths, serving, &mut output, errors, start);
-    with_book(ending, output)
+    match keep_others(runtime, files_of_server(paths, &serving.telling)) {
+        Ok(()) => {
+            let ending = serve(runtime, paths, serving, &mut output, errors, start);
+            with_book(ending, output)
+        }
+        Err(fault) => without_book(Err(fault), output),
+    }
+}
+
+// The files of a server, by name.
+fn files_of_server<'a>(paths: &'a Paths, telling: &'a Telling) -> ServerFiles<'a>
+    ensures { NamesSome result.status result.balances
+        → NamesSome telling.now.status telling.now.balances }
+{
+    ServerFiles {
+        config: &paths.config,
+        database: Some(&paths.database),
+        status: telling.status.as_ref(),
+        balances: match &telling.balances {
+            Some(balances) => Some(&balances.file),
+            None => None,
+        },
+    }
 }
 
 /// The outcome of a command that has no book.

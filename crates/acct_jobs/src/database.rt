@@ -63,7 +63,8 @@ pub fn made<S: Start>(
 /// # Errors
 ///
 /// `CannotOpen` if no regular file is there, if it has 1 to 99 octets, if it is empty beside a log
-/// that has frames, or if it cannot be opened; else that of `SqlBook::adopt`, with what is left of the files, which hold what they held.
+/// that has frames, or if it cannot be opened; else that of `SqlBook::adopt`, with what is left of
+/// the files, which hold what they held.
 pub fn adopted<S: Start>(
     runtime: &HostRuntime,
     file: &Text,
@@ -88,8 +89,8 @@ pub fn adopted<S: Start>(
 /// # Errors
 ///
 /// `CannotOpen` if no regular file is there, if it has 1 to 99 octets, if it is empty beside a log
-/// that has frames, or if it cannot be opened; else that of `SqlBook::migrate`, with what is left of the files. They hold what they held, but for a
-/// crash, which may leave the migrated book.
+/// that has frames, or if it cannot be opened; else that of `SqlBook::migrate`, with what is left of
+/// the files. They hold what they held, but for a crash, which may leave the migrated book.
 pub fn migrated<S: Start>(
     runtime: &HostRuntime,
     file: &Text,
@@ -113,8 +114,9 @@ pub fn migrated<S: Start>(
 /// # Errors
 ///
 /// `CannotOpen` if no regular file is there, if it has 1 to 99 octets, if it is empty beside a log
-/// that has frames, or if it cannot be opened; else that of `SqlBook::add_plans`, with what is left of the files. They hold what they held, but for
-/// a crash, which may leave the book with the added plans.
+/// that has frames, or if it cannot be opened; else that of `SqlBook::add_plans`, with what is left
+/// of the files. They hold what they held, but for a crash, which may leave the book with the added
+/// plans.
 pub fn extended<S: Start>(
     runtime: &HostRuntime,
     file: &Text,

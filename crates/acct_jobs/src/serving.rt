@@ -12,8 +12,9 @@ use acct_book::Book;
 use acct_command_line::{Paths, Serving};
 use acct_commands::{Fault, SiteFile, note_clock};
 use acct_feed::Status;
+use acct_model::Text;
 use acct_service::Exchange;
-use acct_serving::{Errors, run_serve};
+use acct_serving::{Errors, Surroundings, run_serve};
 use acct_site::Config;
 use acct_sockets::Sockets;
 use acct_sql::SqlBook;
@@ -88,7 +89,12 @@ fn served<S: Start, W: Write, E: Write + Drop>(
     // Before it is opened, which may make a log.
     note_clock(runtime, &paths.database, &mut errors.site);
     let book = adopted(runtime, &paths.database, &config.plans, start)?;
-    let (ended, connection) = run_over(runtime, config, site, book, serving, output, errors);
+    let around = Surroundings {
+        source: site,
+        errors,
+    };
+    let file = &paths.database;
+    let (ended, connection) = run_over(runtime, config, around, file, book, serving, output);
     finished(ended, connection)
 }
 
@@ -96,11 +102,11 @@ fn served<S: Start, W: Write, E: Write + Drop>(
 fn run_over<T: Alter + Drop, W: Write, E: Write + Drop>(
     runtime: &HostRuntime,
     config: &Config,
-    site: SiteFile<'_, HostRuntime>,
+    around: Surroundings<SiteFile<'_, HostRuntime>, E>,
+    file: &Text,
     mut book: SqlBook<T>,
     serving: &Serving,
     output: &mut W,
-    errors: Errors<E>,
 ) -> (Result<Status, Fault>, Connection<T>)
     requires { IsBounded serving.now }
     ensures done { IfOk result.0 (λ status. status ≡ Status.Done) }
@@ -112,11 +118,11 @@ fn run_over<T: Alter + Drop, W: Write, E: Write + Drop>(
         runtime,
         runtime.alloc(),
         config,
-        site,
+        around,
+        file,
         &mut book,
         serving,
         output,
-        errors,
     );
     (ended, book.into_connection())
 }

@@ -1,8 +1,8 @@
 //! Files that are no book, and configurations that are long.
-use crate::trial::{Command, came, comes, write_sites};
+use crate::trial::{Command, Wanted, came, comes, write_sites};
 use acct_feed::Status;
 use std::fs;
-use std::os::unix::fs::PermissionsExt;
+use std::os::unix::fs::{PermissionsExt, symlink};
 use std::test::Fail;
 
 // Commands that take the book `slip-book`.
@@ -85,6 +85,9 @@ fn a_long_configuration_is_read_whole(rt: HostRuntime) -> Result<(), Fail> {
     fs::write(&rt, "long.toml", long_site(&rt)?.as_str())?;
     let sizes = (Status::Done, "ok: 0 clients, 1 plans, 600 keys\n", "");
     assert!(rt; comes(&rt, ("check --config long.toml", ""), sizes)?);
+    // Commands that keep a book have a reading of their own.
+    let made = (Status::Done, "book made\n", "");
+    assert!(rt; comes(&rt, ("init --config long.toml --db long-book", ""), made)?);
     Ok(())
 }
 
@@ -132,4 +135,56 @@ fn tells_each(rt: &HostRuntime) -> Result<bool, Fail> {
         text.starts_with("added 0, repeated 0, refused 300\n2: BadSum\n3: BadSum\n")
             && text.ends_with("\n301: BadSum\n"),
     )
+}
+
+// Commands that name files to be written, of which each would take the place of another file: the
+// configuration, the book, its log, that of the other name, a folder, and what others wrote.
+static OVERWRITING: [&str; 10] = [
+    "check --config safe.toml --status safe.toml",
+    "check --config safe.toml --balances safe-link",
+    "check --config safe.toml --balances ./safe.toml",
+    "check --config safe.toml --db safe-book --balances safe-book",
+    "check --config safe.toml --db safe-book --status safe-book-wal",
+    "check --config safe.toml --status safe-out --balances safe-out",
+    "check --config safe.toml --status safe-out --balances safe-out.new",
+    "check --config safe.toml --balances safe-notes",
+    "serve --config safe.toml --db safe-book --turns 1 --radius-port 1 --desk-port 1 --status /tmp",
+    "serve --config safe.toml --db safe-book --turns 1 --radius-port 1 --desk-port 1 \
+     --balances safe-book",
+];
+
+// Commands whose files are free, or were written by the program.
+static KEEPING: [&str; 3] = [
+    "check --config safe.toml --status safe-status --balances safe-balances",
+    "check --config safe.toml --status safe-empty --balances safe-new",
+    "check --config safe.toml --db safe-book --status no-folder/status --balances safe-new",
+];
+
+// Whether each of these commands comes to this.
+fn all_come(rt: &HostRuntime, lines: &[&str], wanted: Wanted<'_>) -> Result<bool, Fail> {
+    for line in lines {
+        if !comes(rt, (line, ""), wanted)? {
+            return Ok(false);
+        }
+    }
+    Ok(true)
+}
+
+// No file that a server is to write takes the place of another one.
+#[test]
+fn nothing_is_overwritten(rt: HostRuntime) -> Result<(), Fail> {
+    write_sites(&rt, ["safe.toml", "safe-more.toml", "safe-other.toml"])?;
+    let made = (Status::Done, "book made\n", "");
+    assert!(rt; comes(&rt, ("init --config safe.toml --db safe-book", ""), made)?);
+    symlink(&rt, "safe.toml", "safe-link.new")?;
+    fs::write(&rt, "safe-notes", "not radacctd's\n")?;
+    fs::write(&rt, "safe-status", "# HELP radacctd_events_total Data")?;
+    fs::write(&rt, "safe-balances", "account,balance,overrun\nal,500,0\n")?;
+    fs::write(&rt, "safe-balances.new", "account,bal")?;
+    fs::write(&rt, "safe-empty", "")?;
+    let refused = (Status::Refused, "", "file: would be overwritten\n");
+    assert!(rt; all_come(&rt, &OVERWRITING, refused)?);
+    let sizes = (Status::Done, "ok: 1 clients, 2 plans, 2 keys\n", "");
+    assert!(rt; all_come(&rt, &KEEPING, sizes)?);
+    Ok(())
 }

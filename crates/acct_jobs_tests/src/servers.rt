@@ -51,7 +51,8 @@ fn serves_and_keeps(rt: &HostRuntime) -> Result<bool, Fail> {
     Ok(
         is_served
             && balances.as_str() == "account,balance,overrun\nal,500,0\n"
-            && counts.as_str().contains("\nradacctd_events_total 0\n"),
+            && counts.as_str().contains("\nradacctd_events_total 0\n")
+            && counts.as_str().contains("\nradacctd_accounts 1\n"),
     )
 }
 

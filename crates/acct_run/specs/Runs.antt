@@ -5,10 +5,12 @@ use Rattle.std.specs.Io.KnownBytes.{Appends}
 use Rattle.acct_book.specs.declared.book.Book as book
 use Rattle.acct_site.specs.declared.config.Config.{Config}
 use Rattle.acct_service.specs.declared.exchange.Exchange as exchange
+use Rattle.acct_service.specs.Serving.{drops_of}
 use Rattle.acct_service.specs.Slices.{Slice, MakesTurns, ServesInSlices}
 use Rattle.acct_service.specs.declared.server.Served.{Served}
 use Rattle.acct_service.specs.declared.slices.Until.{Until}
 use Rattle.acct_service.specs.declared.slices.Until.TheVariants as until
+use Rattle.acct_wire.specs.declared.reason.Reason.TheVariants as reason
 use Rattle.acct_run.specs.Counts.{counts_text, drops_text}
 use Rattle.acct_run.specs.declared.counts.Counts.{Counts}
 use Rattle.acct_run.specs.declared.counts.Drops.{Drops}
@@ -46,13 +48,14 @@ whole_text served = codes "serving" ++ 10 ∷ [] ++ served_text served
 -- A run of a server over a book and an exchange, from its first turn to its last.
 module _ {B X : Type 0} (b : book.Ghosts B) (x : exchange.Ghosts X) where
   -- It made so many turns of the exchange: all, or as many as there were until the book was found
-  -- shut, which a steady book never is; a sound book that is not open was found so. They are a run
-  -- of the machine in slices, each under the configuration that it had, and these are the counts of
-  -- that run. Between the slices the rounds went so.
+  -- shut, which a steady book never is, or refused each report of a slice; a sound book that is not
+  -- open was found shut. They are a run of the machine in slices, each under the configuration that
+  -- it had, and these are the counts of that run. Between the slices the rounds went so.
   pub record Ran (config : Config) (turns : ℕ) (Went : List Slice → Type 0) (old new : B)
       (first last : X) (served : Served) (why : Until) : Type 0 where
     pub turns_made : MakesTurns turns (x.turn_count first) (x.turn_count last) why
     pub shut : why ≡ until.Shut → b.is_steady old → ⊥
+    pub stuck : why ≡ until.Stuck → 0 < drops_of served reason.Unavailable
     pub open_is : why ≡ until.AllMade → 0 < turns → b.is_sound new → b.is_open new
     pub faults : x.failure_count last ≡ x.failure_count first + served.faults
     pub run : ServesInSlices b config old new (x.told first) (x.told last) Went served

@@ -14,7 +14,7 @@ use std::io;
 use std::io::Write;
 
 /// Makes this many turns of an exchange over a book in slices, between which `rounds` looks round;
-/// fewer only where the book is found shut. It says how far it came. `serving` is printed and
+/// fewer only if the book is found shut or stuck. It says how far it came. `serving` is printed and
 /// flushed before the first turn, and what was counted after the last one, flushed too.
 ///
 /// What comes in the turns is answered whatever the output does then: a run of `serve_in_slices`,

@@ -14,10 +14,11 @@ use Rattle.acct_service.specs.Machine.{Visit}
 use Rattle.acct_service.specs.Serving.{Attends, AreUnder, Counts}
 
 -- so many turns were made of those that were allowed: all, or as many as there were, some at least,
--- until the book was found shut
+-- until the book was found shut, or refused each report of a slice
 abbrev pub MakesTurns : ℕ → ℕ → ℕ → Until → Type 0
 MakesTurns limit old new until.AllMade = new ≡ old + limit
 MakesTurns limit old new until.Shut = (old < new) × (new ≤ old + limit)
+MakesTurns limit old new until.Stuck = (old < new) × (new ≤ old + limit)
 
 -- A slice of turns: the configuration that it had, its visits, and the configuration that the round
 -- after it gave, if it gave one.

@@ -17,6 +17,7 @@ pub struct Outbox {
     reply: [u8; 4096],
     size: usize,
     response: Option<Vec<u8>>,
+    answered: u64,
 }
 
 // It is written out, so that a caller does not prove again how each part is dropped.
@@ -26,6 +27,7 @@ impl Drop for Outbox {
             reply: _,
             size: _,
             response: _,
+            answered: _,
         } = self;
     }
 }
@@ -50,6 +52,7 @@ impl Outbox {
             reply: [0; 4096],
             size: 0,
             response: None,
+            answered: 0,
         }
     }
 
@@ -61,6 +64,11 @@ impl Outbox {
             Some(response) => response.as_slice(),
             None => &self.reply[..self.size],
         }
+    }
+
+    // How many datagrams were answered with a reply. Past 2^64 - 1 the count stays.
+    pub(crate) fn answered(&self) -> u64 {
+        self.answered
     }
 
     // Answers a datagram, and keeps the reply.
@@ -87,6 +95,7 @@ impl Outbox {
             Outcome::Reply(size) => {
                 self.size = size;
                 self.response = None;
+                self.answered = self.answered.saturating_add(1);
                 Turn::Reply
             }
             Outcome::Drop(reason) => Turn::Dropped(reason),

@@ -2,6 +2,7 @@
 use Rattle.std.specs.Prelude.{◌≡◌, ⊤, ℕ, List, Option}
 use Rattle.std.proofs.Common.{◌∙◌, sym, ap, refl}
 use Rattle.acct_book.specs.declared.book.Book as book
+use Rattle.acct_book.specs.inner.Step.{OnlyLooks}
 use Rattle.acct_site.specs.declared.config.Config.{Config}
 use Rattle.acct_service.specs.declared.exchange.Exchange as exchange
 use Rattle.acct_service.specs.Slices.{Slice, ServesInSlices}
@@ -29,6 +30,7 @@ module _ {B X Y : Type 0} (b : book.Ghosts B) (x : exchange.Ghosts X) (y : excha
   ran_so served why ran = record {
     turns_made = rw (starts.turns, stops.turns) ran.turns_made;
     shut = ran.shut;
+    stuck = ran.stuck;
     open_is = ran.open_is;
     faults = rw (starts.failures, stops.failures) ran.faults;
     run = rw (starts.told, stops.told) ran.run;
@@ -63,14 +65,15 @@ however b config old new told later Went served run = record {
 }
 
 module _ {B X : Type 0} (b : book.Ghosts B) (x : exchange.Ghosts X) (config : Config) (turns : ℕ)
-    (Went : List Slice → Type 0) (old new : B) (first last : X)
-    (fresh : x.turn_count first ≡ 0) (faultless : x.failure_count first ≡ 0) where
+    (Went : List Slice → Type 0) (before_all old new : B) (looked : OnlyLooks b before_all old)
+    (first last : X) (fresh : x.turn_count first ≡ 0) (faultless : x.failure_count first ≡ 0) where
   ran_however : (served : Served) (why : Until)
       → Ran b x config turns Went old new first last served why
       → Ran b x config turns (λ _. ⊤) old new first last served why
   ran_however served why ran = record {
     turns_made = ran.turns_made;
     shut = ran.shut;
+    stuck = ran.stuck;
     open_is = ran.open_is;
     faults = ran.faults;
     run = however b config old new (x.told first) (x.told last) Went served ran.run;
@@ -79,20 +82,26 @@ module _ {B X : Type 0} (b : book.Ghosts B) (x : exchange.Ghosts X) (config : Co
   -- a server ended so over an exchange that had made no turn and no fault
   pub ends_afresh : (before after : Option (List ℕ)) (ended : Ended)
       → EndsOver b x config turns Went old new first last before after ended
-      → EndsAfresh b x config turns old new last before after ended
+      → EndsAfresh b x config turns before_all new last before after ended
   ends_afresh before after (how.Told served why) (ran, printed) = record {
+    begun = old;
+    looked = looked;
     first = first;
     fresh = fresh;
     faultless = faultless;
     ends = (ran_however served why ran, printed);
   }
   ends_afresh before after (how.Untold served why) ran = record {
+    begun = old;
+    looked = looked;
     first = first;
     fresh = fresh;
     faultless = faultless;
     ends = ran_however served why ran;
   }
   ends_afresh before after how.NotBegun (same_book, unasked) = record {
+    begun = old;
+    looked = looked;
     first = last;
     fresh = unasked.turns ∙ fresh;
     faultless = unasked.failures ∙ faultless;

@@ -2,6 +2,7 @@
 use Rattle.std.specs.Prelude.{◌≡◌, ◌⊎◌, ⊤, ℕ, List, Option, Result, Ok, Err}
 use Rattle.std.specs.Io.KnownBytes.{Appends}
 use Rattle.acct_book.specs.declared.book.Book as book
+use Rattle.acct_book.specs.inner.Step.{OnlyLooks}
 use Rattle.acct_site.specs.declared.config.Config.{Config}
 use Rattle.acct_service.specs.Slices.{Slice}
 use Rattle.acct_service.specs.declared.exchange.Exchange as exchange
@@ -15,12 +16,14 @@ use Rattle.acct_commands.specs.declared.fault.StoreFault.TheVariants as store
 use Rattle.acct_feed.specs.declared.status.Status.{Status}
 use Rattle.acct_feed.specs.declared.status.Status.TheVariants as status
 
--- how the command ends: where the book was found shut, by that
+-- how the command ends: by the book, if that was found shut or stuck
 abbrev pub ended_of : Ended → Result Status Fault
 ended_of (how.Told served until.AllMade) = Ok status.Done
 ended_of (how.Told served until.Shut) = Err (fault.Store store.Unavailable)
+ended_of (how.Told served until.Stuck) = Err (fault.Store store.Unavailable)
 ended_of (how.Untold served until.AllMade) = Err fault.CannotWrite
 ended_of (how.Untold served until.Shut) = Err (fault.Store store.Unavailable)
+ended_of (how.Untold served until.Stuck) = Err (fault.Store store.Unavailable)
 ended_of how.NotBegun = Err fault.CannotWrite
 
 -- the sockets could not be bound, or there was no room for datagrams or names
@@ -48,14 +51,17 @@ module _ {B X : Type 0} (b : book.Ghosts B) (x : exchange.Ghosts X) where
   EndsOver config turns Went old new first last before after how.NotBegun =
       (new ≡ old) × IsUnasked first last
 
-  -- A server ended so over an exchange that had made no turn and no fault. How the rounds went is not said
-  -- here: the file that they look at is one that no contract can name.
+  -- A server ended so over an exchange that had made no turn and no fault. Before it began the book
+  -- was read, for the file of balances, and stayed as it was. How the rounds went is not said here:
+  -- the file that they poll is one that no contract can name.
   pub record EndsAfresh (config : Config) (turns : ℕ) (old new : B) (last : X)
       (before after : Option (List ℕ)) (ended : Ended) : Type 0 where
+    pub begun : B
+    pub looked : OnlyLooks b old begun
     pub first : X
     pub fresh : x.turn_count first ≡ 0
     pub faultless : x.failure_count first ≡ 0
-    pub ends : Ends b x config turns (λ _. ⊤) old new first last before after ended
+    pub ends : Ends b x config turns (λ _. ⊤) begun new first last before after ended
 
   -- The command: the sockets could not be bound, and nothing was done; or a server ended so over an
   -- exchange that had made no turn and no fault.

@@ -8,5 +8,5 @@
 mod sockets_server;
 mod watcher;
 
-pub use sockets_server::{Errors, run_serve};
+pub use sockets_server::{Errors, Surroundings, run_serve};
 pub use watcher::Watcher;

@@ -1,12 +1,14 @@
 //! A server over sockets: they are bound, and then it is watched over them.
 ghost use Rattle.std.specs.Prelude.{◌≡◌, ◌<◌, ◌^◌, IfOk, IfErr, OnErr};
+ghost use Rattle.acct_book.specs.inner.Step.{OnlyLooks};
 ghost use Rattle.acct_serving.specs.Serving.{EndsAfresh, RunsServer, IsUnbound, ended_of};
 
 use crate::watcher::Watcher;
 use acct_book::Book;
 use acct_command_line::{Listening, Serving, Telling};
 use acct_commands::{
-    Fault, FileRounds, KeptBalances, Shared, SiteSource, StatusFile, StoreFault, Watch,
+    Fault, FileRounds, Gauges, KeptBalances, Shared, SiteSource, StateSource, StatusFile,
+    StoreFault, Watch,
 };
 use acct_feed::Status;
 use acct_model::{Text, address_of};
@@ -21,7 +23,16 @@ use std::io::{ErrorKind, Write};
 use std::net::Net;
 use std::time::Clock;
 
-/// Where a server tells what the caller of the program should see.
+/// What is around a server: the text of its configuration, and where it prints.
+#[derive(Drop)]
+pub struct Surroundings<S: Drop, E: Drop> {
+    /// The text of the configuration, which is polled.
+    pub source: S,
+    /// Where it prints what the caller of the program should see.
+    pub errors: Errors<E>,
+}
+
+/// Where a server prints what the caller of the program should see.
 #[derive(Drop)]
 pub struct Errors<E: Drop> {
     /// The drops and the counts of each minute, if these are told.
@@ -33,15 +44,17 @@ pub struct Errors<E: Drop> {
 /// Serves a configuration over a book for so many turns, at the addresses and the ports that
 /// `serving` has. It binds all sockets, and is then `Watcher::serve` over them.
 ///
-/// While it runs it tells on `errors`, if it may, what it drops and how much comes. It keeps the
-/// files up that `serving` names, and takes the configuration that `source` has, if that changed,
-/// for the turns that follow: `FileRounds`.
+/// While it runs it prints on `errors`, if it may, what it drops and how much comes. It writes the
+/// files that `serving` names, one of which shows the size of the book's file, `database`. It takes
+/// the configuration that `source` has, if that changed, for the turns that follow: `FileRounds`.
+/// The file of balances is written before it says that it serves. If it cannot be, the server begins
+/// all the same.
 ///
 /// # Errors
 ///
 /// `CannotBind`, and `NoMemory` where there is no room for datagrams or names; the book and the
-/// output are then as they were. `Store(Unavailable)` where the book was found shut, which ends the
-/// turns: whoever started the program is to start it again. `CannotWrite` where the output failed:
+/// output are then as they were. `Store(Unavailable)` if the book was found shut or stuck, which ends
+/// the turns: whoever started the program is to start it again. `CannotWrite` if the output failed:
 /// before the first turn, or after the last one.
 pub fn run_serve<
     'r,
@@ -54,11 +67,11 @@ pub fn run_serve<
     runtime: &'r R,
     alloc: Global,
     config: &Config,
-    source: S,
+    around: Surroundings<S, E>,
+    database: &Text,
     book: &mut B,
     serving: &Serving,
     output: &mut W,
-    errors: Errors<E>,
 ) -> Result<Status, Fault>
     requires { serving.now.turns < 2 ^ 63 }
     ensures done { IfOk result (λ status. status ≡ Status.Done) }
@@ -66,7 +79,7 @@ pub fn run_serve<
         (W.contents output.old) (W.contents output.new) result book.old book.new }
 {
     let served = serve_sockets(
-        runtime, alloc, config, source, book, serving, output, errors,
+        runtime, alloc, config, around, database, book, serving, output,
     );
     match served {
         Ok((_sockets, ended)) => status_of(ended),
@@ -81,9 +94,8 @@ fn status_of(ended: Ended) -> Result<Status, Fault>
 {
     match ended {
         Ended::Told(_, Until::AllMade) => Ok(Status::Done),
-        Ended::Told(_, Until::Shut) | Ended::Untold(_, Until::Shut) => {
-            Err(Fault::Store(StoreFault::Unavailable))
-        }
+        Ended::Told(_, Until::Shut | Until::Stuck) | Ended::Untold(_, Until::Shut | Until::Stuck) =>
+            { Err(Fault::Store(StoreFault::Unavailable)) }
         Ended::Untold(_, Until::AllMade) | Ended::NotBegun => Err(Fault::CannotWrite),
     }
 }
@@ -101,11 +113,11 @@ fn serve_sockets<
     runtime: &'r R,
     alloc: Global,
     config: &Config,
-    source: S,
+    around: Surroundings<S, E>,
+    database: &Text,
     book: &mut B,
     serving: &Serving,
     output: &mut W,
-    errors: Errors<E>,
 ) -> Result<(Sockets<'r, R>, Ended), Fault>
     requires { serving.now.turns < 2 ^ 63 }
     ensures serves { IfOk result (λ done. EndsAfresh B.Book ⟦<Sockets<'r, R> as Exchange>⟧
@@ -114,12 +126,27 @@ fn serve_sockets<
     ensures unbound { OnErr result ((book.new ≡ book.old) × (output.new ≡ output.old)) }
     ensures why { IfErr result IsUnbound }
 {
-    let Errors { drops, site } = errors;
+    let Surroundings {
+        source,
+        errors: Errors { drops, site },
+    } = around;
     let site = RefCell::new(site);
-    let balances = balances_file(runtime, alloc, &serving.telling)?;
-    let mut rounds = FileRounds::new(runtime, source, balances, Shared::new(&site));
-    let counts = status_file(runtime, alloc, &serving.telling, Shared::new(&site))?;
+    let gauges = Gauges::new();
+    let mut balances = balances_file(runtime, alloc, &serving.telling)?;
+    let state = StateSource::new(runtime, alloc, &gauges, database)?;
+    let counts = status_file(runtime, alloc, &serving.telling, state, Shared::new(&site))?;
     let sockets = bound(runtime, alloc, &serving.listening)?;
+    let mut errors = Shared::new(&site);
+    write_first(
+        runtime,
+        alloc,
+        &mut balances,
+        config,
+        book,
+        &gauges,
+        &mut errors,
+    );
+    let mut rounds = FileRounds::new(runtime, source, balances, &gauges, Shared::new(&site));
     let watcher = Watcher {
         clock: runtime,
         drops: watch_on(drops),
@@ -127,6 +154,24 @@ fn serve_sockets<
     };
     let turns = serving.turns;
     Ok(watcher.serve(alloc, config, book, sockets, &mut rounds, turns, output))
+}
+
+// Writes the file of balances for the first time, if there is one.
+fn write_first<'r, R: Files + Clock, B: Book, E: Write>(
+    runtime: &'r R,
+    alloc: Global,
+    balances: &mut Option<KeptBalances<'r, R>>,
+    config: &Config,
+    book: &mut B,
+    gauges: &Gauges,
+    errors: &mut E,
+)
+    ensures { OnlyLooks B.Book book.old book.new }
+{
+    if let Some(balances) = balances {
+        let moment = moment_of(runtime);
+        balances.keep(alloc, &config.plans, book, moment, gauges, errors);
+    }
 }
 
 // What tells on a writer what is dropped and how much comes, if that is told.
@@ -142,12 +187,13 @@ fn status_file<'r, R: Clock + Files, E: Write + Drop>(
     runtime: &'r R,
     alloc: Global,
     telling: &Telling,
+    state: StateSource<'r, R>,
     errors: E,
 ) -> Result<Option<StatusFile<'r, R, E>>, AllocError> {
     match &telling.status {
         Some(name) => {
             let started_at = moment_of(runtime);
-            let status = StatusFile::new(runtime, alloc, name, started_at, errors)?;
+            let status = StatusFile::new(runtime, alloc, name, started_at, state, errors)?;
             Ok(Some(status))
         }
         None => Ok(None),

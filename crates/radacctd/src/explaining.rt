@@ -1,14 +1,86 @@
 //! What `--explain` adds to a fault.
-use acct_command_line::{Job, Paths};
-use acct_commands::Fault;
-use acct_explain::{Explained, explain};
+use crate::by_syncs::BySyncs;
+use crate::order::{Ran, ended_of};
+use acct_command_line::{Job, Order, Paths};
+use acct_commands::{Fault, StoreFault, read_config};
+use acct_explain::{Explained, Wanted, explain, explain_plans, explain_sockets, explain_tables};
+use acct_jobs::{Left, Outcome};
 use acct_model::Text;
+use sqlite_disk::Disk;
 use std::io::Write;
 
-/// Tells what is known of the fault that ended a job, where that is more than its text says.
-pub fn explain_fault<E: Write>(runtime: &HostRuntime, job: &Job, fault: Fault, errors: &mut E) {
-    if let Some(what) = explained(job, fault) {
-        explain(runtime, runtime.alloc(), what, errors);
+// What a file that would be overwritten may be.
+const OVERWRITTEN: &str =
+    "explained: a file of --status or --balances, or the same name with .new, \
+    is the book, its log, the configuration or the other file, or radacctd did not write it";
+
+/// Prints what is known of the fault that ended a job, if that is more than its text says.
+pub(crate) fn explain_fault<E: Write>(
+    runtime: &HostRuntime,
+    job: &Job,
+    fault: Fault,
+    errors: &mut E,
+) {
+    match (fault, job) {
+        (Fault::CannotBind, Job::Serve { serving, .. }) => {
+            let wanted = Wanted {
+                addresses: serving.listening.addresses.as_slice(),
+                desk: &serving.listening.desk_address,
+                radius_port: serving.listening.radius_port,
+                desk_port: serving.listening.desk_port,
+            };
+            explain_sockets(runtime, wanted, errors);
+        }
+        (Fault::WouldOverwrite, _) => {
+            let _ = writeln!(errors, "{OVERWRITTEN}");
+        }
+        _ => {
+            if let Some(what) = explained(job, fault) {
+                explain(runtime, runtime.alloc(), what, errors);
+            }
+        }
+    }
+}
+
+/// Prints why a book was refused, if the order asks for that: which plan differs, or what its
+/// database has. The book is open still, and is then let go.
+pub(crate) fn explain_book<W: Write + Drop>(runtime: &HostRuntime, order: &Order, ran: Ran<W>) {
+    let (true, Err(Fault::Store(fault))) = (order.explains, ended_of(&ran)) else {
+        return;
+    };
+    match ran {
+        BySyncs::Once(outcome) => explain_outcome(runtime, &order.job, fault, outcome),
+        BySyncs::Twice(outcome) => explain_outcome(runtime, &order.job, fault, outcome),
+    }
+}
+
+fn explain_outcome<W: Write + Drop, D: Disk + Drop>(
+    runtime: &HostRuntime,
+    job: &Job,
+    fault: StoreFault,
+    outcome: Outcome<W, D>,
+) {
+    let Outcome {
+        ended: _,
+        output: _output,
+        left: mut rest,
+    } = outcome;
+    let (Some(config), Some(file)) = (config_file(job), book_file(job)) else {
+        return;
+    };
+    let Left::Open(book) = &mut rest else {
+        return;
+    };
+    let mut errors = runtime.stderr();
+    match fault {
+        StoreFault::NotABook => explain_tables(book, file.as_str(), &mut errors),
+        StoreFault::PlansDiffer => {
+            let alloc = runtime.alloc();
+            if let Ok(config) = read_config(runtime, alloc, config) {
+                explain_plans(alloc, book, file.as_str(), config.plans.list(), &mut errors);
+            }
+        }
+        StoreFault::WrongSchema | StoreFault::Unavailable => {}
     }
 }
 
@@ -30,19 +102,20 @@ fn explained<'a>(job: &'a Job, fault: Fault) -> Option<Explained<'a>> {
 
 // The book that could not be opened, or made.
 fn unopened<'a>(job: &'a Job) -> Option<Explained<'a>> {
+    let file = book_file(job)?;
     match job {
-        Job::Init { paths } => Some(Explained::Unmade {
-            file: &paths.database,
-        }),
-        Job::Check { database, .. } => {
-            let file = database.as_ref()?;
-            Some(Explained::Unopened { file })
-        }
+        Job::Init { .. } => Some(Explained::Unmade { file }),
+        _ => Some(Explained::Unopened { file }),
+    }
+}
+
+// The file of a job's book, if it has one.
+fn book_file(job: &Job) -> Option<&Text> {
+    match job {
+        Job::Check { database, .. } => database.as_ref(),
         _ => {
             let paths = paths_of(job)?;
-            Some(Explained::Unopened {
-                file: &paths.database,
-            })
+            Some(&paths.database)
         }
     }
 }

@@ -10,6 +10,7 @@ mod by_syncs;
 mod explaining;
 mod order;
 
+use crate::explaining::explain_book;
 use crate::order::carry_out;
 use acct_command_line::{job_of, tell};
 use acct_explain::explain_words;
@@ -46,7 +47,8 @@ fn main(rt: HostRuntime) -> ExitCode {
     };
     let drops = Some(drops);
     let errors = Errors { drops, site };
-    let (status, _ran) = carry_out(&rt, &order, rt.stdin(), output, errors, &mut rt.stderr());
+    let (status, ran) = carry_out(&rt, &order, rt.stdin(), output, errors, &mut rt.stderr());
+    explain_book(&rt, &order, ran);
     ExitCode::from(status)
 }
 

@@ -21,7 +21,7 @@ use sqlite::{FileFrom, FileStore, MemStore, Start, Unknown, Wary};
 use std::io::{Read, Write};
 
 /// What a job came to over the files of a book.
-type Ran<W> = BySyncs<Outcome<W, FileFrom<Unknown>>, Outcome<W, FileFrom<Wary>>>;
+pub(crate) type Ran<W> = BySyncs<Outcome<W, FileFrom<Unknown>>, Outcome<W, FileFrom<Wary>>>;
 
 /// Does the job of an order over these streams, and gives the exit status, with what the job came
 /// to. A fault that ended it is printed on `faults`, with what is known of it if the order asks for
@@ -97,8 +97,8 @@ fn run_as_it_syncs<I: Read + Drop, W: Write + Drop, E: Write + Drop>(
     }
 }
 
-// How a job ended.
-fn ended_of<W: Write>(ran: &Ran<W>) -> Result<Status, Fault>
+/// How a job ended.
+pub(crate) fn ended_of<W: Write>(ran: &Ran<W>) -> Result<Status, Fault>
     ensures { EitherWay ran.now (λ once. result ≡ once.ended) (λ twice. result ≡ twice.ended) }
 {
     match ran {

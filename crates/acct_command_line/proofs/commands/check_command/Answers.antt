@@ -1,6 +1,9 @@
 use Rattle.acct_command_line.proofs.commands.check_command.Goals as goal
 
 pub returns : goal.returns
-returns c = c.with_option.ensures _ _ (c.with_option-command.ensures _ _
-    c.configured_command-command.ensures c.database_option.ensures.rule)
-    c.explain_flag.ensures.rule
+returns c =
+    let database = c.with_option-command.ensures _ _ c.configured_command-command.ensures
+    c.database_option.ensures.rule in
+    let status = c.with_option-command-2.ensures _ _ database c.status_option.ensures.rule in
+    let balances = c.with_option-command-3.ensures _ _ status c.balances_option.ensures.rule in
+    c.with_option.ensures _ _ balances c.explain_flag.ensures.rule

@@ -1,9 +1,20 @@
+use Rattle.std.proofs.Common.{inl, inr}
 use Rattle.acct_jobs.proofs.Ended.{ended_so}
 use Rattle.acct_jobs.proofs.command.run_server.Goals as goal
 
-pub returns-clause-does : goal.returns-clause-does
-returns-clause-does g c text =
+pub returns-in-Ok-clause-does : goal.returns-in-Ok-clause-does
+returns-in-Ok-clause-does g c text =
     let out = c.with_book.ensures in
     rw out.output
-    (ended_so _ _ c.serve-ending.result _ _ out.ok out.err c.serve-ending.ensures.closed
-    c.serve-ending.ensures.failed)
+    (inr (ended_so _ _ c.serve-ending.result _ _ out.ok out.err c.serve-ending.ensures.closed
+    c.serve-ending.ensures.failed))
+
+pub returns-in-Err-clause-does : goal.returns-in-Err-clause-does
+returns-in-Err-clause-does g c text = inl (record {
+  named = c.files_of_server.ensures c.in-Err.ensures.some;
+  told = c.in-Err.fault;
+  ended_is = c.without_book.ensures.same;
+  why = c.in-Err.ensures.why;
+  unprinted = c.without_book.ensures.output;
+  nothing = c.without_book.ensures.left;
+})

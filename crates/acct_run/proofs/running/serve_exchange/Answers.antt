@@ -8,6 +8,7 @@ returns-in-Ok-write_counts g c =
       record {
         turns_made = ran.turns;
         shut = ran.shut;
+        stuck = ran.stuck;
         open_is = ran.open;
         faults = ran.faults;
         run = ran.serves;

@@ -1,0 +1,271 @@
+//! Whether the files that a server writes from time to time would take the place of others.
+//!
+//! A name is refused if it, or the name under which its file is first made, leads to the book, to its
+//! log, to the configuration, or to where the other one's file is. So is one at which something else
+//! is than what the program writes there.
+ghost use Rattle.std.specs.Prelude.{◌≡◌, ◌↔◌, ◌⊎◌, IsTrue, IfErr};
+ghost use Rattle.acct_commands.specs.KeptNames.{LeadsToOne, LeadsToSome, SharesOne, NamesSome};
+
+use crate::fault::Fault;
+use acct_model::Text;
+use std::alloc::AllocError;
+use std::fs;
+use std::fs::{File, Files};
+use std::io::Read;
+use std::os::unix::fs::MetadataExt;
+
+// How a file of balances begins.
+const BALANCES_HEAD: &[u8] = b"account,balance,overrun\n";
+// How a file of counts begins.
+const STATUS_HEAD: &[u8] = b"# HELP radacctd_";
+// The most octets with which one of them begins.
+const MOST_HEAD: usize = 32;
+
+/// The files of a server, by name.
+#[derive(Clone, Copy)]
+pub struct ServerFiles<'a> {
+    /// The configuration.
+    pub config: &'a Text,
+    /// The book, if there is one.
+    pub database: Option<&'a Text>,
+    /// The file that it writes its counts into, if one is named.
+    pub status: Option<&'a Text>,
+    /// The file that it writes all balances into, if one is named.
+    pub balances: Option<&'a Text>,
+}
+
+// Where a name leads: symbolic links are followed.
+#[derive(Drop)]
+enum Place {
+    // To a file, by its device and its number there.
+    File {
+        device: u64,
+        number: u64,
+    },
+    // To no file: the folder in which it would be, and its name there.
+    Free {
+        device: u64,
+        number: u64,
+        name: Text,
+    },
+    // Nobody knows.
+    Unknown,
+}
+
+/// Whether the files that a server is to write leave all others as they are.
+///
+/// # Errors
+///
+/// `WouldOverwrite` if one would take the place of another file; `NoMemory`. Where none is named
+/// there is no error.
+pub fn keep_others<R: Files + AllocGlobal>(runtime: &R, files: ServerFiles<'_>) -> Result<(), Fault>
+    ensures some { IfErr result (λ _. NamesSome files.entry.status files.entry.balances) }
+    ensures why { IfErr result (λ told. (told ≡ Fault.WouldOverwrite) ⊎ (told ≡ Fault.NoMemory)) }
+{
+    if files.status.is_none() && files.balances.is_none() {
+        return Ok(());
+    }
+    match would_overwrite(runtime, files) {
+        Ok(false) => Ok(()),
+        Ok(true) => Err(Fault::WouldOverwrite),
+        Err(_) => Err(Fault::NoMemory),
+    }
+}
+
+// Whether one of the files that are to be written would take the place of another file.
+fn would_overwrite<R: Files + AllocGlobal>(
+    runtime: &R,
+    files: ServerFiles<'_>,
+) -> Result<bool, AllocError> {
+    let status = Written::of(runtime, files.status, STATUS_HEAD)?;
+    let balances = Written::of(runtime, files.balances, BALANCES_HEAD)?;
+    let log = name_with(runtime, files.database, "-wal")?;
+    if status.is_foreign(runtime) || balances.is_foreign(runtime) {
+        return Ok(true);
+    }
+    let status = status.places(runtime)?;
+    let balances = balances.places(runtime)?;
+    let kept = [
+        place_of(runtime, Some(files.config))?,
+        place_of(runtime, files.database)?,
+        place_of(runtime, log.as_ref())?,
+    ];
+    Ok(share_one(&status, &kept) || share_one(&balances, &kept) || share_one(&status, &balances))
+}
+
+// A file that is written anew from time to time, if one is named.
+struct Written<'a> {
+    name: Option<&'a Text>,
+    // Its name while it is made.
+    new_name: Option<Text>,
+    // How it begins.
+    head: &'static [u8],
+}
+
+// It is written out, so that a caller does not prove again how each part is dropped.
+impl<'a> Drop for Written<'a> {
+    fn drop(self) {
+        let Written {
+            name: _,
+            new_name: _,
+            head: _,
+        } = self;
+    }
+}
+
+impl<'a> Written<'a> {
+    fn of<R: AllocGlobal>(
+        runtime: &R,
+        name: Option<&'a Text>,
+        head: &'static [u8],
+    ) -> Result<Written<'a>, AllocError> {
+        let new_name = name_with(runtime, name, ".new")?;
+        Ok(Written {
+            name,
+            new_name,
+            head,
+        })
+    }
+
+    // Where its two names lead.
+    fn places<R: Files + AllocGlobal>(&self, runtime: &R) -> Result<[Place; 2], AllocError> {
+        Ok([
+            place_of(runtime, self.name)?,
+            place_of(runtime, self.new_name.as_ref())?,
+        ])
+    }
+
+    // Whether something else than the program's is at one of its names.
+    fn is_foreign<R: Files>(&self, runtime: &R) -> bool {
+        is_foreign(runtime, self.name, self.head)
+            || is_foreign(runtime, self.new_name.as_ref(), self.head)
+    }
+}
+
+// A name with an ending, if there is a name.
+fn name_with<R: AllocGlobal>(
+    runtime: &R,
+    name: Option<&Text>,
+    ending: &str,
+) -> Result<Option<Text>, AllocError> {
+    match name {
+        Some(name) => {
+            let name = name.as_str();
+            let text = format!(in runtime.alloc(); "{name}{ending}")?;
+            Ok(Some(Text { text }))
+        }
+        None => Ok(None),
+    }
+}
+
+// Where a name leads, if there is one.
+fn place_of<R: Files + AllocGlobal>(runtime: &R, name: Option<&Text>) -> Result<Place, AllocError> {
+    let Some(name) = name else {
+        return Ok(Place::Unknown);
+    };
+    let name = name.as_str();
+    if let Ok(found) = fs::metadata(runtime, name) {
+        return Ok(Place::File {
+            device: found.dev(),
+            number: found.ino(),
+        });
+    }
+    let (folder, last) = parts_of(name);
+    match fs::metadata(runtime, folder) {
+        Ok(found) => Ok(Place::Free {
+            device: found.dev(),
+            number: found.ino(),
+            name: Text::from_str(runtime.alloc(), last)?,
+        }),
+        Err(_) => Ok(Place::Unknown),
+    }
+}
+
+// The folder of a name, and the name in it.
+fn parts_of(name: &str) -> (&str, &str) {
+    match name.rsplit_once('/') {
+        Some(("", last)) => ("/", last),
+        Some(parts) => parts,
+        None => (".", name),
+    }
+}
+
+// Whether a place of the first list is one of the second.
+fn share_one(places: &[Place], others: &[Place]) -> bool
+    ensures { IsTrue result ↔ SharesOne places.now others.now }
+{
+    for place in places {
+        if is_among(others, place) {
+            return true;
+        }
+    }
+    false
+}
+
+// Whether a place is one of these.
+fn is_among(others: &[Place], place: &Place) -> bool
+    ensures { IsTrue result ↔ LeadsToSome others.now place.now }
+{
+    for other in others {
+        if lead_to_one(place, other) {
+            return true;
+        }
+    }
+    false
+}
+
+// Whether two names lead to one file, or would.
+fn lead_to_one(one: &Place, other: &Place) -> bool
+    ensures { IsTrue result ↔ LeadsToOne one.now other.now }
+{
+    match (one, other) {
+        (
+            Place::File { device, number },
+            Place::File {
+                device: other_device,
+                number: other_number,
+            },
+        ) => device == other_device && number == other_number,
+        (
+            Place::Free {
+                device,
+                number,
+                name,
+            },
+            Place::Free {
+                device: other_device,
+                number: other_number,
+                name: other_name,
+            },
+        ) => device == other_device && number == other_number && name == other_name,
+        _ => false,
+    }
+}
+
+// Whether something is at a name that isn't the program's: no regular file, or one that is not empty
+// and begins otherwise. A write that was cut short leaves the beginning of what the program writes.
+fn is_foreign<R: Files>(runtime: &R, name: Option<&Text>, head: &[u8]) -> bool {
+    let Some(name) = name else {
+        return false;
+    };
+    match fs::metadata(runtime, name.as_str()) {
+        Ok(found) if !found.is_file() => true,
+        Ok(found) => found.len() > 0 && !begins_with(runtime, name.as_str(), head),
+        Err(_) => false,
+    }
+}
+
+// Whether a file begins so, or is the beginning of that.
+fn begins_with<R: Files>(runtime: &R, name: &str, head: &[u8]) -> bool {
+    let Ok(mut reader) = File::open(runtime, name) else {
+        return false;
+    };
+    let mut octets = [0; MOST_HEAD];
+    match reader.read(&mut octets) {
+        Ok(0) | Err(_) => false,
+        Ok(read) => {
+            let read = octets.get(..read).unwrap_or(&octets);
+            read.starts_with(head) || head.starts_with(read)
+        }
+    }
+}
