@@ -1,0 +1,171 @@
+"""A Debian machine with its own systemd, in a container, for the tests of unit and package.
+
+`debootstrap` makes its root once, which takes some minutes, and keeps it in /var/tmp (or in the
+folder that RADACCTD_ROOTS names); remove that folder to make it anew. Each machine is a layer of
+memory over that root, so its changes and its book vanish at its end. Its network is its own, with a
+loopback only. It needs root, and of Debian's packages systemd-container and debootstrap.
+"""
+
+import os
+import shutil
+import subprocess
+import sys
+import tempfile
+import time
+
+SUITE = "bookworm"
+MIRROR = "http://deb.debian.org/debian"
+PACKAGES = ["systemd", "systemd-sysv", "dbus", "python3", "procps"]
+CACHE = os.environ.get("RADACCTD_ROOTS", "/var/tmp/radacctd-interop")
+TOOLS = {
+    "systemd-nspawn": "systemd-container",
+    "debootstrap": "debootstrap",
+    "nsenter": "util-linux",
+}
+# How long a machine may take to start or to stop, in seconds.
+PATIENCE = 60
+
+
+def missing(tools):
+    """Prints what is missing to run the tests, and says whether anything is."""
+    lacks = {tool: package for tool, package in tools.items() if shutil.which(tool) is None}
+    for tool, package in lacks.items():
+        print(f"{tool} is missing: the package {package} has it", file=sys.stderr)
+    if os.geteuid():
+        print("a container is for root only: run this as root", file=sys.stderr)
+    return bool(lacks) or os.geteuid() != 0
+
+
+def run(words, **more):
+    """A command of this machine: its status and what it printed."""
+    done = subprocess.run(words, capture_output=True, text=True, check=False, **more)
+    return done.returncode, done.stdout + done.stderr
+
+
+def root():
+    """The folder of the root, which is made if it isn't there."""
+    made = os.path.join(CACHE, SUITE)
+    if os.path.isdir(made):
+        return made
+    print(f"making a root of Debian in {made}: some minutes, once", flush=True)
+    os.makedirs(CACHE, exist_ok=True)
+    # In memory, since dpkg syncs each file.
+    with tempfile.TemporaryDirectory() as memory:
+        subprocess.run(["mount", "-t", "tmpfs", "-o", "size=2g", "tmpfs", memory], check=True)
+        try:
+            new = os.path.join(memory, SUITE)
+            include = "--include=" + ",".join(PACKAGES)
+            words = ["debootstrap", "--variant=minbase", include, SUITE, new, MIRROR]
+            status, text = run(words)
+            if status:
+                sys.exit(f"debootstrap ended with {status}: {text[-500:]}")
+            for folder in ("var/cache/apt/archives", "var/lib/apt/lists"):
+                shutil.rmtree(os.path.join(new, folder))
+            part = made + ".part"
+            shutil.rmtree(part, ignore_errors=True)
+            subprocess.run(["cp", "-a", new, part], check=True)
+        finally:
+            subprocess.run(["umount", memory], check=True)
+    os.rename(part, made)
+    return made
+
+
+class Machine:
+    """The machine, running; it is stopped at the end, whatever happens before."""
+
+    def __enter__(self):
+        lower = root()
+        self.memory = tempfile.mkdtemp()
+        subprocess.run(["mount", "-t", "tmpfs", "-o", "size=2g", "tmpfs", self.memory], check=True)
+        up, work, self.root = (os.path.join(self.memory, name) for name in ("up", "work", "root"))
+        for folder in (up, work, self.root):
+            os.mkdir(folder)
+        layers = ["-o", f"lowerdir={lower},upperdir={up},workdir={work}"]
+        self.process = None
+        try:
+            subprocess.run(["mount", "-t", "overlay", "overlay", *layers, self.root], check=True)
+            self.boot()
+        except BaseException:
+            self.close()
+            raise
+        return self
+
+    def __exit__(self, *_):
+        self.close()
+
+    def boot(self):
+        """Starts the machine, and waits until its systemd has started what it starts."""
+        words = ["systemd-nspawn", "--quiet", "--directory", self.root, "--boot"]
+        words += ["--private-network", "--console=pipe", f"--machine=radacctd-{os.getpid()}"]
+        if not os.path.isdir("/run/systemd/system"):
+            # A machine without systemd has nobody who would keep a list of containers.
+            words += ["--register=no", "--keep-unit"]
+        env = {**os.environ, "SYSTEMD_NSPAWN_UNIFIED_HIERARCHY": "1"}
+        console = os.path.join(self.memory, "console")
+        with open(console, "wb") as out:
+            how = {"stdin": subprocess.DEVNULL, "stdout": out, "stderr": out}
+            self.process = subprocess.Popen(words, env=env, **how)
+        until = time.monotonic() + PATIENCE
+        while time.monotonic() < until and self.process.poll() is None:
+            if self.leader() and self.run("systemctl is-system-running")[1].strip() == "running":
+                return
+            time.sleep(0.2)
+        with open(console, encoding="utf-8", errors="replace") as file:
+            raise SystemExit(f"the container did not start: {file.read()[-1000:]}")
+
+    def leader(self):
+        """The number of the container's first process, as this machine counts."""
+        path = f"/proc/{self.process.pid}/task/{self.process.pid}/children"
+        with open(path, encoding="ascii") as file:
+            children = file.read().split()
+        return int(children[0]) if children else None
+
+    def close(self):
+        if self.process and self.process.poll() is None:
+            self.run("systemctl poweroff")
+            try:
+                self.process.wait(timeout=PATIENCE)
+            except subprocess.TimeoutExpired:
+                self.process.kill()
+                self.process.wait()
+        for folder in (self.root, self.memory):
+            subprocess.run(["umount", folder], check=False, stderr=subprocess.DEVNULL)
+        os.rmdir(self.memory)
+
+    def words(self, command):
+        """The command line that runs a shell's command in the machine."""
+        return ["nsenter", "-t", str(self.leader()), "-a", "sh", "-c", command]
+
+    def run(self, command, **more):
+        """Runs a shell's command in the machine: its status and what it printed."""
+        return run(self.words(command), **more)
+
+    def begin(self, command):
+        """Starts a shell's command in the machine."""
+        how = {"stdout": subprocess.PIPE, "stderr": subprocess.STDOUT, "text": True}
+        return subprocess.Popen(self.words(command), **how)
+
+    def must(self, command):
+        """Runs a command that is no test, and returns what it printed."""
+        status, text = self.run(command)
+        if status:
+            raise SystemExit(f"`{command}` ended with {status}: {text}")
+        return text
+
+    def beside(self, words, **more):
+        """Runs a program of this machine in the network of the container."""
+        return run(["nsenter", "-t", str(self.leader()), "-n", *words], **more)
+
+    def write(self, path, text, mode=0o644):
+        """Writes a file of the machine, by way of a name beside it."""
+        here = self.root + path
+        os.makedirs(os.path.dirname(here), exist_ok=True)
+        with open(here + "~", "w", encoding="utf-8") as file:
+            file.write(text)
+        os.chmod(here + "~", mode)
+        os.rename(here + "~", here)
+
+    def copy(self, folder):
+        """Copies what is in a folder of this machine over the root of the machine."""
+        entries = [os.path.join(folder, name) for name in os.listdir(folder)]
+        subprocess.run(["cp", "-a", *entries, self.root + "/"], check=True)
