@@ -12,10 +12,11 @@ import subprocess
 import sys
 import tempfile
 import time
+import zlib
 
 SUITE = "bookworm"
 MIRROR = "http://deb.debian.org/debian"
-PACKAGES = ["systemd", "systemd-sysv", "dbus", "python3", "procps"]
+PACKAGES = ["systemd", "systemd-sysv", "dbus", "python3", "procps", "sensible-utils"]
 CACHE = os.environ.get("RADACCTD_ROOTS", "/var/tmp/radacctd-interop")
 TOOLS = {
     "systemd-nspawn": "systemd-container",
@@ -44,7 +45,9 @@ def run(words, **more):
 
 def root():
     """The folder of the root, which is made if it isn't there."""
-    made = os.path.join(CACHE, SUITE)
+    # Another list of packages is another root.
+    name = f"{SUITE}-{zlib.crc32(' '.join(PACKAGES).encode()):08x}"
+    made = os.path.join(CACHE, name)
     if os.path.isdir(made):
         return made
     print(f"making a root of Debian in {made}: some minutes, once", flush=True)
@@ -120,7 +123,7 @@ class Machine:
             children = file.read().split()
         return int(children[0]) if children else None
 
-    def close(self):
+    def halt(self):
         if self.process and self.process.poll() is None:
             self.run("systemctl poweroff")
             try:
@@ -128,6 +131,14 @@ class Machine:
             except subprocess.TimeoutExpired:
                 self.process.kill()
                 self.process.wait()
+
+    def reboot(self):
+        """Stops the machine and starts it again, over what it has written."""
+        self.halt()
+        self.boot()
+
+    def close(self):
+        self.halt()
         for folder in (self.root, self.memory):
             subprocess.run(["umount", folder], check=False, stderr=subprocess.DEVNULL)
         os.rmdir(self.memory)
