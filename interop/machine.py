@@ -1,9 +1,10 @@
 """A Debian machine with its own systemd, in a container, for the tests of unit and package.
 
 `debootstrap` makes its root once, which takes some minutes, and keeps it in /var/tmp (or in the
-folder that RADACCTD_ROOTS names); remove that folder to make it anew. Each machine is a layer of
-memory over that root, so its changes and its book vanish at its end. Its network is its own, with a
-loopback only. It needs root, and of Debian's packages systemd-container and debootstrap.
+folder that RADACCTD_ROOTS names); remove that folder to make it anew. It is Debian 12 unless
+RADACCTD_SUITE names another release: trixie, say. Each machine is a layer of memory over that root,
+so its changes and its book vanish at its end. Its network is its own, with a loopback only. It
+needs root, and of Debian's packages systemd-container and debootstrap.
 """
 
 import os
@@ -14,9 +15,10 @@ import tempfile
 import time
 import zlib
 
-SUITE = "bookworm"
+SUITE = os.environ.get("RADACCTD_SUITE", "bookworm")
 MIRROR = "http://deb.debian.org/debian"
-PACKAGES = ["systemd", "systemd-sysv", "dbus", "python3", "procps", "sensible-utils"]
+# With libbpf1 Debian 13's systemd enforces which ports a unit may bind; Debian 12's never does.
+PACKAGES = ["systemd", "systemd-sysv", "dbus", "python3", "procps", "sensible-utils", "libbpf1"]
 CACHE = os.environ.get("RADACCTD_ROOTS", "/var/tmp/radacctd-interop")
 TOOLS = {
     "systemd-nspawn": "systemd-container",
@@ -100,6 +102,8 @@ class Machine:
         """Starts the machine, and waits until its systemd has started what it starts."""
         words = ["systemd-nspawn", "--quiet", "--directory", self.root, "--boot"]
         words += ["--private-network", "--console=pipe", f"--machine=radacctd-{os.getpid()}"]
+        # So that its systemd can restrict ports.
+        words += ["--system-call-filter=bpf"]
         if not os.path.isdir("/run/systemd/system"):
             # A machine without systemd has nobody who would keep a list of containers.
             words += ["--register=no", "--keep-unit"]
@@ -179,4 +183,5 @@ class Machine:
     def copy(self, folder):
         """Copies what is in a folder of this machine over the root of the machine."""
         entries = [os.path.join(folder, name) for name in os.listdir(folder)]
-        subprocess.run(["cp", "-a", *entries, self.root + "/"], check=True)
+        words = ["cp", "-a", "--remove-destination", *entries, self.root + "/"]
+        subprocess.run(words, check=True)
