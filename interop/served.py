@@ -131,9 +131,9 @@ class Server:
             )
         check("the server says that it serves", self.process.stdout.readline(), "serving\n")
 
-    def told(self, lines):
-        """What it has told on standard error, once these are as many lines, or after a second."""
-        for _ in range(50):
+    def told(self, lines, seconds=20):
+        """What it has printed on standard error, once these are as many lines or time is over."""
+        for _ in range(seconds * 50):
             with open(self.errors, encoding="utf-8") as file:
                 told = file.read()
             if told.count("\n") >= lines:
@@ -147,18 +147,23 @@ class Server:
 
     def end(self):
         # Not communicate(): it would leave out what came together with the line that start read.
-        self.process.wait(timeout=60)
+        self.process.wait(timeout=120)
         return self.process.returncode, self.process.stdout.read()
 
-    def radclient(self, attributes, secret=SECRET, retries=1):
-        """Whether radclient took the reply to these attributes for a right one."""
+    def radclient(self, attributes, secret=SECRET, retries=1, seconds=20):
+        """Whether radclient took the reply to these attributes for a right one.
+
+        It waits so long for a reply. A wrong secret gets none, so that is one second.
+        """
+        if secret != SECRET:
+            seconds = 1
         done = subprocess.run(
             [
                 "radclient",
                 "-r",
                 str(retries),
                 "-t",
-                "1",
+                str(seconds),
                 f"127.0.0.1:{self.radius}",
                 "acct",
                 secret,
