@@ -1,0 +1,81 @@
+"""Texts in backticks that .ci/claims would not find, each with the reason. "*" is for all pages."""
+
+# Programs that are no part of this repository: the system's, FreeRADIUS', and the kit's tool.
+PROGRAMS = {
+    "apt", "apt-get", "cp", "curl", "df", "dmesg", "free", "freeradius", "gcc", "journalctl", "ldd",
+    "lintian", "man", "mv", "nginx", "promtool", "python3", "radclient", "rt", "sensible-editor",
+    "sqlite3", "ss", "strace", "systemctl", "systemd-analyze", "tcpdump",
+}
+
+
+def each(reason, *texts):
+    """Texts that have one reason."""
+    return dict.fromkeys(texts, reason)
+
+
+# FreeRADIUS' own files, words and texts. What it has of this repository is in etc/freeradius.
+FREERADIUS = each(
+    "FreeRADIUS has it",
+    "Donestamp",
+    "Failing proxied request",
+    "Program returned code (7)",
+    "Timestamp",
+    "access-servers/NAME.conf",
+    "anonymous",
+    "clients.conf",
+    "detail.work",
+    "post-auth",
+    "queries.conf",
+    "radiusd.conf",
+    "replicate",
+    "sites-enabled/default",
+    "sites-enabled/inner-tunnel",
+    'update reply { &Class := "gold" }',
+    "update reply { &User-Name := &request:User-Name }",
+)
+
+ALLOWED = {
+    "*": {
+        "rattle-kit-13f logic dac8208d650f15bf": "the kit's own name of its version",
+        **each("sqlite3's own words", ".dump"),
+        **each("systemd's and chrony's own", "chrony-wait", "time-sync.target"),
+        **each("nginx' own", "proxy_pass"),
+        **each("the kit's clap prints it", "error: invalid data"),
+        **each("the kit's SQLite names a log after its book", "-wal", "book-wal"),
+        **each("a user of the system", "root"),
+        **each("TOML's own word", "false"),
+    },
+    "README.md": {"./try": "bin/try makes it"},
+    "docs/BOOK.md": {"'unixepoch', 'localtime'": "sqlite3's own words"},
+    "docs/CODEC.md": {
+        "Result": "Rust's own",
+        "and_then(word_of)": "shows what the checker does not accept",
+    },
+    "docs/DEFINITIONS.md": {"x ∷ xs": "how a list is written"},
+    "docs/FILES.md": each("a line of an example", "V-2,bo,3", "V-2,bo,300"),
+    "docs/FREERADIUS.md": FREERADIUS,
+    "docs/GATE.md": {
+        **each("Rust's own", "Debug", "Result", "Vec::new"),
+        "grind": "the kit's own",
+        "out/incremental": "a check makes it",
+    },
+    "docs/INSTALL.md": {
+        **each("Debian's packages", "binutils", "libbpf1"),
+        "multi-user.target": "systemd's own",
+        "radacctd-...": "stands for all tools",
+        "target/radacctd_VERSION_amd64.deb": "bin/package makes it",
+    },
+    "docs/OPERATION.md": {
+        **each("FreeRADIUS has it", "status_check = status-server"),
+        **each("sqlite3's or Python's own words", "'localtime'", "'unixepoch'", "iterdump"),
+        **each("a command of an example", "DROP INDEX its_name;", "DROP TABLE sqlite_stat1;"),
+        **each("a command of an example", "TZ=Europe/Berlin sqlite3 copy/book"),
+        **each("node_exporter's own", "--collector.textfile.directory=/run/radacctd"),
+    },
+    "man/radacctd-backup.8": {"FOLDER/book-wal": "a copy"},
+    "man/radacctd-nightly.8": {"exports/DATE": "a folder that it makes"},
+    "docs/SITE.md": {"a%2Cb": "an account of an example"},
+    "docs/WATCHING.md": {
+        'ARGS="--collector.textfile.directory=/var/lib/radacctd-counts"': "node_exporter's own",
+    },
+}

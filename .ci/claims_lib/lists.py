@@ -1,0 +1,270 @@
+"""Lists and counts of the pages that are computed from the sources."""
+
+import os
+import re
+
+from claims_lib import reading
+from claims_lib.allowed import ALLOWED
+from claims_lib.tree import FOR_TESTS, text_of
+
+PROOFS = reading.PAGE
+DEFINITIONS = "docs/DEFINITIONS.md"
+
+
+def rows_of(checker, page, title):
+    """The rows below a heading that are neither the head of a table nor its rule."""
+    for block in checker.pages[page]:
+        titles = [it.title for it in block.section.chain()]
+        if block.kind == "row" and title in titles and not re.match(r"\|[-|]+$", block.text):
+            yield block
+
+
+def names_in(cell):
+    return re.findall(r"`([^`]+)`", cell)
+
+
+# ---- what an auditor reads
+
+
+def promise_of(checker):
+    """The seven functions of the promise, each with its file and the line that names it."""
+    for block in rows_of(checker, PROOFS, "The promise, in seven rows"):
+        cells = block.cells()
+        if len(cells) == 3 and names_in(cells[2]) and names_in(cells[2])[0].endswith(".rt"):
+            yield names_in(cells[1])[0], names_in(cells[2])[0], block.line
+
+
+def reading_of(checker):
+    return reading.Reading(checker.tree, [it[:2] for it in promise_of(checker)])
+
+
+def listed_of(checker):
+    """What the page lists for each contract: its files, and the lines that are wrong."""
+    listed, contract = {}, None
+    for block in rows_of(checker, PROOFS, "The promise, in seven rows"):
+        cells = block.cells()
+        if len(cells) != 3 or not re.fullmatch(r"[\d,]+", cells[2]):
+            continue
+        contract = (names_in(cells[0]) or [contract])[0]
+        files = []
+        for group in cells[1].split(";"):
+            folder, names = group.split(":")
+            files += [f"{names_in(folder)[0]}/{it.strip()}.antt" for it in names.split(",")]
+        lost = [it for it in files if f"crates/{it}" not in checker.tree.paths]
+        for path in lost:
+            checker.find(block.line, f"crates/{path}: no such file")
+        count = sum(reading.lines_of(it) for it in files if it not in lost)
+        if f"{count:,}" != cells[2]:
+            checker.find(block.line, f"these files have {count:,} lines, not {cells[2]}")
+        listed.setdefault(contract, (block.line, []))[1].extend(files)
+    return listed
+
+
+def check_reading(checker):
+    """The list of what an auditor reads is the computed one, and enters no further `inner`."""
+    checker.page = PROOFS
+    lines = {name: line for name, _, line in promise_of(checker)}
+    if len(lines) != 7:
+        checker.find(1, f"the promise has {len(lines)} rows, not seven")
+    read, listed = reading_of(checker), listed_of(checker)
+    for fault in read.faults:
+        checker.find(1, fault)
+    for name, files in read.rows:
+        line, given = listed.get(name, (lines[name], []))
+        for path in sorted(set(files) - set(given)):
+            checker.find(line, f"`{name}` also rests on {path} (by {read.seen[path]})")
+        for path in sorted(set(given) - set(files)):
+            checker.find(line, f"`{name}` does not rest on {path}, or an earlier row has it")
+    text = text_of(PROOFS)
+    count = sum(map(reading.lines_of, read.own))
+    said = re.search(r"These are ([\d,]+) files of ([\d,]+) lines", text)
+    if not said or said.groups() != (f"{len(read.own)}", f"{count:,}"):
+        line = text.count("\n", 0, said.start()) + 1 if said else 1
+        checker.find(line, f"say: These are {len(read.own)} files of {count:,} lines")
+    check_inner(checker, read, text)
+
+
+def check_inner(checker, read, text):
+    for path in read.inner:
+        if path not in reading.INNER:
+            checker.find(1, f"the promise enters {path} (by {read.seen[path]})")
+        elif f"`{path}`" not in text:
+            checker.find(1, f"`{path}` is not shown: {reading.INNER[path]}")
+    for path in sorted(set(reading.INNER) - set(read.inner)):
+        checker.find(1, f"{path} is no longer needed: take it out of claims_lib/reading.py")
+
+
+# ---- names under their crate or file
+
+
+def check_functions(checker):
+    """Each function that the page lists under crates is a public one of these crates."""
+    checker.page = PROOFS
+    for block in rows_of(checker, PROOFS, "Functions by crate"):
+        title = re.findall(r"\w+", block.section.title)
+        crates = [f"crates/{it}/src/" for it in title if it in checker.tree.crates]
+        first = block.cells()[0]
+        names = names_in(re.sub(r"the trait `\w+`.*|over any `\w+`", "", first)) if crates else []
+        for name in names:
+            if not is_public(checker, crates, name):
+                checker.find(block.line, f"`{name}`: no public function of {block.section.title}")
+
+
+def is_public(checker, crates, name):
+    """Whether a name is public in a crate: of a module, of a type or alone."""
+    outer, _, last = name.rpartition("::")
+    for path in checker.tree.names:
+        if path.startswith(tuple(crates)) and last in checker.tree.names[path]:
+            if outer.islower() and not path.endswith(f"/{outer}.rt"):
+                continue
+            text = text_of(path)
+            of_trait = outer and last in checker.tree.members.get(outer, ())
+            mark = r"pub(?:\(crate\))?" if path.startswith("crates/radacctd/") else "pub"
+            shown = rf"\b{mark} (?:fn|struct|enum|trait|const|type|static) {last}\b"
+            if re.search(shown, text) or (of_trait and re.search(rf"\bfn {last}\b", text)):
+                return not outer[:1].isupper() or last in checker.tree.members.get(outer, ())
+    return False
+
+
+def check_definitions(checker):
+    """Each name of the page's last column is in the file before it, or that of its section."""
+    checker.page, section, above = DEFINITIONS, None, None
+    for block in checker.pages[DEFINITIONS]:
+        if block.kind != "row" or len(block.cells()) != 3:
+            continue
+        above = above if block.section is section else None
+        section = block.section
+        for group in block.cells()[2].split(";"):
+            found = [(it, checker.place_of(it, block)) for it in names_in(group)]
+            named = [place for _, place in found if place]
+            above = named[0] if named else above
+            for text in [it for it, place in found if not place and re.match(r"\w+$", it)]:
+                near = named or places(checker, block) + [above or "crates/none"]
+                if not any(checker.tree.defines(it, text) for it in near):
+                    checker.find(block.line, f"`{text}`: not in {' or '.join(near)}")
+
+
+def places(checker, block):
+    """Where the names of a row without a file are: the first files that its section names."""
+    for section in block.section.chain():
+        for other in section.blocks:
+            files = [checker.place_of(text, other) for _, text in other.spans()]
+            if other.kind == "text" and any(files):
+                return [it for it in files if it]
+    return [f"crates/{it}" for it in checker.tree.crates]
+
+
+# ---- counts, and lists of all
+
+
+def check_edits(checker):
+    """The counts of wrong bodies are those of the folders `must-fail`."""
+    checker.page, counts = PROOFS, {}
+    for path in checker.tree.files:
+        if path.startswith("crates/") and path.endswith(".edit"):
+            counts[path.split("/")[1]] = counts.get(path.split("/")[1], 0) + 1
+    text, listed = text_of(PROOFS), {}
+    said = re.search(r"tries ([\d,]+) wrong bodies", text)
+    if not said or said[1] != str(sum(counts.values())):
+        line = text.count("\n", 0, said.start()) + 1 if said else 1
+        checker.find(line, f"say: tries {sum(counts.values())} wrong bodies")
+    for block in rows_of(checker, PROOFS, "Wrong bodies"):
+        crates, numbers = names_in(block.cells()[0]), re.findall(r"\d+", block.cells()[1])
+        if block.cells()[1].endswith("each"):
+            numbers *= len(crates)
+        for crate, number in zip(crates, numbers):
+            listed[crate] = number
+            if number != str(counts.get(crate, 0)):
+                checker.find(block.line, f"{crate} has {counts.get(crate, 0)}, not {number}")
+    for crate in sorted(set(counts) - set(listed)):
+        checker.find(1, f"{crate} has {counts[crate]} wrong bodies, and the table does not say so")
+
+
+def check_whole(checker):
+    """The list of commands has each command, and that of crates each crate of the program."""
+    lists = (
+        ("README.md", "Commands", set(checker.help), r"^ {4}(\w+) ", "the command"),
+        ("docs/ARCHITECTURE.md", "The crates",
+         {it for it in checker.tree.crates if not FOR_TESTS.search(it)}, r"\w+", "the crate"),
+    )
+    for checker.page, title, wanted, pattern, what in lists:
+        blocks = [it for it in checker.pages[checker.page] if it.section.title == title]
+        code = next((it for it in blocks if it.kind == "code"), None)
+        table = [it for it in blocks if it.kind == "row"]
+        if not code and not table:
+            checker.find(1, f"no list below the heading {title}")
+            continue
+        text = code.text if code else "\n".join(f"    {it.cells()[0].strip('`')} " for it in table)
+        found = set(re.findall(pattern, text, re.M))
+        line = (code or table[0]).line
+        for name in sorted(wanted - found):
+            checker.find(line, f"{what} {name} is not in the list")
+        for name in sorted(found - wanted) if what == "the command" else ():
+            if name != "Command":
+                checker.find(line, f"{what} {name} does not exist")
+
+
+def check_kit(checker):
+    """Each page that gives the kit's version gives the same."""
+    found = {}
+    for checker.page in checker.pages:
+        for at in re.finditer(r"rattle-kit-\w+ logic \w+", text_of(checker.page)):
+            line = text_of(checker.page).count("\n", 0, at.start()) + 1
+            first = found.setdefault("first", (at[0], checker.page))
+            if at[0] != first[0]:
+                checker.find(line, f"{at[0]}: {first[1]} says {first[0]}")
+
+
+# Blocks of code that show what a program prints: the page and the heading.
+OUTPUTS = (("README.md", "A first run"), ("docs/TROUBLE.md", "What the server prints"))
+
+
+def check_outputs(checker):
+    """What a page shows as printed is in the sources, up to what is JSON."""
+    for checker.page, title in OUTPUTS:
+        blocks = [it for it in checker.pages[checker.page] if it.section.title == title]
+        for block in (it for it in blocks if it.kind == "code"):
+            for line, text in block.lines():
+                text = text.split("{")[0].strip()
+                wrong = " " in text and checker.printed(text, block)
+                if wrong:
+                    checker.find(line, wrong)
+
+
+def check_mentions(checker):
+    """A page, and a heading in quotes after it, that a script or a source names."""
+    tree, pattern = checker.tree, r'(?<![\w$}/])docs/([A-Z]+\.md)(?:,[\s#]+"([^"]+)")?'
+    for checker.page in [*tree.scripts, *tree.names]:
+        text = tree.scripts.get(checker.page) or text_of(checker.page)
+        for found in re.finditer(pattern, text):
+            line = text.count("\n", 0, found.start()) + 1
+            heading = " ".join((found[2] or "").replace("#", " ").split())
+            page = f"docs/{found[1]}"
+            titles = [it.section.title for it in checker.pages.get(page, [])]
+            if page not in tree.paths and found[1] != "PAGE.md":
+                checker.find(line, f"{page}: no such page")
+            elif heading and heading not in titles and found[1] != "PAGE.md":
+                checker.find(line, f'{page} has no heading "{heading}"')
+
+
+def check_allowed(checker):
+    """Each exception for a page that is there is needed."""
+    checker.page = ".ci/claims_lib/allowed.py"
+    for page, texts in ALLOWED.items():
+        for text in texts:
+            if (page in checker.pages or page == "*") and (page, text) not in checker.needed:
+                lines = text_of(checker.page).split("\n")
+                line = next((n for n, it in enumerate(lines, 1) if text in it), 1)
+                checker.find(line, f"`{text}` needs no exception for {page}: take it out")
+
+
+def check(checker):
+    check_reading(checker)
+    check_functions(checker)
+    check_definitions(checker)
+    check_edits(checker)
+    check_whole(checker)
+    check_kit(checker)
+    check_outputs(checker)
+    check_mentions(checker)
+    check_allowed(checker)
