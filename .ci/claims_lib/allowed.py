@@ -46,7 +46,18 @@ ALLOWED = {
         **each("TOML's own word", "false"),
     },
     "README.md": {"./try": "bin/try makes it"},
-    "docs/BOOK.md": {"'unixepoch', 'localtime'": "sqlite3's own words"},
+    "CHANGELOG.md": {
+        "config: read again: ...; plan gold is new; the plans stay": "an example of a line",
+        "BOOK.replaced-DATE-TIME": "restore makes it",
+        "radacctd 0.1.0 (schema 3)": "what --version prints",
+    },
+    "docs/BOOK.md": {
+        "'unixepoch', 'localtime'": "sqlite3's own words",
+        "restored; what was there is in /var/lib/radacctd/book.replaced-20261126-114636": (
+            "an example of a line"
+        ),
+        ".restore.*": "restore makes it",
+    },
     "docs/CODEC.md": {
         "Result": "Rust's own",
         "and_then(word_of)": "shows what the checker does not accept",
@@ -65,16 +76,21 @@ ALLOWED = {
         "radacctd-...": "stands for all tools",
         "target/radacctd_VERSION_amd64.deb": "bin/package makes it",
     },
-    "docs/OPERATION.md": {
-        **each("FreeRADIUS has it", "status_check = status-server"),
-        **each("sqlite3's or Python's own words", "'localtime'", "'unixepoch'", "iterdump"),
-        **each("a command of an example", "DROP INDEX its_name;", "DROP TABLE sqlite_stat1;"),
-        **each("a command of an example", "TZ=Europe/Berlin sqlite3 copy/book"),
-        **each("node_exporter's own", "--collector.textfile.directory=/run/radacctd"),
-    },
     "man/radacctd-backup.8": {"FOLDER/book-wal": "a copy"},
     "man/radacctd-nightly.8": {"exports/DATE": "a folder that it makes"},
     "docs/SITE.md": {"a%2Cb": "an account of an example"},
+    "docs/TROUBLE.md": {
+        **each(
+            "an example of a line",
+            "/var/lib/radacctd/book: plan gold has another unit in the book",
+            "config: read again: ...; plan gold is new; the plans stay",
+        ),
+        **each("systemd's own", "IgnoreSIGPIPE=", "LimitAS=", "LimitDATA=", "LimitFSIZE="),
+        **each("systemd's own", "MemoryMax="),
+        **each("the shell's own", "ulimit -d", "ulimit -v"),
+    },
+    "man/radacctd.8": {".new": "the end of a name"},
+    "man/radacctd.8.in": {".new": "the end of a name"},
     "docs/WATCHING.md": {
         'ARGS="--collector.textfile.directory=/var/lib/radacctd-counts"': "node_exporter's own",
     },
