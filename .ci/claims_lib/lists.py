@@ -3,7 +3,7 @@
 import os
 import re
 
-from claims_lib import reading
+from claims_lib import figures, reading
 from claims_lib.allowed import ALLOWED
 from claims_lib.tree import FOR_TESTS, text_of
 
@@ -204,6 +204,15 @@ def check_whole(checker):
                 checker.find(line, f"{what} {name} does not exist")
 
 
+def check_notice(checker):
+    """The page on licences has each crate of the kit that a crate uses."""
+    checker.page = "NOTICE"
+    columns = [re.split(r"\s{2,}", it.strip())[0] for it in text_of("NOTICE").split("\n")]
+    listed = {name.strip() for it in columns for name in it.split(",")}
+    for name in sorted(checker.tree.kit - checker.tree.crates - listed):
+        checker.find(1, f"no licence of the kit's crate {name}")
+
+
 def check_kit(checker):
     """Each page that gives the kit's version gives the same."""
     found = {}
@@ -264,7 +273,9 @@ def check(checker):
     check_definitions(checker)
     check_edits(checker)
     check_whole(checker)
+    check_notice(checker)
     check_kit(checker)
     check_outputs(checker)
     check_mentions(checker)
     check_allowed(checker)
+    figures.check(checker)
