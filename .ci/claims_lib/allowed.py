@@ -77,6 +77,7 @@ ALLOWED = {
         "target/radacctd_VERSION_amd64.deb": "bin/package makes it",
     },
     "man/radacctd-backup.8": {"FOLDER/book-wal": "a copy"},
+    "man/radacctd-restore.8": {"BOOK.replaced-DATE-TIME": "restore makes it"},
     "man/radacctd-nightly.8": {"exports/DATE": "a folder that it makes"},
     "docs/SITE.md": {"a%2Cb": "an account of an example"},
     "docs/TROUBLE.md": {
