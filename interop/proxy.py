@@ -42,6 +42,7 @@ class Proxy:
             os.mkdir(os.path.join(folder, name))
         self.socket = os.path.join(folder, "redeem.socket")
         self.changes = [
+            *changes,
             ("listen 443 ssl", f"listen 127.0.0.1:{self.port} ssl"),
             ("listen 80;", f"listen 127.0.0.1:{self.plain};"),
             ("/etc/ssl/radacctd.pem", f"{folder}/site/cert.pem"),
@@ -52,7 +53,6 @@ class Proxy:
             ("/var/log/nginx", self.logs),
             ("/etc/radacctd-web", f"{folder}/site"),
             ("/etc/nginx/radacctd", f"{folder}/radacctd"),
-            *changes,
         ]
         self.write()
 
@@ -146,6 +146,14 @@ class Proxy:
 
     def status(self, path, *more, **how):
         return self.curl(path, *more, **how)[0]
+
+    def many(self, count, path, *more, origin):
+        """The statuses of a request that one curl sends so often, from an address."""
+        words = ["curl", "-sk", "--interface", origin, "-w", "%{http_code} ", *more]
+        for _ in range(count):
+            words += ["-o", os.devnull, self.url(path)]
+        found = subprocess.run(words, capture_output=True, text=True).stdout
+        return [int(it) for it in found.split()]
 
     def sell(self, account, units, number, login="anna", book="", origin="127.0.0.1"):
         sale = json.dumps({"account": account, "sum": units, "voucher": number})
