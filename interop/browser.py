@@ -1,17 +1,17 @@
-"""Debian's Chromium, driven through chromedriver by the WebDriver protocol, and checks of a page."""
+"""Debian's Chromium, driven through chromedriver by WebDriver, and checks of a page."""
 
 import base64
 import json
 import os
 import shutil
 import signal
+import socket
 import subprocess
 import time
 import urllib.error
 import urllib.request
 
 from served import free_port
-import socket
 
 # As an operator sees it: a phone of 320 pixels, and a screen.
 PHONE, SCREEN = (320, 640), (1000, 800)
@@ -32,7 +32,7 @@ for (const it of document.querySelectorAll("body *")) {
   const two = [light(parts(getComputedStyle(it).color)), light(behind(it))].sort((a, b) => b - a);
   const ratio = (two[0] + .05) / (two[1] + .05);
   tested += 1;
-  if (ratio < 4.5) bad.push(it.tagName + " " + it.textContent.trim().slice(0, 20) + " " + ratio.toFixed(1));
+  if (ratio < 4.5) bad.push([it.tagName, it.textContent.trim().slice(0, 20), ratio].join(" "));
 }
 return [tested, bad];
 """

@@ -71,9 +71,13 @@ def keys(browser, proxy, server, folder):
     check("which shows the account", browser.shows(f"Account {account}"), True)
     again = tool("radacctd-key", *words, "new", account)
     check("a second key for it wants --again", again[0], 1)
-    check("a card is not overwritten", tool("radacctd-key", *words, "new", "x", "--card", card)[0], 1)
+    check(
+        "a card is not overwritten", tool("radacctd-key", *words, "new", "x", "--card", card)[0], 1
+    )
     listed = tool("radacctd-key", *words, "list")[1]
-    check("the list has the account, and no key", (account in listed, token in listed), (True, False))
+    check(
+        "the list has the account, and no key", (account in listed, token in listed), (True, False)
+    )
     done = tool("radacctd-key", *words, "revoke", account)
     check("check-out ends the key", done[:2], (0, "ended 1 keys\n"))
     check("at once", proxy.status("/me/balance", key=token), 401)
@@ -84,7 +88,9 @@ def keys(browser, proxy, server, folder):
 def expiry(proxy, server, words):
     made = tool("radacctd-key", *words, "new", "yann", "--days", "1")[1]
     token = made.split()[-1]
-    check("before its time a key stays", tool("radacctd-key", *words, "expire")[1], "no key to end\n")
+    check(
+        "before its time a key stays", tool("radacctd-key", *words, "expire")[1], "no key to end\n"
+    )
     check("and is taken", proxy.status("/me/balance", key=token), 200)
     text = text_of(server.config)
     with open(server.config + "~", "w", encoding="utf-8") as file:
@@ -97,7 +103,9 @@ def expiry(proxy, server, words):
     with open(server.config, "a", encoding="utf-8") as file:
         file.write("\n[broken")
     status = tool("radacctd-key", *words, "new", "zed")[0]
-    check("a wrong configuration gets no key", (status, "zed" in text_of(server.config)), (1, False))
+    check(
+        "a wrong configuration gets no key", (status, "zed" in text_of(server.config)), (1, False)
+    )
     with open(server.config, "w", encoding="utf-8") as file:
         file.write(right)
 
@@ -112,7 +120,9 @@ def make_vouchers(proxy, folder):
     """The codes of a sheet, whose stock lies in the folder of the test."""
     words = ["--stock", f"{folder}/stock.csv", "--to", folder, "--url", "https://localhost"]
     status, said, _ = tool("radacctd-vouchers", *words, "30", "500")
-    check("radacctd-vouchers makes a sheet", (status, said.split(":")[0]), (0, "30 vouchers of 5.00"))
+    check(
+        "radacctd-vouchers makes a sheet", (status, said.split(":")[0]), (0, "30 vouchers of 5.00")
+    )
     made, stock = glob.glob(f"{folder}/vouchers-*.csv")[0], f"{folder}/stock.csv"
     check("the CSV is the stock", text_of(made), text_of(stock))
     sheet = made.replace(".csv", ".pdf")
@@ -193,7 +203,9 @@ def redeem(browser, proxy, server, folder, restart, readable):
         unknown = forms(proxy, codes)
         browser.go(proxy.url(f"/redeem/#c={codes[0]}"))
         check("redeem: it asks for the account", browser.shows("Type your account"), True)
-        check("the code has left the address bar", browser.call("GET", "/url"), proxy.url("/redeem/"))
+        check(
+            "the code has left the address bar", browser.call("GET", "/url"), proxy.url("/redeem/")
+        )
         readable(browser, "the redeem page")
         fill(browser, "Zoë & Max", codes[0])
         check("a code is redeemed", browser.shows("Done. Zoë & Max has 5.00 EUR more."), True)
@@ -203,7 +215,11 @@ def redeem(browser, proxy, server, folder, restart, readable):
         check("nor for another account", browser.shows("redeemed for another account"), True)
         wrong = ("A" if codes[1][0] != "A" else "C") + codes[1][1:]
         fill(browser, "bo", wrong)
-        check("a wrong letter is seen by the page", browser.shows("A letter of the code is wrong"), True)
+        check(
+            "a wrong letter is seen by the page",
+            browser.shows("A letter of the code is wrong"),
+            True,
+        )
         fill(browser, "bo", unknown)
         check("a code that is not in the stock", browser.shows("This voucher is not known"), True)
         server.kill()
@@ -212,12 +228,18 @@ def redeem(browser, proxy, server, folder, restart, readable):
         restart()
         time.sleep(11)
         fill(browser, "bo", codes[1])
-        check("it is back: the code is redeemed", browser.shows("Done. bo has 5.00 EUR more."), True)
+        check(
+            "it is back: the code is redeemed", browser.shows("Done. bo has 5.00 EUR more."), True
+        )
     finally:
         process.terminate()
         os.killpg(process.pid, 15)
         process.wait(timeout=10)
     plain = [it.replace("-", "") for it in codes[:2]]
     check("no code is in a log of nginx", holding(proxy.logs, codes + plain), [])
-    check("the key and the stock are outside the pages", holding(f"{ROOT}/web", [REDEEM_KEY, *codes]), [])
+    check(
+        "the key and the stock are outside the pages",
+        holding(f"{ROOT}/web", [REDEEM_KEY, *codes]),
+        [],
+    )
     return [("W-" + codes[0], "Zo%C3%AB & Max", "500"), ("W-" + codes[1], "bo", "500")]

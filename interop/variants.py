@@ -1,0 +1,202 @@
+"""Rows of interop/pages: a pair, shards, and cashiers with client certificates."""
+
+import json
+import os
+import subprocess
+import time
+
+from browser import Browser
+from proxy import Proxy
+from served import CASHIER, GUEST, Server, check
+
+ONE, PAIR, SHARDS = (f"include radacctd/desks-{it}.conf;" for it in ("one", "pair", "shards"))
+SHARD_GUEST = "s2-guest-key-0002"
+SHARD_KEY = f"""
+[[key]]
+token = "{SHARD_GUEST}"
+account = "zoe"
+"""
+
+
+class Site:
+    """Two servers behind one nginx of a variant, and their balances in one folder."""
+
+    def __init__(self, folder, variant, changes=()):
+        os.mkdir(folder)
+        self.folder, self.servers, self.balances = folder, [], []
+        for name in ("a", "b"):
+            os.mkdir(f"{folder}/{name}")
+            server = Server(f"{folder}/{name}")
+            server.init()
+            self.servers.append(server)
+            self.balances.append(f"{folder}/{name}/balances.csv")
+        kept = "/var/lib/radacctd-balances/"
+        names = {PAIR: ("balances.csv", "balances-b.csv"), SHARDS: ("s1.csv", "s2.csv")}[variant]
+        changes = [(ONE, variant), *changes]
+        for server, address in zip(self.servers, ("10.0.0.5:8066", "10.0.0.6:8066")):
+            changes.append((address, f"127.0.0.1:{server.desk}"))
+        changes += [(kept + it, to) for it, to in zip(names, self.balances)]
+        self.proxy = Proxy(f"{folder}/nginx", CASHIER, changes)
+
+    def start(self, at):
+        more = ["--balances", self.balances[at], "--balances-every", "1"]
+        self.servers[at].start(1 << 62, more)
+
+    def end(self):
+        self.proxy.end()
+        for server in self.servers:
+            if server.process and server.process.poll() is None:
+                server.kill()
+
+
+def topups(server):
+    """The vouchers of a book whose server is down, without their moments."""
+    return [it.rsplit(",", 1)[0] for it in server.export("topups")[1:]]
+
+
+def sell_by_page(browser, account, units):
+    browser.js(
+        "const d = document.getElementById('desk'); d.value = 'D2'; d.oninput();"
+        "document.getElementById('account').value = arguments[0];"
+        "document.getElementById('sum').value = arguments[1];"
+        "document.getElementById('form').requestSubmit();"
+        "document.getElementById('yes').click()",
+        account,
+        units,
+    )
+
+
+def pair(folder):
+    """A sale goes to both books of a pair; a guest reads the one that is there."""
+    site = Site(folder, PAIR)
+    browser = Browser(folder)
+    first, second = site.servers
+    try:
+        site.proxy.settings({}, books=["a", "b"])
+        site.start(0)
+        site.start(1)
+        site.proxy.start()
+        browser.open()
+        browser.log_in("anna", "anna-has-a-pass")
+        browser.go(site.proxy.url("/desk/"))
+        browser.shows("Ready.")
+        second.kill()
+        sell_by_page(browser, "room 12", "4")
+        check(
+            "a pair: a sale while one is away has a receipt", browser.shows("D2-", "#receipt"), True
+        )
+        check("and stays in the list for the other", browser.shows("room 12", "#pending"), True)
+        site.start(1)
+        check("until that took it, too", browser.shows("None", "#pending", 25), True)
+        check("both have it", (first.balance(), second.balance()), (400, 400))
+        first.kill()
+        check(
+            "a guest reads while the first is away",
+            site.proxy.status("/me/balance", key=GUEST),
+            200,
+        )
+        site.start(0)
+        first.kill(), second.kill()
+        check("the books are the same", topups(first), topups(second))
+    finally:
+        browser.kill()
+        site.end()
+
+
+def shards(folder):
+    """A guest's key and a sale get to the shard that has the account."""
+    site = Site(folder, SHARDS)
+    browser = Browser(folder)
+    first, second = site.servers
+    with open(second.config, "a", encoding="utf-8") as file:
+        file.write(SHARD_KEY)
+    try:
+        site.proxy.settings({}, shards=["s1", "s2"])
+        site.start(0)
+        site.start(1)
+        site.proxy.start()
+        check("shards: a sale names its shard", site.proxy.sell("zoe", 100, "S-1", book="s2"), 201)
+        check("without one it gets nowhere", site.proxy.sell("zoe", 100, "S-2"), 404)
+        status, _, body = site.proxy.curl("/me/balance", key=SHARD_GUEST)
+        check("a key gets to its shard", (status, json.loads(body)["balance"]), (200, 100))
+        check("another key gets to the first", site.proxy.status("/me/balance", key=GUEST), 200)
+        time.sleep(6)
+        browser.open()
+        browser.log_in("anna", "anna-has-a-pass")
+        browser.go(site.proxy.url("/desk/"))
+        browser.shows("anna", "#cashier")
+        time.sleep(1)
+        sell_by_page(browser, "zoe", "2")
+        check("the page finds the shard", browser.shows("Sold. zoe has 2.00 EUR more."), True)
+        sell_by_page(browser, "nobody yet", "2")
+        check(
+            "and sells nothing to an account of none",
+            browser.shows("in no part of the books"),
+            True,
+        )
+        first.kill(), second.kill()
+        sums = [it.split(",", 1)[1] for it in topups(second)]
+        check("the second has both sales", sorted(sums), ["zoe,100", "zoe,200"])
+        check("the first has none", topups(first), [])
+    finally:
+        browser.kill()
+        site.end()
+
+
+def client_certificate(folder):
+    """A certificate of a new authority, and one of nobody's."""
+    for name in ("ca", "eve"):
+        words = ["openssl", "req", "-x509", "-newkey", "rsa:2048", "-nodes", "-days", "2"]
+        words += [
+            "-subj",
+            f"/CN={name}",
+            "-keyout",
+            f"{folder}/{name}.key",
+            "-out",
+            f"{folder}/{name}.pem",
+        ]
+        subprocess.run(words, check=True, capture_output=True)
+    words = ["openssl", "req", "-newkey", "rsa:2048", "-nodes", "-subj", "/CN=anna"]
+    words += ["-keyout", f"{folder}/anna.key", "-out", f"{folder}/anna.csr"]
+    subprocess.run(words, check=True, capture_output=True)
+    words = ["openssl", "x509", "-req", "-days", "2", "-in", f"{folder}/anna.csr"]
+    words += ["-CA", f"{folder}/ca.pem", "-CAkey", f"{folder}/ca.key", "-CAcreateserial"]
+    subprocess.run([*words, "-out", f"{folder}/anna.pem"], check=True, capture_output=True)
+
+
+def certificates(folder):
+    """Cashiers with client certificates, in the place of passwords."""
+    changes = [
+        ('auth_basic           "Front desk";', ""),
+        ("auth_basic_user_file /etc/nginx/radacctd/cashiers;", ""),
+        ("# if ($ssl_client_verify", "if ($ssl_client_verify"),
+        (
+            "# ssl_client_certificate /etc/nginx/radacctd/cashiers.pem",
+            f"ssl_client_certificate {folder}/ca.pem",
+        ),
+        ("# ssl_verify_client", "ssl_verify_client"),
+    ]
+    site = Site(folder, PAIR, changes)
+    client_certificate(folder)
+    try:
+        site.proxy.settings({})
+        site.start(0)
+        site.proxy.start()
+        body = ("-H", "Radacctd: desk", "-d", '{"account":"al","sum":5,"voucher":"C-1"}')
+        own, other = (
+            ("--cert", f"{folder}/{it}.pem", "--key", f"{folder}/{it}.key")
+            for it in ("anna", "eve")
+        )
+        check("a certificate sells", site.proxy.status("/desk/a/topups", *own, *body), 201)
+        check("none sells nothing", site.proxy.status("/desk/a/topups", *body), 403)
+        check(
+            "another authority's is refused",
+            site.proxy.status("/desk/a/topups", *other, *body),
+            400,
+        )
+        check("guests need none", site.proxy.status("/me/balance", key=GUEST), 200)
+        lines = site.proxy.log("radacctd-sales.log")
+        sold = [it["cashier"] for it in lines if it["status"] == 201]
+        check("the log names the certificate", sold, ["CN=anna"])
+    finally:
+        site.end()
