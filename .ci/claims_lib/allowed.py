@@ -39,7 +39,6 @@ ALLOWED = {
         "rattle-kit-13f logic dac8208d650f15bf": "the kit's own name of its version",
         **each("sqlite3's own words", ".dump"),
         **each("systemd's and chrony's own", "chrony-wait", "time-sync.target"),
-        **each("nginx' own", "proxy_pass"),
         **each("the kit's clap prints it", "error: invalid data"),
         **each("the kit's SQLite names a log after its book", "-wal", "book-wal"),
         **each("a user of the system", "root"),
@@ -63,6 +62,16 @@ ALLOWED = {
         "and_then(word_of)": "shows what the checker does not accept",
     },
     "docs/DEFINITIONS.md": {"x ∷ xs": "how a list is written"},
+    "docs/DESK.md": {
+        "fcgiwrap": "Debian's package",
+        **each("nginx' paths", "/desk/", "/redeem/"),
+        "settings.json": "radacctd-pages makes it",
+        "revoke": "a command of radacctd-key",
+        "url": "a member of settings.json",
+    },
+    "docs/FRONTDESK.md": each(
+        "an example", "https://accounts.example.org/desk/", "mueller-1126"
+    ),
     "docs/FILES.md": each("a line of an example", "V-2,bo,3", "V-2,bo,300"),
     "docs/FREERADIUS.md": FREERADIUS,
     "docs/GATE.md": {
@@ -78,6 +87,16 @@ ALLOWED = {
     },
     "man/radacctd-backup.8": {"FOLDER/book-wal": "a copy"},
     "man/radacctd-restore.8": {"BOOK.replaced-DATE-TIME": "restore makes it"},
+    "man/radacctd-pages.8": {
+        **each("radacctd-pages makes it", "FOLDER/plans.json", "FOLDER/settings.json"),
+        "settings.json": "radacctd-pages makes it",
+        **each("an example", "[\\(dqa\\(dq, \\(dqb\\(dq]", "[\\(dqs1\\(dq, \\(dqs2\\(dq]"),
+        "shards": "a member of a file that radacctd-pages makes",
+    },
+    "man/radacctd-vouchers.8": {
+        "code,sum": "the columns of a stock file",
+        "/redeem/": "nginx' path",
+    },
     "man/radacctd-nightly.8": {"exports/DATE": "a folder that it makes"},
     "docs/SITE.md": {"a%2Cb": "an account of an example"},
     "docs/TROUBLE.md": {
