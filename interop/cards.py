@@ -116,6 +116,20 @@ def has_check_letter(code):
     return LETTERS[weighed % len(LETTERS)] == plain[-1]
 
 
+def codes_of(sheet, count, folder):
+    """What the QR code of each voucher of a sheet says, each looked at alone."""
+    found = []
+    for at in range(count):
+        page, place = divmod(at, 24)
+        # Of a sheet 200 dots an inch, where a voucher has 180 by 98 points.
+        left, top = (27 + place % 3 * 180) * 200 // 72, (30 + place // 3 * 98) * 200 // 72
+        words = ["pdftoppm", "-r", "200", "-png", "-singlefile", "-f", str(page + 1)]
+        words += ["-x", str(left), "-y", str(top), "-W", "500", "-H", "272"]
+        subprocess.run([*words, sheet, f"{folder}/one"], check=True)
+        found += codes_in(f"{folder}/one.png")
+    return sorted(found)
+
+
 def make_vouchers(proxy, folder):
     """The codes of a sheet, whose stock lies in the folder of the test."""
     words = ["--stock", f"{folder}/stock.csv", "--to", folder, "--url", "https://localhost"]
@@ -132,10 +146,8 @@ def make_vouchers(proxy, folder):
     check("each code has its check letter", all(map(has_check_letter, codes)), True)
     text = subprocess.run(["pdftotext", sheet, "-"], capture_output=True, text=True).stdout
     check("the sheet has each code", all(it in text for it in codes), True)
-    subprocess.run(["pdftoppm", "-r", "200", "-png", sheet, f"{folder}/sheet"], check=True)
-    found = sum((codes_in(it) for it in glob.glob(f"{folder}/sheet-*.png")), [])
     wanted = sorted(f"https://localhost/redeem/#c={it}" for it in codes)
-    check("as a QR code, too", sorted(found), wanted)
+    check("as a QR code, too", codes_of(sheet, len(codes), folder), wanted)
     time.sleep(1.1)
     tool("radacctd-vouchers", *words, "1", "700")
     check("a second sheet adds to the stock", text_of(stock).count("\n"), 32)
