@@ -1,0 +1,963 @@
+"""The parts of interop/freeradius: each tests some sentences of docs/FREERADIUS.md."""
+
+import contextlib
+import hashlib
+import os
+import re
+import select
+import shutil
+import socket
+import sqlite3
+import subprocess
+import threading
+import time
+
+import front
+from front import ACCESS_SERVERS, FILES, MEBIBYTE, SECRET, check, report, waits_for
+
+PARTS = {}
+SPENT = "Your allowance is spent."
+
+
+class Missing(Exception):
+    """What this machine has not."""
+
+
+def part(function):
+    PARTS[function.__name__] = function
+    return function
+
+
+@contextlib.contextmanager
+def both(folder, options=(), **how):
+    """radacctd and FreeRADIUS in front of it."""
+    book = front.Book(folder)
+    radius = front.FreeRadius(folder, book, **how)
+    done = radius.is_right()
+    check("FreeRADIUS takes the files", (done.returncode, done.stderr), (0, ""))
+    if done.returncode:
+        raise SystemExit(done.stdout[-2000:])
+    try:
+        book.start(*options)
+        radius.mirrors(book)
+        radius.start()
+        yield book, radius
+    finally:
+        radius.end()
+        if book.process is not None and book.process.poll() is None:
+            book.process.kill()
+            book.process.communicate()
+
+
+def count_in(folder):
+    """How many reports the files of a folder have."""
+    total = 0
+    for name in os.listdir(folder) if os.path.isdir(folder) else []:
+        with open(os.path.join(folder, name), encoding="latin-1") as file:
+            total += sum(line.startswith("\tAcct-Status-Type") for line in file)
+    return total
+
+
+@part
+def once(folder):
+    """A repeated report is charged once, and later modules see the access server's own id."""
+    later = "linelog later {\n\tfilename = %s/later\n\tformat = \"%%{Acct-Session-Id}\"\n}\n"
+    with both(folder) as (book, radius):
+        radius.kill()
+        front.written(os.path.join(radius.raddb, "mods-enabled", "later"), later % folder)
+        path = os.path.join(radius.raddb, "sites-enabled", "default")
+        with open(path, encoding="utf-8") as file:
+            text = file.read()
+        front.written(path, text.replace("radacctd_accounting", "radacctd_accounting\n\t\tlater"))
+        radius.start()
+        check("a voucher is sold", book.sell("al", 500, "V-1"), 201)
+        interim = report("Interim-Update", "5A-1", "al", MEBIBYTE + 1)
+        check("a report is answered", radius.reports("ap1", interim), True)
+        waits_for("two blocks are charged", lambda: book.balance("al"), 480)
+        again = radius.reports("ap1", interim + ["Acct-Delay-Time = 5"])
+        check("the same again is answered", again, True)
+        last = report("Stop", "5A-1", "al", 3 * MEBIBYTE)
+        check("a Stop behind it is answered", radius.reports("ap1", last), True)
+        waits_for("and each block charged once", lambda: book.balance("al"), 470)
+        check("it is one session", len(book.rows("al")), 1)
+        with open(os.path.join(folder, "later"), encoding="utf-8") as file:
+            check("a module behind it sees 5A-1", set(file.read().split()), {"5A-1"})
+
+
+@part
+def again(folder):
+    """An id that comes again charges nobody else: without FreeRADIUS it does."""
+    with both(folder) as (book, radius):
+        check("al buys", book.sell("al", 5000, "V-1"), 201)
+        check("bo buys", book.sell("bo", 5000, "V-2"), 201)
+        direct = ["radclient", "-r", "1", "-t", "2", f"127.0.0.1:{book.radius}", "acct", SECRET]
+
+        def sent(attributes):
+            text = "\n".join(["Packet-Src-IP-Address = 127.0.1.1", *attributes]) + "\n"
+            subprocess.run(direct, input=text, capture_output=True, text=True)
+
+        sent(report("Stop", "8100", "al", 100 * MEBIBYTE))
+        sent(report("Stop", "8100", "bo", 300 * MEBIBYTE))
+        pair = lambda: (book.balance("al"), book.balance("bo"))
+        check("before: al pays for bo's session, too", pair(), (2000, 5000))
+        for name, octets in (("al", 100), ("bo", 150)):
+            done = radius.reports("ap1", report("Stop", "9100", name, octets * MEBIBYTE))
+            check(f"{name}'s session 9100 at ap1 is answered", done, True)
+        waits_for("after: each pays his own", pair, (1000, 3500))
+        for name, account in (("ap1", "al"), ("ap2", "bo")):
+            done = radius.reports(name, report("Stop", "9200", account, MEBIBYTE))
+            check(f"session 9200 at {name} is answered", done, True)
+        waits_for("one id at two access servers: each his own", pair, (990, 3490))
+
+
+def told_in_pieces(radius, book):
+    """Sessions whose reports differ in what is no part of their id."""
+    device = "Calling-Station-Id = 02-00-00-00-00-01"
+    respelled = "Calling-Station-Id = 0200.0000.0001"
+    kinds = {
+        "without a Calling-Station-Id in the Start": ([], "bo", [device], "bo"),
+        "with one that the Stop spells otherwise": ([device], "bo", [respelled], "bo"),
+        "with a User-Name that changes its case": ([device], "bo", [device], "BO"),
+    }
+    for number, (name, (one, first, other, last)) in enumerate(kinds.items()):
+        before = book.balance("bo")
+        identifier = f"C-{number}"
+        radius.reports("ap1", report("Start", identifier, first, 0, one))
+        radius.reports("ap1", report("Interim-Update", identifier, first, 2 * MEBIBYTE, one))
+        radius.reports("ap1", report("Stop", identifier, last, 3 * MEBIBYTE, other))
+        waits_for(f"a session {name}: charged once", lambda: book.balance("bo"), before - 30)
+        count = sum(f"/{identifier}/" in row["session"] for row in book.rows("bo"))
+        check("and one session", count, 1)
+
+
+@part
+def ids(folder):
+    """Each session is charged once, whatever its id and however its reports differ."""
+    with both(folder) as (book, radius):
+        told_in_pieces(radius, book)
+        strange = {
+            "of 253 octets": "x" * 253,
+            "of 253 octets that differ in the last": "x" * 252 + "y",
+            "with a backslash": "a\\\\b",
+            "with two": "a\\\\\\\\b",
+            "with a quote and a percent sign": "a'%{b}\\\"c",
+            "with umlauts": "äöü",
+            "that begins with &": "&User-Name",
+        }
+        for number, (name, identifier) in enumerate(strange.items(), 1):
+            before = book.balance("al")
+            for status, octets in (("Start", 0), ("Interim-Update", 1), ("Stop", MEBIBYTE + 1)):
+                done = radius.reports("ap1", report(status, identifier, "al", octets))
+                check(f"{status} of an id {name} is answered", done, True)
+            waits_for("and charged once", lambda: book.balance("al"), before - 20)
+            check("as one session", len(book.rows("al")), number)
+        names = ["&User-Name", "%{User-Name}", "a\\\\b", "Müller"]
+        for name in names:
+            done = radius.reports("ap1", report("Stop", "N-1", name, 1))
+            check(f"a session N-1 of {name} is answered", done, True)
+        waits_for("the queue is empty", lambda: count_in(radius.queue), 0)
+        book.kill()
+        rows = book.export("sessions").splitlines()
+        check("each of these names has its own", sum("/N-1/" in row for row in rows), 4)
+        check("BO has no session", [row for row in rows if ",BO," in row], [])
+
+
+@part
+def restarts(folder):
+    """On and Off are answered and not queued: sessions stay open, and no money moves."""
+    with both(folder) as (book, radius):
+        radius.reports("ap1", report("Interim-Update", "R-1", "al", MEBIBYTE))
+        waits_for("a session is charged", lambda: book.balance("al"), -10)
+        for status in ("Accounting-On", "Accounting-Off"):
+            done = radius.reports("ap1", [f"Acct-Status-Type = {status}"])
+            check(f"{status} is answered", done, True)
+        radius.reports("ap1", report("Interim-Update", "R-2", "al", MEBIBYTE))
+        waits_for("what comes behind them is charged", lambda: book.balance("al"), -20)
+        states = [row["state"] for row in book.rows("al")]
+        check("both sessions are open", states, ["open", "open"])
+
+
+@part
+def down(folder):
+    """Nothing is lost while radacctd is down, or if FreeRADIUS is killed then."""
+    with both(folder) as (book, radius):
+        check("bo buys", book.sell("bo", 500, "V-1"), 201)
+        book.kill()
+        print("         radacctd is killed", flush=True)
+        begun = int(time.time())
+        for number in range(1, 7):
+            attributes = report("Interim-Update", f"6B-{number}", "bo", MEBIBYTE)
+            done = radius.reports(f"ap{1 + number % 2}", attributes)
+            check(f"report {number} of 6 is answered meanwhile", done, True)
+        ended = int(time.time())
+        time.sleep(4)
+        radius.kill()
+        print("         FreeRADIUS is killed", flush=True)
+        radius.start()
+        time.sleep(40)
+        print("         radacctd was down for 45 seconds", flush=True)
+        book.start()
+        back = time.monotonic()
+        waits_for("each block is charged", lambda: book.balance("bo"), 440)
+        check("within 10 seconds", time.monotonic() - back < 10, True)
+        late = [row for row in book.rows("bo") if not begun - 1 <= row["last"] <= ended + 1]
+        check("at the moment when it was reported", late, [])
+        check("and none was filed", count_in(radius.unsent), 0)
+
+
+@part
+def unsent(folder):
+    """A report that radacctd never answers is filed, and the next one is charged."""
+    with both(folder) as (book, radius):
+        nameless = ["Acct-Status-Type = Start", "User-Name = bo"]
+        check("a report without a session id isn't answered", radius.reports("ap1", nameless), False)
+        tunnel = ["Acct-Status-Type = Tunnel-Start", "Acct-Session-Id = 7"]
+        check("nor is a tunnel's start", radius.reports("ap1", tunnel), False)
+        broken = {
+            "octets of two octets": ["Attr-42 = 0x0102"],
+            "an address of three": ["Attr-8 = 0x0a0102"],
+            "a cause of one": ["Attr-49 = 0x01"],
+            "2^62 octets": ["Acct-Input-Octets = 0", "Acct-Input-Gigawords = 1073741824"],
+        }
+        head = report("Stop", "7B-1", "bo", 1)[:4]
+        for number, (name, more) in enumerate(broken.items(), 1):
+            check(f"a report with {name} is answered", radius.reports("ap1", head + more), True)
+            check("and filed at once", count_in(radius.unsent), number)
+        done = radius.reports("ap1", report("Start", "7C-1", "bo", 1))
+        check("what comes behind them is answered", done, True)
+        waits_for("and charged", lambda: book.balance("bo"), -10)
+        check("one that takes the balance out of its limits", limit(radius), True)
+        done = radius.reports("ap2", report("Start", "7C-2", "bo", 1))
+        check("and another one behind it are answered", done, True)
+        begun = time.monotonic()
+        waits_for("it is filed", lambda: count_in(radius.unsent), len(broken) + 1, 120)
+        waits_for("and the other one charged", lambda: book.balance("bo"), -20)
+        print(f"         after {time.monotonic() - begun:.0f} seconds", flush=True)
+        with open(os.path.join(radius.unsent, os.listdir(radius.unsent)[0])) as file:
+            check("its octets are in the file", "Acct-Input-Gigawords = 536870912" in file.read(), True)
+        waits_for("the queue is empty", lambda: count_in(radius.queue), 0)
+
+
+def limit(radius):
+    """Sends a report that radacctd drops as BalanceLimit."""
+    return radius.reports("ap1", report("Stop", "7D-1", "bo", 1 << 61, plan="dear"))
+
+
+FIRST_EDITION = """
+home_server radacctd-ap1 {{
+	type = acct
+	ipaddr = 127.0.0.1
+	port = {port}
+	src_ipaddr = 127.0.1.1
+	secret = {secret}
+	status_check = none
+}}
+home_server_pool radacctd-ap1 {{
+	type = fail-over
+	home_server = radacctd-ap1
+}}
+listen {{
+	type = detail
+	virtual_server = radacctd
+	filename = {queues}/ap1/detail-*
+	track = yes
+	load_factor = 100
+	poll_interval = 1
+	retry_interval = 5
+}}
+"""
+# A report that the first edition had queued.
+QUEUED = """Thu Nov 26 10:00:00 2026
+\tAcct-Status-Type = Interim-Update
+\tAcct-Session-Id = "M-2"
+\tUser-Name = "bo"
+\tClass = 0x676f6c64
+\tAcct-Input-Octets = 1048576
+\tTmp-String-8 = "ap1"
+\tTimestamp = {now}
+
+"""
+
+
+@part
+def moved(folder):
+    """A session that is open while a site leaves the first edition is charged once."""
+    with both(folder) as (book, radius):
+        radius.kill()
+        send_first_edition(book)
+        check("two blocks are charged before the move", book.balance("al"), -20)
+        old = os.path.join(radius.queue, "ap1", "detail-20261126:10")
+        front.written(old, QUEUED.format(now=int(time.time())))
+        book.kill()
+        sessions = os.path.join(folder, "sessions.csv")
+        front.written(sessions, book.export("sessions"))
+        book.start()
+        words = [os.path.join(FILES, "kept-sessions"), sessions, radius.queue]
+        done = subprocess.run(words + ["ap2=127.0.2.2"], capture_output=True, text=True)
+        wanted = (1, "", "kept-sessions: give the address of ap1\n")
+        check("an access server is forgotten", (done.returncode, done.stdout, done.stderr), wanted)
+        done = subprocess.run(words + ["ap1=127.0.2.1"], capture_output=True, text=True)
+        check("sessions are listed", (done.returncode, done.stderr), (0, "kept-sessions: 2 sessions\n"))
+        front.written(os.path.join(radius.raddb, "radacctd", "kept"), done.stdout)
+        text = FIRST_EDITION.format(port=book.radius, secret=SECRET, queues=radius.queue)
+        front.written(os.path.join(radius.raddb, "sites-enabled", "old-ap1"), text)
+        radius.start()
+        waits_for("the old queue is sent", lambda: book.balance("bo"), -10)
+        after_the_move(book, radius)
+
+
+def send_first_edition(book):
+    """What an access server of the first edition reported before the move."""
+    direct = ["radclient", "-r", "1", "-t", "2", f"127.0.0.1:{book.radius}", "acct", SECRET]
+    lines = ["Packet-Src-IP-Address = 127.0.1.1"]
+    lines += report("Interim-Update", "M-1", "al", 2 * MEBIBYTE)
+    subprocess.run(direct, input="\n".join(lines) + "\n", capture_output=True, text=True)
+
+
+def after_the_move(book, radius):
+    for identifier, account in (("M-1", "al"), ("M-2", "bo")):
+        done = radius.reports("ap1", report("Stop", identifier, account, 3 * MEBIBYTE))
+        check(f"the Stop of {identifier} is answered", done, True)
+    pair = lambda: (book.balance("al"), book.balance("bo"))
+    waits_for("each is charged for what is new", pair, (-30, -30))
+    named = [(row["client"], row["session"]) for row in book.rows("al")]
+    check("by its old client and id", named, [("ap1", "M-1")])
+    radius.reports("ap1", report("Stop", "M-1", "bo", MEBIBYTE))
+    waits_for("the id M-1 for somebody else: his own", pair, (-30, -40))
+    radius.reports("ap1", report("Start", "M-3", "al", 1))
+    waits_for("a new session is charged", pair, (-40, -40))
+    clients = sorted(row["client"] for row in book.rows("al"))
+    check("by the new client", clients, ["ap1", "freeradius"])
+
+
+@part
+def many(folder):
+    """1,000 access servers with one session id, and no table of them."""
+    with both(folder, options=["--sync", "once"]) as (book, radius):
+        sources = [f"127.9.{1 + number // 250}.{1 + number % 250}" for number in range(1000)]
+        sender = Sender(radius.acct)
+        pairs = [(source, packet_of("1", b"al", MEBIBYTE)) for source in sources]
+        check("each is answered", sender.send(pairs), 1000)
+        waits_for("each is charged", lambda: book.balance("al"), -10_000, 300)
+        done = radius.reports("::1", report("Start", "1", "bo", 1))
+        check("an access server of IPv6 is answered", done, True)
+        waits_for("and charged", lambda: book.balance("bo"), -10)
+        check("its address is in the id", book.rows("bo")[0]["session"].startswith("::1/1/"), True)
+
+
+def attribute(kind, value):
+    return bytes([kind, len(value) + 2]) + value
+
+
+def packet_of(session, account, octets, status=3):
+    number = lambda value: value.to_bytes(4, "big")
+    return b"".join(
+        [
+            attribute(40, number(status)),
+            attribute(44, session.encode()),
+            attribute(1, account),
+            attribute(25, b"gold"),
+            attribute(42, number(octets & 0xFFFFFFFF)),
+            attribute(52, number(octets >> 32)),
+        ]
+    )
+
+
+class Sender:
+    """Sends reports from many addresses, a window of them in flight."""
+
+    WINDOW = 64
+
+    def __init__(self, port, secret=SECRET):
+        self.port, self.secret = port, secret.encode()
+
+    def signed(self, identifier, attributes):
+        head = bytes([4, identifier]) + (20 + len(attributes)).to_bytes(2, "big")
+        return head + hashlib.md5(head + bytes(16) + attributes + self.secret).digest() + attributes
+
+    def send(self, pairs, patience=5, tries=4):
+        """How many of the pairs of a source and its attributes were answered."""
+        sockets, flying, done = {}, {}, 0
+        pairs = iter(pairs)
+        poller = select.poll()
+        is_left = True
+        while is_left or flying:
+            while is_left and len(flying) < self.WINDOW:
+                source, attributes = next(pairs, (None, None))
+                if source is None:
+                    is_left = False
+                    break
+                if source not in sockets:
+                    sockets[source] = self.opened(source, poller)
+                opened = sockets[source]
+                free = next(i for i in range(256) if (opened.fileno(), i) not in flying)
+                flying[opened.fileno(), free] = [opened, attributes, 0, 0]
+            self.send_late(flying, patience, tries)
+            for number, _ in poller.poll(200):
+                done += self.heard(number, flying)
+        for opened in sockets.values():
+            opened.close()
+        return done
+
+    def opened(self, source, poller):
+        opened = socket.socket(socket.AF_INET, socket.SOCK_DGRAM)
+        opened.bind((source, 0))
+        opened.connect(("127.0.0.1", self.port))
+        opened.setblocking(False)
+        poller.register(opened.fileno(), select.POLLIN)
+        return opened
+
+    def send_late(self, flying, patience, tries):
+        now = time.monotonic()
+        for (number, identifier), entry in list(flying.items()):
+            opened, attributes, last, tried = entry
+            if tried and now - last < patience:
+                continue
+            if tried == tries:
+                del flying[number, identifier]
+                continue
+            entry[2:] = [now, tried + 1]
+            opened.send(self.signed(identifier, attributes))
+
+    def heard(self, number, flying):
+        count = 0
+        opened = next((entry[0] for (key, _), entry in flying.items() if key == number), None)
+        while opened is not None:
+            try:
+                reply = opened.recv(4096)
+            except BlockingIOError:
+                break
+            count += flying.pop((number, reply[1]), None) is not None
+        return count
+
+
+RADSEC = """
+client radsec-proxy {{
+	ipaddr = 127.0.0.1
+	proto = tls
+	secret = radsec
+	radacctd_quota = none
+}}
+listen {{
+	type = auth+acct
+	ipaddr = 127.0.0.1
+	port = {port}
+	proto = tcp
+	virtual_server = default
+	clients = radsec
+	tls {{
+		private_key_file = {folder}/key.pem
+		certificate_file = {folder}/cert.pem
+		ca_file = {folder}/cert.pem
+		fragment_size = 8192
+		require_client_cert = yes
+		tls_min_version = "1.2"
+		tls_max_version = "1.2"
+	}}
+}}
+clients radsec {{
+	client 127.0.0.1 {{
+		ipaddr = 127.0.0.1
+		proto = tls
+		secret = radsec
+		radacctd_quota = none
+	}}
+}}
+"""
+RADSECPROXY = """
+ListenUDP 127.0.0.1:{udp}
+LogLevel 3
+LogDestination file://{folder}/radsecproxy.log
+tls default {{
+	CACertificateFile {folder}/cert.pem
+	CertificateFile {folder}/cert.pem
+	CertificateKeyFile {folder}/key.pem
+}}
+client access-servers {{
+	host 127.0.2.0/24
+	type udp
+	secret {secret}
+}}
+server front {{
+	host 127.0.0.1
+	port {tls}
+	type tls
+	secret radsec
+	certificateNameCheck off
+}}
+realm * {{
+	server front
+	accountingServer front
+}}
+"""
+
+
+@part
+def radsec(folder):
+    """Access servers that speak RadSec, here by radsecproxy."""
+    for tool in ("radsecproxy", "openssl"):
+        if shutil.which(tool) is None:
+            raise Missing(f"{tool}: the package {tool} has it")
+    words = "openssl req -x509 -newkey rsa:2048 -nodes -days 2 -subj /CN=localhost".split()
+    words += ["-keyout", f"{folder}/key.pem", "-out", f"{folder}/cert.pem"]
+    subprocess.run(words, check=True, capture_output=True)
+    tls = front.KILL.free_port(socket.SOCK_STREAM)
+    udp = front.KILL.free_port(socket.SOCK_DGRAM)
+    site = RADSEC[RADSEC.index("listen") :].format(port=tls, folder=folder)
+    person = '"%{tolower:%{User-Name}} %{NAS-Identifier}"'
+    with both(folder, sites=site, settings=[("person", person)]) as (book, radius):
+        text = RADSECPROXY.format(udp=udp, tls=tls, folder=folder, secret=SECRET)
+        front.written(os.path.join(folder, "radsecproxy.conf"), text)
+        words = ["radsecproxy", "-f", "-c", os.path.join(folder, "radsecproxy.conf")]
+        proxy = subprocess.Popen(words, stdout=subprocess.DEVNULL, stderr=subprocess.DEVNULL)
+        try:
+            time.sleep(2)
+            by_radsec(book, radius, udp)
+        finally:
+            proxy.kill()
+            proxy.communicate()
+
+
+def by_radsec(book, radius, udp):
+    for name in ("ap1", "ap2"):
+        more = [f'NAS-Identifier = "{name}"']
+        lines = report("Interim-Update", "S-1", "al", MEBIBYTE, more)
+        said = radius.radclient("acct", udp, ACCESS_SERVERS[name][0], lines, 3)
+        check(f"session S-1 of {name} is answered", "Received Accounting-Response" in said, True)
+    waits_for("each is charged", lambda: book.balance("al"), -20)
+    check("by a session of its own", len(book.rows("al")), 2)
+
+
+@part
+def mirror(folder):
+    """The mirror: who may read what, what it says of a fault, and 100,000 accounts."""
+    book = front.Book(folder)
+    plans, path = os.path.join(folder, "plans.csv"), os.path.join(folder, "mirror.db")
+    program = os.path.join(FILES, "balances-mirror")
+    words = [program, book.balances, plans, path]
+    told = lambda: subprocess.run(words, capture_output=True, text=True)
+    done = subprocess.run([os.path.join(FILES, "plans-of"), book.config], capture_output=True, text=True)
+    check("the plans are printed", (done.returncode, done.stdout.count("\n")), (0, len(front.PLANS) + 1))
+    check("and no secret", front.BOOK_SECRET in done.stdout or "key-" in done.stdout, False)
+    front.written(plans, done.stdout)
+    done = told()
+    check("without balances it fails", (done.returncode, "No such file" in done.stderr), (1, True))
+    front.written(book.balances, "account,balance\nal,5\n")
+    check("nor does it take another file", told().returncode, 1)
+    lines = "".join(f"st{number:06d},{number},0\n" for number in range(100_000))
+    front.written(book.balances, "account,balance,overrun\nM%C3%BCller,-7,7\n" + lines)
+    begun = time.monotonic()
+    check("it takes 100,000 accounts", told().returncode, 0)
+    print(f"         in {time.monotonic() - begun:.1f} seconds", flush=True)
+    check("the balance of Müller", looked_up(path, "Müller"), -7)
+    front.written(book.balances, "account,balance,overrun\nst000001,3,0\n")
+    check("a newer file", (told().returncode, looked_up(path, "st000001")), (0, 3))
+    check("has none of those that it lacks", looked_up(path, "Müller"), None)
+    if os.geteuid() == 0:
+        rights(folder, words, book)
+
+
+def looked_up(path, account):
+    with contextlib.closing(sqlite3.connect(path)) as opened:
+        query = "SELECT balance FROM balance WHERE account = ?"
+        row = opened.execute(query, (account.encode(),)).fetchone()
+        return row[0] if row else None
+
+
+def rights(folder, words, book):
+    """As the unit runs it: a user of no right but the group of the balances' folder."""
+    group, user = 54321, 54322
+    shared, own = os.path.join(folder, "shared"), os.path.join(folder, "own")
+    os.mkdir(shared)
+    os.mkdir(own)
+    os.chown(shared, 0, group)
+    os.chmod(shared, 0o2750)
+    os.chown(own, user, user)
+    balances = os.path.join(shared, "balances.csv")
+    front.written(balances, "account,balance,overrun\nal,5,0\n")
+    os.chmod(balances, 0o640)
+    os.chmod(book.config, 0o640)
+    program = os.path.join(own, "balances-mirror")
+    shutil.copy(words[0], program)
+    os.chmod(words[2], 0o644)
+    mirrored = os.path.join(own, "mirror.db")
+    drop = ["setpriv", f"--reuid={user}", f"--regid={user}", f"--groups={group}"]
+    # A pyenv of root's is out of such a user's reach.
+    python = ["/usr/bin/python3"] if os.path.exists("/usr/bin/python3") else ["python3"]
+    done = subprocess.run([*drop, *python, program, balances, words[2], mirrored], capture_output=True)
+    check("the group of the folder is enough", (done.returncode, done.stderr), (0, b""))
+    done = subprocess.run([*drop, "cat", book.config], capture_output=True)
+    check("and does not read the configuration", (done.returncode, done.stdout), (1, b""))
+
+
+MIKROTIK = ("Mikrotik-Total-Limit", "Mikrotik-Total-Limit-Gigawords")
+
+
+@part
+def logins(folder):
+    """A login below one unit is refused, others get their quota."""
+    clients = "".join(
+        f"client {kind} {{\n\tipaddr = {address}\n\tsecret = {SECRET}\n\tradacctd_quota = {kind}\n}}\n"
+        for kind, address in QUOTAS.items()
+    )
+    settings = [("time_classes", '"^hour$"')]
+    with both(folder, clients=clients, settings=settings) as (book, radius):
+        check("without money a login is refused", told(radius, "al"), (False, {"Reply-Message": SPENT}))
+        book.sell("al", 105, "V-1")
+        wanted = (True, {MIKROTIK[0]: "10485760", MIKROTIK[1]: "0"})
+        waits_for("105 at 10 a MiB are 10 MiB", lambda: told(radius, "al"), wanted)
+        free = told(radius, "room 12", "free")
+        check("a plan of unit 0 is no limit", free, (True, {}))
+        for account in ("nobody", "al'; DROP TABLE balance; --", "&User-Name", "%{User-Name}"):
+            check(f"{account} is refused", told(radius, account)[0], False)
+        directions(radius)
+        sold = {"bo": 9, "big": 10_000 * 410, "most": 10**12, "even": 4096 * 10}
+        for number, (account, total) in enumerate(sold.items()):
+            check(f"{account} buys {total}", book.sell(account, total, f"V-1{number}"), 201)
+        waits_for("4,096 MiB: the low half is not 0", lambda: told(radius, "even"),
+                  (True, {MIKROTIK[0]: "4294967295", MIKROTIK[1]: "0"}))
+        check("9 is below one unit: refused", told(radius, "bo")[0], False)
+        caps(radius)
+        spent_and_bought(book, radius)
+
+
+# Which client has which attributes.
+QUOTAS = {"chillispot": "127.0.3.1", "pfsense": "127.0.3.2", "none": "127.0.3.3"}
+
+
+def told(radius, account, plan="gold", source="127.0.2.1"):
+    """A login's fate, and what the reply says but for the Class."""
+    accepted, pairs = radius.logs_in(account, [f'NAS-Port-Id = "{plan}"'], source)
+    pairs.pop("Class", None)
+    return accepted, pairs
+
+
+def directions(radius):
+    ten = "10485760"
+    rows = [
+        ("127.0.2.1", "up", {"Mikrotik-Recv-Limit": ten, "Mikrotik-Recv-Limit-Gigawords": "0"}),
+        ("127.0.2.1", "down", {"Mikrotik-Xmit-Limit": ten, "Mikrotik-Xmit-Limit-Gigawords": "0"}),
+        ("127.0.3.1", "gold", {"ChilliSpot-Max-Total-Octets": ten}),
+        ("127.0.3.1", "up", {"ChilliSpot-Max-Input-Octets": ten}),
+        ("127.0.3.1", "down", {"ChilliSpot-Max-Output-Octets": ten}),
+        ("127.0.3.2", "gold", {"pfSense-Max-Total-Octets": ten}),
+        ("127.0.3.2", "up", {}),
+        ("127.0.3.3", "gold", {}),
+        ("127.0.3.3", "hour", {"Session-Timeout": "6300"}),
+        ("127.0.3.1", "unknown", {"ChilliSpot-Max-Total-Octets": "21000000"}),
+    ]
+    for source, plan, wanted in rows:
+        check(f"{plan} at {source}", told(radius, "al", plan, source), (True, wanted))
+
+
+def caps(radius):
+    """Large quotas, whose products would not fit."""
+    octets = 410_000 * MEBIBYTE
+    wanted = {MIKROTIK[0]: str(octets % 2**32), MIKROTIK[1]: str(octets >> 32)}
+    check("410,000 MiB with gigawords", told(radius, "big"), (True, wanted))
+    chilli = {"ChilliSpot-Max-Total-Octets": "4294967295"}
+    check("and capped without", told(radius, "big", "gold", "127.0.3.1"), (True, chilli))
+    largest = (1023 << 53) - 1
+    wanted = {MIKROTIK[0]: str(largest % 2**32), MIKROTIK[1]: str(largest >> 32)}
+    check("10^12 at 1 for 2^53: the most blocks below 2^63", told(radius, "most", "huge"), (True, wanted))
+    check("hours too", told(radius, "most", "hour"), (True, {"Session-Timeout": "2147483647"}))
+
+
+def spent_and_bought(book, radius):
+    done = radius.reports("ap1", report("Interim-Update", "Q-1", "al", 11 * MEBIBYTE))
+    check("al uses 11 MiB", done, True)
+    refused = (False, {"Reply-Message": SPENT})
+    waits_for("and is refused", lambda: told(radius, "al"), refused)
+    book.sell("al", 15, "V-2")
+    wanted = (True, {MIKROTIK[0]: "1048576", MIKROTIK[1]: "0"})
+    waits_for("a voucher, and he is accepted", lambda: told(radius, "al"), wanted)
+    seconds = report("Stop", "Q-2", "al", 999, ["Acct-Session-Time = 301"], "hour")
+    check("301 seconds are reported", radius.reports("ap1", seconds), True)
+    waits_for("at 1 a minute they cost 6", lambda: book.balance("al"), 4)
+    book.kill()
+    radius.mirroring.kill()
+    time.sleep(3)
+    ages(radius)
+
+
+def ages(radius):
+    """What the settings oldest, if_old and share do."""
+    path = os.path.join(radius.raddb, "radacctd", "settings.conf")
+    with open(path, encoding="utf-8") as file:
+        text = file.read().replace("oldest = 60", "oldest = 1")
+    sold = (True, {MIKROTIK[0]: str(205_000 * MEBIBYTE % 2**32), MIKROTIK[1]: str(205_000 * MEBIBYTE >> 32)})
+    refused = (False, {"Reply-Message": "Please try again in some minutes."})
+    changes = [
+        ("old balances, accept: no quota", text, (True, {})),
+        ("old balances, refuse", text.replace('if_old = "accept"', 'if_old = "refuse"'), refused),
+        ("share 2: half of what is left", text.replace("oldest = 1", "oldest = 999").replace("share = 1", "share = 2"), sold),
+    ]
+    for name, changed, wanted in changes:
+        restarted(radius, path, changed)
+        check(name, told(radius, "big"), wanted)
+    os.remove(radius.mirror)
+    restarted(radius, path, changes[1][1])
+    check("no mirror, refuse", told(radius, "big"), refused)
+    restarted(radius, path, changes[0][1])
+    check("no mirror, accept", told(radius, "big"), (True, {}))
+
+
+def restarted(radius, path, text):
+    radius.kill()
+    front.written(path, text)
+    radius.start()
+
+
+class Port3799(threading.Thread):
+    """Takes Disconnect-Requests and acknowledges them."""
+
+    def __init__(self, address):
+        super().__init__(daemon=True)
+        self.opened = socket.socket(socket.AF_INET, socket.SOCK_DGRAM)
+        self.opened.bind((address, 3799))
+        self.got = []
+
+    def run(self):
+        while True:
+            data, source = self.opened.recvfrom(4096)
+            self.got.append(data)
+            head = bytes([41, data[1], 0, 20])
+            digest = hashlib.md5(head + data[4:20] + SECRET.encode()).digest()
+            self.opened.sendto(head + digest, source)
+
+
+@part
+def cut(folder):
+    """An overdrawn session is disconnected, once in each pause."""
+    port = Port3799("127.0.2.1")
+    port.start()
+    with both(folder, settings=[("cut_pause", "6")]) as (book, radius):
+        book.sell("al", 20, "V-1")
+        use = lambda octets, plan="gold", more=(), name="ap1": radius.reports(
+            name, report("Interim-Update", "K-1", "al", octets * MEBIBYTE, more, plan))
+        check("al uses what he bought", use(2), True)
+        waits_for("his balance is 0", lambda: mirrored(radius, "al"), 0)
+        use(2)
+        time.sleep(1)
+        check("he is not cut off", len(port.got), 0)
+        use(3)
+        waits_for("he overdraws", lambda: mirrored(radius, "al"), -10)
+        check("a free session goes on", (use(1, "free"), len(port.got)), (True, 0))
+        use(3, more=["Calling-Station-Id = 02-00-00-00-00-01"])
+        waits_for("the next report cuts him off", lambda: len(port.got), 1)
+        wanted = attribute(1, b"al") + attribute(44, b"K-1") + attribute(31, b"02-00-00-00-00-01")
+        check("by his own id", (port.got[0][0], wanted in port.got[0]), (40, True))
+        for _ in range(5):
+            use(3)
+        time.sleep(1)
+        check("five more reports within the pause: no more", len(port.got), 1)
+        time.sleep(6)
+        use(3)
+        waits_for("after the pause: again", lambda: len(port.got), 2)
+        check("an access server without a home_server is answered", use(3, name="ap2"), True)
+    port.opened.close()
+
+
+def mirrored(radius, account):
+    try:
+        return looked_up(radius.mirror, account)
+    except sqlite3.Error:
+        return None
+
+
+HOSTAPD = """
+interface=radacctd-ap
+driver=wired
+logger_stdout=-1
+logger_stdout_level=0
+ieee8021x=1
+use_pae_group_addr=1
+own_ip_addr=127.0.0.1
+nas_identifier=hostapd
+radius_client_addr=127.0.0.1
+auth_server_addr=127.0.0.1
+auth_server_port={auth}
+auth_server_shared_secret={secret}
+acct_server_addr=127.0.0.1
+acct_server_port={acct}
+acct_server_shared_secret={secret}
+radius_acct_interim_interval=4
+radius_das_port=3799
+radius_das_client=127.0.0.1 {secret}
+"""
+SUPPLICANT = """
+ap_scan=0
+network={
+	key_mgmt=IEEE8021X
+	eap=MD5
+	identity="al"
+	password="right"
+	eapol_flags=0
+}
+"""
+CUT_HERE = """
+home_server cut-127.0.0.1 {{
+	type = coa
+	ipaddr = 127.0.0.1
+	port = 3799
+	secret = {secret}
+	coa {{
+		irt = 2
+		mrt = 8
+		mrc = 3
+		mrd = 15
+	}}
+}}
+"""
+
+
+@part
+def hostapd(folder):
+    """hostapd's sessions: a login by 802.1X on a wire, its reports, its cut-off."""
+    for tool, package in (("hostapd", "hostapd"), ("wpa_supplicant", "wpasupplicant"), ("ip", "iproute2")):
+        if shutil.which(tool) is None:
+            raise Missing(f"{tool}: the package {package} has it")
+    if os.geteuid() != 0:
+        raise Missing("root, who may make a network namespace")
+    started = []
+    with wire(), both(folder, clients=CUT_HERE.format(secret=SECRET)) as (book, radius):
+        book.sell("al", 20, "V-1")
+        waits_for("al has money", lambda: mirrored(radius, "al"), 20)
+        try:
+            text = HOSTAPD.format(auth=radius.auth, acct=radius.acct, secret=SECRET)
+            front.written(os.path.join(folder, "hostapd.conf"), text)
+            front.written(os.path.join(folder, "supplicant.conf"), SUPPLICANT)
+            started.append(logged(folder, ["hostapd", "-d", f"{folder}/hostapd.conf"], "hostapd.log"))
+            time.sleep(2)
+            words = ["ip", "netns", "exec", "radacctd-sta", "wpa_supplicant", "-D", "wired"]
+            words += ["-i", "radacctd-sta", "-c", f"{folder}/supplicant.conf"]
+            started.append(logged(folder, words, "supplicant.log"))
+            by_hostapd(book, radius, folder)
+        finally:
+            for process in started:
+                process.kill()
+                process.communicate()
+
+
+@contextlib.contextmanager
+def wire():
+    """A wire whose other end is in a network namespace."""
+    words = [
+        "ip netns add radacctd-sta",
+        "ip link add radacctd-ap type veth peer name radacctd-sta netns radacctd-sta",
+        "ip link set radacctd-ap up",
+        "ip -n radacctd-sta link set radacctd-sta up",
+    ]
+    try:
+        for line in words:
+            done = subprocess.run(line.split(), capture_output=True, text=True)
+            if done.returncode:
+                raise Missing(f"a network namespace: {done.stderr.strip()}")
+        yield
+    finally:
+        subprocess.run("ip netns del radacctd-sta".split(), capture_output=True)
+        subprocess.run("ip link del radacctd-ap".split(), capture_output=True)
+
+
+def logged(folder, words, name):
+    with open(os.path.join(folder, name), "wb") as file:
+        return subprocess.Popen(words, stdout=file, stderr=subprocess.STDOUT)
+
+
+def by_hostapd(book, radius, folder):
+    states = lambda: [row["state"] for row in book.rows("al") if "/K-9/" not in row["session"]]
+    waits_for("al logs in, and hostapd reports a session", states, ["open"])
+    if not states():
+        for name in ("hostapd.log", "supplicant.log"):
+            with open(os.path.join(folder, name), encoding="utf-8") as file:
+                print("".join(file.readlines()[-15:]))
+    done = radius.reports("ap2", report("Interim-Update", "K-9", "al", 3 * MEBIBYTE))
+    check("al spends all elsewhere", done, True)
+    waits_for("hostapd is told, ends the session and reports its Stop", states, ["stopped"])
+    with open(os.path.join(folder, "hostapd.log"), encoding="utf-8") as file:
+        text = file.read()
+    check("by the id that hostapd gave it", "Acct-Session-Id match" in text, True)
+    check("and acknowledged", "originate-coa" in radius.logged(), False)
+    time.sleep(8)
+    check("al does not come back", states(), ["stopped"])
+
+
+STOCK = "/etc/freeradius/3.0"
+
+
+@part
+def stock(folder):
+    """The page's steps on Debian's own configuration."""
+    if not os.access(os.path.join(STOCK, "radiusd.conf"), os.R_OK):
+        raise Missing(f"{STOCK}: the package freeradius has it, and only root reads it")
+    page = os.path.join(front.ROOT, "docs", "FREERADIUS.md")
+    with open(page, encoding="utf-8") as file:
+        text = file.read()
+    steps = text[text.index("## Set it up") : text.index("## The access servers")]
+    check("the page names each file", [n for n in os.listdir(FILES) if n not in steps], [])
+    raddb = os.path.join(folder, "raddb")
+    shutil.copytree(STOCK, raddb, symlinks=True)
+    words = {"cd /etc/freeradius/3.0": f"cd {raddb}", ".../etc/freeradius": FILES}
+    copied = [line.strip() for line in steps.splitlines() if re.match(r" +(cd|mkdir|cp) ", line)]
+    script = "\n".join(["set -e", *copied])
+    for one, other in words.items():
+        script = script.replace(one, other)
+    done = subprocess.run(["sh", "-c", script], capture_output=True, text=True)
+    check("the page's commands copy them", (done.returncode, done.stderr), (0, ""))
+    edited(raddb)
+    words = ["freeradius", "-d", raddb, "-CX"]
+    done = subprocess.run(words, capture_output=True, text=True)
+    check("FreeRADIUS takes them", done.returncode, 0)
+    if done.returncode:
+        print(done.stdout[-1500:], done.stderr[-500:])
+
+
+def edited(raddb):
+    """The lines that the page adds to Debian's files."""
+    lines = "$INCLUDE radacctd/settings.conf\n$INCLUDE radacctd/access-servers.conf\n"
+    changes = [
+        ("radiusd.conf", "\nmodules {", "\n" + lines + "modules {"),
+        ("sites-available/default", "\naccounting {", "\naccounting {\n\tradacctd_accounting\n"),
+        ("sites-available/default", "\npost-auth {", "\npost-auth {\n\tradacctd_login\n"),
+    ]
+    for name, one, other in changes:
+        path = os.path.join(raddb, name)
+        with open(path, encoding="utf-8") as file:
+            text = file.read()
+        check(f"{name} has its place", text.count(one), 1)
+        front.written(path, text.replace(one, other))
+    path = os.path.join(raddb, "radiusd.conf")
+    with open(path, encoding="utf-8") as file:
+        text = file.read()
+    front.written(path, text.replace("raddbdir = /etc/freeradius/3.0", f"raddbdir = {raddb}"))
+
+
+# What is measured, and no part of the test.
+REPORTS = int(os.environ.get("REPORTS", "4000"))
+
+
+def rates(folder):
+    """How fast reports are taken and the queue drains: REPORTS of them, 4,000 by default."""
+    with both(folder) as (book, radius):
+        book.sell("bo", 10**9, "V-1")
+        waits_for("bo has money", lambda: (mirrored(radius, "bo") or 0) > 0, True)
+        Sender.WINDOW = 1
+        pairs = [("127.0.0.1", packet_of(f"a{n}", b"bo", MEBIBYTE)) for n in range(REPORTS)]
+        alone = timed("radacctd alone, one in flight", Sender(book.radius, front.BOOK_SECRET), pairs)
+        book.kill()
+        Sender.WINDOW = 64
+        pairs = [(f"127.0.4.{1 + n % 50}", packet_of(f"q{n}", b"bo", MEBIBYTE)) for n in range(REPORTS)]
+        timed("into the queue, 64 in flight", Sender(radius.acct), pairs)
+        book.start()
+        begun = time.monotonic()
+        waits_for("the queue drains", lambda: book.balance("bo"), 10**9 - 20 * REPORTS, 1200)
+        rate = REPORTS / (time.monotonic() - begun)
+        print(f"         the queue drains at {rate:.0f} a second, {rate / alone:.2f} of radacctd alone")
+
+
+def timed(name, sender, pairs):
+    begun = time.monotonic()
+    check(f"{name}: all answered", sender.send(pairs), len(pairs))
+    rate = len(pairs) / (time.monotonic() - begun)
+    print(f"         {name}: {rate:.0f} a second", flush=True)
+    return rate
