@@ -241,7 +241,7 @@ class FreeRadius:
         self.mirror = os.path.join(folder, "run", "balances.db")
         self.log = os.path.join(folder, "log", "radius.log")
         self.process = self.mirroring = None
-        for name in ("log", "run", "radacct", "radacct/radacctd"):
+        for name in ("log", "run", "radacct", "radacct/radacctd", "radacct/radacctd-unsent"):
             os.makedirs(os.path.join(folder, name), exist_ok=True)
         self.clients, self.sites, self.authorize = clients, sites, authorize
         self.write_files(book, settings)

@@ -61,7 +61,7 @@ def count_in(folder):
 @part
 def once(folder):
     """A repeated report is charged once, and later modules see the access server's own id."""
-    later = "linelog later {\n\tfilename = %s/later\n\tformat = \"%%{Acct-Session-Id}\"\n}\n"
+    later = 'linelog later {\n\tfilename = %s/later\n\tformat = "%%{Acct-Session-Id}"\n}\n'
     with both(folder) as (book, radius):
         radius.kill()
         front.written(os.path.join(radius.raddb, "mods-enabled", "later"), later % folder)
@@ -210,7 +210,9 @@ def unsent(folder):
     """A report that radacctd never answers is filed, and the next one is charged."""
     with both(folder) as (book, radius):
         nameless = ["Acct-Status-Type = Start", "User-Name = bo"]
-        check("a report without a session id isn't answered", radius.reports("ap1", nameless), False)
+        check(
+            "a report without a session id isn't answered", radius.reports("ap1", nameless), False
+        )
         tunnel = ["Acct-Status-Type = Tunnel-Start", "Acct-Session-Id = 7"]
         check("nor is a tunnel's start", radius.reports("ap1", tunnel), False)
         broken = {
@@ -234,7 +236,11 @@ def unsent(folder):
         waits_for("and the other one charged", lambda: book.balance("bo"), -20)
         print(f"         after {time.monotonic() - begun:.0f} seconds", flush=True)
         with open(os.path.join(radius.unsent, os.listdir(radius.unsent)[0])) as file:
-            check("its octets are in the file", "Acct-Input-Gigawords = 536870912" in file.read(), True)
+            check(
+                "its octets are in the file",
+                "Acct-Input-Gigawords = 536870912" in file.read(),
+                True,
+            )
         waits_for("the queue is empty", lambda: count_in(radius.queue), 0)
 
 
@@ -297,7 +303,11 @@ def moved(folder):
         wanted = (1, "", "kept-sessions: give the address of ap1\n")
         check("an access server is forgotten", (done.returncode, done.stdout, done.stderr), wanted)
         done = subprocess.run(words + ["ap1=127.0.2.1"], capture_output=True, text=True)
-        check("sessions are listed", (done.returncode, done.stderr), (0, "kept-sessions: 2 sessions\n"))
+        check(
+            "sessions are listed",
+            (done.returncode, done.stderr),
+            (0, "kept-sessions: 2 sessions\n"),
+        )
         front.written(os.path.join(radius.raddb, "radacctd", "kept"), done.stdout)
         text = FIRST_EDITION.format(port=book.radius, secret=SECRET, queues=radius.queue)
         front.written(os.path.join(radius.raddb, "sites-enabled", "old-ap1"), text)
@@ -536,8 +546,14 @@ def mirror(folder):
     program = os.path.join(FILES, "balances-mirror")
     words = [program, book.balances, plans, path]
     told = lambda: subprocess.run(words, capture_output=True, text=True)
-    done = subprocess.run([os.path.join(FILES, "plans-of"), book.config], capture_output=True, text=True)
-    check("the plans are printed", (done.returncode, done.stdout.count("\n")), (0, len(front.PLANS) + 1))
+    done = subprocess.run(
+        [os.path.join(FILES, "plans-of"), book.config], capture_output=True, text=True
+    )
+    check(
+        "the plans are printed",
+        (done.returncode, done.stdout.count("\n")),
+        (0, len(front.PLANS) + 1),
+    )
     check("and no secret", front.BOOK_SECRET in done.stdout or "key-" in done.stdout, False)
     front.written(plans, done.stdout)
     done = told()
@@ -584,7 +600,9 @@ def rights(folder, words, book):
     drop = ["setpriv", f"--reuid={user}", f"--regid={user}", f"--groups={group}"]
     # A pyenv of root's is out of such a user's reach.
     python = ["/usr/bin/python3"] if os.path.exists("/usr/bin/python3") else ["python3"]
-    done = subprocess.run([*drop, *python, program, balances, words[2], mirrored], capture_output=True)
+    done = subprocess.run(
+        [*drop, *python, program, balances, words[2], mirrored], capture_output=True
+    )
     check("the group of the folder is enough", (done.returncode, done.stderr), (0, b""))
     done = subprocess.run([*drop, "cat", book.config], capture_output=True)
     check("and does not read the configuration", (done.returncode, done.stdout), (1, b""))
@@ -596,13 +614,15 @@ MIKROTIK = ("Mikrotik-Total-Limit", "Mikrotik-Total-Limit-Gigawords")
 @part
 def logins(folder):
     """A login below one unit is refused, others get their quota."""
-    clients = "".join(
-        f"client {kind} {{\n\tipaddr = {address}\n\tsecret = {SECRET}\n\tradacctd_quota = {kind}\n}}\n"
-        for kind, address in QUOTAS.items()
-    )
+    lines = "client {0} {{\n\tipaddr = {1}\n\tsecret = {2}\n\tradacctd_quota = {0}\n}}\n"
+    clients = "".join(lines.format(*pair, SECRET) for pair in QUOTAS.items())
     settings = [("time_classes", '"^hour$"')]
     with both(folder, clients=clients, settings=settings) as (book, radius):
-        check("without money a login is refused", told(radius, "al"), (False, {"Reply-Message": SPENT}))
+        check(
+            "without money a login is refused",
+            told(radius, "al"),
+            (False, {"Reply-Message": SPENT}),
+        )
         book.sell("al", 105, "V-1")
         wanted = (True, {MIKROTIK[0]: "10485760", MIKROTIK[1]: "0"})
         waits_for("105 at 10 a MiB are 10 MiB", lambda: told(radius, "al"), wanted)
@@ -614,8 +634,11 @@ def logins(folder):
         sold = {"bo": 9, "big": 10_000 * 410, "most": 10**12, "even": 4096 * 10}
         for number, (account, total) in enumerate(sold.items()):
             check(f"{account} buys {total}", book.sell(account, total, f"V-1{number}"), 201)
-        waits_for("4,096 MiB: the low half is not 0", lambda: told(radius, "even"),
-                  (True, {MIKROTIK[0]: "4294967295", MIKROTIK[1]: "0"}))
+        waits_for(
+            "4,096 MiB: the low half is not 0",
+            lambda: told(radius, "even"),
+            (True, {MIKROTIK[0]: "4294967295", MIKROTIK[1]: "0"}),
+        )
         check("9 is below one unit: refused", told(radius, "bo")[0], False)
         caps(radius)
         spent_and_bought(book, radius)
@@ -659,7 +682,11 @@ def caps(radius):
     check("and capped without", told(radius, "big", "gold", "127.0.3.1"), (True, chilli))
     largest = (1023 << 53) - 1
     wanted = {MIKROTIK[0]: str(largest % 2**32), MIKROTIK[1]: str(largest >> 32)}
-    check("10^12 at 1 for 2^53: the most blocks below 2^63", told(radius, "most", "huge"), (True, wanted))
+    check(
+        "10^12 at 1 for 2^53: the most blocks below 2^63",
+        told(radius, "most", "huge"),
+        (True, wanted),
+    )
     check("hours too", told(radius, "most", "hour"), (True, {"Session-Timeout": "2147483647"}))
 
 
@@ -685,12 +712,22 @@ def ages(radius):
     path = os.path.join(radius.raddb, "radacctd", "settings.conf")
     with open(path, encoding="utf-8") as file:
         text = file.read().replace("oldest = 60", "oldest = 1")
-    sold = (True, {MIKROTIK[0]: str(205_000 * MEBIBYTE % 2**32), MIKROTIK[1]: str(205_000 * MEBIBYTE >> 32)})
+    sold = (
+        True,
+        {
+            MIKROTIK[0]: str(205_000 * MEBIBYTE % 2**32),
+            MIKROTIK[1]: str(205_000 * MEBIBYTE >> 32),
+        },
+    )
     refused = (False, {"Reply-Message": "Please try again in some minutes."})
     changes = [
         ("old balances, accept: no quota", text, (True, {})),
         ("old balances, refuse", text.replace('if_old = "accept"', 'if_old = "refuse"'), refused),
-        ("share 2: half of what is left", text.replace("oldest = 1", "oldest = 999").replace("share = 1", "share = 2"), sold),
+        (
+            "share 2: half of what is left",
+            text.replace("oldest = 1", "oldest = 999").replace("share = 1", "share = 2"),
+            sold,
+        ),
     ]
     for name, changed, wanted in changes:
         restarted(radius, path, changed)
@@ -719,7 +756,10 @@ class Port3799(threading.Thread):
 
     def run(self):
         while True:
-            data, source = self.opened.recvfrom(4096)
+            try:
+                data, source = self.opened.recvfrom(4096)
+            except OSError:
+                return
             self.got.append(data)
             head = bytes([41, data[1], 0, 20])
             digest = hashlib.md5(head + data[4:20] + SECRET.encode()).digest()
@@ -734,7 +774,8 @@ def cut(folder):
     with both(folder, settings=[("cut_pause", "6")]) as (book, radius):
         book.sell("al", 20, "V-1")
         use = lambda octets, plan="gold", more=(), name="ap1": radius.reports(
-            name, report("Interim-Update", "K-1", "al", octets * MEBIBYTE, more, plan))
+            name, report("Interim-Update", "K-1", "al", octets * MEBIBYTE, more, plan)
+        )
         check("al uses what he bought", use(2), True)
         waits_for("his balance is 0", lambda: mirrored(radius, "al"), 0)
         use(2)
@@ -814,7 +855,11 @@ home_server cut-127.0.0.1 {{
 @part
 def hostapd(folder):
     """hostapd's sessions: a login by 802.1X on a wire, its reports, its cut-off."""
-    for tool, package in (("hostapd", "hostapd"), ("wpa_supplicant", "wpasupplicant"), ("ip", "iproute2")):
+    for tool, package in (
+        ("hostapd", "hostapd"),
+        ("wpa_supplicant", "wpasupplicant"),
+        ("ip", "iproute2"),
+    ):
         if shutil.which(tool) is None:
             raise Missing(f"{tool}: the package {package} has it")
     if os.geteuid() != 0:
@@ -827,7 +872,9 @@ def hostapd(folder):
             text = HOSTAPD.format(auth=radius.auth, acct=radius.acct, secret=SECRET)
             front.written(os.path.join(folder, "hostapd.conf"), text)
             front.written(os.path.join(folder, "supplicant.conf"), SUPPLICANT)
-            started.append(logged(folder, ["hostapd", "-d", f"{folder}/hostapd.conf"], "hostapd.log"))
+            started.append(
+                logged(folder, ["hostapd", "-d", f"{folder}/hostapd.conf"], "hostapd.log")
+            )
             time.sleep(2)
             words = ["ip", "netns", "exec", "radacctd-sta", "wpa_supplicant", "-D", "wired"]
             words += ["-i", "radacctd-sta", "-c", f"{folder}/supplicant.conf"]
@@ -896,7 +943,7 @@ def stock(folder):
     steps = text[text.index("## Set it up") : text.index("## The access servers")]
     check("the page names each file", [n for n in os.listdir(FILES) if n not in steps], [])
     raddb = os.path.join(folder, "raddb")
-    shutil.copytree(STOCK, raddb, symlinks=True)
+    subprocess.run(["cp", "-a", STOCK, raddb], check=True)
     words = {"cd /etc/freeradius/3.0": f"cd {raddb}", ".../etc/freeradius": FILES}
     copied = [line.strip() for line in steps.splitlines() if re.match(r" +(cd|mkdir|cp) ", line)]
     script = "\n".join(["set -e", *copied])
@@ -909,7 +956,7 @@ def stock(folder):
     done = subprocess.run(words, capture_output=True, text=True)
     check("FreeRADIUS takes them", done.returncode, 0)
     if done.returncode:
-        print(done.stdout[-1500:], done.stderr[-500:])
+        print(done.stdout[-700:], done.stderr[-500:])
 
 
 def edited(raddb):
@@ -943,16 +990,24 @@ def rates(folder):
         waits_for("bo has money", lambda: (mirrored(radius, "bo") or 0) > 0, True)
         Sender.WINDOW = 1
         pairs = [("127.0.0.1", packet_of(f"a{n}", b"bo", MEBIBYTE)) for n in range(REPORTS)]
-        alone = timed("radacctd alone, one in flight", Sender(book.radius, front.BOOK_SECRET), pairs)
+        alone = timed(
+            "radacctd alone, one in flight", Sender(book.radius, front.BOOK_SECRET), pairs
+        )
+        before = book.balance("bo")
         book.kill()
         Sender.WINDOW = 64
-        pairs = [(f"127.0.4.{1 + n % 50}", packet_of(f"q{n}", b"bo", MEBIBYTE)) for n in range(REPORTS)]
+        pairs = [
+            (f"127.0.4.{1 + n % 50}", packet_of(f"q{n}", b"bo", MEBIBYTE)) for n in range(REPORTS)
+        ]
         timed("into the queue, 64 in flight", Sender(radius.acct), pairs)
         book.start()
+        waits_for("radacctd is sent the first", lambda: book.balance("bo") < before, True)
         begun = time.monotonic()
         waits_for("the queue drains", lambda: book.balance("bo"), 10**9 - 20 * REPORTS, 1200)
         rate = REPORTS / (time.monotonic() - begun)
-        print(f"         the queue drains at {rate:.0f} a second, {rate / alone:.2f} of radacctd alone")
+        print(
+            f"         the queue drains at {rate:.0f} a second, {rate / alone:.2f} of radacctd alone"
+        )
 
 
 def timed(name, sender, pairs):
