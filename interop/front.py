@@ -315,7 +315,8 @@ class FreeRadius:
         with open(plans, "w", encoding="ascii") as file:
             subprocess.run([os.path.join(FILES, "plans-of"), book.config], stdout=file, check=True)
         words = [os.path.join(FILES, "balances-mirror"), book.balances, plans, self.mirror, "0.2"]
-        self.mirroring = subprocess.Popen(words)
+        # It says once that radacctd has written no balances yet.
+        self.mirroring = subprocess.Popen(words, stderr=subprocess.DEVNULL)
 
     def kill(self):
         self.process.kill()

@@ -442,12 +442,6 @@ class Sender:
 
 
 RADSEC = """
-client radsec-proxy {{
-	ipaddr = 127.0.0.1
-	proto = tls
-	secret = radsec
-	radacctd_quota = none
-}}
 listen {{
 	type = auth+acct
 	ipaddr = 127.0.0.1
@@ -513,7 +507,7 @@ def radsec(folder):
     subprocess.run(words, check=True, capture_output=True)
     tls = front.KILL.free_port(socket.SOCK_STREAM)
     udp = front.KILL.free_port(socket.SOCK_DGRAM)
-    site = RADSEC[RADSEC.index("listen") :].format(port=tls, folder=folder)
+    site = RADSEC.format(port=tls, folder=folder)
     person = '"%{tolower:%{User-Name}} %{NAS-Identifier}"'
     with both(folder, sites=site, settings=[("person", person)]) as (book, radius):
         text = RADSECPROXY.format(udp=udp, tls=tls, folder=folder, secret=SECRET)
@@ -981,6 +975,7 @@ def edited(raddb):
 
 # What is measured, and no part of the test.
 REPORTS = int(os.environ.get("REPORTS", "4000"))
+LOGINS = 3000
 
 
 def rates(folder):
@@ -988,6 +983,7 @@ def rates(folder):
     with both(folder) as (book, radius):
         book.sell("bo", 10**9, "V-1")
         waits_for("bo has money", lambda: (mirrored(radius, "bo") or 0) > 0, True)
+        login_rate(radius)
         Sender.WINDOW = 1
         pairs = [("127.0.0.1", packet_of(f"a{n}", b"bo", MEBIBYTE)) for n in range(REPORTS)]
         alone = timed(
@@ -1005,9 +1001,20 @@ def rates(folder):
         begun = time.monotonic()
         waits_for("the queue drains", lambda: book.balance("bo"), 10**9 - 20 * REPORTS, 1200)
         rate = REPORTS / (time.monotonic() - begun)
-        print(
-            f"         the queue drains at {rate:.0f} a second, {rate / alone:.2f} of radacctd alone"
-        )
+        print(f"         the queue drains at {rate:.0f} a second, {rate / alone:.2f} of that")
+
+
+def login_rate(radius):
+    """Logins by 16 at a time, each with a look-up and a quota."""
+    line = 'Packet-Src-IP-Address = 127.0.2.1\nUser-Name = "bo"\nUser-Password = "right"\n\n'
+    words = ["radclient", "-q", "-s", "-p", "16", "-r", "3", "-t", "5"]
+    words += [f"127.0.0.1:{radius.auth}", "auth", SECRET]
+    begun = time.monotonic()
+    done = subprocess.run(words, input=LOGINS * line, capture_output=True, text=True)
+    seconds = time.monotonic() - begun
+    accepted = re.search(r"Accepted\s*:\s*(\d+)", done.stdout + done.stderr)
+    check("all logins are accepted", accepted and int(accepted.group(1)), LOGINS)
+    print(f"         logins: {LOGINS / seconds:.0f} a second", flush=True)
 
 
 def timed(name, sender, pairs):
