@@ -236,11 +236,10 @@ def unsent(folder):
         waits_for("and the other one charged", lambda: book.balance("bo"), -20)
         print(f"         after {time.monotonic() - begun:.0f} seconds", flush=True)
         with open(os.path.join(radius.unsent, os.listdir(radius.unsent)[0])) as file:
-            check(
-                "its octets are in the file",
-                "Acct-Input-Gigawords = 536870912" in file.read(),
-                True,
-            )
+            text = file.read()
+        check("its octets are in the file", "Acct-Input-Gigawords = 536870912" in text, True)
+        count = text.count('"127.0.2.1/7')
+        check("each is filed under the id that radacctd would know", count, len(broken) + 1)
         waits_for("the queue is empty", lambda: count_in(radius.queue), 0)
 
 
