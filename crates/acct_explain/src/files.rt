@@ -106,10 +106,11 @@ fn why_refused<R: Files, F: Read>(
     if file.read_exact(&mut octets).is_ok() && octets != *MAGIC {
         return "it is no SQLite database";
     }
-    if is_locked(runtime, alloc, found.dev(), found.ino()) {
-        return "another program has it";
+    match is_locked(runtime, alloc, found.dev(), found.ino()) {
+        Some(true) => "another program has it",
+        Some(false) => "it is damaged, or this user may not write in its folder",
+        None => "another program has it, this user may not write in its folder, or it is damaged",
     }
-    "another program has it, this user may not write in its folder, or it is damaged"
 }
 
 // Why a file of this user may not be opened.

@@ -7,18 +7,18 @@ use std::str;
 // Where Linux lists the locks of files, a line for each.
 const LIST: &str = "/proc/locks";
 
-// Whether a program has a lock of the file of this number on this device, as far as can be read.
-pub(crate) fn is_locked<R: Files>(runtime: &R, alloc: Global, device: u64, number: u64) -> bool {
-    let Ok(mut reader) = File::open(runtime, LIST) else {
-        return false;
-    };
-    let Ok(octets) = read_input(alloc, &mut reader) else {
-        return false;
-    };
-    match str::from_utf8(&octets) {
-        Ok(text) => text.lines().any(|line| is_of(line, device, number)),
-        Err(_) => false,
-    }
+// Whether a program has a lock of the file of this number on this device; none if the list cannot be
+// read, as under a service manager that hides it.
+pub(crate) fn is_locked<R: Files>(
+    runtime: &R,
+    alloc: Global,
+    device: u64,
+    number: u64,
+) -> Option<bool> {
+    let mut reader = File::open(runtime, LIST).ok()?;
+    let octets = read_input(alloc, &mut reader).ok()?;
+    let text = str::from_utf8(&octets).ok()?;
+    Some(text.lines().any(|line| is_of(line, device, number)))
 }
 
 // Whether a line is of a lock of this file. Its sixth word has the two numbers of the device, to the

@@ -34,6 +34,8 @@ pub(crate) fn explain_fault<E: Write>(
         (Fault::WouldOverwrite, _) => {
             let _ = writeln!(errors, "{OVERWRITTEN}");
         }
+        // Once its files are let go: `explain_book`.
+        (Fault::CannotOpen, _) => {}
         _ => {
             if let Some(what) = explained(job, fault) {
                 explain(runtime, runtime.alloc(), what, errors);
@@ -42,29 +44,37 @@ pub(crate) fn explain_fault<E: Write>(
     }
 }
 
-/// Prints why a book was refused, if the order asks for that: which plan differs, or what its
-/// database has. The book is open still, and is then let go.
+/// Prints why a book was refused, if the order asks for that: which plan differs, what its database
+/// has, or why it cannot be opened. Its files are let go before the last is looked for: else the
+/// program's own lock would be found.
 pub(crate) fn explain_book<W: Write + Drop>(runtime: &HostRuntime, order: &Order, ran: Ran<W>) {
-    let (true, Err(Fault::Store(fault))) = (order.explains, ended_of(&ran)) else {
-        return;
-    };
+    let ended = ended_of(&ran);
     match ran {
-        BySyncs::Once(outcome) => explain_outcome(runtime, &order.job, fault, outcome),
-        BySyncs::Twice(outcome) => explain_outcome(runtime, &order.job, fault, outcome),
+        BySyncs::Once(outcome) => explain_outcome(runtime, order, outcome),
+        BySyncs::Twice(outcome) => explain_outcome(runtime, order, outcome),
+    }
+    if order.explains && ended == Err(Fault::CannotOpen) {
+        if let Some(what) = unopened(&order.job) {
+            explain(runtime, runtime.alloc(), what, &mut runtime.stderr());
+        }
     }
 }
 
+// Prints why the book of an outcome was refused, which is open still.
 fn explain_outcome<W: Write + Drop, D: Disk + Drop>(
     runtime: &HostRuntime,
-    job: &Job,
-    fault: StoreFault,
+    order: &Order,
     outcome: Outcome<W, D>,
 ) {
+    let job = &order.job;
     let Outcome {
-        ended: _,
+        ended,
         output: _output,
         left: mut rest,
     } = outcome;
+    let (true, Err(Fault::Store(fault))) = (order.explains, ended) else {
+        return;
+    };
     let (Some(config), Some(file)) = (config_file(job), book_file(job)) else {
         return;
     };
@@ -95,7 +105,6 @@ fn explained<'a>(job: &'a Job, fault: Fault) -> Option<Explained<'a>> {
             let file = config_file(job)?;
             Some(Explained::Unread { file })
         }
-        Fault::CannotOpen => unopened(job),
         _ => None,
     }
 }
