@@ -80,6 +80,8 @@ fn would_overwrite<R: Files + AllocGlobal>(
     let status = Written::of(runtime, files.status, STATUS_HEAD)?;
     let balances = Written::of(runtime, files.balances, BALANCES_HEAD)?;
     let log = name_with(runtime, files.database, "-wal")?;
+    let real = real_name(runtime, files.database)?;
+    let real_log = name_with(runtime, real.as_ref(), "-wal")?;
     if status.is_foreign(runtime) || balances.is_foreign(runtime) {
         return Ok(true);
     }
@@ -89,6 +91,7 @@ fn would_overwrite<R: Files + AllocGlobal>(
         place_of(runtime, Some(files.config))?,
         place_of(runtime, files.database)?,
         place_of(runtime, log.as_ref())?,
+        place_of(runtime, real_log.as_ref())?,
     ];
     Ok(share_one(&status, &kept) || share_one(&balances, &kept) || share_one(&status, &balances))
 }
@@ -155,6 +158,20 @@ fn name_with<R: AllocGlobal>(
             Ok(Some(Text { text }))
         }
         None => Ok(None),
+    }
+}
+
+// The name of the file that a name leads to, if that is known: a book's log is next to it.
+fn real_name<R: Files + AllocGlobal>(
+    runtime: &R,
+    name: Option<&Text>,
+) -> Result<Option<Text>, AllocError> {
+    let Some(name) = name else {
+        return Ok(None);
+    };
+    match runtime.canonicalize(runtime.alloc(), name.as_str()) {
+        Ok(real) => Ok(Some(Text::from_str(runtime.alloc(), real.as_str())?)),
+        Err(_) => Ok(None),
     }
 }
 
@@ -242,8 +259,9 @@ fn lead_to_one(one: &Place, other: &Place) -> bool
     }
 }
 
-// Whether something is at a name that isn't the program's: no regular file, or one that is not empty
-// and begins otherwise. A write that was cut short leaves the beginning of what the program writes.
+// Whether something is at a name that isn't the program's: no regular file, one that is not empty and
+// begins otherwise, or a link that leads nowhere. A write that was cut short leaves the beginning of
+// what the program writes.
 fn is_foreign<R: Files>(runtime: &R, name: Option<&Text>, head: &[u8]) -> bool {
     let Some(name) = name else {
         return false;
@@ -251,7 +269,7 @@ fn is_foreign<R: Files>(runtime: &R, name: Option<&Text>, head: &[u8]) -> bool {
     match fs::metadata(runtime, name.as_str()) {
         Ok(found) if !found.is_file() => true,
         Ok(found) => found.len() > 0 && !begins_with(runtime, name.as_str(), head),
-        Err(_) => false,
+        Err(_) => fs::symlink_metadata(runtime, name.as_str()).is_ok(),
     }
 }
 

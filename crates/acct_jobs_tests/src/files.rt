@@ -139,7 +139,7 @@ fn tells_each(rt: &HostRuntime) -> Result<bool, Fail> {
 
 // Commands that name files to be written, of which each would take the place of another file: the
 // configuration, the book, its log, that of the other name, a folder, and what others wrote.
-static OVERWRITING: [&str; 10] = [
+static OVERWRITING: [&str; 12] = [
     "check --config safe.toml --status safe.toml",
     "check --config safe.toml --balances safe-link",
     "check --config safe.toml --balances ./safe.toml",
@@ -148,6 +148,8 @@ static OVERWRITING: [&str; 10] = [
     "check --config safe.toml --status safe-out --balances safe-out",
     "check --config safe.toml --status safe-out --balances safe-out.new",
     "check --config safe.toml --balances safe-notes",
+    "check --config safe.toml --db safe-book-link --status safe-book-wal",
+    "check --config safe.toml --db safe-book --balances safe-nowhere",
     "serve --config safe.toml --db safe-book --turns 1 --radius-port 1 --desk-port 1 --status /tmp",
     "serve --config safe.toml --db safe-book --turns 1 --radius-port 1 --desk-port 1 \
      --balances safe-book",
@@ -177,6 +179,9 @@ fn nothing_is_overwritten(rt: HostRuntime) -> Result<(), Fail> {
     let made = (Status::Done, "book made\n", "");
     assert!(rt; comes(&rt, ("init --config safe.toml --db safe-book", ""), made)?);
     symlink(&rt, "safe.toml", "safe-link.new")?;
+    symlink(&rt, "safe-book", "safe-book-link")?;
+    symlink(&rt, "safe-later", "safe-nowhere.new")?;
+    fs::remove_file(&rt, "safe-book-wal")?;
     fs::write(&rt, "safe-notes", "not radacctd's\n")?;
     fs::write(&rt, "safe-status", "# HELP radacctd_events_total Data")?;
     fs::write(&rt, "safe-balances", "account,balance,overrun\nal,500,0\n")?;
