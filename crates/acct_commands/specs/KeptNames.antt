@@ -1,5 +1,6 @@
--- Which names lead to one file.
-use Rattle.std.specs.Prelude.{◌≡◌, ⊤, ℕ, List, Option, Some, None, Contains}
+-- Which names lead to one file, and when a file would take the place of another one.
+use Rattle.std.specs.Prelude.{◌≡◌, ◌⊎◌, ⊤, List, Option, Some, None, Contains, IsTrue}
+use Rattle.acct_commands.specs.declared.kept_names.Found.{Found}
 use Rattle.acct_commands.specs.declared.kept_names.Place.{Place}
 use Rattle.acct_commands.specs.declared.kept_names.Place.TheVariants as place
 
@@ -22,6 +23,15 @@ LeadsToSome others one = (other : Place) × Contains others other × LeadsToOne 
 -- a name of the first list leads to the file of one of the second
 abbrev pub SharesOne : List Place → List Place → Type 0
 SharesOne places others = (one : Place) × Contains places one × LeadsToSome others one
+
+-- One of the files that are to be written would take the place of another one: something that the
+-- program did not write is at one of its names, or one of them leads to a file that is kept, or to
+-- the other one that is to be written.
+abbrev pub Overwrites : Found → Type 0
+Overwrites found =
+    IsTrue found.status.is_foreign ⊎ IsTrue found.balances.is_foreign
+    ⊎ SharesOne found.status.places found.kept ⊎ SharesOne found.balances.places found.kept
+    ⊎ SharesOne found.status.places found.balances.places
 
 -- one of the two is named
 abbrev pub NamesSome : {A B : Type 0} → Option A → Option B → Type 0

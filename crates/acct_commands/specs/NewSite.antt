@@ -1,6 +1,6 @@
 -- Which configuration takes the place of another one while a server runs, and what is printed of it.
-use Rattle.std.specs.Prelude.{◌≡◌, ◌≢◌, ℕ, List, [], ◌∷◌, ◌++◌, Option, None, Some, Result, Ok, Err}
-use Rattle.std.specs.Prelude.{codes, decimal, length, Contains}
+use Rattle.std.specs.Prelude.{◌≡◌, ◌≢◌, ◌↔◌, ◌⊎◌, ℕ, List, [], ◌∷◌, ◌++◌, Option, None, Some}
+use Rattle.std.specs.Prelude.{Ok, Err, Bool, false, IsTrue, codes, decimal, length, Contains}
 use Rattle.acct_model.specs.declared.plan.Plan.{Plan}
 use Rattle.acct_model.specs.Plans.{Extends, plan_class}
 use Rattle.acct_model.specs.Shown.{shown}
@@ -14,24 +14,29 @@ use Rattle.acct_commands.specs.declared.new_site.Sizes.{Sizes}
 use Rattle.acct_commands.specs.declared.new_site.Change.{Change}
 use Rattle.acct_commands.specs.declared.new_site.Change.TheVariants.{New, Missing, Other}
 
+-- two lists have the same plans, in whatever order
+abbrev pub HaveSame : List Plan → List Plan → Type 0
+HaveSame own in_force = Extends own in_force × Extends in_force own
+
 -- A configuration with these plans is made of a reading: it has the clients and the keys of the one
--- that the reading spells.
-abbrev pub IsMadeOf : List Plan → Reading → Config → Type 0
-IsMadeOf plans reading site =
+-- that the reading spells. It is current exactly if that one has the same plans.
+abbrev pub IsMadeOf : List Plan → Reading → Config → Bool → Type 0
+IsMadeOf plans reading site is_current =
     (spelled : Config) × IsRead reading (Ok spelled) × (site ≡ record spelled { plans = plans })
+    × (IsTrue is_current ↔ HaveSame spelled.plans plans)
+
+-- What is taken of a reading for a configuration with these plans: one that is made of it, or
+-- nothing if the reading spells none. Then the one in force is not current.
+abbrev pub IsTaken : List Plan → Reading → Option Config → Bool → Type 0
+IsTaken plans reading (Some site) is_current = IsMadeOf plans reading site is_current
+IsTaken plans reading None is_current =
+    (why : Fault) × IsRead reading (Err why) × (is_current ≡ false)
 
 -- What is taken of a sight for a configuration with these plans: nothing if the text was the same as
 -- before, or is no configuration; else its clients and its keys, and these plans.
 abbrev pub Takes : List Plan → Sight → Option Config → Type 0
 Takes plans None gave = gave ≡ None
-Takes plans (Some reading) (Some site) = IsMadeOf plans reading site
-Takes plans (Some reading) None = (why : Fault) × IsRead reading (Err why)
-
--- a reading spells a configuration with these plans, in whatever order
-abbrev pub IsInForce : List Plan → Reading → Type 0
-IsInForce plans reading =
-    (spelled : Config) × IsRead reading (Ok spelled) × Extends spelled.plans plans
-    × Extends plans spelled.plans
+Takes plans (Some reading) gave = (is_current : Bool) × IsTaken plans reading gave is_current
 
 -- one look more, of whose sight this was taken
 abbrev pub LooksAndTakes : List Plan → Option (List Sight) → Option Config → Option (List Sight)
@@ -39,14 +44,19 @@ abbrev pub LooksAndTakes : List Plan → Option (List Sight) → Option Config �
 LooksAndTakes plans old gave new =
     (sight : Sight) × Grows old (sight ∷ []) new × Takes plans sight gave
 
--- how a plan of a text, or one in force, differs from the other list
+-- the first list has a plan that the second one has not
+abbrev pub HasBeyond : List Plan → List Plan → Plan → Type 0
+HasBeyond plans others plan = Contains plans plan × (¬ Contains others plan)
+
+-- how a plan that is only in a text, or only in force, differs from the plans of the other list
 abbrev pub IsChange : List Plan → List Plan → Plan → Change → Type 0
 IsChange own in_force plan New =
-    Contains own plan × (plan_class in_force plan.class ≢ plan.class)
+    HasBeyond own in_force plan × (plan_class in_force plan.class ≢ plan.class)
 IsChange own in_force plan Other =
-    Contains own plan × (plan_class in_force plan.class ≡ plan.class)
+    (HasBeyond own in_force plan × (plan_class in_force plan.class ≡ plan.class))
+    ⊎ (HasBeyond in_force own plan × (plan_class own plan.class ≡ plan.class))
 IsChange own in_force plan Missing =
-    Contains in_force plan × (plan_class own plan.class ≢ plan.class)
+    HasBeyond in_force own plan × (plan_class own plan.class ≢ plan.class)
 
 -- how many clients, plans and keys a configuration has
 abbrev pub sizes_of : Config → Sizes
@@ -72,6 +82,12 @@ abbrev pub plan_change_text : Plan → Change → List ℕ
 plan_change_text plan how =
     codes "; plan " ++ (shown plan.class ++ (codes " " ++ (change_text how
     ++ codes "; the plans stay")))
+
+-- a text names a plan that differs
+abbrev pub NamesChange : List Plan → List Plan → List ℕ → Type 0
+NamesChange own in_force text =
+    (plan : Plan) × (how : Change) × IsChange own in_force plan how
+    × (text ≡ plan_change_text plan how)
 
 -- `WHY; the old one stays`
 abbrev pub kept_line : Fault → List ℕ

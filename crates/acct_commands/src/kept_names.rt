@@ -5,6 +5,7 @@
 //! is than what the program writes there.
 ghost use Rattle.std.specs.Prelude.{◌≡◌, ◌↔◌, ◌⊎◌, IsTrue, IfErr};
 ghost use Rattle.acct_commands.specs.KeptNames.{LeadsToOne, LeadsToSome, SharesOne, NamesSome};
+ghost use Rattle.acct_commands.specs.KeptNames.{Overwrites};
 
 use crate::fault::Fault;
 use acct_model::Text;
@@ -52,12 +53,31 @@ enum Place {
     Unknown,
 }
 
+// What is found at the two names of a file that is written anew from time to time: its own, and the
+// one that it has while it is made.
+#[derive(Drop)]
+struct Spot {
+    // Whether something that the program did not write is at one of them.
+    is_foreign: bool,
+    // Where they lead.
+    places: [Place; 2],
+}
+
+// What is found at the names of a server's files.
+#[derive(Drop)]
+struct Found {
+    status: Spot,
+    balances: Spot,
+    // Where the configuration is, the book, and its log, by the book's name and by its file's.
+    kept: [Place; 4],
+}
+
 /// Whether the files that a server is to write leave all others as they are.
 ///
 /// # Errors
 ///
-/// `WouldOverwrite` if one would take the place of another file; `NoMemory`. Where none is named
-/// there is no error.
+/// `WouldOverwrite` if one would take the place of another file; `NoMemory`. If none is named there
+/// is no error.
 pub fn keep_others<R: Files + AllocGlobal>(runtime: &R, files: ServerFiles<'_>) -> Result<(), Fault>
     ensures some { IfErr result (λ _. NamesSome files.entry.status files.entry.balances) }
     ensures why { IfErr result (λ told. (told ≡ Fault.WouldOverwrite) ⊎ (told ≡ Fault.NoMemory)) }
@@ -65,35 +85,49 @@ pub fn keep_others<R: Files + AllocGlobal>(runtime: &R, files: ServerFiles<'_>) 
     if files.status.is_none() && files.balances.is_none() {
         return Ok(());
     }
-    match would_overwrite(runtime, files) {
-        Ok(false) => Ok(()),
-        Ok(true) => Err(Fault::WouldOverwrite),
+    match found_at(runtime, files) {
+        Ok(found) if would_overwrite(&found) => Err(Fault::WouldOverwrite),
+        Ok(_) => Ok(()),
         Err(_) => Err(Fault::NoMemory),
     }
 }
 
-// Whether one of the files that are to be written would take the place of another file.
-fn would_overwrite<R: Files + AllocGlobal>(
+// What is found at the names of a server's files. No contract can say what that is.
+fn found_at<R: Files + AllocGlobal>(
     runtime: &R,
     files: ServerFiles<'_>,
-) -> Result<bool, AllocError> {
+) -> Result<Found, AllocError> {
     let status = Written::of(runtime, files.status, STATUS_HEAD)?;
     let balances = Written::of(runtime, files.balances, BALANCES_HEAD)?;
     let log = name_with(runtime, files.database, "-wal")?;
     let real = real_name(runtime, files.database)?;
     let real_log = name_with(runtime, real.as_ref(), "-wal")?;
-    if status.is_foreign(runtime) || balances.is_foreign(runtime) {
-        return Ok(true);
-    }
-    let status = status.places(runtime)?;
-    let balances = balances.places(runtime)?;
-    let kept = [
-        place_of(runtime, Some(files.config))?,
-        place_of(runtime, files.database)?,
-        place_of(runtime, log.as_ref())?,
-        place_of(runtime, real_log.as_ref())?,
-    ];
-    Ok(share_one(&status, &kept) || share_one(&balances, &kept) || share_one(&status, &balances))
+    Ok(Found {
+        status: status.spot(runtime)?,
+        balances: balances.spot(runtime)?,
+        kept: [
+            place_of(runtime, Some(files.config))?,
+            place_of(runtime, files.database)?,
+            place_of(runtime, log.as_ref())?,
+            place_of(runtime, real_log.as_ref())?,
+        ],
+    })
+}
+
+// Whether one of the files that are to be written would take the place of another file.
+fn would_overwrite(found: &Found) -> bool
+    ensures { IsTrue result ↔ Overwrites found.now }
+{
+    let Found {
+        status,
+        balances,
+        kept,
+    } = found;
+    status.is_foreign
+        || balances.is_foreign
+        || share_one(&status.places, kept)
+        || share_one(&balances.places, kept)
+        || share_one(&status.places, &balances.places)
 }
 
 // A file that is written anew from time to time, if one is named.
@@ -130,18 +164,14 @@ impl<'a> Written<'a> {
         })
     }
 
-    // Where its two names lead.
-    fn places<R: Files + AllocGlobal>(&self, runtime: &R) -> Result<[Place; 2], AllocError> {
-        Ok([
-            place_of(runtime, self.name)?,
-            place_of(runtime, self.new_name.as_ref())?,
-        ])
-    }
-
-    // Whether something else than the program's is at one of its names.
-    fn is_foreign<R: Files>(&self, runtime: &R) -> bool {
-        is_foreign(runtime, self.name, self.head)
-            || is_foreign(runtime, self.new_name.as_ref(), self.head)
+    // What is found at its two names.
+    fn spot<R: Files + AllocGlobal>(&self, runtime: &R) -> Result<Spot, AllocError> {
+        let new_name = self.new_name.as_ref();
+        Ok(Spot {
+            is_foreign: is_foreign(runtime, self.name, self.head)
+                || is_foreign(runtime, new_name, self.head),
+            places: [place_of(runtime, self.name)?, place_of(runtime, new_name)?],
+        })
     }
 }
 

@@ -3,14 +3,15 @@
 //! 1. The clients and keys of a text are taken if the text is right. The plans stay those that the
 //!    server began with: plans are added to a book that is not served.
 //! 2. What was read is printed, taken or not, and the first plan that differs.
-ghost use Rattle.std.specs.Prelude.{◌≡◌, ◌↔◌, Some, Err, IsTrue, IfOk, IfErr, IfSome, OnOk, ◌++◌};
-ghost use Rattle.std.specs.Prelude.{◌∷◌, [], string_bytes};
+ghost use Rattle.std.specs.Prelude.{◌≡◌, ◌↔◌, Some, Err, IsTrue, IfOk, IfErr, IfSome, IfNone, OnOk};
+ghost use Rattle.std.specs.Prelude.{◌++◌, ◌∷◌, [], Contains, string_bytes};
 ghost use Rattle.std.specs.Io.KnownBytes.{Appends};
-ghost use Rattle.acct_model.specs.Plans.{Extends};
+ghost use Rattle.acct_model.specs.Plans.{Extends, plan_class};
 ghost use Rattle.acct_config.specs.Tables.{top_error};
 ghost use Rattle.acct_commands.specs.Checks.{IsRead};
 ghost use Rattle.acct_commands.specs.NewSite.{read_again_text, sizes_of, kept_line, change_text};
-ghost use Rattle.acct_commands.specs.NewSite.{plan_change_text, IsInForce, IsChange, Takes};
+ghost use Rattle.acct_commands.specs.NewSite.{plan_change_text, HaveSame, HasBeyond, IsChange};
+ghost use Rattle.acct_commands.specs.NewSite.{NamesChange, IsTaken};
 
 use crate::config_file::config_in;
 use crate::fault::Fault;
@@ -86,8 +87,7 @@ pub fn take_site<E: Write>(
     plans: &Plans,
     errors: &mut E,
 ) -> Taken
-    ensures taken { Takes plans.now (Some read) result.site }
-    ensures current { IsTrue result.is_current → IsInForce plans.now read }
+    ensures { IsTaken plans.now read result.site result.is_current }
 {
     match judge(alloc, read, plans) {
         Ok((site, is_current, change)) => {
@@ -118,16 +118,11 @@ fn judge(
     read: Result<Octets, InputFault>,
     plans: &Plans,
 ) -> Result<(Config, bool, Option<String>), Fault>
-    ensures taken { IfOk result (λ judged. Takes plans.now (Some read) (Some judged.0)) }
-    ensures current { IfOk result (λ judged. IsTrue judged.1 → IsInForce plans.now read) }
+    ensures taken { IfOk result (λ judged. IsTaken plans.now read (Some judged.0) judged.1) }
     ensures refused { IfErr result (λ fault. IsRead read (Err fault)) }
 {
     let mut site = config_in(alloc, read)?;
-    let is_current = have_same(&site.plans, plans);
-    let change = match plan_change(&site.plans, plans) {
-        Some((plan, how)) => shown_change(alloc, plan, how),
-        None => None,
-    };
+    let (is_current, change) = compared(alloc, &site.plans, plans);
     match copied(alloc, plans) {
         Some(plans) => {
             site.plans = plans;
@@ -137,33 +132,70 @@ fn judge(
     }
 }
 
-// Whether two lists have the same plans, in whatever order.
-fn have_same(plans: &Plans, others: &Plans) -> bool
-    ensures { IsTrue result ↔ (Extends plans.now others.now × Extends others.now plans.now) }
+// Whether the plans of a text are those in force, in whatever order; and the first one that differs,
+// as it is printed, if there is one, and memory for it.
+fn compared(alloc: Global, own: &Plans, in_force: &Plans) -> (bool, Option<String>)
+    ensures current { IsTrue result.0 ↔ HaveSame own.now in_force.now }
+    ensures named { IfSome result.1
+        (λ text. NamesChange own.now in_force.now (string_bytes text)) }
 {
-    plans.extends(others) && others.extends(plans)
+    match plan_change(own, in_force) {
+        Some((plan, how)) => (false, shown_change(alloc, plan, how)),
+        None => (true, None),
+    }
 }
 
-// The first plan of a text that is another one in force, or none there, and how it differs; else the
-// first one in force that the text has no more.
+// The first plan of a text that is not in force, and how it differs; else the first one in force
+// that the text has no more.
 fn plan_change<'p>(own: &'p Plans, in_force: &'p Plans) -> Option<(&'p Plan, Change)>
-    ensures { IfSome result (λ change. IsChange own.now in_force.now change.0.now change.1) }
+    ensures some { IfSome result (λ change. IsChange own.now in_force.now change.0.now change.1) }
+    ensures none { IfNone result (HaveSame own.now in_force.now) }
 {
-    for plan in own.list() {
-        let kept = in_force.plan_of(plan.class.as_slice());
-        if kept.class != plan.class {
-            return Some((plan, Change::New));
-        }
-        if !is_same(kept, plan) {
+    if let Some(plan) = first_beyond(own.list(), in_force.list()) {
+        if has_class_of(in_force, plan) {
             return Some((plan, Change::Other));
         }
+        return Some((plan, Change::New));
     }
-    for plan in in_force.list() {
-        if own.plan_of(plan.class.as_slice()).class != plan.class {
-            return Some((plan, Change::Missing));
+    let Some(plan) = first_beyond(in_force.list(), own.list()) else {
+        return None;
+    };
+    if has_class_of(own, plan) {
+        return Some((plan, Change::Other));
+    }
+    Some((plan, Change::Missing))
+}
+
+// Whether one of these plans has the class of another plan.
+fn has_class_of(plans: &Plans, other: &Plan) -> bool
+    ensures { IsTrue result ↔ (plan_class plans.now other.now.class ≡ other.now.class) }
+{
+    plans.plan_of(other.class.as_slice()).class == other.class
+}
+
+// The first of these plans that is not one of the others.
+fn first_beyond<'p>(plans: &'p [Plan], others: &[Plan]) -> Option<&'p Plan>
+    ensures some { IfSome result (λ plan. HasBeyond plans.now others.now plan.now) }
+    ensures none { IfNone result (Extends others.now plans.now) }
+{
+    for plan in plans {
+        if !contains(others, plan) {
+            return Some(plan);
         }
     }
     None
+}
+
+// Whether a plan is one of these.
+fn contains(plans: &[Plan], plan: &Plan) -> bool
+    ensures { IsTrue result ↔ Contains plans.now plan.now }
+{
+    for other in plans {
+        if is_same(other, plan) {
+            return true;
+        }
+    }
+    false
 }
 
 fn is_same(plan: &Plan, other: &Plan) -> bool
