@@ -38,7 +38,7 @@ pub struct Errors<E: Drop> {
     /// The drops and the counts of each minute, if these are told.
     pub drops: Option<E>,
     /// What became of its files.
-    pub site: E,
+    pub notices: E,
 }
 
 /// Serves a configuration over a book for so many turns, at the addresses and the ports that
@@ -128,15 +128,21 @@ fn serve_sockets<
 {
     let Surroundings {
         source,
-        errors: Errors { drops, site },
+        errors: Errors { drops, notices },
     } = around;
-    let site = RefCell::new(site);
+    let notices = RefCell::new(notices);
     let gauges = Gauges::new();
     let mut balances = balances_file(runtime, alloc, &serving.telling)?;
     let state = StateSource::new(runtime, alloc, &gauges, database)?;
-    let counts = status_file(runtime, alloc, &serving.telling, state, Shared::new(&site))?;
+    let counts = status_file(
+        runtime,
+        alloc,
+        &serving.telling,
+        state,
+        Shared::new(&notices),
+    )?;
     let sockets = bound(runtime, alloc, &serving.listening)?;
-    let mut errors = Shared::new(&site);
+    let mut errors = Shared::new(&notices);
     write_first(
         runtime,
         alloc,
@@ -146,7 +152,7 @@ fn serve_sockets<
         &gauges,
         &mut errors,
     );
-    let mut rounds = FileRounds::new(runtime, source, balances, &gauges, Shared::new(&site));
+    let mut rounds = FileRounds::new(runtime, source, balances, &gauges, Shared::new(&notices));
     let watcher = Watcher {
         clock: runtime,
         drops: watch_on(drops),
