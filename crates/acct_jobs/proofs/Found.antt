@@ -10,49 +10,11 @@ use Rattle.sqlite.specs.Effect.{Database}
 use Rattle.sqlite.specs.Held.{Held}
 use Rattle.sqlite.specs.State.{HasCleanDisk, Survives}
 use Rattle.sqlite.specs.Files.{file_state}
-use Rattle.acct_model.specs.declared.plan.Plan.{Plan}
 use Rattle.acct_sql.specs.Look.{LooksAtTables}
-use Rattle.acct_commands.specs.declared.fault.Fault.{Fault}
-use Rattle.acct_jobs.specs.declared.left.Left.{Left}
-use Rattle.acct_jobs.specs.declared.left.Left.TheVariants as left
 use Rattle.acct_jobs.specs.Files.{AreHeldIn, WasHeldIn, HoldsStill}
 use Rattle.acct_jobs.specs.inner.Files.{IsOpenedOn}
-use Rattle.acct_jobs.specs.Files.{IsUnread, IsRefused, HasNotMade, HasNotMigrated, HasNotAdded}
 
 module _ {D : Type 0} {g : Ghosts D} where
-  -- an open that failed is a refusal to adopt, and to make
-  pub unread_refused : (image : Image) (plans : List Plan) (told : Fault) (rest : Left D g)
-      → IsUnread image told rest → IsRefused image plans told rest
-  unread_refused image plans told left.Nothing h = h
-  unread_refused image plans told (left.Unopened it) h = h
-  unread_refused image plans told (left.Open last) h = absurd h
-  unread_refused image plans told (left.Unclosed it) h = absurd h
-  unread_refused image plans told (left.Closed files) h = absurd h
-
-  pub unread_unmade : (image : Image) (plans : List Plan) (told : Fault) (rest : Left D g)
-      → IsUnread image told rest → HasNotMade image plans told rest
-  unread_unmade image plans told left.Nothing h = h
-  unread_unmade image plans told (left.Unopened it) h = h
-  unread_unmade image plans told (left.Open last) h = absurd h
-  unread_unmade image plans told (left.Unclosed it) h = absurd h
-  unread_unmade image plans told (left.Closed files) h = absurd h
-
-  pub unread_unmigrated : (image : Image) (plans : List Plan) (told : Fault) (rest : Left D g)
-      → IsUnread image told rest → HasNotMigrated image plans told rest
-  unread_unmigrated image plans told left.Nothing h = h
-  unread_unmigrated image plans told (left.Unopened it) h = h
-  unread_unmigrated image plans told (left.Open last) h = absurd h
-  unread_unmigrated image plans told (left.Unclosed it) h = absurd h
-  unread_unmigrated image plans told (left.Closed files) h = absurd h
-
-  pub unread_unadded : (image : Image) (plans : List Plan) (told : Fault) (rest : Left D g)
-      → IsUnread image told rest → HasNotAdded image plans told rest
-  unread_unadded image plans told left.Nothing h = h
-  unread_unadded image plans told (left.Unopened it) h = h
-  unread_unadded image plans told (left.Open last) h = absurd h
-  unread_unadded image plans told (left.Unclosed it) h = absurd h
-  unread_unadded image plans told (left.Closed files) h = absurd h
-
   module _ (image : Image) (first : Held (FileStore D g)) (found : IsOpenedOn image first) where
     -- what an open finds is what the files held
     pub was_held : HasCleanDisk (file_state first) → WasHeldIn image (file_state first).now
@@ -73,6 +35,26 @@ module _ {D : Type 0} {g : Ghosts D} where
         let is : db ≡ (file_state first).committed.trees =
         settled_at first.store stays db it.0.0.is_open may in
         subst (AreHeldIn image) (sym is) (record { holds = it.1.holds; found = it.1.reads })
+
+    -- what survives a change that failed: a read tells what was held, and a crash leaves that, or
+    -- what the change commits
+    module _ (last : Held (FileStore D g)) (Commits : Trees → Type 0)
+        (survives : Survives (file_state first) (file_state last) Commits) where
+      pub held_before : HasCleanDisk (file_state last) → WasHeldIn image (file_state first).now
+      held_before clean = was_held (omega (arith, survives.clean, clean))
+
+      pub reads_as_before : (HasCleanDisk (file_state last) → IsTrue (file_state last).is_open
+          → (file_state last).now ≡ (file_state first).now) → HasCleanDisk (file_state last)
+          → IsTrue (file_state last).is_open → AreHeldIn image (file_state last).now.trees
+      reads_as_before same clean is_open = subst (λ (d : Database). AreHeldIn image d.trees)
+          (sym (same clean is_open)) (held_before clean).trees
+
+      pub leaves_old_or_new : SeenMayStay g → HasCleanDisk (file_state last) → (db : Trees)
+          → (file_state last).may_leave db → AreHeldIn image db ⊎ Commits db
+      leaves_old_or_new stays clean db may = elim (survives.crash clean db may) [
+        | inl old ↦ inl (may_leave_held stays (omega (arith, survives.clean, clean)) db old)
+        | inr new ↦ inr new
+      ]
 
     module _ (last : Held (FileStore D g))
         (looks : LooksAtTables (file_state first) (file_state last)) where

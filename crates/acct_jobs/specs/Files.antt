@@ -26,6 +26,8 @@ use Rattle.acct_commands.specs.declared.fault.Fault.TheVariants as fault
 use Rattle.acct_commands.specs.declared.fault.StoreFault.TheVariants as store
 use Rattle.acct_jobs.specs.declared.left.Left.{Left}
 use Rattle.acct_jobs.specs.declared.left.Left.TheVariants as left
+use Rattle.acct_jobs.specs.declared.making.Making.{Making}
+use Rattle.acct_jobs.specs.declared.making.Making.TheVariants as how
 use Rattle.acct_jobs.specs.Faults.{store_fault_of}
 
 -- ---- what they held
@@ -80,6 +82,12 @@ module _ {D : Type 0} {g : Ghosts D} where
     pub added : HasAdded plans held.trees (file_state book).now.trees
     pub counted : (kept : List Plan) → KeepsPlans kept held.trees
         → count ≡ length (plans_added kept plans)
+
+  -- the book that is made so of the files, with so many plans added
+  abbrev pub IsMade : Making → Image → List Plan → ℕ → Held (FileStore D g) → Type 0
+  IsMade how.New image plans count book = IsMadeIn image plans book
+  IsMade how.Migrated image plans count book = IsMigratedIn image plans book
+  IsMade how.Extended image plans count book = IsAddedIn image plans count book
 
   -- ---- none
 
@@ -139,6 +147,12 @@ module _ {D : Type 0} {g : Ghosts D} where
     pub why : HasCleanDisk (file_state last)
         → (held : Database) × WasHeldIn image held × IsNotAddedAs plans held error
 
+  -- no book was made so
+  abbrev pub IsNotMade : Making → Image → List Plan → Fault → Held (FileStore D g) → Type 0
+  IsNotMade how.New image plans told last = IsUnmade image plans told last
+  IsNotMade how.Migrated image plans told last = IsUnmigrated image plans told last
+  IsNotMade how.Extended image plans told last = IsUnadded image plans told last
+
   -- ---- what is left
 
   -- no database was opened
@@ -154,20 +168,10 @@ module _ {D : Type 0} {g : Ghosts D} where
   IsRefused image plans told (left.Open last) = IsOther image plans told last
   IsRefused image plans told rest = IsUnread image told rest
 
-  -- why no book was made, and what is left of the files
-  abbrev pub HasNotMade : Image → List Plan → Fault → Left D g → Type 0
-  HasNotMade image plans told (left.Open last) = IsUnmade image plans told last
-  HasNotMade image plans told rest = IsUnread image told rest
-
-  -- why no book was migrated, and what is left of the files
-  abbrev pub HasNotMigrated : Image → List Plan → Fault → Left D g → Type 0
-  HasNotMigrated image plans told (left.Open last) = IsUnmigrated image plans told last
-  HasNotMigrated image plans told rest = IsUnread image told rest
-
-  -- why no plan was added, and what is left of the files
-  abbrev pub HasNotAdded : Image → List Plan → Fault → Left D g → Type 0
-  HasNotAdded image plans told (left.Open last) = IsUnadded image plans told last
-  HasNotAdded image plans told rest = IsUnread image told rest
+  -- why no book was made so, and what is left of the files
+  abbrev pub HasNotMade : Making → Image → List Plan → Fault → Left D g → Type 0
+  HasNotMade making image plans told (left.Open last) = IsNotMade making image plans told last
+  HasNotMade making image plans told rest = IsUnread image told rest
 
   -- the two files have what the book committed, where the disk has returned what it took
   abbrev pub Copies : Held (FileStore D g) → Files D → Type 0

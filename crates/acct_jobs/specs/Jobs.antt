@@ -30,8 +30,10 @@ use Rattle.acct_commands.specs.declared.fault.Fault.{Fault}
 use Rattle.acct_commands.specs.declared.fault.Fault.TheVariants as fault
 use Rattle.acct_jobs.specs.declared.left.Left.{Left}
 use Rattle.acct_jobs.specs.declared.left.Left.TheVariants as left
-use Rattle.acct_jobs.specs.Files.{IsMadeIn, HasNotMade, IsMigratedIn, HasNotMigrated, IsUnclosed}
-use Rattle.acct_jobs.specs.Files.{IsAddedIn, HasNotAdded, IsBookOf, IsOther, IsUnread, Copies}
+use Rattle.acct_jobs.specs.declared.making.Making.{Making}
+use Rattle.acct_jobs.specs.declared.making.Making.TheVariants as how
+use Rattle.acct_jobs.specs.Files.{IsMade, HasNotMade, IsBookOf, IsOther, IsUnread, IsUnclosed}
+use Rattle.acct_jobs.specs.Files.{Copies}
 use Rattle.acct_jobs.specs.Commands.{Worked, Closes, Fails, WritesOut, FailsToExport}
 
 -- what a command printed, where its output was not lost
@@ -50,6 +52,12 @@ schema_line = codes "schema 3" ++ 10 ∷ []
 -- `added N`: how many plans were added
 abbrev pub added_line : ℕ → List ℕ
 added_line count = codes "added " ++ decimal count ++ 10 ∷ []
+
+-- the line that says that a book was made so, with so many plans added
+abbrev pub line_of : Making → ℕ → List ℕ
+line_of how.New count = made_line
+line_of how.Migrated count = schema_line
+line_of how.Extended count = added_line count
 
 -- ---- commands without a book
 
@@ -99,21 +107,19 @@ module _ {D : Type 0} {g : disk.Ghosts D} where
       × Closed status files)
       ⊎ ((told : Fault) × (ended ≡ Err told) × Failed told rest)
 
-  -- `init`, `migrate` and `plans`: the book that is made of the files for a configuration's plans,
-  -- with a number to tell; why it is not; and the line that tells the number
-  module _ (Made : List Plan → ℕ → Held (FileStore D g) → Type 0)
-      (HasNot : List Plan → Fault → Left D g → Type 0) (line : ℕ → List ℕ) where
+  -- `init`, `migrate` and `plans`: a book is made of the files for a configuration's plans
+  module _ (image : Image) (making : Making) where
     -- the book was made, and was closed into these files
     pub record IsMadeAndClosed (plans : List Plan) (count : ℕ) (book : Held (FileStore D g))
         (files : Files D) : Type 0 where
-      pub made : HasCleanDisk (file_state book) → Made plans count book
+      pub made : HasCleanDisk (file_state book) → IsMade making image plans count book
       pub copied : Copies book files
 
     -- it was made, and could not be closed
     pub record IsMadeUnclosed (plans : List Plan) (told : Fault) (rest : Left D g) : Type 0 where
       pub book : Held (FileStore D g)
       pub count : ℕ
-      pub made : HasCleanDisk (file_state book) → Made plans count book
+      pub made : HasCleanDisk (file_state book) → IsMade making image plans count book
       pub unclosed : IsUnclosed book told rest
 
     -- it was closed, and the line that says so could not be written
@@ -128,40 +134,20 @@ module _ {D : Type 0} {g : disk.Ghosts D} where
     -- why the command did not end well
     abbrev pub FailsToMake : Fault → Left D g → Type 0
     FailsToMake told rest = HasNoConfig told rest
-        ⊎ ((config : Config) × (HasNot config.plans told rest
+        ⊎ ((config : Config) × (HasNotMade making image config.plans told rest
         ⊎ IsMadeUnclosed config.plans told rest
         ⊎ IsMadeUntold config.plans told rest))
 
-    -- it ended well: the book, and a line that says so
-    pub record MakesBook (before after : Option (List ℕ)) (ended : Status) (files : Files D)
-        : Type 0 where
-      pub config : Config
-      pub done : ended ≡ status.Done
-      pub book : Held (FileStore D g)
-      pub count : ℕ
-      pub is_made : IsMadeAndClosed config.plans count book files
-      pub told : Appends before after (line count)
-
   module _ (image : Image) where
-    -- `init`: an empty book, and its line
-    abbrev pub IsNewBook : List Plan → ℕ → Held (FileStore D g) → Type 0
-    IsNewBook plans count book = IsMadeIn image plans book
-
+    -- why `init`, `migrate` and `plans` did not end well
     abbrev pub FailsToMakeNew : Fault → Left D g → Type 0
-    FailsToMakeNew told rest = FailsToMake IsNewBook (HasNotMade image) (λ _. made_line) told rest
-
-    -- `migrate`: the older book as one of today's, and its line
-    abbrev pub IsMigratedBook : List Plan → ℕ → Held (FileStore D g) → Type 0
-    IsMigratedBook plans count book = IsMigratedIn image plans book
+    FailsToMakeNew told rest = FailsToMake image how.New told rest
 
     abbrev pub FailsToMigrate : Fault → Left D g → Type 0
-    FailsToMigrate told rest =
-        FailsToMake IsMigratedBook (HasNotMigrated image) (λ _. schema_line) told rest
+    FailsToMigrate told rest = FailsToMake image how.Migrated told rest
 
-    -- `plans`: the book with the plans that it did not keep yet, and how many they are
     abbrev pub FailsToAdd : Fault → Left D g → Type 0
-    FailsToAdd told rest =
-        FailsToMake (IsAddedIn image) (HasNotAdded image) added_line told rest
+    FailsToAdd told rest = FailsToMake image how.Extended told rest
 
     -- `serve` and `import`: what was done with a configuration, from the book that the files held
     module _ (Did : Config → Result Status Fault → Held (FileStore D g) → Held (FileStore D g)
@@ -209,19 +195,25 @@ module _ {D : Type 0} {g : disk.Ghosts D} where
     DoesCheck (Some file) before after ended rest = ChecksBook before after ended rest
 
     module _ (b : book.Ghosts (Held (FileStore D g))) where
+      -- it ended well: the book, and a line that says so
+      pub record Makes (making : Making) (before after : Option (List ℕ)) (ended : Status)
+          (files : Files D) : Type 0 where
+        pub config : Config
+        pub done : ended ≡ status.Done
+        pub book : Held (FileStore D g)
+        pub count : ℕ
+        pub is_made : IsMadeAndClosed image making config.plans count book files
+        pub told : Appends before after (line_of making count)
+
       -- `init`, `migrate` and `plans` ended well
       abbrev pub MakesNew : Option (List ℕ) → Option (List ℕ) → Status → Files D → Type 0
-      MakesNew before after ended files =
-          MakesBook IsNewBook (HasNotMade image) (λ _. made_line) before after ended files
+      MakesNew before after ended files = Makes how.New before after ended files
 
       abbrev pub Migrates : Option (List ℕ) → Option (List ℕ) → Status → Files D → Type 0
-      Migrates before after ended files =
-          MakesBook IsMigratedBook (HasNotMigrated image) (λ _. schema_line) before after ended
-          files
+      Migrates before after ended files = Makes how.Migrated before after ended files
 
       abbrev pub AddsPlans : Option (List ℕ) → Option (List ℕ) → Status → Files D → Type 0
-      AddsPlans before after ended files =
-          MakesBook (IsAddedIn image) (HasNotAdded image) added_line before after ended files
+      AddsPlans before after ended files = Makes how.Extended before after ended files
 
       -- `export`: what was written of the content that the files held
       pub record ExportsBook (what : Export) (before after : Option (List ℕ))

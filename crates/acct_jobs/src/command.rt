@@ -25,7 +25,7 @@ use crate::checking::check;
 use crate::database::{FileConnection, adopted, close};
 use crate::feed::run_feed;
 use crate::left::Left;
-use crate::making::{add_plans, init, migrate};
+use crate::making::{Making, make};
 use crate::serving::serve;
 use acct_book::Book;
 use acct_command_line::{Export, Job, Paths, Serving, Telling};
@@ -86,7 +86,7 @@ pub fn run<S: Start, I: Read + Drop, W: Write + Drop, E: Write + Drop>(
             kept,
         } => check(runtime, config, database.as_ref(), kept, output, start),
         Job::Init { paths } => {
-            let ending = init(runtime, paths, &mut output, start);
+            let ending = make(runtime, Making::New, paths, &mut output, start);
             with_book(ending, output)
         }
         Job::Serve { paths, serving } => {
@@ -99,11 +99,11 @@ pub fn run<S: Start, I: Read + Drop, W: Write + Drop, E: Write + Drop>(
         }
         Job::Export { paths, what } => export(runtime, paths, *what, output, start),
         Job::Migrate { paths } => {
-            let ending = migrate(runtime, paths, &mut output, start);
+            let ending = make(runtime, Making::Migrated, paths, &mut output, start);
             with_book(ending, output)
         }
         Job::AddPlans { paths } => {
-            let ending = add_plans(runtime, paths, &mut output, start);
+            let ending = make(runtime, Making::Extended, paths, &mut output, start);
             with_book(ending, output)
         }
     }

@@ -9,12 +9,12 @@ ghost use Rattle.sqlite_wal.specs.Recovery.{Image};
 ghost use Rattle.sqlite.specs.State.{HasCleanDisk};
 ghost use Rattle.sqlite.specs.Files.{file_state};
 ghost use Rattle.acct_jobs.specs.Faults.{store_fault_of};
-ghost use Rattle.acct_jobs.specs.Files.{IsBookOf, IsMadeIn, IsRefused, HasNotMade, IsUnread};
-ghost use Rattle.acct_jobs.specs.Files.{IsMigratedIn, HasNotMigrated, IsAddedIn, HasNotAdded};
+ghost use Rattle.acct_jobs.specs.Files.{IsBookOf, IsMade, IsRefused, HasNotMade, IsUnread};
 ghost use Rattle.acct_jobs.specs.Files.{Copies, IsUnclosed};
 ghost use Rattle.acct_jobs.specs.inner.Files.{IsOpenedOn};
 
 use crate::left::Left;
+use crate::making::Making;
 use acct_commands::{Fault, StoreFault};
 use acct_model::{Plans, Text};
 use acct_sql::{SqlBook, SqlBookError};
@@ -36,26 +36,35 @@ pub type FileBook<S> = SqlBook<FileStore<FileFrom<S>>>;
 /// The connection of such a book.
 pub type FileConnection<S> = Connection<FileStore<FileFrom<S>>>;
 
-/// Makes an empty book in a file, and the file too where it isn't there, which then its owner alone
-/// can read and write, as its log. It gives the connection to the book.
+/// Makes a book of a file and its log, for these plans. It gives the connection to the book, and how
+/// many plans it added to one that was there. A new book's file is made too, if it isn't there: only
+/// its owner can then read and write it and its log.
 ///
 /// # Errors
 ///
-/// `CannotOpen` where the file cannot be opened, else that of `SqlBook::create`, with what is left
-/// of the files. They hold what they held, but for a crash, which may leave the new book.
+/// `CannotOpen` if the file cannot be opened. A book that is there is not opened either if its file
+/// is no regular one, if it has 1 to 99 octets, or if it is empty next to a log that has frames.
+/// Else the error of `SqlBook::create`, `migrate` or `add_plans`. Each has what is left of the
+/// files. They hold what they held, but for a crash, which may leave the book that was to be made.
 pub fn made<S: Start>(
     runtime: &HostRuntime,
+    making: Making,
     file: &Text,
     plans: &Plans,
     start: S,
-) -> Result<FileConnection<S>, (Fault, Left<FileFrom<S>>)>
-    ensures made { IfOk result (λ book. HasCleanDisk (file_state book)
-        → IsMadeIn (image_at S.Start) plans.now book) }
-    ensures refused { IfErr result (λ e. HasNotMade (image_at S.Start) plans.now e.0 e.1) }
+) -> Result<(FileConnection<S>, u64), (Fault, Left<FileFrom<S>>)>
+    ensures made { IfOk result (λ done. HasCleanDisk (file_state done.0)
+        → IsMade making (image_at S.Start) plans.now done.1 done.0) }
+    ensures refused { IfErr result (λ e.
+        HasNotMade making (image_at S.Start) plans.now e.0 e.1) }
 {
-    keep_private(runtime, file);
+    if making == Making::New {
+        keep_private(runtime, file);
+    } else if !may_be_database(runtime, file) {
+        return Err((Fault::CannotOpen, Left::Nothing));
+    }
     let connection = opened(runtime, file, start)?;
-    created(runtime.alloc(), connection, plans)
+    made_of(runtime.alloc(), making, connection, plans)
 }
 
 /// The book in a file that is there: it tells what the tables in the file held.
@@ -82,56 +91,6 @@ pub fn adopted<S: Start>(
     }
     let connection = opened(runtime, file, start)?;
     taken(runtime.alloc(), connection, plans)
-}
-
-/// The connection to the book of schema number 1 or 2 in a file that is there, as one of today's.
-///
-/// # Errors
-///
-/// `CannotOpen` if no regular file is there, if it has 1 to 99 octets, if it is empty beside a log
-/// that has frames, or if it cannot be opened; else that of `SqlBook::migrate`, with what is left of
-/// the files. They hold what they held, but for a crash, which may leave the migrated book.
-pub fn migrated<S: Start>(
-    runtime: &HostRuntime,
-    file: &Text,
-    plans: &Plans,
-    start: S,
-) -> Result<FileConnection<S>, (Fault, Left<FileFrom<S>>)>
-    ensures migrated { IfOk result (λ book. HasCleanDisk (file_state book)
-        → IsMigratedIn (image_at S.Start) plans.now book) }
-    ensures refused { IfErr result (λ e. HasNotMigrated (image_at S.Start) plans.now e.0 e.1) }
-{
-    if !may_be_database(runtime, file) {
-        return Err((Fault::CannotOpen, Left::Nothing));
-    }
-    let connection = opened(runtime, file, start)?;
-    raised(runtime.alloc(), connection, plans)
-}
-
-/// The connection to the book in a file that is there, with the plans that it did not keep yet, and
-/// how many they are.
-///
-/// # Errors
-///
-/// `CannotOpen` if no regular file is there, if it has 1 to 99 octets, if it is empty beside a log
-/// that has frames, or if it cannot be opened; else that of `SqlBook::add_plans`, with what is left
-/// of the files. They hold what they held, but for a crash, which may leave the book with the added
-/// plans.
-pub fn extended<S: Start>(
-    runtime: &HostRuntime,
-    file: &Text,
-    plans: &Plans,
-    start: S,
-) -> Result<(FileConnection<S>, u64), (Fault, Left<FileFrom<S>>)>
-    ensures added { IfOk result (λ done. HasCleanDisk (file_state done.0)
-        → IsAddedIn (image_at S.Start) plans.now done.1 done.0) }
-    ensures refused { IfErr result (λ e. HasNotAdded (image_at S.Start) plans.now e.0 e.1) }
-{
-    if !may_be_database(runtime, file) {
-        return Err((Fault::CannotOpen, Left::Nothing));
-    }
-    let connection = opened(runtime, file, start)?;
-    grown(runtime.alloc(), connection, plans)
 }
 
 /// Closes a book: what its log holds is copied into its file. It hands back the two files, which
@@ -205,26 +164,6 @@ fn has_log(runtime: &HostRuntime, file: &Text) -> bool {
     }
 }
 
-// The connection to a new book in a database, which was opened over files that held an image.
-fn created<D: Disk + Drop>(
-    alloc: Global,
-    connection: Connection<FileStore<D>>,
-    plans: &Plans,
-) -> Result<Connection<FileStore<D>>, (Fault, Left<D>)>
-    requires { (file_state connection).in_transaction ≡ false }
-    ensures made { (image : Image) → IsOpenedOn image connection
-        → IfOk result (λ book. HasCleanDisk (file_state book) → IsMadeIn image plans.now book) }
-    ensures refused { (image : Image) → IsOpenedOn image connection
-        → IfErr result (λ e. HasNotMade image plans.now e.0 e.1) }
-{
-    match SqlBook::create(alloc, connection, plans) {
-        Ok(book) => Ok(book.into_connection()),
-        Err((error, connection)) => {
-            Err((Fault::Store(store_fault(error)), Left::Open(connection)))
-        }
-    }
-}
-
 // The book that a database is, which was opened over files that held an image.
 fn taken<D: Disk + Drop>(
     alloc: Global,
@@ -245,47 +184,40 @@ fn taken<D: Disk + Drop>(
     }
 }
 
-// The connection to the book of today's that an older one is made, in a database that was opened
-// over files that held an image.
-fn raised<D: Disk + Drop>(
+// The connection to the book that is made so of a database, which was opened over files that held an
+// image, and how many plans were added.
+fn made_of<D: Disk + Drop>(
     alloc: Global,
-    connection: Connection<FileStore<D>>,
-    plans: &Plans,
-) -> Result<Connection<FileStore<D>>, (Fault, Left<D>)>
-    requires { (file_state connection).in_transaction ≡ false }
-    ensures migrated { (image : Image) → IsOpenedOn image connection
-        → IfOk result (λ book. HasCleanDisk (file_state book)
-        → IsMigratedIn image plans.now book) }
-    ensures refused { (image : Image) → IsOpenedOn image connection
-        → IfErr result (λ e. HasNotMigrated image plans.now e.0 e.1) }
-{
-    match SqlBook::migrate(alloc, connection, plans) {
-        Ok(book) => Ok(book.into_connection()),
-        Err((error, connection)) => {
-            Err((Fault::Store(store_fault(error)), Left::Open(connection)))
-        }
-    }
-}
-
-// The connection to the book that a database is, with the plans that it did not keep yet, in a
-// database that was opened over files that held an image.
-fn grown<D: Disk + Drop>(
-    alloc: Global,
+    making: Making,
     connection: Connection<FileStore<D>>,
     plans: &Plans,
 ) -> Result<(Connection<FileStore<D>>, u64), (Fault, Left<D>)>
     requires { (file_state connection).in_transaction ≡ false }
-    ensures added { (image : Image) → IsOpenedOn image connection
+    ensures made { (image : Image) → IsOpenedOn image connection
         → IfOk result (λ done. HasCleanDisk (file_state done.0)
-        → IsAddedIn image plans.now done.1 done.0) }
+        → IsMade making image plans.now done.1 done.0) }
     ensures refused { (image : Image) → IsOpenedOn image connection
-        → IfErr result (λ e. HasNotAdded image plans.now e.0 e.1) }
+        → IfErr result (λ e. HasNotMade making image plans.now e.0 e.1) }
 {
-    match SqlBook::add_plans(alloc, connection, plans) {
-        Ok((book, count)) => Ok((book.into_connection(), count)),
-        Err((error, connection)) => {
-            Err((Fault::Store(store_fault(error)), Left::Open(connection)))
-        }
+    match making {
+        Making::New => match SqlBook::create(alloc, connection, plans) {
+            Ok(book) => Ok((book.into_connection(), 0)),
+            Err((error, connection)) => {
+                Err((Fault::Store(store_fault(error)), Left::Open(connection)))
+            }
+        },
+        Making::Migrated => match SqlBook::migrate(alloc, connection, plans) {
+            Ok(book) => Ok((book.into_connection(), 0)),
+            Err((error, connection)) => {
+                Err((Fault::Store(store_fault(error)), Left::Open(connection)))
+            }
+        },
+        Making::Extended => match SqlBook::add_plans(alloc, connection, plans) {
+            Ok((book, count)) => Ok((book.into_connection(), count)),
+            Err((error, connection)) => {
+                Err((Fault::Store(store_fault(error)), Left::Open(connection)))
+            }
+        },
     }
 }
 

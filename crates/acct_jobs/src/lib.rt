@@ -16,6 +16,7 @@ mod making;
 mod serving;
 
 pub use command::{Outcome, run, run_server};
-pub use database::{FileBook, FileConnection, adopted, close, extended, made, migrated};
+pub use database::{FileBook, FileConnection, adopted, close, made};
 pub use feed::run_feed;
 pub use left::Left;
+pub use making::Making;

@@ -1,12 +1,11 @@
-//! The commands that make a book, make an older one a book of today's, or add plans to one.
+//! The commands that make a book: a new one, one of today's of an older one, or one with more plans.
 ghost use Rattle.std.specs.Prelude.{◌≢◌, IfOk, IfErr, OnOk};
 ghost use Rattle.std.specs.Io.KnownBytes.{Appends};
 ghost use Rattle.sqlite_wal.specs.Files.{image_at};
-ghost use Rattle.acct_jobs.specs.Jobs.{MakesNew, FailsToMakeNew, Migrates, FailsToMigrate};
-ghost use Rattle.acct_jobs.specs.Jobs.{AddsPlans, FailsToAdd, made_line, schema_line, added_line};
+ghost use Rattle.acct_jobs.specs.Jobs.{Makes, FailsToMake, line_of};
 
 use crate::command::{Ending, config_of};
-use crate::database::{close, extended, made, migrated};
+use crate::database::{close, made};
 use crate::left::Left;
 use acct_book::Book;
 use acct_command_line::Paths;
@@ -17,95 +16,57 @@ use sqlite::{FileFrom, FileStore, Start};
 use std::io;
 use std::io::Write;
 
-/// `init`: an empty book.
-pub(crate) fn init<S: Start, W: Write>(
+/// How a book is made of the files for the plans of a configuration.
+#[derive(Clone, Copy, PartialEq, Eq)]
+pub enum Making {
+    /// `init`: an empty book, if the files hold no table.
+    New,
+    /// `migrate`: an older book, as one of today's.
+    Migrated,
+    /// `plans`: the book that they hold, with the plans that it did not keep yet.
+    Extended,
+}
+
+/// `init`, `migrate` and `plans`: makes a book so, closes it, and prints a line that says so.
+pub(crate) fn make<S: Start, W: Write>(
     runtime: &HostRuntime,
+    making: Making,
     paths: &Paths,
     output: &mut W,
     start: S,
 ) -> Ending<S>
     ensures other { IfOk result (λ done. done.0 ≢ Status.WrongWords) }
-    ensures made { IfOk result (λ done. MakesNew (image_at S.Start)
-        ⟦<SqlBook<FileStore<FileFrom<S>>> as Book>⟧ (W.contents output.old)
+    ensures made { IfOk result (λ done. Makes (image_at S.Start)
+        ⟦<SqlBook<FileStore<FileFrom<S>>> as Book>⟧ making (W.contents output.old)
         (W.contents output.new) done.0 done.1) }
-    ensures failed { IfErr result (λ e. FailsToMakeNew (image_at S.Start) e.0 e.1) }
+    ensures failed { IfErr result (λ e. FailsToMake (image_at S.Start) making e.0 e.1) }
 {
     let config = config_of(runtime, &paths.config)?;
-    let book = made(runtime, &paths.database, &config.plans, start)?;
+    let (book, count) = made(runtime, making, &paths.database, &config.plans, start)?;
     let files = close(book)?;
-    match write_made(output) {
+    match write_made(output, making, count) {
         Ok(()) => Ok((Status::Done, files)),
         Err(_) => Err((Fault::CannotWrite, Left::Closed(files))),
     }
 }
 
-// Says that a book was made.
-fn write_made<W: Write>(output: &mut W) -> io::Result<()>
+// Prints that a book was made so.
+fn write_made<W: Write>(output: &mut W, making: Making, count: u64) -> io::Result<()>
     ensures { OnOk result (Appends (W.contents output.old) (W.contents output.new)
-        made_line) }
+        (line_of making count)) }
 {
-    writeln!(output, "book made")?;
+    write_line(output, making, count)?;
     output.flush()
 }
 
-/// `migrate`: an older book, made one of today's.
-pub(crate) fn migrate<S: Start, W: Write>(
-    runtime: &HostRuntime,
-    paths: &Paths,
-    output: &mut W,
-    start: S,
-) -> Ending<S>
-    ensures other { IfOk result (λ done. done.0 ≢ Status.WrongWords) }
-    ensures made { IfOk result (λ done. Migrates (image_at S.Start)
-        ⟦<SqlBook<FileStore<FileFrom<S>>> as Book>⟧ (W.contents output.old)
-        (W.contents output.new) done.0 done.1) }
-    ensures failed { IfErr result (λ e. FailsToMigrate (image_at S.Start) e.0 e.1) }
+// Writes the line that says that a book was made so, with how many plans were added.
+fn write_line<W: Write>(output: &mut W, making: Making, count: u64) -> io::Result<()>
+    ensures { OnOk result (Appends (W.contents output.old) (W.contents output.new)
+        (line_of making count)) }
 {
-    let config = config_of(runtime, &paths.config)?;
-    let book = migrated(runtime, &paths.database, &config.plans, start)?;
-    let files = close(book)?;
-    match write_schema(output) {
-        Ok(()) => Ok((Status::Done, files)),
-        Err(_) => Err((Fault::CannotWrite, Left::Closed(files))),
+    match making {
+        Making::New => writeln!(output, "book made"),
+        Making::Migrated => writeln!(output, "schema 3"),
+        Making::Extended => writeln!(output, "added {count}"),
     }
-}
-
-// Says which schema the book has now.
-fn write_schema<W: Write>(output: &mut W) -> io::Result<()>
-    ensures { OnOk result (Appends (W.contents output.old) (W.contents output.new)
-        schema_line) }
-{
-    writeln!(output, "schema 3")?;
-    output.flush()
-}
-
-/// `plans`: a book with the plans that it did not keep yet.
-pub(crate) fn add_plans<S: Start, W: Write>(
-    runtime: &HostRuntime,
-    paths: &Paths,
-    output: &mut W,
-    start: S,
-) -> Ending<S>
-    ensures other { IfOk result (λ done. done.0 ≢ Status.WrongWords) }
-    ensures added { IfOk result (λ done. AddsPlans (image_at S.Start)
-        ⟦<SqlBook<FileStore<FileFrom<S>>> as Book>⟧ (W.contents output.old)
-        (W.contents output.new) done.0 done.1) }
-    ensures failed { IfErr result (λ e. FailsToAdd (image_at S.Start) e.0 e.1) }
-{
-    let config = config_of(runtime, &paths.config)?;
-    let (book, count) = extended(runtime, &paths.database, &config.plans, start)?;
-    let files = close(book)?;
-    match write_added(output, count) {
-        Ok(()) => Ok((Status::Done, files)),
-        Err(_) => Err((Fault::CannotWrite, Left::Closed(files))),
-    }
-}
-
-// Says how many plans were added.
-fn write_added<W: Write>(output: &mut W, count: u64) -> io::Result<()>
-    ensures { OnOk result (Appends (W.contents output.old) (W.contents output.new)
-        (added_line count)) }
-{
-    writeln!(output, "added {count}")?;
-    output.flush()
 }

@@ -55,11 +55,14 @@ pub(crate) fn serve<S: Start, W: Write, E: Write + Drop>(
 fn told_to<E: Drop>(errors: Errors<E>, is_quiet: bool) -> Errors<E>
     ensures quiet { is_quiet ≡ true → result.drops ≡ None }
     ensures other { is_quiet ≡ false → result ≡ errors }
-    ensures site { result.site ≡ errors.site }
+    ensures notices { result.notices ≡ errors.notices }
 {
     if is_quiet {
-        let Errors { drops: _, site } = errors;
-        return Errors { drops: None, site };
+        let Errors { drops: _, notices } = errors;
+        return Errors {
+            drops: None,
+            notices,
+        };
     }
     errors
 }
@@ -87,7 +90,7 @@ fn served<S: Start, W: Write, E: Write + Drop>(
         (W.contents output.old) (W.contents output.new)) e.0 e.1) }
 {
     // Before it is opened, which may make a log.
-    note_clock(runtime, &paths.database, &mut errors.site);
+    note_clock(runtime, &paths.database, &mut errors.notices);
     let book = adopted(runtime, &paths.database, &config.plans, start)?;
     let around = Surroundings {
         source: site,

@@ -40,13 +40,13 @@ fn main(rt: HostRuntime) -> ExitCode {
     };
     let output = BufWriter::new(rt.alloc(), rt.stdout());
     let drops = BufWriter::new(rt.alloc(), rt.stderr());
-    let site = BufWriter::new(rt.alloc(), rt.stderr());
-    let (Ok(output), Ok(drops), Ok(site)) = (output, drops, site) else {
+    let notices = BufWriter::new(rt.alloc(), rt.stderr());
+    let (Ok(output), Ok(drops), Ok(notices)) = (output, drops, notices) else {
         let _ = println!(rt; "unavailable");
         return ExitCode::from(Status::Unavailable);
     };
     let drops = Some(drops);
-    let errors = Errors { drops, site };
+    let errors = Errors { drops, notices };
     let (status, ran) = carry_out(&rt, &order, rt.stdin(), output, errors, &mut rt.stderr());
     explain_book(&rt, &order, ran);
     ExitCode::from(status)

@@ -20,8 +20,8 @@ pub returns-in-Init-clause-does : goal.returns-in-Init-clause-does
 returns-in-Init-clause-does g c =
     let out = c.with_book.ensures in
     rw (c.in-Init.is, out.output)
-    (ended_so _ _ c.init-ending.result _ _ out.ok out.err c.init-ending.ensures.made
-    c.init-ending.ensures.failed)
+    (ended_so _ _ c.make-ending.result _ _ out.ok out.err c.make-ending.ensures.made
+    c.make-ending.ensures.failed)
 
 pub returns-in-Serve-clause-does : goal.returns-in-Serve-clause-does
 returns-in-Serve-clause-does g c = rw c.in-Serve.is (c.run_server.ensures.does None)
@@ -43,12 +43,12 @@ pub returns-in-Migrate-clause-does : goal.returns-in-Migrate-clause-does
 returns-in-Migrate-clause-does g c =
     let out = c.with_book-in-Migrate.ensures in
     rw (c.in-Migrate.is, out.output)
-    (ended_so _ _ c.migrate-ending.result _ _ out.ok out.err c.migrate-ending.ensures.made
-    c.migrate-ending.ensures.failed)
+    (ended_so _ _ c.make-ending-in-Migrate.result _ _ out.ok out.err c.make-ending-in-Migrate.ensures.made
+    c.make-ending-in-Migrate.ensures.failed)
 
 pub returns-in-AddPlans-clause-does : goal.returns-in-AddPlans-clause-does
 returns-in-AddPlans-clause-does g c =
     let out = c.with_book-in-AddPlans.ensures in
     rw (c.in-AddPlans.is, out.output)
-    (ended_so _ _ c.add_plans-ending.result _ _ out.ok out.err c.add_plans-ending.ensures.added
-    c.add_plans-ending.ensures.failed)
+    (ended_so _ _ c.make-ending-in-AddPlans.result _ _ out.ok out.err c.make-ending-in-AddPlans.ensures.made
+    c.make-ending-in-AddPlans.ensures.failed)

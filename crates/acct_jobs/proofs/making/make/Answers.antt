@@ -1,6 +1,6 @@
 use Rattle.std.proofs.Common.{inl, inr, refl}
 use Rattle.std.proofs.lemmas.Result.{err_from_is_err_and}
-use Rattle.acct_jobs.proofs.making.add_plans.Goals as goal
+use Rattle.acct_jobs.proofs.making.make.Goals as goal
 
 pub returns-in_err-files-clause-failed : goal.returns-in_err-files-clause-failed
 returns-in_err-files-clause-failed g c =
@@ -11,18 +11,18 @@ returns-in_err-files-clause-failed g c =
       inr (inl (record {
         book = c.in_ok-book.book;
         count = c.in_ok-book.count;
-        made = c.in_ok-book.ensures.added;
+        made = c.in_ok-book.ensures.made;
         unclosed = c.in_err-files.ensures.kept;
       })),
     ))
 
-pub returns-in-Ok-clause-added : goal.returns-in-Ok-clause-added
-returns-in-Ok-clause-added g c = record {
+pub returns-in-Ok-clause-made : goal.returns-in-Ok-clause-made
+returns-in-Ok-clause-made g c = record {
   config = c.in_ok-config.config;
   done = refl;
   book = c.in_ok-book.book;
   count = c.in_ok-book.count;
-  is_made = record { made = c.in_ok-book.ensures.added; copied = c.in_ok-files.ensures.copied };
+  is_made = record { made = c.in_ok-book.ensures.made; copied = c.in_ok-files.ensures.copied };
   told = c.in-Ok.ensures;
 }
 
@@ -35,6 +35,6 @@ returns-clause-failed g c = inr (
     closed = refl;
     book = c.in_ok-book.book;
     count = c.in_ok-book.count;
-    is_made = record { made = c.in_ok-book.ensures.added; copied = c.in_ok-files.ensures.copied };
+    is_made = record { made = c.in_ok-book.ensures.made; copied = c.in_ok-files.ensures.copied };
   })),
 )
