@@ -1,14 +1,9 @@
 //! `check`: a configuration, and the book of a file where one is given.
 ghost use Rattle.std.specs.Prelude.{◌≢◌, ◌≡◌, ◌⊎◌, IfOk, IfErr};
 ghost use Rattle.std.specs.Option.{option_copied};
-ghost use Rattle.std.specs.Io.KnownBytes.{Appends};
-ghost use Rattle.sqlite.specs.State.{HasCleanDisk};
-ghost use Rattle.sqlite.specs.Files.{file_state};
 ghost use Rattle.sqlite_wal.specs.Files.{image_at};
-ghost use Rattle.acct_commands.specs.Checks.{sizes_line};
 ghost use Rattle.acct_commands.specs.KeptNames.{NamesSome};
-ghost use Rattle.acct_jobs.specs.Files.{IsBookOf};
-ghost use Rattle.acct_jobs.specs.Jobs.{DoesCheck, ChecksBook, IsChecked, IsUnchecked, FailsToCheck};
+ghost use Rattle.acct_jobs.specs.Jobs.{DoesCheck, ChecksBook, IsChecked, FailsToCheck};
 ghost use Rattle.acct_jobs.specs.Jobs.{text_of, KeepsOthers};
 
 use crate::command::{Outcome, config_of, without_book};
@@ -18,7 +13,6 @@ use acct_command_line::KeptNames;
 use acct_commands::{Fault, ServerFiles, keep_others, run_check, write_sizes};
 use acct_feed::Status;
 use acct_model::Text;
-use acct_site::Config;
 use sqlite::{FileFrom, Start};
 use std::io::Write;
 
@@ -110,7 +104,7 @@ fn check_book<S: Start, W: Write + Drop>(
 }
 
 // The book in a file, which keeps the plans of the configuration in another one, once the sizes of
-// that were told.
+// that were printed.
 fn checked_from<S: Start, W: Write>(
     runtime: &HostRuntime,
     config: &Text,
@@ -123,26 +117,8 @@ fn checked_from<S: Start, W: Write>(
     ensures failed { IfErr result (λ e. FailsToCheck (image_at S.Start) e.0 e.1) }
 {
     let config = config_of(runtime, config)?;
-    checked(runtime, &config, file, output, start)
-}
-
-// The same with this configuration.
-fn checked<S: Start, W: Write>(
-    runtime: &HostRuntime,
-    config: &Config,
-    file: &Text,
-    output: &mut W,
-    start: S,
-) -> Result<FileConnection<S>, (Fault, Left<FileFrom<S>>)>
-    ensures checked { IfOk result (λ last. (HasCleanDisk (file_state last)
-        → IsBookOf (image_at S.Start) config.now.plans last)) }
-    ensures told { IfOk result (λ last. Appends (W.contents output.old) (W.contents output.new)
-        (sizes_line config.now)) }
-    ensures refused { IfErr result (λ e.
-        IsUnchecked (image_at S.Start) config.now.plans e.0 e.1) }
-{
     let connection = adopted(runtime, file, &config.plans, start)?.into_connection();
-    match write_sizes(output, config) {
+    match write_sizes(output, &config) {
         Ok(_) => Ok(connection),
         Err(fault) => Err((fault, Left::Open(connection))),
     }

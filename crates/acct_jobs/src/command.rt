@@ -44,7 +44,7 @@ use std::alloc::Global;
 use std::io;
 use std::io::{Read, Write};
 
-/// How a command ended, with its output where that was not lost, and what it left of its files.
+/// How a command ended, its output if that was not lost, and what it left of its files.
 #[derive(Drop)]
 pub struct Outcome<W, D: Disk> {
     /// Its status, or the fault that ended it.
@@ -58,8 +58,8 @@ pub struct Outcome<W, D: Disk> {
 /// The end of a command that closes its book, or what a fault left.
 pub(crate) type Ending<S> = Result<(Status, Files<FileFrom<S>>), (Fault, Left<FileFrom<S>>)>;
 
-/// Does a job over these streams, and says how it ended. The book's files held what `S` says. What
-/// a server tells while it runs goes to `errors`, its drops and counts only where it isn't quiet.
+/// Does a job over these streams. The book's files held what `S` says. What a server prints while it
+/// runs goes to `errors`: its drops and counts only if it isn't quiet.
 pub fn run<S: Start, I: Read + Drop, W: Write + Drop, E: Write + Drop>(
     runtime: &HostRuntime,
     job: &Job,
@@ -287,7 +287,7 @@ fn import<S: Start, I: Read + Drop, W: Write>(
     )
 }
 
-// The same with this configuration, at this moment.
+// `import` with a configuration that was read, at a moment.
 fn imported<S: Start, I: Read + Drop, W: Write>(
     runtime: &HostRuntime,
     config: &Config,
@@ -365,7 +365,7 @@ fn export<S: Start, W: Write + Drop>(
     }
 }
 
-// The same with this configuration. The files stay as they are: an export needs no close.
+// `export` with a configuration that was read. The files stay as they are: it needs no close.
 fn exported<S: Start, W: Write + Drop>(
     runtime: &HostRuntime,
     config: &Config,

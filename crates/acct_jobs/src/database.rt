@@ -67,7 +67,7 @@ pub fn made<S: Start>(
     made_of(runtime.alloc(), making, connection, plans)
 }
 
-/// The book in a file that is there: it tells what the tables in the file held.
+/// The book in a file that is there, with what the tables in the file held.
 ///
 /// # Errors
 ///
@@ -112,7 +112,7 @@ pub fn close<S: Start>(
 }
 
 // Makes the files of a new book so that no other user can read them: an open would leave that to the
-// umask. Files that are there stay as they are. What can't be made here, the open tells of.
+// umask. Files that are there stay as they are. If one can't be made, the open reports it.
 fn keep_private(runtime: &HostRuntime, file: &Text) {
     make_private(runtime, file.as_str());
     if let Ok(log) = format!(in runtime.alloc(); "{}-wal", file.as_str()) {

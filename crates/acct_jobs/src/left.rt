@@ -2,8 +2,8 @@
 use sqlite::{Connection, FileStore, Files, Leftover};
 use sqlite_disk::Disk;
 
-/// What a command leaves of a book's files. It is let go as the program ends, and until then its
-/// values say what the files hold.
+/// What a command leaves of a book's files. It is released as the program ends. Until then its values
+/// say what the files hold.
 pub enum Left<D: Disk> {
     /// No file was opened as a database.
     Nothing,

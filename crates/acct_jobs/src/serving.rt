@@ -21,8 +21,8 @@ use acct_sql::SqlBook;
 use sqlite::{Alter, Connection, FileFrom, FileStore, Start};
 use std::io::Write;
 
-/// `serve` over the book of a file. While it runs it tells on `errors` what it drops, if it isn't
-/// to be quiet, and what is to be told of its site.
+/// `serve` over the book of a file. While it runs it prints on `errors` what it drops, unless it is
+/// to be quiet, and what becomes of its files.
 pub(crate) fn serve<S: Start, W: Write, E: Write + Drop>(
     runtime: &HostRuntime,
     paths: &Paths,
@@ -51,7 +51,7 @@ pub(crate) fn serve<S: Start, W: Write, E: Write + Drop>(
     )
 }
 
-// Where a server tells what it drops: nowhere, if it is to be quiet.
+// Where a server prints what it drops: nowhere, if it is to be quiet.
 fn told_to<E: Drop>(errors: Errors<E>, is_quiet: bool) -> Errors<E>
     ensures quiet { is_quiet ≡ true → result.drops ≡ None }
     ensures other { is_quiet ≡ false → result ≡ errors }
@@ -67,7 +67,7 @@ fn told_to<E: Drop>(errors: Errors<E>, is_quiet: bool) -> Errors<E>
     errors
 }
 
-// The same with this configuration, which was read from its file.
+// `serve` with a configuration that was read from its file.
 fn served<S: Start, W: Write, E: Write + Drop>(
     runtime: &HostRuntime,
     config: &Config,

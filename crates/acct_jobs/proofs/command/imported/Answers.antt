@@ -1,4 +1,4 @@
-use Rattle.std.proofs.Common.{◌≡◌, ◌≢◌}
+use Rattle.std.proofs.Common.{◌≢◌}
 use Rattle.acct_feed.specs.declared.status.Status.TheVariants as Status
 use Rattle.acct_jobs.proofs.Ended.{closes_if, fails_if, status_if}
 use Rattle.acct_jobs.proofs.command.imported.Goals as goal
