@@ -50,3 +50,11 @@ pub mod Kept
 pub mod SamePlans
 -- the laws of plans that are added later
 pub mod KeptLaws
+-- a history without the reports of one session
+pub mod Without
+-- to carry sessions forward moves no balance
+pub mod Forward
+-- a history goes on alike if sessions were carried forward
+pub mod GoOn
+-- a history in which sessions are carried forward keeps the balances of what was sent
+pub mod Courses

@@ -14,3 +14,5 @@ pub mod Laws
 pub mod PlanLaws
 pub mod MoneyLaws
 pub mod KeptLaws
+pub mod Forward
+pub mod Course

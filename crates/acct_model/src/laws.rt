@@ -6,6 +6,8 @@ ghost use Rattle.acct_model.specs.PlanLaws.{StartedBlocksAreLeast, FaultlessPlan
 ghost use Rattle.acct_model.specs.PlanLaws.{EachClassIsPlanned, PlanIsOfItsClass};
 ghost use Rattle.acct_model.specs.MoneyLaws.{SessionIsCharged, MoneyMovesOnce};
 ghost use Rattle.acct_model.specs.KeptLaws.{PlansAreKept};
+ghost use Rattle.acct_model.specs.Forward.{SessionsStandAlone, ForwardMovesNothing, ForwardGoesOn};
+ghost use Rattle.acct_model.specs.Course.{ForwardSettles};
 
 /// The blocks that a price counts cover the octets, and fewer do not.
 pub fn started_blocks_are_least()
@@ -80,4 +82,29 @@ pub fn money_moves_once()
 /// plans are added later, and an addition of plans moves no money.
 pub fn plans_are_kept()
     ensures { PlansAreKept }
+{}
+
+/// The reports of a session may be taken out of a history: the balance of its owner is then more by
+/// what the session costs, and no other balance, session, plan or top-up changes.
+pub fn sessions_stand_alone()
+    ensures { SessionsStandAlone }
+{}
+
+/// To carry sessions of one account and plan forward moves no balance: their reports are taken out,
+/// and one report of another session counts the blocks that they had started. The same accounts are
+/// known.
+pub fn forward_moves_nothing()
+    ensures { ForwardMovesNothing }
+{}
+
+/// A history in which sessions were carried forward goes on as the one in which none were: what is
+/// accepted later, but reports of those sessions, and what plans are added move the same balances.
+pub fn forward_goes_on()
+    ensures { ForwardGoesOn }
+{}
+
+/// Disturbed delivery, where sessions are carried forward now and then and no report of them is
+/// accepted later: the balances are those of what was sent.
+pub fn forward_settles()
+    ensures { ForwardSettles }
 {}
