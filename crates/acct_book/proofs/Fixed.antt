@@ -15,7 +15,7 @@ use Rattle.acct_book.specs.Walk.{AreMembers, ListsAreFixed}
 use Rattle.acct_book.proofs.WalkLaws.{key_total}
 
 module _ {K X : Type 0} (cmp : K → K → Ordering) (total : IsTotalOrder cmp) (key : X → K) where
-  below_all : (k : K) (x : X) (xs : List X) → AllByRecursion (λ j. cmp k j ≡ Less) (map key xs)
+  pub below_all : (k : K) (x : X) (xs : List X) → AllByRecursion (λ j. cmp k j ≡ Less) (map key xs)
       → Contains xs x → cmp k (key x) ≡ Less
   below_all k x [] below there = absurd (nowhere x there)
   below_all k x (y ∷ ys) below there = elim (front_or_behind y x ys there) [
@@ -27,7 +27,7 @@ module _ {K X : Type 0} (cmp : K → K → Ordering) (total : IsTotalOrder cmp) 
   not_both j k jk kj =
       let turned : cmp k j ≡ Greater = total.antisymm k j ∙ ap ordering_reverse jk in cc
 
-  not_itself : (k : K) → cmp k k ≡ Less → ⊥
+  pub not_itself : (k : K) → cmp k k ≡ Less → ⊥
   not_itself k kk = not_both k k kk kk
 
   abbrev Within : List X → List X → Type 0

@@ -125,10 +125,10 @@ both_at : {T E : Type 0} (r : Result T E) (P Q N M : Type 0) (old new written : 
 both_at (Ok x) P Q N M old new written p q n m ok err = record { ok = ok p q; err = tt }
 both_at (Err e) P Q N M old new written p q n m ok err = record { ok = tt; err = err n m }
 
-abbrev Topups : Type 0
+abbrev pub Topups : Type 0
 Topups = BTreeMap (String Global) TopUpFacts
 
-abbrev Balances : Type 0
+abbrev pub Balances : Type 0
 Balances = BTreeMap (Vec ℕ Global) ℤ
 
 session_ok : (m n : BTreeMap Key RowFacts) (b d : Balances) (t : Topups) (row copy : RowFacts)

@@ -1,6 +1,6 @@
 -- What a book contains: three maps, each seen as a function, and the plans that it keeps.
-use Rattle.std.specs.Prelude.{◌≡◌, ℕ, ℤ, pos, Bool, ◌&&◌, if◌then◌else◌, bytes_eq, List, Option}
-use Rattle.std.specs.Prelude.{Some, None, unwrap_or, option_map}
+use Rattle.std.specs.Prelude.{◌≡◌, ◌≢◌, ℕ, ℤ, pos, Bool, ◌&&◌, if◌then◌else◌, bytes_eq, List, []}
+use Rattle.std.specs.Prelude.{◌∷◌, Contains, Option, Some, None, unwrap_or, option_map}
 use Rattle.std.specs.Map.{update}
 use Rattle.acct_model.specs.declared.plan.Plan.{Plan}
 use Rattle.acct_model.specs.Plans.{plan_for}
@@ -88,6 +88,24 @@ with_closed content client = record {
   topups = content.topups;
   plans = content.plans;
 }
+
+-- the rows without those of these keys
+abbrev pub rows_without : (Key → Option RowFacts) → List Key → Key → Option RowFacts
+rows_without rows [] = rows
+rows_without rows (key ∷ keys) = rows_without (update same_key rows key None) keys
+
+-- without the rows of these keys, and with this row: no balance and no top-up changes
+abbrev pub with_forward : Content → List Key → RowFacts → Content
+with_forward content gone row = record {
+  rows = update same_key (rows_without content.rows gone) (key_of row) (Some row);
+  balances = content.balances;
+  topups = content.topups;
+  plans = content.plans;
+}
+
+-- the key is none of these
+abbrev pub IsNone : List Key → Key → Type 0
+IsNone gone key = (other : Key) → Contains gone other → key ≢ other
 
 -- each row stands under its own key, and each top-up under its own number
 pub record HasOwnKeys (content : Content) : Type 0 where

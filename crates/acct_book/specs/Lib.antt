@@ -12,5 +12,6 @@ pub mod Step
 pub mod Charge
 pub mod Outcome
 pub mod Laws
+pub mod Carrying
 pub mod Part
 pub mod inner

@@ -2,3 +2,4 @@
 pub mod Calls
 pub mod Next
 pub mod Step
+pub mod Forwarding

@@ -2,7 +2,7 @@
 ghost use Rattle.std.specs.Prelude.{◌≡◌, IfOk, IsOk, option_map};
 ghost use Rattle.std.specs.Option.{option_copied};
 ghost use Rattle.acct_book.specs.Content.{Content, HasOwnKeys, kept_balance, with_session};
-ghost use Rattle.acct_book.specs.Content.{with_topup, with_closed};
+ghost use Rattle.acct_book.specs.Content.{with_topup, with_closed, with_forward, key_of, IsNone};
 ghost use Rattle.acct_book.specs.Book.{Only, Reads, Writes};
 ghost use Rattle.acct_book.specs.Walk.{IsNextRow, IsNextBalance, IsNextTopUp, AreRowsOf};
 ghost use Rattle.acct_book.specs.Walk.{AreTopUpsOf};
@@ -83,6 +83,13 @@ pub trait Book {
     fn close_client(&mut self, client: &str) -> Result<(), Unavailable>
         ensures { Writes content is_sound is_open is_steady left self.old self.new
             (with_closed (content self.old) client.now) result };
+
+    /// Removes the rows under these keys and sets a row under its own key, which is none of them:
+    /// all of it or nothing. No balance changes.
+    fn put_forward(&mut self, gone: &[Key], row: &Row) -> Result<(), Unavailable>
+        requires { is_open self.old → IsNone gone.now (key_of row.now) }
+        ensures { Writes content is_sound is_open is_steady left self.old self.new
+            (with_forward (content self.old) gone.now row.now) result };
 
     /// All rows of an account, in the order of their keys.
     fn sessions_of(&mut self, account: &[u8]) -> Result<Vec<Row>, Unavailable>

@@ -8,6 +8,8 @@ ghost use Rattle.acct_book.specs.Laws.{RowsHaveTheirKeys, RowsAreOfSessions, Row
 ghost use Rattle.acct_book.specs.Laws.{RowsAreCharged, RowsSayTheirEnds, EndedStaysEnded};
 ghost use Rattle.acct_book.specs.Laws.{RowsKeepTheirPlans, AdditionsStand};
 ghost use Rattle.acct_book.specs.Part.{OtherPartsStay};
+ghost use Rattle.acct_model.specs.Forward.{Batch};
+ghost use Rattle.acct_book.specs.Carrying.{SelectionFacts, CarriesChosen, CarryingMovesNothing};
 ghost use Rattle.acct_book.specs.Stands.{Stands};
 ghost use Rattle.acct_book.specs.Walk.{WalksMeetAll, ListsAreFixed};
 
@@ -103,4 +105,13 @@ pub fn rows_keep_their_plans()
 /// plans, that is then the new one.
 pub fn additions_stand()
     ensures { AdditionsStand }
+{}
+
+/// To carry sessions forward, batch after batch, moves no balance and no top-up. The same accounts
+/// are known, and each session that stays and is no line keeps its row.
+pub fn carrying_moves_nothing()
+    ensures { (selection : SelectionFacts) (plans : List Plan) (history : History)
+        (batches : List Batch) (after : History)
+        → CarriesChosen selection plans history batches after
+        → CarryingMovesNothing selection plans history batches after }
 {}

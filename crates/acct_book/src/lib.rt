@@ -18,16 +18,20 @@
 
 mod book;
 mod charging;
+mod forwarding;
 mod key;
 pub mod laws;
 mod memory_book;
 mod raising;
 mod recording;
 mod row;
+mod selection;
 
 pub use book::{Book, Unavailable};
 pub use charging::charge;
+pub use forwarding::{Tally, carry_account, tally_of};
 pub use key::Key;
 pub use memory_book::MemBook;
 pub use recording::{RecordError, Recorded, record};
 pub use row::{Row, SessionState};
+pub use selection::{Selection, Stay, is_line};

@@ -12,7 +12,8 @@ ghost use Rattle.std.specs.Option.{option_copied};
 ghost use Rattle.std.specs.BTreeMap as tree;
 ghost use Rattle.std.specs.BTreeMap.{IsUnchanged, Updates};
 ghost use Rattle.std.specs.Map.{update};
-ghost use Rattle.acct_book.specs.Content.{HasOwnKeys};
+ghost use Rattle.acct_book.specs.declared.key.Key.{Key};
+ghost use Rattle.acct_book.specs.Content.{HasOwnKeys, same_key, rows_without, IsNone};
 ghost use Rattle.acct_book.specs.Maps.{octets_cmp, key_cmp, content_from, balance_at};
 ghost use Rattle.acct_book.specs.Walk.{IsNext};
 
@@ -136,6 +137,12 @@ impl Book for MemBook {
         Ok(())
     }
 
+    fn put_forward(&mut self, gone: &[Key], row: &Row) -> Result<(), Unavailable> {
+        let key = row.key(self.alloc)?;
+        let copy = row.copy(self.alloc)?;
+        put_alone(&mut self.rows, gone, key, copy)
+    }
+
     fn sessions_of(&mut self, account: &[u8]) -> Result<Vec<Row>, Unavailable> {
         Ok(rows_of(self.alloc, &self.rows, account)?)
     }
@@ -256,6 +263,36 @@ fn put_first<K: Ord + Drop, V: Drop>(
             balances.remove(name);
             Err(Unavailable)
         }
+    }
+}
+
+// Sets a row and then removes those of other keys, for which no memory is needed.
+fn put_alone(
+    rows: &mut BTreeMap<Key, Row>,
+    gone: &[Key],
+    key: Key,
+    row: Row,
+) -> Result<(), Unavailable>
+    requires { IsNone gone.now key }
+    ensures put { OnOk result ((k : Key) → tree.get key_cmp rows.new k
+        ≡ update same_key (rows_without (tree.get key_cmp rows.old) gone.now) key (Some row) k) }
+    ensures same { OnErr result (IsUnchanged rows.old rows.new) }
+{
+    match rows.insert(key, row) {
+        Ok(_) => (),
+        Err(_) => return Err(Unavailable),
+    }
+    take_out(rows, gone);
+    Ok(())
+}
+
+// Removes the rows of these keys.
+fn take_out(rows: &mut BTreeMap<Key, Row>, gone: &[Key])
+    ensures { (k : Key) → tree.get key_cmp rows.new k
+        ≡ rows_without (tree.get key_cmp rows.old) gone.now k }
+{
+    for key in gone {
+        rows.remove(key);
     }
 }
 

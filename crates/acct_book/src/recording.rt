@@ -208,7 +208,7 @@ fn key_for(alloc: Global, report: &Report) -> Result<Key, AllocError>
 }
 
 // The row after a report, and the price before it.
-fn advance(
+pub(crate) fn advance(
     alloc: Global,
     plans: &Plans,
     found: Option<Row>,

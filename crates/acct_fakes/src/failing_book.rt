@@ -78,6 +78,11 @@ impl<B: Book> Book for FailingBook<B> {
         self.book.close_client(client)
     }
 
+    fn put_forward(&mut self, gone: &[Key], row: &Row) -> Result<(), Unavailable> {
+        self.count()?;
+        self.book.put_forward(gone, row)
+    }
+
     fn sessions_of(&mut self, account: &[u8]) -> Result<Vec<Row>, Unavailable> {
         self.count()?;
         self.book.sessions_of(account)

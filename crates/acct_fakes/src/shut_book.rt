@@ -129,6 +129,16 @@ impl Book for ShutBook {
         Ok(())
     }
 
+    fn put_forward(&mut self, gone: &[Key], row: &Row) -> Result<(), Unavailable> {
+        self.check_open()?;
+        self.present.put_forward(gone, row)?;
+        self.is_shut = true;
+        self.take_write()?;
+        self.durable.put_forward(gone, row)?;
+        self.is_shut = false;
+        Ok(())
+    }
+
     fn sessions_of(&mut self, account: &[u8]) -> Result<Vec<Row>, Unavailable> {
         self.check_open()?;
         self.durable.sessions_of(account)

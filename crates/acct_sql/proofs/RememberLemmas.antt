@@ -10,13 +10,15 @@ use Rattle.sqlite.specs.State.{State}
 use Rattle.sqlite_rules.specs.Lists.{Has}
 use Rattle.sqlite_rules.proofs.ListLemmas.{has_either, has_filtered, some_has}
 use Rattle.std.specs.List.{list_any}
+use Rattle.std.specs.Map.{update}
 use Rattle.std.proofs.Common.{not, filter}
 use Rattle.acct_model.specs.Vouchers.{TopUpFacts}
+use Rattle.acct_book.specs.declared.key.Key.{Key}
 use Rattle.acct_book.specs.declared.row.SessionState.{SessionState}
 use Rattle.acct_book.specs.declared.row.SessionState.TheVariants.{Live, Closed, Stopped}
 use Rattle.acct_book.specs.Row.{RowFacts}
 use Rattle.acct_book.specs.Content.{Content, same_key, key_of, with_session, with_topup, with_closed}
-use Rattle.acct_book.specs.Content.{closed_by, closed_row}
+use Rattle.acct_book.specs.Content.{closed_by, closed_row, rows_without, with_forward}
 use Rattle.acct_sql.specs.declared.memory.ReadSession.{ReadSession}
 use Rattle.acct_sql.specs.declared.memory.Memory.{Memory}
 use Rattle.acct_tables.specs.Content.{content_in_tables, plans_in_tables}
@@ -154,6 +156,31 @@ sets_none content row balance client calm ended key found is mine =
         (ap (λ (r : RowFacts). r.state) same ∙ live)
     go false there = ended key found there mine
 
+-- what is left under a key when others are removed was there before
+left_there : (rows : Key → Option RowFacts) (gone : List Key) (key : Key) (row : RowFacts)
+    → rows_without rows gone key ≡ Some row → rows key ≡ Some row
+left_there rows [] key row h = h
+left_there rows (first ∷ gone) key row h = go (same_key first key)
+    (left_there (update same_key rows first None) gone key row h)
+  where
+    go : (b : Bool) → cond b None (rows key) ≡ Some row → rows key ≡ Some row
+    go true is = absurd cc
+    go false is = is
+
+-- a session that is removed was none that is live, or is no more
+forwards_none : (content : Content) (gone : List Key) (row : RowFacts) (client : List ℕ)
+    → (row.client ≡ client → row.state ≢ Live) → HasEnded content client
+    → HasEnded (with_forward content gone row) client
+forwards_none content gone row client calm ended key found is mine =
+    go (same_key (key_of row) key) is
+  where
+    go : (b : Bool) → cond b (Some row) (rows_without content.rows gone key) ≡ Some found
+        → found.state ≢ Live
+    go true here = let same : row ≡ found = cc in
+        λ live. calm (ap (λ (r : RowFacts). r.client) same ∙ mine)
+        (ap (λ (r : RowFacts). r.state) same ∙ live)
+    go false there = ended key found (left_there content.rows gone key found there) mine
+
 -- what held of the content before and holds of what was written holds after
 pub holds_after : {S T E : Type 0} (g : Ghosts S) (old new : Held S) (change : Content → Content)
     (P : Content → Type 0) (result : Result T E) → Wrote g old new change result
@@ -233,6 +260,20 @@ module _ {S T E : Type 0} (g : Ghosts S) (old new : Held S) (before after : Memo
         holds_after g old new (λ content. with_session content row balance)
         (λ content. HasEnded content client) result w (was.ended client it.0)
         (sets_none (content_at g old) row balance client it.1) o;
+  }
+
+  -- sessions were removed and a row was set
+  pub remembers_forward : (gone : List Key) (row : RowFacts) → after.last_read ≡ None
+      → AreEndedAfter row before.ended.items after.ended.items
+      → Wrote g old new (λ content. with_forward content gone row) result
+      → Remembers (state g new) after
+  remembers_forward gone row none ended w = record {
+    read = none_read (λ r. KeepsPlan (state g new) r.key r.plan) after.last_read none;
+    ended = λ client there o.
+        let it = ended client there in
+        holds_after g old new (λ content. with_forward content gone row)
+        (λ content. HasEnded content client) result w (was.ended client it.0)
+        (forwards_none (content_at g old) gone row client it.1) o;
   }
 
   -- a top-up was set

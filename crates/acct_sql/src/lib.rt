@@ -4,13 +4,13 @@
 //!    `price_plan` and `plan_count` hold, column by column (`acct_tables/specs/Content.antt`).
 //!    `create` and `adopt` say so of the book that they give.
 //! 2. A call that writes is one transaction: of each table an UPDATE by key, and an INSERT where
-//!    that met no row.
+//!    that met no row. `put_forward` first removes sessions and their plans, by DELETEs by key.
 //! 3. A call that reads is a transaction too, which writes nothing: so a read of a store that was
 //!    shut adds nothing to what a crash may leave.
 //! 4. While the book is open, all that it holds is committed, and a crash leaves that alone.
 //! 5. Rowids are integers and tell rows apart (`acct_tables/specs/Tidy.antt`): the rules of a
-//!    schema don't say so, and an UPDATE goes by them. `create` makes it so, `adopt` tests it, each
-//!    write keeps it.
+//!    schema don't say so, and an UPDATE and a DELETE go by them. `create` makes it so, `adopt`
+//!    tests it, each write keeps it.
 //! 6. No call of a book writes the schema number, the plans, or what they count: in what it shows,
 //!    and in what a crash may leave, they stay (`acct_tables/specs/Book.antt`, `LeavesPlans`). The
 //!    plans are part of the content, so whoever records in a book keeps them.

@@ -2,7 +2,7 @@
 ghost use Rattle.sqlite.specs.Held.{state};
 
 use crate::memory::Memory;
-use crate::writing::{close_client, write_session, write_topup};
+use crate::writing::{close_client, write_forward, write_session, write_topup};
 use acct_book::{Book, Key, Row, Unavailable};
 use acct_model::{Plans, TopUp};
 use acct_tables::listing::{read_sessions, read_topups};
@@ -310,6 +310,7 @@ impl<S: Alter> Book for SqlBook<S> {
     ghost use Rattle.std.specs.Prelude.{◌≡◌, IsOk, IfOk, option_map};
     ghost use Rattle.std.specs.Option.{option_copied};
     ghost use Rattle.acct_book.specs.Content.{kept_balance, with_session, with_topup, with_closed};
+    ghost use Rattle.acct_book.specs.Content.{with_forward};
     ghost use Rattle.acct_book.specs.Walk.{IsNextRow, IsNextBalance, IsNextTopUp, AreRowsOf};
     ghost use Rattle.acct_book.specs.Walk.{AreTopUpsOf};
     ghost use Rattle.acct_tables.specs.Book.{content_at, is_sound_at, is_open_at, is_steady_at};
@@ -407,6 +408,20 @@ impl<S: Alter> Book for SqlBook<S> {
             Err(_) => return Err(Unavailable),
         }
         self.memory.keep_ended(self.alloc, client);
+        Ok(())
+    }
+
+    fn put_forward(&mut self, gone: &[Key], row: &Row) -> Result<(), Unavailable>
+        ensures writes { Wrote S.Store self.old self.new
+            (λ content. with_forward content gone.now row.now) result }
+        ensures plans { LeavesPlans (state S.Store self.old) (state S.Store self.new) }
+    {
+        self.memory.forget_read();
+        self.memory.forget_ended(row);
+        match write_forward(&mut self.conn, gone, row) {
+            Ok(()) => {}
+            Err(_) => return Err(Unavailable),
+        }
         Ok(())
     }
 

@@ -1,17 +1,19 @@
 //! The statements that write, each in a transaction.
-ghost use Rattle.std.specs.Prelude.{IsTrue};
+ghost use Rattle.std.specs.Prelude.{IsTrue, ◌∷◌, []};
 ghost use Rattle.sqlite.specs.Held.{state};
 ghost use Rattle.sqlite.specs.Values.{bound};
 ghost use Rattle.acct_book.specs.Content.{key_of, with_session, with_topup, with_closed};
+ghost use Rattle.acct_book.specs.Content.{with_forward};
 ghost use Rattle.acct_tables.specs.inner.Inside.{HoldsBook, HasMade, HasPut, RunsInside, HasFinished};
 ghost use Rattle.acct_tables.specs.Book.{is_open_at, content_at};
 ghost use Rattle.acct_tables.specs.Content.{without_plan};
 ghost use Rattle.acct_tables.specs.inner.Inside.{with_row, with_balance, with_voucher};
 ghost use Rattle.acct_tables.specs.inner.Inside.{HasMadeBare, HasPlanOf, HasSetPlan, Holds};
+ghost use Rattle.acct_tables.specs.inner.Inside.{HasRemovedPlan, HasRemoved, without_rows};
 ghost use Rattle.acct_tables.specs.inner.AtRest.{IsAtRest, WritesAtRest};
 ghost use Rattle.acct_sql.specs.inner.Remembered.{HasEnded};
 
-use acct_book::Row;
+use acct_book::{Key, Row};
 use acct_model::TopUp;
 use acct_tables::cells::has_blob;
 use acct_tables::columns::{session_plan_values, session_values, topup_values};
@@ -21,7 +23,8 @@ use acct_tables::refused::Refused;
 use acct_tables::session_classes::show;
 use acct_tables::statements::{
     CLOSE_SESSIONS_OF_CLIENT, NEW_BALANCE, NEW_SESSION, NEW_SESSION_PLAN, NEW_TOPUP,
-    PLAN_OF_SESSION, SET_BALANCE, SET_SESSION, SET_SESSION_PLAN, SET_TOPUP,
+    PLAN_OF_SESSION, REMOVE_SESSION, REMOVE_SESSION_PLAN, SET_BALANCE, SET_SESSION,
+    SET_SESSION_PLAN, SET_TOPUP,
 };
 use sqlite::types::ValueRef;
 use sqlite::{Alter, Connection, Transaction, params};
@@ -89,6 +92,63 @@ fn set_row<S: Alter>(
         return Ok(());
     }
     set_plan(tx, row)
+}
+
+// Removes the columns of a session, but not its plan.
+fn remove_columns<S: Alter>(tx: &mut Transaction<'_, S>, key: &Key) -> Result<(), Refused>
+    requires { HoldsBook S.Store tx.old.conn.now }
+    ensures { RunsInside S.Store tx.old.conn tx.new.conn
+        (HasMadeBare (λ c. without_rows c (key.now ∷ []))) result }
+{
+    let values = params![key.client.as_str(), key.session.as_slice()];
+    tx.execute(REMOVE_SESSION, values)?;
+    Ok(())
+}
+
+fn remove_plan<S: Alter>(tx: &mut Transaction<'_, S>, key: &Key) -> Result<(), Refused>
+    requires { HoldsBook S.Store tx.old.conn.now }
+    ensures { RunsInside S.Store tx.old.conn tx.new.conn (HasRemovedPlan key.now) result }
+{
+    let values = params![key.client.as_str(), key.session.as_slice()];
+    tx.execute(REMOVE_SESSION_PLAN, values)?;
+    Ok(())
+}
+
+// Removes the columns of a session and its plan.
+fn remove_row<S: Alter>(tx: &mut Transaction<'_, S>, key: &Key) -> Result<(), Refused>
+    requires { HoldsBook S.Store tx.old.conn.now }
+    ensures { RunsInside S.Store tx.old.conn tx.new.conn (HasRemoved (key.now ∷ [])) result }
+{
+    remove_columns(tx, key)?;
+    remove_plan(tx, key)
+}
+
+// Without a key no statement runs, so nothing shows whether the database is open.
+fn remove_rows<S: Alter>(tx: &mut Transaction<'_, S>, keys: &[Key]) -> Result<(), Refused>
+    requires book { HoldsBook S.Store tx.old.conn.now }
+    requires inside { Holds S.Store (λ s. IsTrue s.in_transaction) tx.old.conn.now }
+    ensures { RunsInside S.Store tx.old.conn tx.new.conn
+        (λ old new. IsTrue new.is_open → HasRemoved keys.now old new) result }
+{
+    for key in keys {
+        remove_row(tx, key)?;
+    }
+    Ok(())
+}
+
+// Removes the sessions of these keys, and sets a row.
+fn set_forward<S: Alter>(
+    tx: &mut Transaction<'_, S>,
+    gone: &[Key],
+    row: &Row,
+) -> Result<(), Refused>
+    requires book { HoldsBook S.Store tx.old.conn.now }
+    requires inside { Holds S.Store (λ s. IsTrue s.in_transaction) tx.old.conn.now }
+    ensures { RunsInside S.Store tx.old.conn tx.new.conn
+        (HasMade (λ c. with_forward c gone.now row.now)) result }
+{
+    remove_rows(tx, gone)?;
+    set_row(tx, row, false)
 }
 
 fn set_balance<S: Alter>(
@@ -177,6 +237,21 @@ pub(crate) fn write_topup<S: Alter>(
 {
     let mut tx = conn.transaction();
     let done = set_credit(&mut tx, topup, balance);
+    finish(tx, done)
+}
+
+/// Removes the rows under these keys and sets a row in one transaction.
+pub(crate) fn write_forward<S: Alter>(
+    conn: &mut Connection<S>,
+    gone: &[Key],
+    row: &Row,
+) -> Result<(), Refused>
+    requires { IsAtRest S.Store conn.old }
+    ensures { WritesAtRest S.Store conn.old conn.new
+        (λ c. with_forward c gone.now row.now) result }
+{
+    let mut tx = conn.transaction();
+    let done = set_forward(&mut tx, gone, row);
     finish(tx, done)
 }
 

@@ -1,6 +1,9 @@
 //! What a book is told and asked, said as data.
-use crate::sample_book::{Name, S1, STOPPED, Usage, key, row};
-use acct_book::{Book, Row, Unavailable};
+ghost use Rattle.std.specs.Prelude.{IsTrue};
+ghost use Rattle.acct_book.specs.Content.{key_of, IsNone};
+
+use crate::sample_book::{CARRIED, LINE, Name, S1, STOPPED, Usage, key, keys, row};
+use acct_book::{Book, Key, Row, Unavailable};
 use acct_model::TopUp;
 use std::alloc::Global;
 use std::test::Fail;
@@ -24,6 +27,11 @@ pub(crate) enum Ask {
     PutOnce,
     // The same of the voucher.
     TopUpOnce,
+    // The sessions of these names are removed, and the row of this name of the account `al` is put,
+    // which is none of them.
+    Forward(&'static [Name<'static>], Name<'static>, Usage),
+    // The session `s1` is carried into a row, or told as before and carried by the next call.
+    ForwardOnce,
     // The walk meets the session `s1` of the usage `STOPPED`, or does so at the next call.
     Walk,
 }
@@ -134,6 +142,54 @@ fn put_topup_once<B: Book>(alloc: Global, book: &mut B) -> Result<bool, Fail> {
     Ok(is_credited(book, &topup)?)
 }
 
+// Whether the row is under none of these keys.
+pub(crate) fn is_apart(gone: &[Key], row: &Row) -> bool
+    ensures { IsTrue result → IsNone gone.now (key_of row.now) }
+{
+    gone.iter().all(|key| key.client != row.client || key.session != row.session)
+}
+
+// Carries the sessions of these keys into a row, and tells whether the row is none of them.
+pub(crate) fn carry<B: Book>(book: &mut B, gone: &[Key], row: &Row) -> Result<bool, Unavailable> {
+    if !is_apart(gone, row) {
+        return Ok(false);
+    }
+    book.put_forward(gone, row)?;
+    Ok(true)
+}
+
+fn forward<B: Book>(
+    alloc: Global,
+    book: &mut B,
+    gone: &[Name<'_>],
+    name: &Name<'_>,
+    usage: &Usage,
+) -> Result<bool, Fail> {
+    let gone = keys(alloc, gone)?;
+    let row = row(alloc, name, b"al", usage)?;
+    Ok(carry(book, &gone, &row)?)
+}
+
+// Whether the session `s1` was carried, or stands as before, and was carried by the next call.
+fn forward_once<B: Book>(alloc: Global, book: &mut B) -> Result<bool, Fail> {
+    let gone = keys(alloc, &[S1])?;
+    let line = row(alloc, &LINE, b"al", &CARRIED)?;
+    let is_told = if carry(book, &gone, &line) == Ok(true) {
+        is_carried(alloc, book)?
+    } else {
+        is_session(alloc, book, &STOPPED)? && told(alloc, book, &LINE)?.is_none()
+    };
+    let _ = carry(book, &gone, &line);
+    Ok(is_told && is_carried(alloc, book)?)
+}
+
+fn is_carried<B: Book>(alloc: Global, book: &mut B) -> Result<bool, Fail> {
+    let is_gone = told(alloc, book, &S1)?.is_none();
+    let line = told(alloc, book, &LINE)?;
+    let has_balance = has_balance(book, -20)?;
+    Ok(is_gone && has_balance && is_of_input(&line, CARRIED.octets.0))
+}
+
 fn is_met<B: Book>(book: &mut B) -> Result<bool, Unavailable> {
     let row = match book.next_session(None) {
         Ok(row) => row,
@@ -153,6 +209,8 @@ pub(crate) fn is_so<B: Book>(alloc: Global, book: &mut B, ask: &Ask) -> Result<b
         Ask::Hidden => is_hidden(alloc, book),
         Ask::PutOnce => put_once(alloc, book),
         Ask::TopUpOnce => put_topup_once(alloc, book),
+        Ask::Forward(gone, name, usage) => forward(alloc, book, gone, name, usage),
+        Ask::ForwardOnce => forward_once(alloc, book),
         Ask::Walk => Ok(is_met(book)?),
     }
 }

@@ -1,5 +1,6 @@
 //! All calls of a book on tables beside those of the book in memory.
-use crate::sample_book::{LATER, Name, S1, STOPPED, Usage, key, made, row};
+use crate::asking::carry;
+use crate::sample_book::{CARRIED, LATER, LINE, Name, S1, STOPPED, Usage, key, keys, made, row};
 use acct_book::{Book, Key, MemBook, Row, SessionState, Unavailable};
 use acct_model::TopUp;
 use acct_sql::SqlBook;
@@ -30,6 +31,8 @@ enum Turn {
     Put(Name<'static>, &'static [u8], Usage, i64),
     // A top-up of `al` is put as (number, sum, moment), and the balance.
     TopUp(&'static str, u64, u32, i64),
+    // The sessions of these names are removed, and a row is put as (name, account, usage).
+    Forward(&'static [Name<'static>], Name<'static>, &'static [u8], Usage),
     // Each live session of the client is closed.
     Close(&'static str),
     // The session is in this state, or there is none.
@@ -143,6 +146,11 @@ impl Books {
             && self.memory.put_topup(topup, balance).is_ok()
     }
 
+    fn carry(&mut self, gone: &[Key], row: &Row) -> bool {
+        carry(&mut self.tables, gone, row) == Ok(true)
+            && carry(&mut self.memory, gone, row) == Ok(true)
+    }
+
     fn close(&mut self, client: &str) -> bool {
         self.tables.close_client(client).is_ok() && self.memory.close_client(client).is_ok()
     }
@@ -217,6 +225,10 @@ impl Books {
                 let topup = TopUp::new(alloc, number, b"al", *sum, u64::from(*when))?;
                 self.put_topup(&topup, *balance)
             }
+            Turn::Forward(gone, name, account, usage) => {
+                let gone = keys(alloc, gone)?;
+                self.carry(&gone, &row(alloc, name, account, usage)?)
+            }
             Turn::Session(name, state) => self.tell_session(&key(alloc, name)?, *state),
             Turn::Close(client) => self.close(client),
             Turn::FirstSession => self.tell_first_session(),
@@ -250,7 +262,7 @@ fn expect_same(alloc: Global, script: &Script) -> Result<(), Fail> {
 // What a script is of, and its turns.
 type Script = (&'static str, &'static [Turn]);
 
-static SCRIPTS: [Script; 4] = [
+static SCRIPTS: [Script; 6] = [
     // A row, another, and the first with other values; then a restart of their client.
     (
         "rows",
@@ -298,6 +310,44 @@ static SCRIPTS: [Script; 4] = [
             Turn::SessionsOf(b"al"),
             Turn::Session(("ap1", b"s0"), Some(SessionState::Closed)),
             Turn::Session(("ap2", b"s1"), Some(SessionState::Live)),
+        ],
+    ),
+    // Two sessions of an account are carried into a row, then another and one that is not there
+    // into the same row. A session of another account stays, and one that went comes again.
+    (
+        "carryings",
+        &[
+            Turn::Put(S1, b"al", STOPPED, -20),
+            Turn::Put(("ap1", b"s2"), b"al", STOPPED, -40),
+            Turn::Put(("ap1", b"s3"), b"bo", STOPPED, 7),
+            Turn::Put(("ap2", b"s1"), b"al", LATER, -60),
+            Turn::Forward(&[S1, ("ap1", b"s2")], LINE, b"al", CARRIED),
+            Turn::Session(S1, None),
+            Turn::Session(("ap1", b"s2"), None),
+            Turn::SessionsOf(b"al"),
+            Turn::SessionsOf(b"bo"),
+            Turn::FirstSession,
+            Turn::Forward(&[("ap2", b"s1"), ("ap2", b"s9")], LINE, b"al", STOPPED),
+            Turn::SessionsOf(b"al"),
+            Turn::Balance(b"al"),
+            Turn::Balance(b"bo"),
+            Turn::NextAccount(None),
+            Turn::Put(S1, b"al", LATER, -80),
+            Turn::SessionsOf(b"al"),
+        ],
+    ),
+    // The live session of a client that was closed is carried, the row that is put is live and of
+    // that client, and then it is closed.
+    (
+        "carryings and restarts",
+        &[
+            Turn::Put(S1, b"al", LATER, 3),
+            Turn::Close("ap1"),
+            Turn::Close("ap1"),
+            Turn::Forward(&[S1], ("ap1", b"s0"), b"al", LATER),
+            Turn::Close("ap1"),
+            Turn::Session(("ap1", b"s0"), Some(SessionState::Closed)),
+            Turn::SessionsOf(b"al"),
         ],
     ),
     // A top-up, another, and that one with other values.

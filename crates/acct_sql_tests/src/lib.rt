@@ -10,6 +10,8 @@ mod both_books;
 #[cfg(test)]
 mod databases;
 #[cfg(test)]
+mod forwarding;
+#[cfg(test)]
 mod migrations;
 #[cfg(test)]
 mod older_books;

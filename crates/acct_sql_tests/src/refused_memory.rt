@@ -8,7 +8,7 @@ use crate::sites::{SAMPLE, SILVER};
 use crate::trial::{Call, Case, Start, Step, expect};
 use std::test::Fail;
 
-static CASES: [Case; 7] = [
+static CASES: [Case; 8] = [
     (
         "plans are added",
         Start::Credited,
@@ -47,6 +47,11 @@ static CASES: [Case; 7] = [
         "a top-up and its balance are put",
         Start::Made,
         &[Step::Book(Ask::TopUpOnce)],
+    ),
+    (
+        "a session is carried into a row",
+        Start::Used,
+        &[Step::Book(Ask::ForwardOnce)],
     ),
     (
         "a walk meets the row",

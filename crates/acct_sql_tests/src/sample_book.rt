@@ -56,10 +56,32 @@ pub(crate) fn made(alloc: Global) -> Result<SqlBook<MemStore>, Fail> {
     }
 }
 
+// The name of the row into which sessions are carried.
+pub(crate) const LINE: Name<'static> = ("(gold)", b"al");
+
+// What such a row says: whole blocks, and a moment.
+pub(crate) const CARRIED: Usage = Usage {
+    plan: b"gold",
+    octets: (3 * 1_048_576, 0),
+    times: (0, 606, 707),
+    state: SessionState::Stopped,
+    cause: 0,
+    calling: b"",
+    framed: None,
+};
+
 pub(crate) fn key(alloc: Global, name: &Name<'_>) -> Result<Key, Fail> {
     let client = Text::from_str(alloc, name.0)?;
     let session = Octets::from_slice(alloc, name.1)?;
     Ok(Key { client, session })
+}
+
+pub(crate) fn keys(alloc: Global, names: &[Name<'_>]) -> Result<Vec<Key>, Fail> {
+    let mut keys = Vec::new(alloc);
+    for i in 0..names.len() {
+        keys.push(key(alloc, &names[i])?)?;
+    }
+    Ok(keys)
 }
 
 // Sets the texts and octets of a row that has none yet.

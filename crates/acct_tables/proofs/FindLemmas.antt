@@ -97,6 +97,23 @@ find_mapped p f old new one keeps made = elim (looked p old) [
       ∙ ap (option_map f) (sym (none_is p old none))
 ]
 
+-- the members are those of before that are not gone
+pub record IsLeft {X : Type 0} (gone : X → Bool) (old new : List X) : Type 0 where
+  pub back : (y : X) → Has new y → Has old y × (gone y ≡ false)
+  pub forth : (y : X) → Has old y → gone y ≡ false → Has new y
+
+-- what is not gone is found as before
+pub find_left : {X : Type 0} (p gone : X → Bool) (old new : List X) → IsOne p old
+    → ((r : X) → Has old r → p r ≡ true → gone r ≡ false) → IsLeft gone old new
+    → find p new ≡ find p old
+find_left p gone old new one stays left = elim (looked p old) [
+  | inl r ↦
+      found_is p new r.0 (left.forth r.0 r.1 (stays r.0 r.1 r.2)) r.2 (λ s h passes.
+      one s r.0 (left.back s h).0 r.1 passes r.2)
+      ∙ sym (found_is p old r.0 r.1 r.2 (λ s h passes. one s r.0 h r.1 passes r.2))
+  | inr none ↦ none_is p new (λ s h. none s (left.back s h).0) ∙ sym (none_is p old none)
+]
+
 -- one member came to those of before
 pub record IsAdded {X : Type 0} (put : X) (old new : List X) : Type 0 where
   pub back : (y : X) → Has new y → (y ≡ put) ⊎ Has old y

@@ -13,6 +13,7 @@ pub mod CloseLemmas
 pub mod AccountLemmas
 pub mod VoucherLemmas
 pub mod MadeLemmas
+pub mod RemoveLemmas
 pub mod StepLemmas
 pub mod CommitLemmas
 pub mod ReadLemmas

@@ -50,7 +50,7 @@ use Rattle.acct_tables.proofs.VoucherLemmas as v
 
 -- ---- the tables that a statement does not write
 
-after_session : (old new : Database) → IsBook old → new.schema ≡ book_schema → IsDatabase new
+pub after_session : (old new : Database) → IsBook old → new.schema ≡ book_schema → IsDatabase new
     → IsTidy (new.trees session.tree) → new.trees account.tree ≡ old.trees account.tree
     → new.trees voucher.tree ≡ old.trees voucher.tree
     → new.trees session_plan.tree ≡ old.trees session_plan.tree → IsBook new
@@ -92,7 +92,7 @@ after_voucher old new book schema sound tidy accounts sessions plans =
       plans = subst IsTidy (sym plans) book.plans;
     }
 
-after_plan : (old new : Database) → IsBook old → new.schema ≡ book_schema → IsDatabase new
+pub after_plan : (old new : Database) → IsBook old → new.schema ≡ book_schema → IsDatabase new
     → IsTidy (new.trees session_plan.tree) → new.trees account.tree ≡ old.trees account.tree
     → new.trees voucher.tree ≡ old.trees voucher.tree
     → new.trees session.tree ≡ old.trees session.tree → IsBook new
@@ -107,7 +107,7 @@ after_plan old new book schema sound tidy accounts vouchers sessions =
     }
 
 -- a statement that writes another table leaves the plans and the number
-same_plans : (tree : ℕ) (old new : Trees) → 4 ≤ tree → tree ≢ 12 → AllByRecursion
+pub same_plans : (tree : ℕ) (old new : Trees) → 4 ≤ tree → tree ≢ 12 → AllByRecursion
     (λ t. t.tree ≢ tree → new t.tree ≡ old t.tree) book_schema.tables → HasSamePlans old new
 same_plans tree old new high other tables = record {
   number = tables.0 (λ e. absurd (omega (arith, high, e)));
@@ -124,7 +124,7 @@ same_plans_then old mid new first second = record {
 }
 
 -- the content with other rows, other balances, other top-ups
-rows_changed : (old new : Trees) (f : Key → Option RowFacts)
+pub rows_changed : (old new : Trees) (f : Key → Option RowFacts)
     → ((key : Key) → s.rows_in (new session.tree) key ≡ f key) → new account.tree ≡ old account.tree
     → new voucher.tree ≡ old voucher.tree → content_without_plans new ≡ record {
       rows = f;
@@ -173,7 +173,7 @@ topups_changed old new f topups accounts sessions plans same = λ i. record {
   plans = Some (same_listed old new same i);
 }
 
-abbrev IsBookIf : State → Type 0
+abbrev pub IsBookIf : State → Type 0
 IsBookIf old = IsTrue old.is_open → IsBook old.now
 
 -- ---- one write after another
@@ -338,8 +338,8 @@ with_plans_closed client plans c = λ i. record {
 
 -- the content of tables whose sessions are these, whose plans of sessions and list of plans are as
 -- they were
-with_all : (old new : Trees) {plans : Key → Option (List ℕ)} {c : Content} → HasSamePlans old new
-    → plans_in_tables new ≡ plans → content_without_plans new ≡ c
+pub with_all : (old new : Trees) {plans : Key → Option (List ℕ)} {c : Content}
+    → HasSamePlans old new → plans_in_tables new ≡ plans → content_without_plans new ≡ c
     → content_in_tables new ≡ with_list (listed_in_tables old) (with_plans plans c)
 with_all old new same plans content = λ i. with_list (same_listed old new same i)
     (with_plans (plans i) (content i))
@@ -381,7 +381,7 @@ plan_updates params old new count = updates 6 session_plan.name session_plan.tre
     t.set_session_plan_is t.set_session_plan_plain
 
 -- the content without plans, where its three tables are as they were
-bare_same : (old new : Trees) → new account.tree ≡ old account.tree → new voucher.tree
+pub bare_same : (old new : Trees) → new account.tree ≡ old account.tree → new voucher.tree
     ≡ old voucher.tree → new session.tree ≡ old session.tree
     → content_without_plans new ≡ content_without_plans old
 bare_same old new accounts vouchers sessions = λ i. record {

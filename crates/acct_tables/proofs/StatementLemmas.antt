@@ -1,4 +1,4 @@
--- What UPDATE and INSERT do to a table of the book, whichever it is.
+-- What UPDATE, DELETE and INSERT do to a table of the book, whichever it is.
 use Rattle.std.proofs.Common.{◌≡◌, ◌⊎◌, inl, inr, ℕ, ◌/◌, List, [], ◌∷◌, length, Some, None, Ok}
 use Rattle.std.proofs.Common.{Err, Result, slice_get, sym, ap, subst, subst₂, ◌∙◌, unwrap_or}
 use Rattle.std.proofs.lemmas.List.{length-map}
@@ -10,7 +10,7 @@ use Rattle.sqlite.specs.Query.{IsAnswerAs}
 use Rattle.sqlite.specs.Program.{overlay}
 use Rattle.sqlite.specs.Table.{Table}
 use Rattle.sqlite.specs.Source.TheVariants.{Values}
-use Rattle.sqlite.specs.Command.TheVariants.{Insert, Update}
+use Rattle.sqlite.specs.Command.TheVariants.{Insert, Update, Delete}
 use Rattle.sqlite.specs.Edit.{edit_of, taken_by, Applies}
 use Rattle.sqlite_schema.specs.declared.program.Program.{Program}
 use Rattle.sqlite.specs.Rowids.TheVariants.{Given, Chosen}
@@ -98,6 +98,56 @@ module _ (at : ℕ) (name : List ℕ) (tree : ℕ) (columns : List Column) (key 
             (same_value (went (went done.2).2).2)
             ∙ (ap (λ (it : Written). length it.rows) (same_value wrote.2)
             ∙ (length-numbered Given _ _ ∙ length-map read.0 _)));
+      }
+
+  -- what DELETE did: the rows of the answer, and the step that removed those that they name
+  pub record HasDeleted (filter project : List Term) (params : Row) (old new : State) : Type 0 where
+    pub answer : List Row
+    pub selects : IsAnswerAs Null (over_table tree filter project [] all_rows) old.now.trees params
+        answer
+    pub applies : Applies book_schema Enforced old.now.trees
+        (edit_of old.now.trees table (ids_of answer) Given 0 []) new.now.trees
+    pub schema : new.now.schema ≡ book_schema
+    pub sound : IsDatabase new.now
+
+  pub deletes : (text : List ℕ) (filter project : List Term) (params : Row) (old new : State)
+      (count : ℕ)
+      → command_of (understood book_schema text) ≡ Delete at
+      (record { lets = []; body = over_table tree filter project [] all_rows })
+      → IsPlain (understood book_schema text)
+      → old.now.schema ≡ book_schema → Executes text params old new (Ok count)
+      → HasDeleted filter project params old new
+  deletes text filter project params old new count is plain has h =
+      let q : Program = record { lets = []; body = over_table tree filter project [] all_rows } in
+      let command = Delete at q in
+      let db = old.now.trees in
+      let w = runs_as text params old new book_schema has command is plain count h in
+      let words = statement_of text (understood book_schema text) in
+      let out = Ok (w.tally, new.now) in
+      let all = subst (λ s. Does old.step_limit (mode_of old) params (record old.now { schema = s })
+      words None command out) has w.changed in
+      let done = went (subst (λ o. AtPlace (λ t. OnRows (record {
+        limit = old.step_limit;
+        keys = Enforced;
+        schema = book_schema;
+        table = t;
+        params = params;
+      }) (mode_of old) None command db) o out) place all) in
+      let now = ap (λ (p : Tally × Database). p.1) (same_value (went (went done.2).2).2) in
+      let read = went done.1 in
+      let wrote = went read.2 in
+      let trees : done.0.trees ≡ wrote.0 = ap (λ (it : Written). it.trees) (same_value wrote.2) in
+      let edit = edit_of db table (ids_of read.0) Given 0 [] in
+      let step = one_step book_schema Enforced db wrote.0 edit (acts (taken_by db edit) edit.news)
+      wrote.1 in
+      let after : new.now.trees ≡ wrote.0 = ap (λ (d : Database). d.trees) now ∙ trees in
+      record {
+        answer = read.0;
+        selects = seen_unhidden tree filter project [] all_rows Null (overlay db []) db params
+            read.0 (seen db) (read.1.answer Null);
+        applies = subst (Applies book_schema Enforced db edit) (sym after) step;
+        schema = ap (λ (d : Database). d.schema) now;
+        sound = w.sound;
       }
 
   -- what INSERT did

@@ -7,7 +7,7 @@ use Rattle.sqlite.specs.Collation.TheVariants.{Binary}
 use Rattle.sqlite_sql.specs.declared.ops.BinaryOp.TheVariants.{Compare}
 use Rattle.sqlite_sql.specs.declared.ops.CompareOp.TheVariants.{Eq, Gt}
 use Rattle.sqlite.specs.Source.TheVariants.{Values}
-use Rattle.sqlite.specs.Command.TheVariants.{Insert, Update}
+use Rattle.sqlite.specs.Command.TheVariants.{Insert, Update, Delete}
 use Rattle.acct_tables.proofs.QueryLemmas.{over_table, all_rows, IsQuery}
 use Rattle.acct_tables.proofs.NextLemmas.{one_row, rising}
 use Rattle.sqlite_tied.specs.Compute.{everything}
@@ -91,6 +91,18 @@ close_is = refl
 pub close_plain : IsPlain (understood book_schema texts.CLOSE_SESSIONS_OF_CLIENT.now)
 unfolding understood everything
 close_plain = (refl, refl)
+
+pub remove_session_is : command_of (understood book_schema texts.REMOVE_SESSION.now)
+    ≡ Delete 4 (record {
+      lets = [];
+      body = over_table session.tree session_filter ids_shown [] all_rows;
+    })
+unfolding understood everything
+remove_session_is = refl
+
+pub remove_session_plain : IsPlain (understood book_schema texts.REMOVE_SESSION.now)
+unfolding understood everything
+remove_session_plain = (refl, refl)
 
 abbrev pub session_shown : List Term
 session_shown = col 1 1 ∷ col 1 2 ∷ col 1 3 ∷ col 1 4 ∷ col 1 5 ∷ col 1 6 ∷ col 1 7 ∷ col 1 8 ∷ col
@@ -503,6 +515,18 @@ new_session_plan_is = refl
 pub new_session_plan_plain : IsPlain (understood book_schema texts.NEW_SESSION_PLAN.now)
 unfolding understood everything
 new_session_plan_plain = (refl, refl)
+
+pub remove_session_plan_is : command_of (understood book_schema texts.REMOVE_SESSION_PLAN.now)
+    ≡ Delete 6 (record {
+      lets = [];
+      body = over_table session_plan.tree session_filter ids_shown [] all_rows;
+    })
+unfolding understood everything
+remove_session_plan_is = refl
+
+pub remove_session_plan_plain : IsPlain (understood book_schema texts.REMOVE_SESSION_PLAN.now)
+unfolding understood everything
+remove_session_plan_plain = (refl, refl)
 
 abbrev pub plan_class_shown : List Term
 plan_class_shown = col 1 3 ∷ []

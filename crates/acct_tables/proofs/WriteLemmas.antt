@@ -1,4 +1,4 @@
--- What UPDATE and INSERT make of the rows of one table, as membership.
+-- What UPDATE, DELETE and INSERT make of the rows of one table, as membership.
 use Rattle.std.proofs.Common.{◌≡◌, ℤ, List, [], ◌∷◌, map, drop, true, false, not, cond, Bool, refl}
 use Rattle.std.proofs.Common.{sym, ap, subst, ◌∙◌, true≢false, ◌⊎◌, inl, inr, Ordering, Less, Equal}
 use Rattle.std.proofs.Common.{Greater}
@@ -29,7 +29,7 @@ use Rattle.sqlite_rules.proofs.PlaceLemmas.{given}
 use Rattle.sqlite_rules.proofs.TableLemmas.{put_all_has, put_all_keeps, put_all_adds}
 use Rattle.acct_tables.specs.Tidy.{IsTidy}
 use Rattle.acct_tables.proofs.ValueLemmas.{cast_int}
-use Rattle.acct_tables.proofs.FindLemmas.{IsMapped, IsAdded}
+use Rattle.acct_tables.proofs.FindLemmas.{IsMapped, IsLeft, IsAdded}
 use Rattle.acct_tables.proofs.QueryLemmas.{has_mapped, map_has, over_table, all_rows, meets, shown_has}
 use Rattle.acct_tables.proofs.QueryLemmas.{has_shown}
 
@@ -74,6 +74,47 @@ has_left (id ∷ ids) rows x h none =
     has_left ids (without_rowid id rows) x (has_kept (λ r. not (has_rowid id r)) rows x h
     (ap not (none id (inl refl)))) (λ other at. none other (inr at))
 
+-- ---- the rows that an answer names by their rowids
+
+module _ (table : Table) (filter project : List Term) (lost : Value) (db : Trees) (params : Row)
+    (answer : List Row)
+    (a : IsAnswerAs lost (over_table table.tree filter project [] all_rows) db params answer)
+    (first : (r : Row) → rowid (eval_all project (params ∷ r ∷ [])) ≡ rowid r)
+    (tidy : IsTidy (db table.tree)) where
+  abbrev is_met : Row → Bool
+  is_met = meets table.tree filter project [] lost db params
+
+  -- a row that none of them names is not met
+  unmet : (y : Row) → Has (db table.tree) y
+      → ((id : ℤ) → Has (ids_of answer) id → has_rowid id y ≡ false) → is_met y ≡ false
+  unmet y h none = go (is_met y) refl
+    where
+      go : (b : Bool) → is_met y ≡ b → is_met y ≡ false
+      go false is = is
+      go true is =
+          let row = has_shown table.tree filter project [] lost db params answer a y h is in
+          let id = map_has (λ r. id_in (rowid r)) answer _ row in
+          let mine = none _ id in
+          absurd (true≢false (sym (is_rowid y _ (tidy.ints y h))
+          ∙ (ap (λ v. has_rowid (id_in v) y) (sym (first y)) ∙ mine)))
+
+  -- none of them names a row that is not met
+  unnamed : (y : Row) → Has (db table.tree) y → is_met y ≡ false → (id : ℤ)
+      → Has (ids_of answer) id → has_rowid id y ≡ false
+  unnamed y h is_not id at = go (has_rowid id y) refl
+    where
+      go : (b : Bool) → has_rowid id y ≡ b → has_rowid id y ≡ false
+      go false is = is
+      go true is =
+          let s = has_mapped (λ r. id_in (rowid r)) answer id at in
+          let r = shown_has table.tree filter project [] lost db params answer a s.0 s.1 in
+          let mine : id ≡ id_in (rowid r.0) = s.2 ∙ (ap (λ t. id_in (rowid t)) r.3
+          ∙ ap id_in (first r.0)) in
+          let n = rowid_is id y (id_in (rowid y)) (tidy.ints y h) is in
+          let same : rowid y ≡ rowid r.0 = tidy.ints y h
+          ∙ (ap Int (n ∙ mine) ∙ sym (tidy.ints r.0 r.1)) in
+          absurd (true≢false (sym r.2 ∙ (ap is_met (sym (tidy.keyed y r.0 h r.1 same)) ∙ is_not)))
+
 -- ---- UPDATE
 
 module _ (schema : Schema) (keys : Keys) (table : Table) (filter project : List Term) (lost : Value)
@@ -111,37 +152,14 @@ module _ (schema : Schema) (keys : Keys) (table : Table) (filter project : List 
         inr (r.0, r.1, r.2, s.2 ∙ ap (λ s. cast_row table (drop 1 s)) r.3)
     | inr old ↦
         let was = left_has (ids_of answer) (db table.tree) y old in
-        inl (was.0, unmet (met y) refl was.0 was.1)
+        inl (was.0, unmet table filter project lost db params answer a first tidy y was.0 was.1)
   ]
-    where
-      unmet : (b : Bool) → met y ≡ b → Has (db table.tree) y
-          → ((id : ℤ) → Has (ids_of answer) id → has_rowid id y ≡ false) → met y ≡ false
-      unmet false is h none = is
-      unmet true is h none =
-          let row = has_shown table.tree filter project [] lost db params answer a y h is in
-          let id = map_has (λ r. id_in (rowid r)) answer _ row in
-          let mine = none _ id in
-          absurd (true≢false (sym (is_rowid y _ (tidy.ints y h))
-          ∙ (ap (λ v. has_rowid (id_in v) y) (sym (first y)) ∙ mine)))
 
   pub update_keeps : (y : Row) → Has (db table.tree) y → met y ≡ false → Has (next table.tree) y
-  update_keeps y h unmet =
+  update_keeps y h is_not =
       subst (λ k. Has k y) (sym after_is) (put_all_keeps _ _ y fresh
-      (has_left (ids_of answer) (db table.tree) y h (λ id at. other id at (has_rowid id y)
-      refl)))
-    where
-      other : (id : ℤ) → Has (ids_of answer) id → (b : Bool) → has_rowid id y ≡ b → has_rowid id y
-          ≡ false
-      other id at false is = is
-      other id at true is =
-          let s = has_mapped (λ r. id_in (rowid r)) answer id at in
-          let r = shown_has table.tree filter project [] lost db params answer a s.0 s.1 in
-          let mine : id ≡ id_in (rowid r.0) = s.2 ∙ (ap (λ t. id_in (rowid t)) r.3
-          ∙ ap id_in (first r.0)) in
-          let n = rowid_is id y (id_in (rowid y)) (tidy.ints y h) is in
-          let same : rowid y ≡ rowid r.0 = tidy.ints y h
-          ∙ (ap Int (n ∙ mine) ∙ sym (tidy.ints r.0 r.1)) in
-          absurd (true≢false (sym r.2 ∙ (ap met (sym (tidy.keyed y r.0 h r.1 same)) ∙ unmet)))
+      (has_left (ids_of answer) (db table.tree) y h
+      (unnamed table filter project lost db params answer a first tidy y h is_not)))
 
   pub update_sets : (r : Row) → Has (db table.tree) r → met r ≡ true
       → Has (next table.tree) (rewritten r)
@@ -185,6 +203,33 @@ module _ (schema : Schema) (keys : Keys) (table : Table) (filter project : List 
         let ids : rowid a.0 ≡ rowid b.0 = sym (ap rowid a.2 ∙ stepped_id a.0 a.1)
         ∙ (same ∙ (ap rowid b.2 ∙ stepped_id b.0 b.1)) in
         a.2 ∙ (ap stepped (tidy.keyed a.0 b.0 a.1 b.1 ids) ∙ sym b.2);
+  }
+
+-- ---- DELETE
+
+module _ (schema : Schema) (keys : Keys) (table : Table) (filter project : List Term) (lost : Value)
+    (db next : Trees) (params : Row) (answer : List Row)
+    (a : IsAnswerAs lost (over_table table.tree filter project [] all_rows) db params answer)
+    (first : (r : Row) → rowid (eval_all project (params ∷ r ∷ [])) ≡ rowid r)
+    (tidy : IsTidy (db table.tree))
+    (applies : Applies schema keys db (edit_of db table (ids_of answer) Given 0 []) next) where
+  -- the rows that are not met are left
+  pub delete_left : IsLeft (meets table.tree filter project [] lost db params) (db table.tree)
+      (next table.tree)
+  delete_left = record {
+    back = λ y h.
+        let was = left_has (ids_of answer) (db table.tree) y
+        (subst (λ k. Has k y) applies.rows h) in
+        (was.0, unmet table filter project lost db params answer a first tidy y was.0 was.1);
+    forth = λ y h is_not. subst (λ k. Has k y) (sym applies.rows)
+        (has_left (ids_of answer) (db table.tree) y h
+        (unnamed table filter project lost db params answer a first tidy y h is_not));
+  }
+
+  pub delete_tidy : IsTidy (next table.tree)
+  delete_tidy = record {
+    ints = λ y h. tidy.ints y (delete_left.back y h).0;
+    keyed = λ x y h k. tidy.keyed x y (delete_left.back x h).0 (delete_left.back y k).0;
   }
 
 -- ---- INSERT of one row

@@ -185,6 +185,9 @@ pub const NEW_SESSION: &str = with_session_columns!(
 pub const CLOSE_SESSIONS_OF_CLIENT: &str = "\
     UPDATE session SET state = 1, cause = 11 WHERE client = ?1 AND state = 0";
 
+/// Removes a session.
+pub const REMOVE_SESSION: &str = "DELETE FROM session WHERE client = ?1 AND id = ?2";
+
 /// Shows a session.
 pub const SESSION_OF_KEY: &str = with_session_columns!(
     "SELECT ",
@@ -243,6 +246,9 @@ pub const SET_SESSION_PLAN: &str = "\
 /// Adds the plan of a session.
 pub const NEW_SESSION_PLAN: &str = "\
     INSERT INTO session_plan (client, id, plan_class) VALUES (?1, ?2, ?3)";
+
+/// Removes the plan of a session.
+pub const REMOVE_SESSION_PLAN: &str = "DELETE FROM session_plan WHERE client = ?1 AND id = ?2";
 
 /// Shows the plan of a session.
 pub const PLAN_OF_SESSION: &str = "\

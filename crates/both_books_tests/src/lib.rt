@@ -5,6 +5,8 @@
 #[cfg(test)]
 mod books;
 #[cfg(test)]
+mod forward;
+#[cfg(test)]
 mod refusals;
 #[cfg(test)]
 mod reports;

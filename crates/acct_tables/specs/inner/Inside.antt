@@ -1,6 +1,6 @@
 -- What a call does inside a transaction, and what the end of the transaction makes of it.
-use Rattle.std.specs.Prelude.{◌≡◌, ◌≢◌, ◌⊎◌, ℕ, ℤ, List, false, true, bytes_eq, Some, Ok}
-use Rattle.std.specs.Prelude.{Result, IsTrue, IsOk, OnOk, OnErr}
+use Rattle.std.specs.Prelude.{◌≡◌, ◌≢◌, ◌⊎◌, ℕ, ℤ, List, [], ◌∷◌, false, true, bytes_eq, Option}
+use Rattle.std.specs.Prelude.{Some, None, Ok, Result, IsTrue, IsOk, OnOk, OnErr}
 use Rattle.std.specs.Borrow.{MutBor}
 use Rattle.std.specs.Map.{update}
 use Rattle.sqlite.specs.Store.{Ghosts}
@@ -23,6 +23,20 @@ use Rattle.acct_tables.specs.Book.{IsBook, IsOpenBook, HasSamePlans}
 abbrev pub with_row : Content → RowFacts → Content
 with_row content row = record {
   rows = update same_key content.rows (key_of row) (Some row);
+  balances = content.balances;
+  topups = content.topups;
+  plans = content.plans;
+}
+
+-- without what is under these keys
+abbrev pub without_keys : {X : Type 0} → (Key → Option X) → List Key → Key → Option X
+without_keys at [] = at
+without_keys at (key ∷ keys) = without_keys (update same_key at key None) keys
+
+-- without the rows of these keys
+abbrev pub without_rows : Content → List Key → Content
+without_rows content keys = record {
+  rows = without_keys content.rows keys;
   balances = content.balances;
   topups = content.topups;
   plans = content.plans;
@@ -82,6 +96,26 @@ pub record HasSetPlan (key : Key) (class : List ℕ) (old new : State) : Type 0 
   pub content : content_without_plans new.now.trees ≡ content_without_plans old.now.trees
   pub plans : plans_in_tables new.now.trees
       ≡ update same_key (plans_in_tables old.now.trees) key (Some class)
+  pub same_plans : HasSamePlans old.now.trees new.now.trees
+
+-- the plan of a session was removed, nothing else was changed, and nothing was committed
+pub record HasRemovedPlan (key : Key) (old new : State) : Type 0 where
+  pub shows : Shows old new new.now old.committed true
+  pub book : IsBook new.now
+  pub content : content_without_plans new.now.trees ≡ content_without_plans old.now.trees
+  pub plans : plans_in_tables new.now.trees
+      ≡ without_keys (plans_in_tables old.now.trees) (key ∷ [])
+  pub same_plans : HasSamePlans old.now.trees new.now.trees
+
+-- The sessions of these keys were removed, each with its plan. Nothing else was changed, and
+-- nothing was committed.
+pub record HasRemoved (keys : List Key) (old new : State) : Type 0 where
+  pub shows : Shows old new new.now old.committed true
+  pub book : IsBook new.now
+  pub content : content_without_plans new.now.trees
+      ≡ without_rows (content_without_plans old.now.trees) keys
+  pub plans : plans_in_tables new.now.trees
+      ≡ without_keys (plans_in_tables old.now.trees) keys
   pub same_plans : HasSamePlans old.now.trees new.now.trees
 
 -- an UPDATE met a row, or it met none and an INSERT followed
