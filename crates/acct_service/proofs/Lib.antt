@@ -2,10 +2,15 @@ mod Steps
 mod Visits
 mod Sliced
 mod WorkedCalls
+mod AlikePlans
+mod Spans
 mod Lives
 mod Kept
 mod InForce
 mod Resent
+mod Aside
+mod Names
 mod Settled
 mod Stops
 mod WorkedLives
+mod WorkedCarrying

@@ -1,39 +1,49 @@
 -- What was accepted may come again.
-use Rattle.std.proofs.Common.{◌≡◌, inl, inr, ℕ, true, List, [], ◌∷◌, refl, sym, ◌∙◌, ap}
+use Rattle.std.proofs.Common.{◌≡◌, inl, inr, ℕ, List, [], ◌∷◌, refl, sym, ◌∙◌, ap}
 use Rattle.std.proofs.Common.{subst, arith, Some, None}
 use Rattle.std.proofs.lemmas.Int.{ints}
 use Rattle.std.proofs.lemmas.List.Elements.{All-contains}
 use Rattle.std.specs.Prelude.{Contains, bytes_eq, pos, ◌-ℤ◌}
-use Rattle.std.specs.List.{filter, find}
+use Rattle.std.specs.List.{filter}
 use Rattle.std.specs.Option.{option_or}
 use Rattle.acct_model.specs.declared.plan.Plan.{Plan}
 use Rattle.acct_model.specs.declared.entry.Entry.{Entry}
 use Rattle.acct_model.specs.declared.entry.Entry.TheVariants as entry
+use Rattle.acct_model.specs.Report.{ReportFacts}
 use Rattle.acct_model.specs.Vouchers.{TopUpFacts}
-use Rattle.acct_model.specs.Plans.{has_class, default_class, plan_for, plans_added}
+use Rattle.acct_model.specs.Plans.{plans_added}
 use Rattle.acct_model.specs.History.{Accepted, PlansAdded, History, all_topups, first_of, InRange}
 use Rattle.acct_model.specs.History.{AreInRange, Agrees, AgreesWithAll, Admissible}
+use Rattle.acct_model.specs.History.{session_of, same_session, all_reports, reports}
 use Rattle.acct_model.specs.Claims.{TopUpClaim, OfReport, OfTopUp, report_claim, topup_claim}
 use Rattle.acct_model.specs.Claims.{claims}
-use Rattle.acct_model.proofs.Lists.{nowhere, front_or_behind, to_filter, from_filter, find-some}
+use Rattle.acct_model.specs.Forward.{Batch}
+use Rattle.acct_model.proofs.Lists.{nowhere, front_or_behind, to_filter, from_filter}
+use Rattle.acct_model.proofs.Agree.{same_names}
+use Rattle.acct_model.proofs.Claimed.{claim_of_report, claim_of_topup, report_of_claim}
 use Rattle.acct_model.proofs.Claimed.{topup_of_claim}
 use Rattle.acct_model.proofs.KeptLaws.{plans_kept}
 use Rattle.acct_model.proofs.Repeats.{balance-repeated}
-use Rattle.acct_model.proofs.Same.{Decides-bytes_eq}
-use Rattle.acct_model.proofs.SamePlans.{SamePlans, same-balance}
+use Rattle.acct_model.proofs.Same.{Decides-bytes_eq, Decides-same_session}
+use Rattle.acct_model.proofs.SamePlans.{same-balance}
 use Rattle.acct_model.proofs.TopUps.{Fits}
 use Rattle.acct_book.specs.Effect.{Effect, added, repeated, differs, limited, failed, looked}
 use Rattle.acct_book.specs.Effect.{passed, unasked, after_effect, Holds}
 use Rattle.acct_book.specs.Outcome.{IsRepeated}
+use Rattle.acct_book.specs.Carrying.{SelectionFacts, CarryingMovesNothing}
+use Rattle.acct_book.proofs.CarriedOn.{moves_nothing}
 use Rattle.acct_files.specs.declared.import_report.Outcome.{Outcome}
 use Rattle.acct_files.specs.Vouchers.{Fields}
 use Rattle.acct_files.specs.Importing.{Imported}
 use Rattle.acct_service.specs.Machine.{Visit, Step}
-use Rattle.acct_service.specs.Life.{Span, served, imported, extended, Past, made_with, PriceAlike}
-use Rattle.acct_service.specs.Life.{MayExtend, plans_after, Goes, StopLeaves, LivesOn, Chain, Life}
-use Rattle.acct_service.specs.Settling.{MayComeAgain}
+use Rattle.acct_service.specs.Life.{Span, served, imported, extended, carried, Past}
+use Rattle.acct_service.specs.Life.{PriceAlike, MayExtend, plans_after, Goes, StopLeaves, LivesOn}
+use Rattle.acct_service.specs.Settling.{HasSameTopUps, MayComeAgain}
+use Rattle.acct_service.proofs.AlikePlans.{same_plans}
+use Rattle.acct_service.proofs.Aside.{HaveSameReports}
 use Rattle.acct_service.proofs.Kept.{run_chain}
 use Rattle.acct_service.proofs.Lives.{first_stands}
+use Rattle.acct_service.proofs.Spans.{chain_invariant}
 
 -- ---- what holds of each history of a life
 
@@ -101,7 +111,7 @@ orderly_same plans old new is h = subst (IsOrderly plans) (sym is) h
 none_in_range : InRange (pos 0 -ℤ pos 0)
 none_in_range = record { low = omega (arith, ints); high = omega (arith, ints) }
 
-orderly_none : (plans : List Plan) → IsOrderly plans []
+pub orderly_none : (plans : List Plan) → IsOrderly plans []
 orderly_none plans = record {
   in_range = λ account. none_in_range;
   agreed = λ one other h. absurd (nowhere one h);
@@ -119,52 +129,7 @@ effect_orderly plans old looked holds h = h
 effect_orderly plans old passed holds h = h
 effect_orderly plans old unasked holds h = h
 
--- ---- plans that price alike
-
--- the plan `default` has no other class
-not_default : (plans : List Plan) (class : List ℕ) (plan : Plan)
-    → find (has_class default_class) plans ≡ Some plan → has_class class plan ≡ true
-    → class ≡ default_class
-not_default plans class plan found has =
-    (Decides-bytes_eq class plan.class).0 has
-    ∙ sym ((Decides-bytes_eq default_class plan.class).0
-    (find-some (has_class default_class) plans plan found).1)
-
--- where a class has a plan in one list, it has it in the other
-none_alike : (these those : List Plan) (class : List ℕ) (plan : Plan)
-    → find (has_class class) these ≡ None → find (has_class class) those ≡ Some plan
-    → plan_for these class ≡ plan_for those class → ⊥
-none_alike these those class plan none some alike =
-    let same : find (has_class default_class) these ≡ Some plan =
-    ap (λ o. option_or o (find (has_class default_class) these)) (sym none) ∙ alike
-    ∙ ap (λ o. option_or o (find (has_class default_class) those)) some in
-    let is = not_default these class plan same
-    (find-some (has_class class) those plan some).1 in
-    let there : find (has_class class) these ≡ Some plan =
-    ap (λ c. find (has_class c) these) is ∙ same in
-    absurd (cc (none, there))
-
--- what prices each class alike has one plan for each class
-pub same_plans : (these those : List Plan) → PriceAlike these those → SamePlans these those
-same_plans these those alike class =
-    elim (find (has_class class) these) as (λ one. find (has_class class) these ≡ one
-    → one ≡ find (has_class class) those) [
-      | None ↦ λ none. elim (find (has_class class) those) as (λ other.
-          find (has_class class) those ≡ other → None ≡ other) [
-            | None ↦ λ also. refl
-            | Some plan ↦ λ some.
-                absurd (none_alike these those class plan none some (alike class))
-          ] refl
-      | Some plan ↦ λ some. elim (find (has_class class) those) as (λ other.
-          find (has_class class) those ≡ other → Some plan ≡ other) [
-            | None ↦ λ none.
-                absurd (none_alike those these class plan none some (sym (alike class)))
-            | Some other ↦ λ also.
-                ap (λ o. option_or o (find (has_class default_class) these)) (sym some)
-                ∙ alike class
-                ∙ ap (λ o. option_or o (find (has_class default_class) those)) also
-          ] refl
-    ] refl
+-- ---- steps
 
 orderly_alike : (these those : List Plan) (history : History) → PriceAlike these those
     → IsOrderly these history → IsOrderly those history
@@ -173,14 +138,6 @@ orderly_alike these those history alike h = record {
       (same_plans these those alike)) (h.in_range account);
   agreed = h.agreed;
 }
-
--- what each step keeps, a chain of them keeps
-chain_invariant : {X S : Type 0} (Step : X → S → X → Type 0) (P : X → Type 0)
-    → ((old new : X) (step : S) → Step old step new → P old → P new)
-    → (old new : X) (steps : List S) → Chain Step old steps new → P old → P new
-chain_invariant Step P each old new [] is h = subst P (sym is) h
-chain_invariant Step P each old new (step ∷ steps) (mid, first, rest) h =
-    chain_invariant Step P each mid new steps rest (each old mid step first h)
 
 visit_orderly : (plans : List Plan) (old new : History) (visit : Visit)
     → Step plans old visit new → IsOrderly plans old → IsOrderly plans new
@@ -208,6 +165,17 @@ more_orderly plans more old may h = record {
   agreed = h.agreed;
 }
 
+-- nor does carrying sessions forward
+carried_orderly : (plans : List Plan) (old new : History) {selection : SelectionFacts}
+    {batches : List Batch} → CarryingMovesNothing selection plans old batches new
+    → IsOrderly plans old → IsOrderly plans new
+carried_orderly plans old new stays h = record {
+  in_range = λ account. subst InRange (sym (stays.balances account)) (h.in_range account);
+  agreed = λ one other at_one at_other. h.agreed one other
+      (subst (λ ts. Contains ts one) stays.topups at_one)
+      (subst (λ ts. Contains ts other) stays.topups at_other);
+}
+
 goes_orderly : (plans : List Plan) (old new : History) (span : Span)
     → Goes plans old span new → IsOrderly plans old → IsOrderly (plans_after plans span) new
 goes_orderly plans old new (served those visits) (alike, run) h =
@@ -221,6 +189,11 @@ goes_orderly plans old new (imported config moment rows outcomes tried) (alike, 
     (orderly_alike plans config.plans old (λ class. sym (alike class)) h))
 goes_orderly plans old new (extended more) (may, is) h =
     subst (IsOrderly more) (sym is) (more_orderly plans more old may h)
+goes_orderly plans old new (carried those selection batches) (alike, chosen) h =
+    orderly_alike those plans new alike
+    (carried_orderly those old new
+    (moves_nothing selection those old batches new chosen)
+    (orderly_alike plans those old (λ class. sym (alike class)) h))
 
 stop_orderly : (plans : List Plan) (span : Span) (history left : History)
     → StopLeaves plans span history left → IsOrderly plans history → IsOrderly plans left
@@ -230,22 +203,12 @@ stop_orderly plans span history left may h =
       | inr (e, tried, fine, is) ↦ orderly_after plans history left e fine is h
     ]
 
--- the history of a past, by the plans in force at its end
-abbrev PastIsOrderly : Past → Type 0
-PastIsOrderly past = IsOrderly past.plans past.history
-
-span_orderly : (old new : Past) (span : Span) → LivesOn old span new → PastIsOrderly old
-    → PastIsOrderly new
-span_orderly old new span (end, goes, plans, may) h =
+pub span_orderly : (old new : Past) (span : Span) → LivesOn old span new
+    → IsOrderly old.plans old.history → IsOrderly new.plans new.history
+span_orderly old new span (end, goes, plans, may, beside) h =
     stop_orderly new.plans span end new.history may
     (subst (λ ps. IsOrderly ps end) (sym plans)
     (goes_orderly old.plans old.history end span goes h))
-
-pub life_orderly : (plans : List Plan) (last : Past) (spans : List Span)
-    → Life (made_with plans) spans last → PastIsOrderly last
-life_orderly plans last spans life =
-    chain_invariant LivesOn PastIsOrderly span_orderly (made_with plans) last spans life
-    (orderly_none plans)
 
 -- ---- what comes again
 
@@ -279,17 +242,37 @@ repeats plans history orderly t claimed =
       says.1 ∙ ap (λ (c : TopUpClaim). c.sum) u.2,
     )
 
-pub comes_again : (plans : List Plan) (history : History) → IsOrderly plans history
-    → MayComeAgain plans history
-comes_again plans history orderly = record {
-  report = λ r claimed.
-      let same = balance-repeated plans history (entry.Report r) (OfReport (report_claim r)) refl
-      claimed in (
+-- the claim of a report whose session has the same reports in both histories
+claimed_in_both : (whole history : History) (r : ReportFacts)
+    → reports whole (session_of r) ≡ reports history (session_of r)
+    → Contains (claims whole) (OfReport (report_claim r))
+    → Contains (claims history) (OfReport (report_claim r))
+claimed_in_both whole history r same claimed =
+    let q = report_of_claim whole (report_claim r) claimed in
+    let of = λ (x : ReportFacts). same_session (session_of r) (session_of x) in
+    let there = to_filter of (all_reports whole) q.0 q.1
+    ((Decides-same_session (session_of r) (session_of q.0)).1 (sym (same_names q.0 r q.2))) in
+    let kept = from_filter of (all_reports history) q.0
+    (subst (λ rs. Contains rs q.0) same there) in
+    subst (λ c. Contains (claims history) (OfReport c)) q.2
+    (claim_of_report history q.0 kept.0)
+
+pub comes_again : (past : Past) → IsOrderly past.plans past.history → HasSameTopUps past
+    → HaveSameReports past → MayComeAgain past
+comes_again past orderly topups same = record {
+  report = λ r claimed apart.
+      let there = claimed_in_both past.whole past.history r (same (session_of r) apart) claimed in
+      let equal = balance-repeated past.plans past.history (entry.Report r)
+      (OfReport (report_claim r)) refl there in (
         record {
           agrees = tt;
-          in_range = λ account. subst InRange (sym (same account)) (orderly.in_range account);
+          in_range = λ account. subst InRange (sym (equal account)) (orderly.in_range account);
         },
-        same,
+        equal,
       );
-  topup = repeats plans history orderly;
+  topup = λ t claimed.
+      let u = topup_of_claim past.whole (topup_claim t) claimed in
+      repeats past.plans past.history orderly t
+      (subst (λ c. Contains (claims past.history) (OfTopUp c)) u.2
+      (claim_of_topup past.history u.0 (subst (λ ts. Contains ts u.0) topups u.1)));
 }

@@ -1,6 +1,6 @@
 -- A life in which all is acknowledged is possible; and the law.
 use Rattle.std.proofs.Common.{◌≡◌, ◌⊎◌, inl, inr, true, List, [], ◌∷◌, ◌++◌, refl, sym, ap}
-use Rattle.std.proofs.Common.{subst, None}
+use Rattle.std.proofs.Common.{subst, ◌∙◌, None}
 use Rattle.std.proofs.lemmas.Grind.{flat_map-append}
 use Rattle.std.proofs.lemmas.List.Elements.{Contains-append_left, Contains-append_right}
 use Rattle.std.specs.Prelude.{Contains}
@@ -10,6 +10,7 @@ use Rattle.acct_model.specs.declared.entry.Entry.TheVariants as entry
 use Rattle.acct_model.specs.Plans.{plans_added}
 use Rattle.acct_model.specs.History.{Accepted, PlansAdded, History}
 use Rattle.acct_model.specs.Claims.{OfTopUp, topup_claim, IsConsistent, ClaimsNoMore}
+use Rattle.acct_model.specs.Agreement.{AddsForNone, BalancesAreEqual}
 use Rattle.acct_model.proofs.Lists.{here, nowhere, front_or_behind, from_map, to_map}
 use Rattle.acct_model.proofs.Claimed.{claim_of_topup}
 use Rattle.acct_model.proofs.Agree.{covers-claimed}
@@ -19,18 +20,22 @@ use Rattle.acct_files.specs.declared.import_report.Outcome.TheVariants as outcom
 use Rattle.acct_files.specs.Importing.{Becomes}
 use Rattle.acct_service.specs.Machine.{Visit, replied}
 use Rattle.acct_service.specs.Life.{Span, served, imported, extended, Past, made_with, MayExtend}
-use Rattle.acct_service.specs.Life.{LivesOn, Chain, Life, listed}
+use Rattle.acct_service.specs.Life.{LivesOn, Chain, Life, NoneIsLate, LifeInTime, listed}
 use Rattle.acct_service.specs.Life.{acknowledged_line, acknowledged_in, acknowledged}
 use Rattle.acct_service.specs.Settling.{IsDelivered, CanBeServed, CanBeImported, CanBeSent}
+use Rattle.acct_service.specs.Settling.{uncarried, HasSameTopUps, MayComeAgain}
 use Rattle.acct_service.specs.Settling.{LifeSettles, IsKept, history_of}
+use Rattle.acct_service.proofs.Aside.{stays_plain, HaveSameReports, reports_same, life_alike}
 use Rattle.acct_service.proofs.InForce.{plans_are_told}
-use Rattle.acct_service.proofs.Kept.{life_has_kept}
+use Rattle.acct_service.proofs.Kept.{topups_same, life_has_kept}
 use Rattle.acct_service.proofs.Lives.{settles, kept_claims}
-use Rattle.acct_service.proofs.Resent.{comes_again, life_orderly}
+use Rattle.acct_service.proofs.Names.{none_late}
+use Rattle.acct_service.proofs.Resent.{IsOrderly, orderly_none, span_orderly, comes_again}
+use Rattle.acct_service.proofs.Spans.{chain_invariant, chain_of}
 
 -- a history under the plans of a configuration
 abbrev past : Config → History → Past
-past config history = record { plans = config.plans; history = history }
+past config history = uncarried config.plans history
 
 -- a span in which the entry is added and acknowledged
 record AddsIn (config : Config) (older : History) (e : Entry) : Type 0 where
@@ -68,6 +73,7 @@ served_in config older e holds (event, octets, answers) =
         ),
         refl,
         inl refl,
+        ((Accepted e ∷ [], refl, refl), refl),
       );
       acknowledges = here e [];
     }
@@ -89,6 +95,7 @@ imported_in config older e holds (moment, fields, topup, asks, is) = record {
     ),
     refl,
     inl refl,
+    ((Accepted e ∷ [], refl, refl), refl),
   );
   acknowledges =
       subst (λ asked. Contains (listed (acknowledged_line asked outcome.Added) ++ []) e)
@@ -150,12 +157,13 @@ delivers_under config older plans more may is before = record {
   plans = before.plans;
   spans = before.spans ++ extended config.plans ∷ [];
   life = chain_more LivesOn (made_with before.plans)
-      (record { plans = plans; history = older }) (past config (PlansAdded more ∷ older))
+      (uncarried plans older) (past config (PlansAdded more ∷ older))
       before.spans (extended config.plans) before.life (
         PlansAdded more ∷ older,
         (may, ap (λ added. PlansAdded added ∷ older) is),
         refl,
         inl refl,
+        ((PlansAdded more ∷ [], refl, refl), refl),
       );
   all = λ x at. subst (λ es. Contains es x)
       (sym (flat_map-append acknowledged_in before.spans (extended config.plans ∷ [])))
@@ -210,15 +218,58 @@ acknowledged_claims told last kept = kept_claims (history_of told) last (λ e at
     let is : x ≡ e = cc in
     subst (IsKept last) is (kept x there))
 
+-- what holds of each past of a life
+record IsSound (at : Past) : Type 0 where
+  orderly : IsOrderly at.plans at.history
+  topups : HasSameTopUps at
+  reports : HaveSameReports at
+
+span_sound : (old new : Past) (span : Span) → LivesOn old span new → IsSound old → IsSound new
+span_sound old new span lives sound = record {
+  orderly = span_orderly old new span lives sound.orderly;
+  topups = topups_same old new span lives sound.topups;
+  reports = reports_same old new span lives sound.reports;
+}
+
+begun_sound : (plans : List Plan) → IsSound (made_with plans)
+begun_sound plans = record {
+  orderly = orderly_none plans;
+  topups = refl;
+  reports = λ name apart. refl;
+}
+
+life_resent : (plans : List Plan) (last : Past) (spans : List Span)
+    → Life (made_with plans) spans last → MayComeAgain last
+life_resent plans last spans life =
+    let sound = chain_invariant LivesOn IsSound span_sound (made_with plans) last spans life
+    (begun_sound plans) in
+    comes_again last sound.orderly sound.topups sound.reports
+
+in_time : (old last : Past) (spans : List Span) → LifeInTime old spans last → Life old spans last
+in_time old last spans life =
+    chain_of (λ old span new. LivesOn old span new × NoneIsLate old new) LivesOn
+    (λ old new span lives. lives.0) old last spans life
+
+settled : (plans : List Plan) (sent : History) (last : Past) (spans : List Span)
+    → LifeInTime (made_with plans) spans last → AddsForNone last.whole → AddsForNone sent
+    → IsDelivered last.plans sent (acknowledged spans) last.whole
+    → BalancesAreEqual last.plans last.history sent
+settled plans sent last spans life fresh new delivered account =
+    let kept = life_has_kept (made_with plans) last spans refl
+    (in_time (made_with plans) last spans life) in
+    sym ((life_alike plans last spans life).balances account)
+    ∙ settles last.plans sent (acknowledged spans) last.whole fresh new
+    (acknowledged_claims (acknowledged spans) last.whole kept.acknowledged) delivered account
+
 pub life_settled : LifeSettles
 life_settled = record {
   kept = life_has_kept;
   in_force = plans_are_told;
-  settled = λ plans sent last spans life fresh new delivered.
-      settles last.plans sent (acknowledged spans) last.history fresh new
-      (acknowledged_claims (acknowledged spans) last.history
-      (life_has_kept (made_with plans) last spans life).acknowledged) delivered;
-  resent = λ plans last spans life.
-      comes_again last.plans last.history (life_orderly plans last spans life);
+  settled = settled;
+  unmoved = λ plans last spans life account.
+      sym ((life_alike plans last spans life).balances account);
+  resent = life_resent;
   possible = possible;
+  plain = stays_plain;
+  late = none_late;
 }

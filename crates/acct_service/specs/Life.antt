@@ -1,7 +1,7 @@
--- The life of a book: spans of serving, of imports and of additions of plans, and after each a
--- stop.
-use Rattle.std.specs.Prelude.{◌≡◌, ◌⊎◌, ℕ, Bool, true, Option, None, Some, List, [], ◌∷◌}
-use Rattle.std.specs.Prelude.{◌++◌, Result, Ok, Err}
+-- The life of a book: spans of serving, of imports, of additions of plans and of carrying sessions
+-- forward, and after each a stop.
+use Rattle.std.specs.Prelude.{◌≡◌, ◌⊎◌, ℕ, Bool, true, false, Option, None, Some, List, [], ◌∷◌}
+use Rattle.std.specs.Prelude.{◌++◌, Result, Ok, Err, Contains}
 use Rattle.std.specs.List.{flat_map}
 use Rattle.acct_model.specs.declared.plan.Plan.{Plan}
 use Rattle.acct_model.specs.declared.entry.Entry.{Entry}
@@ -9,8 +9,13 @@ use Rattle.acct_model.specs.declared.entry.Entry.TheVariants.{TopUp}
 use Rattle.acct_model.specs.PlanFaults.{plans_fault}
 use Rattle.acct_model.specs.Plans.{plan_for, Extends, plans_added}
 use Rattle.acct_model.specs.Vouchers.{TopUpFacts}
-use Rattle.acct_model.specs.History.{Accepted, PlansAdded, History, Admissible}
+use Rattle.acct_model.specs.Report.{ReportFacts}
+use Rattle.acct_model.specs.History.{Accepted, PlansAdded, History, SessionName, session_of}
+use Rattle.acct_model.specs.History.{all_reports, Admissible}
+use Rattle.acct_model.specs.Forward.{Batch, sessions_in}
+use Rattle.acct_book.specs.Carrying.{SelectionFacts, is_line, CarriesChosen}
 use Rattle.acct_book.specs.Effect.{Effect, added, repeated}
+use Rattle.acct_wire.specs.declared.client.Client.{Client}
 use Rattle.acct_site.specs.declared.config.Config.{Config}
 use Rattle.acct_files.specs.declared.import_report.Cause.{Cause}
 use Rattle.acct_files.specs.declared.import_report.Outcome.{Outcome}
@@ -31,15 +36,22 @@ pub data Span : Type 0 where
   imported : Config → ℕ → List Fields → List Outcome → Option TopUpFacts → Span
   -- plans were added to those in force, so that these are
   extended : List Plan → Span
+  -- sessions that this selection takes were carried forward under a configuration with these
+  -- plans, batch after batch, as far as it came
+  carried : List Plan → SelectionFacts → List Batch → Span
 
--- the history of a book, and the plans in force at its end
+-- The history of a book, and the plans in force at its end. The whole history is the one in which
+-- nothing was carried forward: no book keeps it. Set aside are the sessions that were carried
+-- forward, and the lines into which they were.
 pub record Past : Type 0 where
   pub plans : List Plan
   pub history : History
+  pub whole : History
+  pub aside : List SessionName
 
 -- the past of a book that was made with these plans
 abbrev pub made_with : List Plan → Past
-made_with plans = record { plans = plans; history = [] }
+made_with plans = record { plans = plans; history = []; whole = []; aside = [] }
 
 -- Each class is priced alike: the same plans, in whatever order a configuration has them.
 abbrev pub PriceAlike : List Plan → List Plan → Type 0
@@ -57,6 +69,7 @@ abbrev pub plans_after : List Plan → Span → List Plan
 plans_after plans (served those visits) = plans
 plans_after plans (imported config moment rows outcomes tried) = plans
 plans_after plans (extended new) = new
+plans_after plans (carried those selection batches) = plans
 
 -- from a history to the one after it, with no stop yet, by the plans in force before the span
 abbrev pub Goes : List Plan → History → Span → History → Type 0
@@ -65,6 +78,8 @@ Goes plans old (imported config moment rows outcomes tried) new =
     PriceAlike config.plans plans × Imported config.plans moment old rows outcomes new
 Goes plans old (extended more) new =
     MayExtend plans more × (new ≡ PlansAdded (plans_added plans more) ∷ old)
+Goes plans old (carried those selection batches) new =
+    PriceAlike those plans × CarriesChosen selection those old batches new
 
 -- The entry's call was answered Unavailable in the span. The call in which the stop falls counts as
 -- one that was.
@@ -73,6 +88,7 @@ HasTried (served those visits) asked = HasFailed visits asked
 HasTried (imported config moment rows outcomes tried) asked =
     (topup : TopUpFacts) × (tried ≡ Some topup) × (asked ≡ TopUp topup)
 HasTried (extended plans) asked = ⊥
+HasTried (carried those selection batches) asked = ⊥
 
 -- a stop leaves the history, or that with one entry whose call failed
 abbrev pub StopLeaves : List Plan → Span → History → History → Type 0
@@ -81,11 +97,27 @@ StopLeaves plans span history left =
     ⊎ ((asked : Entry) × HasTried span asked × Admissible plans history asked
     × (left ≡ Accepted asked ∷ history))
 
+-- the session of a batch's line, and the sessions that were carried into it
+abbrev pub set_aside : Batch → List SessionName
+set_aside batch = session_of batch.report ∷ sessions_in batch
+
+-- the same members came to the history and to the whole one
+abbrev pub GrowAlike : Past → Past → Type 0
+GrowAlike old new = (newer : History) × (new.history ≡ newer ++ old.history)
+    × (new.whole ≡ newer ++ old.whole)
+
+-- If sessions are carried forward, the whole history stays, and they and their lines are set aside.
+-- Otherwise both histories grow alike, and no session is set aside.
+abbrev pub GoesBeside : Past → Span → Past → Type 0
+GoesBeside old (carried those selection batches) new =
+    (new.whole ≡ old.whole) × (new.aside ≡ flat_map set_aside batches ++ old.aside)
+GoesBeside old span new = GrowAlike old new × (new.aside ≡ old.aside)
+
 -- a span and the stop after it
 abbrev pub LivesOn : Past → Span → Past → Type 0
 LivesOn old span new =
     (end : History) × Goes old.plans old.history span end × (new.plans ≡ plans_after old.plans span)
-    × StopLeaves new.plans span end new.history
+    × StopLeaves new.plans span end new.history × GoesBeside old span new
 
 -- steps in their order, each from what the one before it left
 abbrev pub Chain : {X S : Type 0} → (X → S → X → Type 0) → X → List S → X → Type 0
@@ -95,6 +127,43 @@ Chain Step old (step ∷ steps) new = (mid : _) × Step old step mid × Chain St
 -- span after span, each from what the stop before it left
 abbrev pub Life : Past → List Span → Past → Type 0
 Life old spans new = Chain LivesOn old spans new
+
+-- ---- in time
+
+-- no report of these sessions was accepted meanwhile
+abbrev pub NoneIsOf : List SessionName → Past → Past → Type 0
+NoneIsOf names old new = (newer : History) × (new.whole ≡ newer ++ old.whole)
+    × ((report : ReportFacts) → Contains (all_reports newer) report
+    → Contains names (session_of report) → ⊥)
+
+-- A report is late if its session was set aside before. None that was accepted is late.
+abbrev pub NoneIsLate : Past → Past → Type 0
+NoneIsLate old new = NoneIsOf old.aside old new
+
+-- a life in which no report is late
+abbrev pub LifeInTime : Past → List Span → Past → Type 0
+LifeInTime old spans new =
+    Chain (λ old span new. LivesOn old span new × NoneIsLate old new) old spans new
+
+-- the sessions that a span carried forward
+abbrev pub carried_in : Span → List SessionName
+carried_in (carried those selection batches) = flat_map sessions_in batches
+carried_in span = []
+
+-- no client whose events came has the name of a line
+abbrev pub HaveProperNames : Span → Type 0
+HaveProperNames (served those visits) = (visit : Visit) → Contains visits visit
+    → (client : Client) → Contains visit.site.clients client → is_line client.name ≡ false
+HaveProperNames span = Unit {0}
+
+-- nothing was carried forward
+abbrev pub HasCarriedNone : Past → Type 0
+HasCarriedNone past = (past.whole ≡ past.history) × (past.aside ≡ [])
+
+-- in none of these spans are sessions carried forward
+abbrev pub CarryNone : List Span → Type 0
+CarryNone spans = (plans : List Plan) (selection : SelectionFacts) (batches : List Batch)
+    → Contains spans (carried plans selection batches) → ⊥
 
 -- ---- what was acknowledged
 
@@ -131,6 +200,7 @@ acknowledged_in (served those visits) = flat_map acknowledged_at visits
 acknowledged_in (imported config moment rows outcomes tried) =
     acknowledged_lines moment rows outcomes
 acknowledged_in (extended plans) = []
+acknowledged_in (carried those selection batches) = []
 
 -- in all spans
 abbrev pub acknowledged : List Span → List Entry

@@ -1,16 +1,18 @@
 -- What disturbed delivery leaves of balances: those of the entries that were to be delivered.
 --
 -- What was sent is a history too: the one that would have been, had nothing been lost, repeated or
--- reordered. A list of entries is one in which no plans were added.
+-- reordered. A list of entries is one in which no plans were added. What stays in a life is said of
+-- its whole history, in which nothing was carried forward, and balances of the book's.
 use Rattle.std.specs.Prelude.{◌≡◌, ◌⊎◌, ◌≤◌, ℕ, List, [], ◌∷◌, ◌++◌, map, Contains, Ok}
+use Rattle.std.specs.List.{flat_map}
 use Rattle.acct_model.specs.declared.plan.Plan.{Plan}
 use Rattle.acct_model.specs.declared.entry.Entry.{Entry}
 use Rattle.acct_model.specs.declared.entry.Entry.TheVariants as entry
 use Rattle.acct_model.specs.Report.{ReportFacts}
 use Rattle.acct_model.specs.Vouchers.{TopUpFacts}
 use Rattle.acct_model.specs.Plans.{plan_for, plans_added}
-use Rattle.acct_model.specs.History.{Accepted, PlansAdded, History, plans_then, session_of}
-use Rattle.acct_model.specs.History.{all_reports, counted_of, all_topups, Admissible}
+use Rattle.acct_model.specs.History.{Accepted, PlansAdded, History, session_of}
+use Rattle.acct_model.specs.History.{plans_then, all_reports, counted_of, all_topups, Admissible}
 use Rattle.acct_model.specs.Claims.{OfReport, OfTopUp, report_claim, topup_claim, claims}
 use Rattle.acct_model.specs.Claims.{IsConsistent, ClaimsNoMore}
 use Rattle.acct_model.specs.Agreement.{AddsForNone, BalancesAreEqual}
@@ -20,8 +22,9 @@ use Rattle.acct_site.specs.declared.config.Config.{Config}
 use Rattle.acct_files.specs.Vouchers.{Fields, asked_by}
 use Rattle.acct_service.specs.declared.event.Event.{Event}
 use Rattle.acct_service.specs.Machine.{replied, AnswersEvent}
-use Rattle.acct_service.specs.Life.{Span, Past, made_with, PriceAlike, MayExtend, Life}
-use Rattle.acct_service.specs.Life.{acknowledged}
+use Rattle.acct_service.specs.Life.{Span, Past, made_with, PriceAlike, MayExtend, LivesOn, Life}
+use Rattle.acct_service.specs.Life.{NoneIsOf, NoneIsLate, LifeInTime, carried_in, HaveProperNames}
+use Rattle.acct_service.specs.Life.{HasCarriedNone, CarryNone, acknowledged}
 
 -- ---- what stays
 
@@ -41,8 +44,12 @@ pub record HasKept (old : History) (confirmed : List Entry) (last : History) : T
 -- Of a life from the old past to the last: the plans in force before are those at the end without
 -- the ones that the history says were added since.
 abbrev pub PlansAreTold : Past → Past → Type 0
-PlansAreTold old last = (newer : History) × (last.history ≡ newer ++ old.history)
+PlansAreTold old last = (newer : History) × (last.whole ≡ newer ++ old.whole)
     × PriceAlike (plans_then last.plans newer) old.plans
+
+-- both histories of a past have the same top-ups
+abbrev pub HasSameTopUps : Past → Type 0
+HasSameTopUps past = all_topups past.whole ≡ all_topups past.history
 
 -- ---- what was to be delivered
 
@@ -73,16 +80,23 @@ abbrev pub IsDelivered : List Plan → History → List Entry → History → Ty
 IsDelivered plans sent confirmed last =
     ClaimsNoMore last sent × IsSettledBy plans sent confirmed
 
--- What was accepted may come again, its reply being lost: a report may be accepted and moves no
--- balance, a top-up is a repeat.
-pub record MayComeAgain (plans : List Plan) (history : History) : Type 0 where
-  pub report : (report : ReportFacts) → Contains (claims history) (OfReport (report_claim report))
-      → Admissible plans history (entry.Report report)
-      × BalancesAreEqual plans (Accepted (entry.Report report) ∷ history) history
-  pub topup : (topup : TopUpFacts) → Contains (claims history) (OfTopUp (topup_claim topup))
-      → IsRepeated history (entry.TopUp topup)
+-- What was accepted may come again, its reply being lost: a report whose session was not set aside
+-- may be accepted and moves no balance, a top-up is a repeat.
+pub record MayComeAgain (past : Past) : Type 0 where
+  pub report : (report : ReportFacts)
+      → Contains (claims past.whole) (OfReport (report_claim report))
+      → (Contains past.aside (session_of report) → ⊥)
+      → Admissible past.plans past.history (entry.Report report)
+      × BalancesAreEqual past.plans (Accepted (entry.Report report) ∷ past.history) past.history
+  pub topup : (topup : TopUpFacts) → Contains (claims past.whole) (OfTopUp (topup_claim topup))
+      → IsRepeated past.history (entry.TopUp topup)
 
 -- ---- lives that are possible
+
+-- the past of a history in which nothing was carried forward
+abbrev pub uncarried : List Plan → History → Past
+uncarried plans history =
+    record { plans = plans; history = history; whole = history; aside = [] }
 
 -- some event asks for the entry and is answered by a reply where it is added
 abbrev pub CanBeServed : Config → Entry → Type 0
@@ -111,24 +125,37 @@ CanBeSent config (PlansAdded more ∷ older) =
 
 pub record LifeSettles : Type 0 where
   -- what was accepted or acknowledged stays
-  pub kept : (old last : Past) (spans : List Span)
-      → Life old spans last → HasKept old.history (acknowledged spans) last.history
+  pub kept : (old last : Past) (spans : List Span) → HasSameTopUps old
+      → Life old spans last → HasKept old.whole (acknowledged spans) last.whole
   -- the history says which plans are in force
   pub in_force : (old last : Past) (spans : List Span) → Life old spans last
       → PlansAreTold old last
-  -- What was sent in the end counts as if nothing had been lost, repeated or reordered, and as if
-  -- the server had never stopped, by the plans in force at the end. Each addition was of plans for
-  -- classes that no report accepted before bears.
+  -- What was sent in the end counts as if nothing had been lost, repeated or reordered, as if the
+  -- server had never stopped, and as if nothing had been carried forward, by the plans in force at
+  -- the end. No report was accepted of a session that was set aside before. Each addition was of
+  -- plans for classes that no report accepted before bears.
   pub settled : (plans : List Plan) (sent : History) (last : Past) (spans : List Span)
-      → Life (made_with plans) spans last → AddsForNone last.history → AddsForNone sent
-      → IsDelivered last.plans sent (acknowledged spans) last.history
+      → LifeInTime (made_with plans) spans last → AddsForNone last.whole → AddsForNone sent
+      → IsDelivered last.plans sent (acknowledged spans) last.whole
       → BalancesAreEqual last.plans last.history sent
+  -- To carry sessions forward moves no balance, if no report is late.
+  pub unmoved : (plans : List Plan) (last : Past) (spans : List Span)
+      → LifeInTime (made_with plans) spans last
+      → BalancesAreEqual last.plans last.history last.whole
   -- what was committed and never answered may be sent again
   pub resent : (plans : List Plan) (last : Past) (spans : List Span)
-      → Life (made_with plans) spans last → MayComeAgain last.plans last.history
+      → Life (made_with plans) spans last → MayComeAgain last
   -- Such lives exist: of each consistent history that can be sent, one in which all of it is
   -- delivered.
   pub possible : (config : Config) (sent : History) → IsConsistent sent → CanBeSent config sent
       → (plans : List Plan) × (spans : List Span)
-      × Life (made_with plans) spans (record { plans = config.plans; history = sent })
+      × Life (made_with plans) spans (uncarried config.plans sent)
       × IsDelivered config.plans sent (acknowledged spans) sent
+  -- If nothing is carried forward, the whole history is the book's, and no report is late.
+  pub plain : (old last : Past) (spans : List Span) → CarryNone spans → HasCarriedNone old
+      → Life old spans last → HasCarriedNone last × LifeInTime old spans last
+  -- If no client has the name of a line, only a report of a session that was carried forward
+  -- before is late.
+  pub late : (plans : List Plan) (before : List Span) (old : Past) (span : Span) (new : Past)
+      → Life (made_with plans) before old → LivesOn old span new → HaveProperNames span
+      → NoneIsOf (flat_map carried_in before) old new → NoneIsLate old new

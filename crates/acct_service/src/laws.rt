@@ -13,7 +13,8 @@ use acct_book::Book;
 /// sent are consistent, nothing else was accepted, each top-up was acknowledged and each report is
 /// covered by an acknowledged one, the balances are those of what was sent, however often the
 /// server stopped and the network lost, repeated or reordered. Plans may be added meanwhile, each
-/// for a class that no report accepted before bears. What was never answered may come again.
+/// for a class that no report accepted before bears. Sessions may be carried forward, if no report
+/// of one is accepted later. What was never answered may come again.
 pub fn life_settles()
     ensures { LifeSettles }
 {}
@@ -21,9 +22,10 @@ pub fn life_settles()
 /// What a crash leaves of a book that was served or imported into is a history from which
 /// `life_settles` goes on: this span of a life, and a stop. The same holds of a book to which plans
 /// were added. If the addition was killed or failed, the book may also be as it was, with the plans
-/// that it had. The next start may have the plans in another order.
-pub fn stops_are_lived<B: Book>()
-    ensures { StopsAreLived B.Book }
+/// that it had. It also holds of a book whose sessions were carried forward, by a call that answers
+/// a `T` or an `E`: as many batches as came. The next start may have the plans in another order.
+pub fn stops_are_lived<B: Book, T, E>()
+    ensures { StopsAreLived B.Book T E }
 {}
 
 /// Turns after turns are turns: what `serve` says of two runs over one book and exchange holds of
