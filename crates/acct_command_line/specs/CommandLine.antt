@@ -66,6 +66,24 @@ seconds_rule = number_rule (codes "balances-every") 86400 (codes "60")
 abbrev pub balances_every_rule : Rule
 balances_every_rule = tied seconds_rule
 
+-- an option for a number of days
+abbrev pub days_rule : Text → Rule
+days_rule id = record (option_rule id) { parser = Some (parser.Signed (pos 30) (pos 36500)) }
+
+-- `--before DAYS`
+abbrev pub before_rule : Rule
+before_rule = record (days_rule (codes "before")) { defaults = codes "90" ∷ [] }
+
+-- `--at MOMENT`
+abbrev pub at_rule : Rule
+at_rule = record (option_rule (codes "at")) {
+  parser = Some (parser.Signed (pos 1) (pos 9007199254740991));
+}
+
+-- `--keep CLIENT`, which may be given more than once
+abbrev pub keep_rule : Rule
+keep_rule = record (option_rule (codes "keep")) { action = Some action.Append }
+
 -- a command that has a configuration: `--explain`
 abbrev pub explained : App → App
 explained a = with_rule a (flag_rule (codes "explain"))
@@ -106,6 +124,13 @@ serve_app = with_rules (book_app (codes "serve"))
     ∷ turns_rule ∷ sync_rule ∷ flag_rule (codes "quiet") ∷ option_rule (codes "status")
     ∷ option_rule (codes "balances") ∷ balances_every_rule ∷ [])
 
+-- `forward --config FILE --db FILE [--explain] [--before DAYS] [--at MOMENT] [--silent DAYS]
+-- [--keep CLIENT].. [--dry-run] [--yes]`
+abbrev pub forward_app : App
+forward_app = with_rules (book_app (codes "forward"))
+    (before_rule ∷ at_rule ∷ days_rule (codes "silent") ∷ keep_rule
+    ∷ flag_rule (codes "dry-run") ∷ flag_rule (codes "yes") ∷ [])
+
 -- a command that has a version
 abbrev pub has_version : App → App
 has_version a = record a { top = record a.top { has_version = true } }
@@ -127,4 +152,4 @@ with_commands a (c ∷ cs) = with_commands (with_subcommand a c.top) cs
 abbrev pub app : App
 app = with_commands bare_app
     (feed_app ∷ check_app ∷ book_app (codes "init") ∷ serve_app ∷ book_app (codes "import")
-    ∷ export_app ∷ book_app (codes "migrate") ∷ book_app (codes "plans") ∷ [])
+    ∷ export_app ∷ book_app (codes "migrate") ∷ book_app (codes "plans") ∷ forward_app ∷ [])

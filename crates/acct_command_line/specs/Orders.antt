@@ -1,6 +1,6 @@
 -- What the options of a subcommand ask for.
 use Rattle.std.specs.Prelude.{◌≡◌, ◌≤◌, ◌<◌, ◌^◌, ⊤, ℕ, Bool, true, false, List, length}
-use Rattle.std.specs.Prelude.{Option, Some, None, IfSome, codes}
+use Rattle.std.specs.Prelude.{[], Option, Some, None, IfSome, unwrap_or, codes}
 use Rattle.std.specs.Option.{option_or}
 use Rattle.clap.specs.Words.{Row, Text, all_of, first_of, one_of}
 use Rattle.clap.specs.Takes.{is_given}
@@ -19,6 +19,9 @@ use Rattle.acct_command_line.specs.declared.job.Telling.{Telling}
 use Rattle.acct_command_line.specs.declared.job.BalancesFile.{BalancesFile}
 use Rattle.acct_command_line.specs.declared.job.Paths.{Paths}
 use Rattle.acct_command_line.specs.declared.job.KeptNames.{KeptNames}
+use Rattle.acct_command_line.specs.declared.job.Carrying.{Carrying}
+use Rattle.acct_command_line.specs.declared.job.Cutoff.{Cutoff}
+use Rattle.acct_command_line.specs.declared.job.Cutoff.TheVariants.{Before, At}
 
 -- the option has this number, from 1 to the given one
 abbrev pub IsNumber : Text → List Row → ℕ → ℕ → Type 0
@@ -105,6 +108,26 @@ export_name Overruns = codes "overruns"
 abbrev pub IsExport : List Row → Export → Type 0
 IsExport rows what = first_of (codes "what") rows ≡ Some (export_name what)
 
+-- the moment from which on sessions stay that have ended: not both, days and a moment, were given
+abbrev pub IsCutoff : List Row → Cutoff → Type 0
+IsCutoff rows (Before days) =
+    (first_of (codes "at") rows ≡ None) × IsNumber (codes "before") rows 36500 days × (30 ≤ days)
+IsCutoff rows (At moment) =
+    (is_given (codes "before") rows ≡ false)
+    × IsNumber (codes "at") rows 9007199254740991 moment
+
+-- for how many days an open session must have been silent
+abbrev pub IsSilence : List Row → Option ℕ → Type 0
+IsSilence rows None = first_of (codes "silent") rows ≡ None
+IsSilence rows (Some days) = IsNumber (codes "silent") rows 36500 days × (30 ≤ days)
+
+-- which sessions the options say are carried forward, and how
+abbrev pub IsCarrying : List Row → Carrying → Type 0
+IsCarrying rows carrying =
+    IsCutoff rows carrying.cutoff × IsSilence rows carrying.silent
+    × (unwrap_or (all_of (codes "keep") rows) [] ≡ carrying.kept.items)
+    × IsFlag (codes "dry-run") rows carrying.is_dry × IsFlag (codes "yes") rows carrying.is_sure
+
 -- what the rows of a subcommand's options ask for
 abbrev pub WordsAskFor : Text → List Row → Job → Type 0
 WordsAskFor name rows (job.Feed config) =
@@ -120,6 +143,8 @@ WordsAskFor name rows (job.Export paths what) =
     (name ≡ codes "export") × ArePaths rows paths × IsExport rows what
 WordsAskFor name rows (job.Migrate paths) = (name ≡ codes "migrate") × ArePaths rows paths
 WordsAskFor name rows (job.AddPlans paths) = (name ≡ codes "plans") × ArePaths rows paths
+WordsAskFor name rows (job.Forward paths carrying) =
+    (name ≡ codes "forward") × ArePaths rows paths × IsCarrying rows carrying
 
 -- the order is that of the subcommand that the words name
 abbrev pub NamesJob : Option (Text × List Row) → Order → Type 0
@@ -136,6 +161,15 @@ pub record IsBounded (serving : Serving) : Type 0 where
   pub seconds : IfSome serving.telling.balances
       (λ balances. (1 ≤ balances.seconds) × (balances.seconds ≤ 86400))
 
+-- a number of days is 30 to 36,500
+abbrev pub AreDays : ℕ → Type 0
+AreDays days = (30 ≤ days) × (days ≤ 36500)
+
+-- the days are so many, or the moment is below 2^53
+abbrev pub IsWithin : Cutoff → Type 0
+IsWithin (Before days) = AreDays days
+IsWithin (At moment) = moment < 2 ^ 53
+
 -- the numbers of a job are within their bounds
 abbrev pub HasBounds : Job → Type 0
 HasBounds (job.Feed config) = ⊤
@@ -146,3 +180,5 @@ HasBounds (job.Import paths) = ⊤
 HasBounds (job.Export paths what) = ⊤
 HasBounds (job.Migrate paths) = ⊤
 HasBounds (job.AddPlans paths) = ⊤
+HasBounds (job.Forward paths carrying) =
+    IsWithin carrying.cutoff × IfSome carrying.silent AreDays

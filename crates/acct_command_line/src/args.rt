@@ -5,6 +5,7 @@ ghost use Rattle.acct_command_line.specs.CommandLine.{config_rule, database_rule
 ghost use Rattle.acct_command_line.specs.CommandLine.{bind_rule, option_rule, flag_rule, required};
 ghost use Rattle.acct_command_line.specs.CommandLine.{port_rule, turns_rule, sync_rule};
 ghost use Rattle.acct_command_line.specs.CommandLine.{balances_every_rule, seconds_rule, tied};
+ghost use Rattle.acct_command_line.specs.CommandLine.{before_rule, days_rule, at_rule, keep_rule};
 
 use clap::{Arg, ArgAction};
 use std::alloc::{AllocError, Global};
@@ -140,6 +141,70 @@ pub fn balances_every_option<'a>(alloc: Global) -> Result<Arg<'a>, AllocError>
     ensures local { IfOk result (λ option. option.global ≡ false) }
 {
     needing(seconds_option(alloc), "balances")
+}
+
+/// `--before DAYS`
+pub fn before_option<'a>(alloc: Global) -> Arg<'a>
+    ensures rule { rule_of result ≡ before_rule }
+    ensures local { result.global ≡ false }
+{
+    days_option(alloc, "before").default_value("90").help(
+        "Carries sessions that ended more than so many days ago, 30 or more",
+    )
+}
+
+/// `--silent DAYS`
+pub fn silent_option<'a>(alloc: Global) -> Arg<'a>
+    ensures rule { rule_of result ≡ days_rule (codes "silent") }
+    ensures local { result.global ≡ false }
+{
+    days_option(alloc, "silent").help(
+        "Carries open sessions too that have not reported for so many days, 30 or more",
+    )
+}
+
+// An option for a number of days.
+fn days_option<'a>(alloc: Global, id: &'a str) -> Arg<'a>
+    ensures rule { rule_of result ≡ days_rule id.now }
+    ensures local { result.global ≡ false }
+{
+    valued(alloc, id, "DAYS").value_parser(clap::value_parser!(i64).range(30..=36_500))
+}
+
+/// `--at MOMENT`
+pub fn at_option<'a>(alloc: Global) -> Arg<'a>
+    ensures rule { rule_of result ≡ at_rule }
+    ensures local { result.global ≡ false }
+{
+    valued(alloc, "at", "MOMENT")
+        .value_parser(clap::value_parser!(i64).range(1..=9_007_199_254_740_991))
+        .help("Carries sessions that ended before this moment, in seconds since 1970")
+}
+
+/// `--keep CLIENT`
+pub fn keep_option<'a>(alloc: Global) -> Arg<'a>
+    ensures rule { rule_of result ≡ keep_rule }
+    ensures local { result.global ≡ false }
+{
+    valued(alloc, "keep", "CLIENT")
+        .action(ArgAction::Append)
+        .help("A client whose sessions stay; it may be given more than once")
+}
+
+/// `--dry-run`
+pub fn dry_run_flag<'a>(alloc: Global) -> Arg<'a>
+    ensures rule { rule_of result ≡ flag_rule (codes "dry-run") }
+    ensures local { result.global ≡ false }
+{
+    flag(alloc, "dry-run").help("Prints what would be carried, and changes nothing")
+}
+
+/// `--yes`
+pub fn yes_flag<'a>(alloc: Global) -> Arg<'a>
+    ensures rule { rule_of result ≡ flag_rule (codes "yes") }
+    ensures local { result.global ≡ false }
+{
+    flag(alloc, "yes").help("Goes on if the last report is more than 7 days older than the clock")
 }
 
 // `--balances-every SECONDS`, alone.

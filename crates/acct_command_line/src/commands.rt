@@ -6,12 +6,14 @@ ghost use Rattle.std.specs.Prelude.{◌≡◌, false, true, codes};
 ghost use Rattle.clap.specs.Words.{App, Rule, app_of, rule_of, new_app, with_rule, with_subcommand};
 ghost use Rattle.acct_command_line.specs.CommandLine.{app, bare_app, feed_app, check_app, book_app};
 ghost use Rattle.acct_command_line.specs.CommandLine.{configured_app, serve_app, export_app};
+ghost use Rattle.acct_command_line.specs.CommandLine.{forward_app};
 ghost use Rattle.acct_command_line.specs.inner.Made.{IsMade};
 
 use crate::args::{
-    balances_every_option, balances_option, bind_option, config_option, database_option,
-    desk_bind_option, explain_flag, needed, port_option, quiet_flag, status_option, sync_option,
-    turns_option, what_option,
+    at_option, balances_every_option, balances_option, before_option, bind_option, config_option,
+    database_option, desk_bind_option, dry_run_flag, explain_flag, keep_option, needed,
+    port_option, quiet_flag, silent_option, status_option, sync_option, turns_option, what_option,
+    yes_flag,
 };
 use clap::{Arg, Command};
 use std::alloc::{AllocError, Global};
@@ -33,7 +35,8 @@ pub fn command_line<'a>(alloc: Global) -> Result<Command<'a>, AllocError>
     let program = with_command(program, import_command(alloc));
     let program = with_command(program, export_command(alloc));
     let program = with_command(program, migrate_command(alloc));
-    with_command(program, plans_command(alloc))
+    let program = with_command(program, plans_command(alloc));
+    with_command(program, forward_command(alloc))
 }
 
 // The program without its commands.
@@ -154,6 +157,19 @@ fn plans_command<'a>(alloc: Global) -> Result<Command<'a>, AllocError>
 {
     let about = "Adds the plans of a configuration that a book does not keep yet";
     book_command(alloc, "plans", about)
+}
+
+fn forward_command<'a>(alloc: Global) -> Result<Command<'a>, AllocError>
+    ensures { IsMade forward_app result }
+{
+    let about = "Carries old sessions forward into a line for each account; no balance changes";
+    let command = book_command(alloc, "forward", about);
+    let command = with_option(command, before_option(alloc));
+    let command = with_option(command, at_option(alloc));
+    let command = with_option(command, silent_option(alloc));
+    let command = with_option(command, keep_option(alloc));
+    let command = with_option(command, dry_run_flag(alloc));
+    with_option(command, yes_flag(alloc))
 }
 
 // A command that keeps a book.

@@ -69,6 +69,13 @@ pub enum Job {
         /// Its files.
         paths: Paths,
     },
+    /// Carries old sessions forward.
+    Forward {
+        /// Its files.
+        paths: Paths,
+        /// Which sessions, and how.
+        carrying: Carrying,
+    },
 }
 
 // It is written out, so that a caller does not prove again how each part is dropped.
@@ -90,6 +97,10 @@ impl Drop for Job {
             Job::Export { paths: _, what: _ } => {}
             Job::Migrate { paths: _ } => {}
             Job::AddPlans { paths: _ } => {}
+            Job::Forward {
+                paths: _,
+                carrying: _,
+            } => {}
         }
     }
 }
@@ -141,6 +152,43 @@ pub enum Export {
     TopUps,
     /// A line for each account that owes.
     Overruns,
+}
+
+/// Which sessions are carried forward, and how.
+pub struct Carrying {
+    /// From which moment on a session that has ended stays.
+    pub cutoff: Cutoff,
+    /// For how many days an open session must have been silent to be carried, 30 to 36,500. Without
+    /// a number, none is.
+    pub silent: Option<u64>,
+    /// The names of the clients whose sessions stay.
+    pub kept: Vec<Text>,
+    /// Whether it only says what it would do.
+    pub is_dry: bool,
+    /// Whether it goes on if the book is much older than the clock says.
+    pub is_sure: bool,
+}
+
+// It is written out, so that a caller does not prove again how each part is dropped.
+impl Drop for Carrying {
+    fn drop(self) {
+        let Carrying {
+            cutoff: _,
+            silent: _,
+            kept: _,
+            is_dry: _,
+            is_sure: _,
+        } = self;
+    }
+}
+
+/// From which moment on a session that has ended stays.
+#[derive(Clone, Copy, PartialEq, Eq, Debug)]
+pub enum Cutoff {
+    /// So many days before now, 30 to 36,500.
+    Before(u64),
+    /// This moment, in seconds since 1970.
+    At(u64),
 }
 
 /// How a server runs.

@@ -2,6 +2,7 @@
 #![tactic(auto)]
 
 mod args;
+mod carrying;
 mod commands;
 mod job;
 mod options;
@@ -10,7 +11,8 @@ mod telling;
 mod words;
 
 pub use job::{
-    BalancesFile, Export, Job, KeptNames, Listening, Order, Paths, Serving, Syncs, Telling,
+    BalancesFile, Carrying, Cutoff, Export, Job, KeptNames, Listening, Order, Paths, Serving,
+    Syncs, Telling,
 };
 pub use telling::tell;
 pub use words::job_of;

@@ -1,5 +1,5 @@
 //! What was found for an option.
-ghost use Rattle.std.specs.Prelude.{◌≡◌, IfOk, IfSome, map};
+ghost use Rattle.std.specs.Prelude.{◌≡◌, IfOk, IfSome, IfNone, Some, None, map};
 ghost use Rattle.clap.specs.Words.{all_of, first_of, rows_of, found_of};
 ghost use Rattle.clap.specs.Takes.{is_given as given_by_words};
 ghost use Rattle.acct_command_line.specs.Orders.{IsFlag, IsNumber};
@@ -33,8 +33,10 @@ pub fn texts_option(
     options: &ArgMatches<'_>,
     id: &str,
 ) -> Result<Option<Vec<Text>>, AllocError>
-    ensures { IfOk result (λ texts. IfSome texts
+    ensures some { IfOk result (λ texts. IfSome texts
         (λ texts. all_of id.now (rows_of (found_of options.now)) ≡ Some texts.items)) }
+    ensures none { IfOk result (λ texts. IfNone texts
+        (all_of id.now (rows_of (found_of options.now)) ≡ None)) }
 {
     match options.get_strs(id) {
         Some(words) => Ok(Some(copied(alloc, words)?)),

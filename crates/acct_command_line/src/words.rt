@@ -6,6 +6,7 @@ ghost use Rattle.acct_command_line.specs.Orders.{AreKeptNames, ArePaths, HasBoun
 ghost use Rattle.acct_command_line.specs.Orders.{NamesJob};
 ghost use Rattle.acct_command_line.specs.Orders.{WordsAskFor, export_name};
 
+use crate::carrying::carrying_of;
 use crate::commands::{PROGRAM, command_line};
 use crate::job::{Export, Job, KeptNames, Order, Paths};
 use crate::options::{flag_option, text_option};
@@ -92,6 +93,7 @@ fn asked_of_book(
         "export" => Ok(asked_to_export(paths, options)),
         "migrate" => Ok(Some(Job::Migrate { paths })),
         "plans" => Ok(Some(Job::AddPlans { paths })),
+        "forward" => asked_to_carry(alloc, paths, options),
         _ => Ok(None),
     }
 }
@@ -108,6 +110,22 @@ fn asked_to_serve(
 {
     match serving_of(alloc, options)? {
         Some(serving) => Ok(Some(Job::Serve { paths, serving })),
+        None => Ok(None),
+    }
+}
+
+// What the options of `forward` ask for.
+fn asked_to_carry(
+    alloc: Global,
+    paths: Paths,
+    options: &ArgMatches<'_>,
+) -> Result<Option<Job>, AllocError>
+    requires { ArePaths (rows_of (found_of options.now)) paths }
+    ensures { IfOk result (λ job. IfSome job
+        (WordsAskFor (codes "forward") (rows_of (found_of options.now)))) }
+{
+    match carrying_of(alloc, options)? {
+        Some(carrying) => Ok(Some(Job::Forward { paths, carrying })),
         None => Ok(None),
     }
 }

@@ -4,3 +4,5 @@ pub mod Readings
 pub mod Places
 -- what holds of the elements of a list up to a place
 pub mod Elements
+-- what a run of `forward` did to its book
+pub mod Forwarded

@@ -46,6 +46,8 @@ IsNoConfig text fault.CannotBind = ⊥
 IsNoConfig text fault.CannotWrite = ⊥
 IsNoConfig text fault.NoMemory = ⊥
 IsNoConfig text fault.WouldOverwrite = ⊥
+IsNoConfig text fault.CutoffTooLate = ⊥
+IsNoConfig text fault.ClockAhead = ⊥
 
 -- why a text was not checked: it is no configuration, or its sizes could not be written
 abbrev pub IsUnchecked : Option (List ℕ) → Fault → Type 0

@@ -26,6 +26,9 @@ fault_text fault.CannotBind = codes "socket: cannot bind"
 fault_text fault.CannotWrite = codes "cannot write"
 fault_text fault.NoMemory = codes "out of memory"
 fault_text fault.WouldOverwrite = codes "file: would be overwritten"
+fault_text fault.CutoffTooLate = codes "forward: less than 30 days ago"
+fault_text fault.ClockAhead =
+    codes "forward: no report for 7 days; give --yes if the clock is right"
 
 -- how a command ends that a fault ends
 abbrev pub fault_status : Fault → Status
@@ -38,6 +41,8 @@ fault_status fault.CannotBind = status.Socket
 fault_status fault.CannotWrite = status.Refused
 fault_status fault.NoMemory = status.Unavailable
 fault_status fault.WouldOverwrite = status.Refused
+fault_status fault.CutoffTooLate = status.Refused
+fault_status fault.ClockAhead = status.Refused
 
 -- how a command ends
 abbrev pub ended_status : Result Status Fault → Status

@@ -4,6 +4,7 @@ pub mod Drops
 pub mod Endings
 pub mod Exports
 pub mod Figures
+pub mod Forwarding
 pub mod Fresh
 pub mod Imports
 pub mod KeptNames

@@ -3,6 +3,7 @@ ghost use Rattle.std.specs.Prelude.{◌≡◌, ◌≢◌, Some, IfOk};
 ghost use Rattle.acct_commands.specs.Endings.{fault_text, store_fault_text, fault_status};
 ghost use Rattle.acct_commands.specs.Endings.{ended_status};
 
+use acct_book::Unavailable;
 use acct_config::ConfigError;
 use acct_feed::Status;
 use std::alloc::AllocError;
@@ -43,6 +44,10 @@ pub enum Fault {
     NoMemory,
     /// A file that is written from time to time would take the place of another one.
     WouldOverwrite,
+    /// Sessions that ended less than 30 days ago were to be carried forward.
+    CutoffTooLate,
+    /// The last report of a book is more than 7 days older than the clock.
+    ClockAhead,
 }
 
 impl fmt::Display for Fault {
@@ -59,6 +64,10 @@ impl fmt::Display for Fault {
             Fault::CannotWrite => f.write_str("cannot write"),
             Fault::NoMemory => f.write_str("out of memory"),
             Fault::WouldOverwrite => f.write_str("file: would be overwritten"),
+            Fault::CutoffTooLate => f.write_str("forward: less than 30 days ago"),
+            Fault::ClockAhead => {
+                f.write_str("forward: no report for 7 days; give --yes if the clock is right")
+            }
         }
     }
 }
@@ -82,8 +91,12 @@ impl Fault {
         ensures other { result ≢ Status.WrongWords }
     {
         match self {
-            Fault::CannotRead | Fault::Config(_) | Fault::CannotWrite | Fault::WouldOverwrite =>
-                Status::Refused,
+            Fault::CannotRead
+            | Fault::Config(_)
+            | Fault::CannotWrite
+            | Fault::WouldOverwrite
+            | Fault::CutoffTooLate
+            | Fault::ClockAhead => Status::Refused,
             Fault::CannotOpen | Fault::Store(_) | Fault::StoreMemory | Fault::NoMemory => {
                 Status::Unavailable
             }
@@ -100,6 +113,18 @@ impl From<io::Error> for Fault {
 
     fn from(_error: io::Error) -> Fault {
         Fault::CannotWrite
+    }
+}
+
+impl From<Unavailable> for Fault {
+    ghost use Rattle.std.specs.Prelude.{◌≡◌};
+    ghost use Rattle.acct_commands.specs.declared.fault.Fault.TheVariants.{Store};
+    ghost use Rattle.acct_commands.specs.declared.fault.StoreFault.TheVariants as store;
+
+    ghost from_gives = { λ _ fault. fault ≡ Store store.Unavailable };
+
+    fn from(_error: Unavailable) -> Fault {
+        Fault::Store(StoreFault::Unavailable)
     }
 }
 

@@ -1,5 +1,7 @@
 //! Words of the command line, and where their texts go.
-use acct_command_line::{Job, KeptNames, Listening, Order, Paths, Serving, Telling, job_of, tell};
+use acct_command_line::{
+    Carrying, Job, KeptNames, Listening, Order, Paths, Serving, Telling, job_of, tell,
+};
 use acct_feed::Status;
 use acct_feed::Status::{Done, WrongWords};
 use acct_model::Text;
@@ -80,7 +82,7 @@ fn reads_command_lines(rt: HostRuntime) -> Result<(), Fail> {
 // Words after the program's name, and what they ask for: the job, its files, and of a server its
 // addresses, the desk's, both ports, turns, syncs, what it tells, and the two files; a plus where
 // more is told of a fault. None where they name no job.
-static ORDERS: [(&str, Option<&str>); 45] = [
+static ORDERS: [(&str, Option<&str>); 54] = [
     ("feed", Some("feed none")),
     ("feed --config a", Some("feed a")),
     ("feed --explain", Some("feed none +")),
@@ -112,6 +114,27 @@ static ORDERS: [(&str, Option<&str>); 45] = [
     ("migrate --config a --db b --sync once", None),
     ("plans --config a --db b", Some("plans a b")),
     ("plans --config a --db b --explain", Some("plans a b +")),
+    (
+        "forward --config a --db b",
+        Some("forward a b Before(90) None kept"),
+    ),
+    (
+        "forward --config a --db b --before 30 --silent 36500 --keep x --keep y --explain",
+        Some("forward a b Before(30) Some(36500) kept x y +"),
+    ),
+    (
+        "forward --config a --db b --at 1700000000 --dry-run --yes",
+        Some("forward a b At(1700000000) None kept dry sure"),
+    ),
+    ("forward --config a", None),
+    ("forward --config a --db b --before 29", None),
+    ("forward --config a --db b --before 36501", None),
+    ("forward --config a --db b --silent 29", None),
+    (
+        "forward --config a --db b --before 90 --at 1700000000",
+        None,
+    ),
+    ("forward --config a --db b --at 9007199254740992", None),
     (
         "serve --config a --db b",
         Some(
@@ -261,6 +284,7 @@ fn shown_job(alloc: Global, job: &Job) -> Result<String, Fail> {
         }
         Job::Migrate { paths } => shown_paths(alloc, "migrate", paths),
         Job::AddPlans { paths } => shown_paths(alloc, "plans", paths),
+        Job::Forward { paths, carrying } => shown_carrying(alloc, paths, carrying),
     }
 }
 
@@ -278,6 +302,19 @@ fn shown_check(
 fn shown_paths(alloc: Global, command: &str, paths: &Paths) -> Result<String, Fail> {
     let (config, database) = (paths.config.as_str(), paths.database.as_str());
     Ok(format!(in alloc; "{command} {config} {database}")?)
+}
+
+fn shown_carrying(alloc: Global, paths: &Paths, carrying: &Carrying) -> Result<String, Fail> {
+    let paths = shown_paths(alloc, "forward", paths)?;
+    let (cutoff, silent) = (carrying.cutoff, carrying.silent);
+    let mut shown = format!(in alloc; "{paths} {cutoff:?} {silent:?} kept")?;
+    for client in &carrying.kept {
+        shown.push_str(" ")?;
+        shown.push_str(client.as_str())?;
+    }
+    shown.push_str(if carrying.is_dry { " dry" } else { "" })?;
+    shown.push_str(if carrying.is_sure { " sure" } else { "" })?;
+    Ok(shown)
 }
 
 fn shown_serving(alloc: Global, paths: &Paths, serving: &Serving) -> Result<String, Fail> {

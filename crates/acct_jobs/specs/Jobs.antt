@@ -21,10 +21,12 @@ use Rattle.acct_feed.specs.declared.status.Status.TheVariants as status
 use Rattle.acct_command_line.specs.declared.job.Job.{Job}
 use Rattle.acct_command_line.specs.declared.job.Job.TheVariants as job
 use Rattle.acct_command_line.specs.declared.job.Export.{Export}
+use Rattle.acct_command_line.specs.declared.job.Carrying.{Carrying}
 use Rattle.acct_commands.specs.Checks.{IsNoConfig, TellsSizes, sizes_line}
 use Rattle.acct_commands.specs.Checks as check
 use Rattle.acct_commands.specs.KeptNames.{NamesSome}
 use Rattle.acct_commands.specs.Imports.{Runs}
+use Rattle.acct_commands.specs.Forwarding.{Forwards}
 use Rattle.acct_serving.specs.Serving.{RunsServer}
 use Rattle.acct_commands.specs.declared.fault.Fault.{Fault}
 use Rattle.acct_commands.specs.declared.fault.Fault.TheVariants as fault
@@ -247,6 +249,12 @@ module _ {D : Type 0} {g : disk.Ghosts D} where
       HasImported moment config ended first last =
           Runs b config.plans moment text first last before after ended
 
+      -- sessions that were carried forward at a moment, with a configuration
+      abbrev pub HasForwarded : Carrying → ℕ → Config → Result Status Fault
+          → Held (FileStore D g) → Held (FileStore D g) → Type 0
+      HasForwarded carrying moment config ended first last =
+          Forwards b config.plans carrying moment first last ended
+
       abbrev pub DoesJob : Job → Result Status Fault → Left D g → Type 0
       DoesJob (job.Feed file) ended rest =
           (ended ≡ Ok status.Done
@@ -264,6 +272,9 @@ module _ {D : Type 0} {g : disk.Ghosts D} where
       DoesJob (job.Import paths) ended rest = (moment : ℕ) × (moment < 2 ^ 53)
           × ClosesOrFails (WorksAndCloses (HasImported moment)) (FailsAtWork (HasImported moment))
           ended rest
+      DoesJob (job.Forward paths carrying) ended rest = (moment : ℕ) × (moment < 2 ^ 53)
+          × ClosesOrFails (WorksAndCloses (HasForwarded carrying moment))
+          (FailsAtWork (HasForwarded carrying moment)) ended rest
       DoesJob (job.Export paths what) ended rest =
           ExportsBook b what before after ended rest ⊎ ExportsNothing b ended rest
       DoesJob (job.Migrate paths) ended rest =

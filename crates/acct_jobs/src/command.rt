@@ -20,6 +20,7 @@ ghost use Rattle.acct_commands.specs.Checks.{IsUnchecked};
 ghost use Rattle.acct_commands.specs.KeptNames.{NamesSome};
 ghost use Rattle.std.specs.Option.{option_copied};
 ghost use Rattle.acct_commands.specs.Imports.{Runs};
+ghost use Rattle.acct_commands.specs.Forwarding.{Forwards};
 
 use crate::checking::check;
 use crate::database::{FileConnection, adopted, close};
@@ -28,8 +29,10 @@ use crate::left::Left;
 use crate::making::{Making, make};
 use crate::serving::serve;
 use acct_book::Book;
-use acct_command_line::{Export, Job, Paths, Serving, Telling};
-use acct_commands::{Fault, ServerFiles, keep_others, read_config, run_export, run_import};
+use acct_command_line::{Carrying, Export, Job, Paths, Serving, Telling};
+use acct_commands::{
+    Fault, ServerFiles, keep_others, read_config, run_export, run_forward, run_import,
+};
 use acct_feed::Status;
 use acct_model::{Plans, Text};
 use acct_samples::sample_config;
@@ -100,6 +103,20 @@ pub fn run<S: Start, I: Read + Drop, W: Write + Drop, E: Write + Drop>(
         Job::Export { paths, what } => export(runtime, paths, *what, output, start),
         Job::Migrate { paths } => {
             let ending = make(runtime, Making::Migrated, paths, &mut output, start);
+            with_book(ending, output)
+        }
+        Job::Forward { paths, carrying } => {
+            let moment = moment_of(runtime);
+            let Errors { notices, .. } = errors;
+            let ending = forward(
+                runtime,
+                paths,
+                carrying,
+                moment,
+                &mut output,
+                notices,
+                start,
+            );
             with_book(ending, output)
         }
         Job::AddPlans { paths } => {
@@ -330,6 +347,99 @@ fn credited<T: Alter + Drop, I: Read + Drop, W: Write>(
         (W.contents output.old) (W.contents output.new) result.0 }
 {
     let ended = run_import(alloc, plans, &mut book, moment, input, output);
+    (ended, book.into_connection())
+}
+
+// `forward` over the book of a file, at this moment.
+fn forward<S: Start, W: Write, E: Write + Drop>(
+    runtime: &HostRuntime,
+    paths: &Paths,
+    carrying: &Carrying,
+    moment: u64,
+    output: &mut W,
+    progress: E,
+    start: S,
+) -> Ending<S>
+    requires { moment < 2 ^ 53 }
+    ensures other { IfOk result (λ done. done.0 ≢ Status.WrongWords) }
+    ensures closed { IfOk result (λ done. WorksAndCloses (image_at S.Start)
+        (λ config ended first last. Forwards ⟦<SqlBook<FileStore<FileFrom<S>>> as Book>⟧
+        config.plans carrying.now moment first last ended) done.0 done.1) }
+    ensures failed { IfErr result (λ e. FailsAtWork (image_at S.Start)
+        (λ config ended first last. Forwards ⟦<SqlBook<FileStore<FileFrom<S>>> as Book>⟧
+        config.plans carrying.now moment first last ended) e.0 e.1) }
+{
+    let config = config_of(runtime, &paths.config)?;
+    forwarded(
+        runtime,
+        &config,
+        &paths.database,
+        carrying,
+        moment,
+        output,
+        progress,
+        start,
+    )
+}
+
+// `forward` by the plans of a configuration.
+fn forwarded<S: Start, W: Write, E: Write + Drop>(
+    runtime: &HostRuntime,
+    config: &Config,
+    file: &Text,
+    carrying: &Carrying,
+    moment: u64,
+    output: &mut W,
+    progress: E,
+    start: S,
+) -> Ending<S>
+    requires { moment < 2 ^ 53 }
+    ensures other { IfOk result (λ done. done.0 ≢ Status.WrongWords) }
+    ensures closed { IfOk result (λ done. Closes (image_at S.Start) config.now.plans
+        (λ ended first last. Forwards ⟦<SqlBook<FileStore<FileFrom<S>>> as Book>⟧
+        config.now.plans carrying.now moment first last ended) done.0 done.1) }
+    ensures failed { IfErr result (λ e. Fails (image_at S.Start) config.now.plans
+        (λ ended first last. Forwards ⟦<SqlBook<FileStore<FileFrom<S>>> as Book>⟧
+        config.now.plans carrying.now moment first last ended) e.0 e.1) }
+{
+    let book = adopted(runtime, file, &config.plans, start)?;
+    let plans = &config.plans;
+    let (ended, connection) = carried(
+        runtime.alloc(),
+        plans,
+        book,
+        carrying,
+        moment,
+        output,
+        progress,
+    );
+    finished(ended, connection)
+}
+
+// Carries sessions of a book in any store forward, and hands back its connection.
+fn carried<T: Alter + Drop, W: Write, E: Write + Drop>(
+    alloc: Global,
+    plans: &Plans,
+    mut book: SqlBook<T>,
+    carrying: &Carrying,
+    moment: u64,
+    output: &mut W,
+    mut progress: E,
+) -> (Result<Status, Fault>, Connection<T>)
+    requires { moment < 2 ^ 53 }
+    ensures other { IfOk result.0 (λ status. status ≢ Status.WrongWords) }
+    ensures forwards { Forwards ⟦<SqlBook<T> as Book>⟧ plans.now carrying.now moment book result.1
+        result.0 }
+{
+    let ended = run_forward(
+        alloc,
+        plans,
+        &mut book,
+        carrying,
+        moment,
+        output,
+        &mut progress,
+    );
     (ended, book.into_connection())
 }
 

@@ -189,7 +189,7 @@ fn fill(
 }
 
 // An older book, before and after it is made one of today's.
-static OLDER: [(Command<'static>, Wanted<'static>); 5] = [
+static OLDER: [(Command<'static>, Wanted<'static>); 15] = [
     (
         ("check --config older.toml --db older-book", ""),
         (Status::Unavailable, "", "db: WrongSchema\n"),
@@ -221,6 +221,103 @@ static OLDER: [(Command<'static>, Wanted<'static>); 5] = [
     (
         ("migrate --config older.toml --db older-book", ""),
         (Status::Unavailable, "", "db: WrongSchema\n"),
+    ),
+    // Its last report is years old, so the clock may be wrong.
+    (
+        ("forward --config older.toml --db older-book", ""),
+        (
+            Status::Refused,
+            "",
+            "forward: no report for 7 days; give --yes if the clock is right\n",
+        ),
+    ),
+    (
+        (
+            "forward --config older.toml --db older-book --yes --at 9007199254740991",
+            "",
+        ),
+        (Status::Refused, "", "forward: less than 30 days ago\n"),
+    ),
+    (
+        (
+            "forward --config older.toml --db older-book --yes --dry-run",
+            "",
+        ),
+        (
+            Status::Done,
+            "would carry 1 sessions of 1 accounts\nstay: 1 open, 0 recent, 0 kept, 0 too large\n",
+            "",
+        ),
+    ),
+    (
+        (
+            "forward --config older.toml --db older-book --yes --keep nas-7 --silent 30",
+            "",
+        ),
+        (
+            Status::Done,
+            "carried 0 sessions of 0 accounts\nstay: 0 open, 0 recent, 2 kept, 0 too large\n",
+            "",
+        ),
+    ),
+    (
+        (
+            "forward --config older.toml --db older-book --yes --at 1700000007",
+            "",
+        ),
+        (
+            Status::Done,
+            "carried 0 sessions of 0 accounts\nstay: 1 open, 1 recent, 0 kept, 0 too large\n",
+            "",
+        ),
+    ),
+    (
+        (
+            "forward --config older.toml --db older-book --yes --at 1700000008",
+            "",
+        ),
+        (
+            Status::Done,
+            "carried 1 sessions of 1 accounts\nstay: 1 open, 0 recent, 0 kept, 0 too large\n",
+            "",
+        ),
+    ),
+    (
+        (
+            "forward --config older.toml --db older-book --yes --silent 30",
+            "",
+        ),
+        (
+            Status::Done,
+            "open: nas-7 s1 of al, silent since 1700000060\ncarried 1 sessions of 1 accounts\n\
+             stay: 0 open, 0 recent, 0 kept, 0 too large\n",
+            "",
+        ),
+    ),
+    // A line is no report, though its moment is the clock's.
+    (
+        ("forward --config older.toml --db older-book", ""),
+        (
+            Status::Refused,
+            "",
+            "forward: no report for 7 days; give --yes if the clock is right\n",
+        ),
+    ),
+    (
+        ("forward --config older.toml --db older-book --yes", ""),
+        (
+            Status::Done,
+            "carried 0 sessions of 0 accounts\nstay: 0 open, 0 recent, 0 kept, 0 too large\n",
+            "",
+        ),
+    ),
+    (
+        ("export --config older.toml --db older-book balances", ""),
+        (
+            Status::Done,
+            "account,balance,overrun\nal,280,0\nbo,-10,10\n",
+            "",
+        ),
     ),
 ];
 

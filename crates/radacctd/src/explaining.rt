@@ -149,6 +149,7 @@ fn paths_of(job: &Job) -> Option<&Paths> {
         | Job::Serve { paths, .. }
         | Job::Import { paths }
         | Job::Export { paths, .. }
+        | Job::Forward { paths, .. }
         | Job::Migrate { paths }
         | Job::AddPlans { paths } => Some(paths),
     }

@@ -11,4 +11,5 @@ returns c =
     let import = c.with_command-program-5.ensures _ _ serve c.import_command.ensures refl in
     let export = c.with_command-program-6.ensures _ _ import c.export_command.ensures refl in
     let migrate = c.with_command-program-7.ensures _ _ export c.migrate_command.ensures refl in
-    c.with_command.ensures _ _ migrate c.plans_command.ensures refl
+    let plans = c.with_command-program-8.ensures _ _ migrate c.plans_command.ensures refl in
+    c.with_command.ensures _ _ plans c.forward_command.ensures refl

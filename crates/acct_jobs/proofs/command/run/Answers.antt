@@ -36,6 +36,16 @@ returns-in-Import-clause-does g c =
           c.import-ending.ensures.failed,
     )
 
+pub returns-in-Forward-clause-does : goal.returns-in-Forward-clause-does
+returns-in-Forward-clause-does g c =
+    let out = c.with_book-in-Forward.ensures in
+    rw c.in-Forward.is (
+      c.moment_of-moment-in-Forward.result,
+      c.moment_of-moment-in-Forward.ensures,
+      ended_so _ _ c.forward-ending.result _ _ out.ok out.err c.forward-ending.ensures.closed
+          c.forward-ending.ensures.failed,
+    )
+
 pub returns-in-Export-clause-does : goal.returns-in-Export-clause-does
 returns-in-Export-clause-does g c = rw c.in-Export.is c.export.ensures.does
 

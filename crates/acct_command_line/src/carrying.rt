@@ -1,0 +1,91 @@
+//! Which sessions the options of `forward` say are carried forward.
+ghost use Rattle.std.specs.Prelude.{◌≡◌, IfOk, IfSome, unwrap_or, codes, []};
+ghost use Rattle.clap.specs.Words.{all_of, rows_of, found_of};
+ghost use Rattle.std.specs.Prelude.{◌≤◌};
+ghost use Rattle.acct_command_line.specs.Orders.{IsCarrying, IsCutoff, IsSilence, IsNumber};
+
+use crate::job::{Carrying, Cutoff};
+use crate::options::{flag_option, is_given, number_option, text_option, texts_option};
+use acct_model::Text;
+use clap::ArgMatches;
+use std::alloc::{AllocError, Global};
+
+/// The fewest days, so that a session that still reports is not taken for an old one.
+const FEWEST_DAYS: u64 = 30;
+/// The most days: 100 years.
+const MOST_DAYS: u64 = 36_500;
+/// The last moment, in seconds since 1970.
+const LAST_MOMENT: u64 = (1 << 53) - 1;
+
+/// Which sessions the options of `forward` say are carried forward, and how, if they fit.
+pub fn carrying_of(alloc: Global, options: &ArgMatches<'_>) -> Result<Option<Carrying>, AllocError>
+    ensures { IfOk result (λ carrying. IfSome carrying
+        (IsCarrying (rows_of (found_of options.now)))) }
+{
+    let Some(cutoff) = cutoff_of(alloc, options)? else {
+        return Ok(None);
+    };
+    let Some(silent) = silence_of(alloc, options)? else {
+        return Ok(None);
+    };
+    let kept = kept_clients(alloc, options)?;
+    Ok(Some(Carrying {
+        cutoff,
+        silent,
+        kept,
+        is_dry: flag_option(options, "dry-run"),
+        is_sure: flag_option(options, "yes"),
+    }))
+}
+
+// From which moment on sessions stay that have ended, if only one of both options is given.
+fn cutoff_of(alloc: Global, options: &ArgMatches<'_>) -> Result<Option<Cutoff>, AllocError>
+    ensures { IfOk result (λ cutoff. IfSome cutoff (IsCutoff (rows_of (found_of options.now)))) }
+{
+    if text_option(alloc, options, "at")?.is_none() {
+        return match days_option(options, "before") {
+            Some(days) => Ok(Some(Cutoff::Before(days))),
+            None => Ok(None),
+        };
+    }
+    if is_given(options, "before") {
+        return Ok(None);
+    }
+    match number_option(options, "at", LAST_MOMENT) {
+        Some(moment) => Ok(Some(Cutoff::At(moment))),
+        None => Ok(None),
+    }
+}
+
+// For how many days an open session must have been silent, if that is given.
+fn silence_of(alloc: Global, options: &ArgMatches<'_>) -> Result<Option<Option<u64>>, AllocError>
+    ensures { IfOk result (λ silent. IfSome silent (IsSilence (rows_of (found_of options.now)))) }
+{
+    if text_option(alloc, options, "silent")?.is_none() {
+        return Ok(Some(None));
+    }
+    match days_option(options, "silent") {
+        Some(days) => Ok(Some(Some(days))),
+        None => Ok(None),
+    }
+}
+
+// The number of days of an option.
+fn days_option(options: &ArgMatches<'_>, id: &str) -> Option<u64>
+    ensures { IfSome result (λ days.
+        IsNumber id.now (rows_of (found_of options.now)) 36500 days × (30 ≤ days)) }
+{
+    let days = number_option(options, id, MOST_DAYS)?;
+    if days < FEWEST_DAYS { None } else { Some(days) }
+}
+
+// The clients whose sessions stay.
+fn kept_clients(alloc: Global, options: &ArgMatches<'_>) -> Result<Vec<Text>, AllocError>
+    ensures { IfOk result (λ kept.
+        unwrap_or (all_of (codes "keep") (rows_of (found_of options.now))) [] ≡ kept.items) }
+{
+    match texts_option(alloc, options, "keep")? {
+        Some(kept) => Ok(kept),
+        None => Ok(Vec::new(alloc)),
+    }
+}
