@@ -1,0 +1,195 @@
+"""What interop/pair tests once both books are equal: the alarms of docs/PAIR.md and their cures, a
+login while one radacctd is down, a file of vouchers, and nginx before the outbox.
+"""
+
+import os
+import shutil
+import subprocess
+import time
+
+import pair_machines
+from front import KILL, MEBIBYTE, check, report, waits_for
+from pair_machines import PAIR, TOOLS
+
+# How long a comparison may take until it reports, in seconds.
+PATIENCE = 90
+
+
+def run(test):
+    first, second = test.machines
+    waits_for("both comparisons find nothing", lambda: statuses(test), [0, 0], PATIENCE)
+    print("        ", first.compare()[1][0], flush=True)
+    sold_at_one(test, first, second)
+    sold_twice(test, first, second)
+    by_a_file(test, first, second)
+    limit_at_one(test, first, second)
+    while_one_is_down(test, first, second)
+    if shutil.which("nginx") and shutil.which("htpasswd"):
+        through_nginx(test, first, second)
+    else:
+        print("left out: nginx, for which nginx or apache2-utils is missing")
+
+
+def statuses(test):
+    return [machine.compare()[0] for machine in test.machines]
+
+
+def reported(test, begin):
+    """Whether both comparisons print a line that begins so."""
+    return [any(it.startswith(begin) for it in machine.compare()[1]) for machine in test.machines]
+
+
+def all_well(test, name):
+    waits_for(name, lambda: statuses(test), [0, 0], PATIENCE)
+
+
+def sold_at_one(test, first, second):
+    """A voucher that was sold straight at one desk."""
+    check("a voucher is sold at one desk only", first.book.topup("user0", 50, "ONE-1"), 201)
+    begun = time.monotonic()
+    line = "account user0: "
+    waits_for("both report the account", lambda: reported(test, line), [True, True], PATIENCE)
+    print(f"         after {time.monotonic() - begun:.0f} s: {first.compare()[1]}", flush=True)
+    check("sold at the other desk, too", second.book.topup("user0", 50, "ONE-1"), 201)
+    all_well(test, "the alarm ends")
+
+
+def sold_twice(test, first, second):
+    """One number with two accounts: one book says 201, the other 409."""
+    check("X-1 is sold to user1 at the second desk", second.book.topup("user1", 5, "X-1"), 201)
+    check("and to user2 at the first outbox", first.sell("user2", 7, "X-1"), 503)
+    line = "voucher X-1: "
+    waits_for("both report the voucher", lambda: reported(test, line), [True, True], PATIENCE)
+    done = first.outbox_command("--list")
+    listed = "own taken, other differs" in done.stdout
+    check("the outbox lists it", (done.returncode, listed), (1, True))
+    check("the cure: user1's at the first", first.book.topup("user1", 5, "X-1-A"), 201)
+    check("user2's at the second", second.book.topup("user2", 7, "X-1-B"), 201)
+    check("and it is closed", first.outbox_command("--close", "X-1").returncode, 0)
+    check("the outbox answers again", first.sell("user2", 7, "X-1"), 200)
+    all_well(test, "the alarm ends")
+    check("both refuse X-1 to a third", first.sell("user3", 7, "X-1"), 409)
+    check("a number of the other outbox, too", second.sell("user3", 1, "V-1"), 409)
+    check("which keeps none of them", second.outbox_command("--list").stdout, "")
+
+
+def by_a_file(test, first, second):
+    """radacctd-sell by the outbox while the other desk is down."""
+    second.book.kill()
+    lines = [f"F-{number},user{number % 5},10" for number in range(40)]
+    words = [os.path.join(TOOLS, "radacctd-sell"), "--port", str(first.outbox_port)]
+    words += ["--key-file", first.key]
+    text = "\n".join(["voucher,account,sum", *lines]) + "\n"
+    done = subprocess.run(words, input=text, capture_output=True, text=True)
+    wanted = (0, "added 40, repeated 0, refused 0\n")
+    check("radacctd-sell sells while one desk is down", (done.returncode, done.stdout), wanted)
+    listed = first.outbox_command("--list").stdout
+    check("the vouchers wait", listed.count("own taken, other new"), 40)
+    first.outbox.kill()
+    first.outbox.communicate()
+    first.begin_outbox()
+    second.book.begin()
+    all_well(test, "the outbox was killed; the other book gets them")
+    done = subprocess.run(words, input=text, capture_output=True, text=True)
+    check("the file again: repeats", done.stdout, "added 0, repeated 40, refused 0\n")
+
+
+def limit_at_one(test, first, second):
+    """A report that one book takes and the other drops for the balance's limit."""
+    octets = 4_611_686_018
+    send = lambda number, size: first.radius.reports(
+        "ap1", report("Stop", number, "lim", size, plan="dear")
+    )
+    check("an account is near the limit", send("L-1", octets), True)
+    wanted = [-octets * 10**9] * 2
+    found = lambda: [machine.balances()[1].get("lim") for machine in test.machines]
+    waits_for("in both books", found, wanted, PATIENCE)
+    check("a voucher at one desk only", first.book.topup("lim", 10**9, "LIM-1"), 201)
+    check("one octet more is answered", send("L-2", 1), True)
+    line = {"a": "there: BalanceLimit", "b": "here: BalanceLimit"}
+    said = lambda: [
+        any(it.startswith(line[machine.name]) for it in machine.compare()[1])
+        for machine in test.machines
+    ]
+    waits_for("both report the drop at the second", said, [True, True], 2 * PATIENCE)
+    check("where the report is filed", second.radius.filed() - first.radius.filed(), 1)
+    check("the cure: the voucher at the second", second.book.topup("lim", 10**9, "LIM-1"), 201)
+    second.radius.send_filed_again()
+    check("and a voucher for both", first.sell("lim", 7, "LIM-2"), 201)
+    wanted = [-octets * 10**9 + 7] * 2
+    waits_for("and the report again", found, wanted, PATIENCE)
+
+
+def while_one_is_down(test, first, second):
+    """Logins at the first machine by the balances of the second."""
+    path = os.path.join(first.state, "balances.csv")
+    first.book.kill()
+    check("while the first desk is down, a sale is taken", first.sell("zoe", 100, "Z-1"), 201)
+    check("a report, too", first.radius.reports("ap1", used("Z-1", "zoe", 2)), True)
+
+    def balance():
+        first.compare()
+        return pair_machines.COMPARE.balances_of(path)[1].get("zoe")
+
+    waits_for("the first machine copies the second's balances", balance, 80, PATIENCE)
+    plans = os.path.join(first.folder, "plans.csv")
+    with open(plans, "w", encoding="ascii") as file:
+        words = [os.path.join(pair_machines.front.FILES, "plans-of"), first.book.config]
+        subprocess.run(words, stdout=file, check=True)
+    words = [os.path.join(pair_machines.front.FILES, "balances-mirror"), path, plans]
+    subprocess.run([*words, first.radius.mirror], check=True)
+    accepted, pairs = first.radius.logs_in("zoe")
+    quota = pairs.get("Mikrotik-Total-Limit")
+    check("a login there has the quota of 80", (accepted, quota), (True, str(8 * MEBIBYTE)))
+    first.book.begin()
+    found = lambda: [machine.balances()[1].get("zoe") for machine in test.machines]
+    waits_for("the first book gets both once it is up", found, [80, 80], PATIENCE)
+
+
+def used(session, account, mebibytes):
+    return report("Interim-Update", session, account, mebibytes * MEBIBYTE)
+
+
+def through_nginx(test, first, second):
+    """The front desk's requests, through nginx to the outbox."""
+    from proxy import Proxy
+
+    kept = os.path.join(first.state, "balances.csv")
+
+    class Site(Proxy):
+        def write(self):
+            shutil.copy(os.path.join(PAIR, "desks-outbox.conf"), f"{self.folder}/radacctd")
+            super().write()
+
+    changes = [
+        ("include radacctd/desks-one.conf;", "include radacctd/desks-outbox.conf;"),
+        ("server 127.0.0.1:8067;", f"server 127.0.0.1:{first.outbox_port};"),
+        ("10.0.0.5:8066", f"127.0.0.1:{first.book.desk}"),
+        ("10.0.0.6:8066", f"127.0.0.1:{second.book.desk}"),
+        ("/var/lib/radacctd-pair/balances.csv", kept),
+    ]
+    site = Site(os.path.join(test.folder, "nginx"), KILL.CASHIER, changes)
+    site.settings({})
+    try:
+        site.start()
+        check("nginx: a sale", site.sell("user4", 30, "N-1"), 201)
+        check("again", site.sell("user4", 30, "N-1"), 200)
+        check("for another account", site.sell("user5", 30, "N-1"), 409)
+        login = ("-u", "anna:anna-has-a-pass")
+        check("overruns", site.status("/desk/overruns", *login), 200)
+        status, _, body = site.curl("/desk/balances.csv", *login)
+        check("balances", (status, body.split("\n")[0]), (200, "account,balance,overrun"))
+        second.book.kill()
+        check("a sale while one desk is down", site.sell("user4", 5, "N-2"), 201)
+        first.book.kill()
+        check("while both are: kept", site.sell("user4", 5, "N-3"), 503)
+        for machine in test.machines:
+            machine.book.begin()
+    finally:
+        site.end()
+    all_well(test, "both books get it")
+    rows = [machine.book.ask("POST", "/topups", KILL.CASHIER, SOLD)[0] for machine in test.machines]
+    check("N-3 is in both", rows, [200, 200])
+
+
+SOLD = '{"account":"user4","sum":5,"voucher":"N-3"}'
