@@ -7,6 +7,7 @@ so its changes and its book vanish at its end. Its network is its own, with a lo
 needs root, and of Debian's packages systemd-container and debootstrap.
 """
 
+import itertools
 import os
 import shutil
 import subprocess
@@ -27,6 +28,8 @@ TOOLS = {
 }
 # How long a machine may take to start or to stop, in seconds.
 PATIENCE = 60
+# Machines of one test have different names.
+NUMBERS = itertools.count(1)
 
 
 def missing(tools):
@@ -80,6 +83,7 @@ class Machine:
 
     def __enter__(self):
         lower = root()
+        self.number = next(NUMBERS)
         self.memory = tempfile.mkdtemp()
         subprocess.run(["mount", "-t", "tmpfs", "-o", "size=2g", "tmpfs", self.memory], check=True)
         up, work, self.root = (os.path.join(self.memory, name) for name in ("up", "work", "root"))
@@ -101,7 +105,7 @@ class Machine:
     def boot(self):
         """Starts the machine, and waits until its systemd has started what it starts."""
         words = ["systemd-nspawn", "--quiet", "--directory", self.root, "--boot"]
-        words += ["--private-network", "--console=pipe", f"--machine=radacctd-{os.getpid()}"]
+        words += ["--private-network", "--console=pipe", f"--machine=radacctd-{os.getpid()}-{self.number}"]
         # So that its systemd can restrict ports.
         words += ["--system-call-filter=bpf"]
         if not os.path.isdir("/run/systemd/system"):

@@ -118,6 +118,9 @@ def limit_at_one(test, first, second):
     check("and a voucher for both", first.sell("lim", 7, "LIM-2"), 201)
     wanted = [-octets * 10**9 + 7] * 2
     waits_for("and the report again", found, wanted, PATIENCE)
+    for machine in test.machines:
+        os.remove(os.path.join(machine.state, "seen.json"))
+    all_well(test, "without what was seen, the alarm ends")
 
 
 def while_one_is_down(test, first, second):
@@ -187,7 +190,8 @@ def through_nginx(test, first, second):
             machine.book.begin()
     finally:
         site.end()
-    all_well(test, "both books get it")
+    waiting = lambda: first.outbox_command("--list").stdout
+    waits_for("both books get it", waiting, "", PATIENCE)
     rows = [machine.book.ask("POST", "/topups", KILL.CASHIER, SOLD)[0] for machine in test.machines]
     check("N-3 is in both", rows, [200, 200])
 

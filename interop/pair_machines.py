@@ -189,6 +189,7 @@ class Machine:
     def compare(self):
         """The status and the lines of a comparison on this machine."""
         words = [*self.compare_words(), "--other", self.there, "--state", self.state]
+        words += ["--margin", "2"]
         done = subprocess.run(words, capture_output=True, text=True)
         return done.returncode, (done.stdout + done.stderr).splitlines()
 
