@@ -2,6 +2,7 @@
 login while one radacctd is down, a file of vouchers, and nginx before the outbox.
 """
 
+import json
 import os
 import shutil
 import subprocess
@@ -22,6 +23,7 @@ def run(test):
     sold_at_one(test, first, second)
     sold_twice(test, first, second)
     by_a_file(test, first, second)
+    by_a_code(test, first)
     limit_at_one(test, first, second)
     while_one_is_down(test, first, second)
     if shutil.which("nginx") and shutil.which("htpasswd"):
@@ -92,6 +94,24 @@ def by_a_file(test, first, second):
     all_well(test, "the outbox was killed; the other book gets them")
     done = subprocess.run(words, input=text, capture_output=True, text=True)
     check("the file again: repeats", done.stdout, "added 0, repeated 40, refused 0\n")
+
+
+def by_a_code(test, first):
+    """A printed voucher, redeemed by the outbox."""
+    letters = "ACDEFHJKMNPQRTUWXY34679"
+    body = letters[:14]
+    weight = sum(at * letters.index(it) for at, it in enumerate(body, 1))
+    code = body + letters[weight % len(letters)]
+    stock = os.path.join(test.folder, "stock.csv")
+    with open(stock, "w", encoding="ascii") as file:
+        file.write(f"{code[:5]}-{code[5:10]}-{code[10:]},30\n")
+    text = json.dumps({"account": "user6", "code": code})
+    given = {"CONTENT_LENGTH": str(len(text)), "RADACCTD_STOCK": stock, "RADACCTD_KEY": first.key}
+    given["RADACCTD_DESKS"] = f"127.0.0.1:{first.outbox_port}"
+    words = [os.path.join(TOOLS, "radacctd-redeem")]
+    done = subprocess.run(words, input=text, capture_output=True, text=True, env=os.environ | given)
+    check("a printed voucher", done.stdout.rpartition("\n\n")[2], '{"result":"new","sum":30}')
+    all_well(test, "both books get it")
 
 
 def limit_at_one(test, first, second):

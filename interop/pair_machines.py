@@ -2,8 +2,10 @@
 compares the two, set up from the files of etc/pair and etc/freeradius. Their ports are on loopback.
 """
 
+import csv
 import importlib.machinery
 import importlib.util
+import io
 import json
 import os
 import re
@@ -227,7 +229,7 @@ class Machine:
         for process in self.processes():
             if process.poll() is None:
                 process.kill()
-            process.communicate()
+            process.wait()
 
     def lose_book(self):
         """Kills radacctd, and removes its book."""
@@ -262,6 +264,11 @@ class Machine:
                 print("        ", words[0], done.stderr.strip(), flush=True)
                 return False
         return True
+
+    def rows(self, what, key):
+        """The records of an export by their keys; the server is down."""
+        rows = csv.DictReader(io.StringIO(self.book.export(what)))
+        return {tuple(row[name] for name in key): row for row in rows}
 
     def balances(self):
         """What the file of balances says, and since when."""

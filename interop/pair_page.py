@@ -165,8 +165,9 @@ def both_have(machines, name, wanted):
 
 def is_well(it):
     """Whether the last comparison of the timer found nothing, and one was made."""
-    line = it.run("journalctl -u radacctd-compare -o cat -n 20")[1]
-    return "accounts" in line and it.run("systemctl is-failed radacctd-compare")[0] != 0
+    lines = it.run("journalctl -u radacctd-compare -o cat -n 20")[1].split("\n")
+    lines = [line for line in lines if re.match("accounts|account|voucher|here|there", line)]
+    return bool(lines) and lines[-1].startswith("accounts ")
 
 
 def mirrored(it):
@@ -196,12 +197,19 @@ def lives(first, second):
     check("and a report", report(first, "s2", "bo", 1 << 20), True)
     second.must("systemctl start radacctd freeradius")
     both_have(machines, "what the second missed", {"al": 400, "bo": 90})
+    first.must("systemctl kill -s KILL radacctd; systemctl stop radacctd")
+    check("the first radacctd is down: a sale there", sell(first, ["V-0,bo,5"]), ADDED)
+    begun = time.monotonic()
+    waits_for("its logins see that", lambda: mirrored(first), ["400", "95"], 60)
+    print(f"         after {time.monotonic() - begun:.0f} s", flush=True)
+    first.must("systemctl start radacctd")
+    both_have(machines, "what the first missed", {"al": 400, "bo": 95})
     for it in machines:
         name = f"{it.title}: the timer's comparison is well"
         waits_for(name, lambda it=it: is_well(it), True, 90)
         text = it.run("stat -c '%U %G %a' /var/lib/radacctd-pair/balances.csv")[1].split()
         check("www-data's group reads the copy", text, ["freerad", "radacctd-balances", "640"])
-        waits_for("and the mirror has it", lambda it=it: mirrored(it), ["400", "90"], 60)
+        waits_for("and the mirror has it", lambda it=it: mirrored(it), ["400", "95"], 60)
 
 
 def restored(first, second):
@@ -222,7 +230,7 @@ def restored(first, second):
     own, other = commands[6].split("\n")
     run(first, "restore, step 6", own)
     run(second, "restore, step 6", other)
-    both_have([first, second], "all after the loss", {"al": 400, "bo": 90, "cy": 60})
+    both_have([first, second], "all after the loss", {"al": 400, "bo": 95, "cy": 60})
 
 
 def planned(first, second):
@@ -235,7 +243,7 @@ def planned(first, second):
     for it in (first, second):
         check(f"{it.title}: the plan is added", "added 1" in run(it, "plans", commands[2]), True)
     check("a report of the new Class", report(second, "s4", "cy", 2 << 20, "silver"), True)
-    wanted = {"al": 400, "bo": 90, "cy": 54}
+    wanted = {"al": 400, "bo": 95, "cy": 54}
     both_have([first, second], "it at the new price", wanted)
 
 
