@@ -215,6 +215,7 @@ def lives(first, second):
 def restored(first, second):
     """The steps of "Restore a lost book", on the first machine."""
     commands = steps(section(PAGE, "Restore a lost book"))
+    commands[7] = commands[7].split("\n")[0]
     run(first, "restore, step 1", commands[1])
     first.must("rm /var/lib/radacctd/book*")
     check("meanwhile a sale", sell(second, ["V-3,cy,70"]), ADDED)
@@ -231,6 +232,10 @@ def restored(first, second):
     run(first, "restore, step 6", own)
     run(second, "restore, step 6", other)
     both_have([first, second], "all after the loss", {"al": 400, "bo": 95, "cy": 60})
+    # Root writes what the timer's user writes: both can.
+    waits_for("restore, step 7", lambda: first.run(commands[7])[0], 0, 60)
+    waits_for("and the timer goes on", lambda: is_well(first), True, 60)
+    check("nothing has failed", first.run("systemctl --failed --no-legend")[1].strip(), "")
 
 
 def planned(first, second):
