@@ -235,7 +235,8 @@ def restored(first, second):
     # Root writes what the timer's user writes: both can.
     waits_for("restore, step 7", lambda: first.run(commands[7])[0], 0, 60)
     waits_for("and the timer goes on", lambda: is_well(first), True, 60)
-    check("nothing has failed", first.run("systemctl --failed --no-legend")[1].strip(), "")
+    failed = lambda: first.run("systemctl --failed --no-legend")[1].strip()
+    waits_for("and nothing has failed", failed, "", 60)
 
 
 def planned(first, second):
