@@ -176,6 +176,14 @@ class Machine:
         how = {"stdout": subprocess.DEVNULL, "stderr": subprocess.DEVNULL}
         self.teller = subprocess.Popen([*words, *self.compare_words(), "--print"], **how)
 
+    def backlog(self):
+        """The octets in the queue for this book."""
+        try:
+            return self.radius.waiting()
+        except FileNotFoundError:
+            # The machine is lost just now.
+            return 0
+
     def begin(self):
         """Starts all of it."""
         self.book.begin()

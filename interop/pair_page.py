@@ -155,7 +155,9 @@ def sell(it, records, port=8067):
 
 def balances(it):
     text = it.run("cat /var/lib/radacctd-balances/balances.csv")[1]
-    return {line.split(",")[0]: int(line.split(",")[1]) for line in text.split()[1:]}
+    rows = [line.split(",") for line in text.split()[1:]]
+    # FreeRADIUS' probes may have an account of 0.
+    return {row[0]: int(row[1]) for row in rows if row[1] != "0"}
 
 
 def both_have(machines, name, wanted):
@@ -172,7 +174,8 @@ def is_well(it):
 
 def mirrored(it):
     query = "SELECT balance FROM balance ORDER BY balance DESC"
-    return it.run(f"sqlite3 /var/lib/radacctd-mirror/balances.db '{query}'")[1].split()
+    rows = it.run(f"sqlite3 /var/lib/radacctd-mirror/balances.db '{query}'")[1].split()
+    return [it for it in rows if it != "0"]
 
 
 def lives(first, second):
