@@ -5,12 +5,16 @@ import os
 import subprocess
 import time
 
+import shards_site
 from browser import Browser
 from proxy import Proxy
 from served import CASHIER, GUEST, Server, check
 
 ONE, PAIR, SHARDS = (f"include radacctd/desks-{it}.conf;" for it in ("one", "pair", "shards"))
-SHARD_GUEST = "s2-guest-key-0002"
+# The two books of 16 that have a server here. zoe's is the second; GUEST's key names none.
+SHARD_BOOKS = ("s0", "sa")
+SHARD_GUEST = "sa-guest-key-0002"
+ALL_SHARDS = [f"s{digit:x}" for digit in range(16)]
 SHARD_KEY = f"""
 [[key]]
 token = "{SHARD_GUEST}"
@@ -31,10 +35,17 @@ class Site:
             self.servers.append(server)
             self.balances.append(f"{folder}/{name}/balances.csv")
         kept = "/var/lib/radacctd-balances/"
-        names = {PAIR: ("balances.csv", "balances-b.csv"), SHARDS: ("s1.csv", "s2.csv")}[variant]
+        names = ("balances.csv", "balances-b.csv")
+        places = ("10.0.0.5:8066", "10.0.0.6:8066")
+        if variant == SHARDS:
+            names = [f"{it}.csv" for it in SHARD_BOOKS]
+            places = ("10.0.0.5:8100", "10.0.0.6:8110")
         changes = [(ONE, variant), *changes]
-        for server, address in zip(self.servers, ("10.0.0.5:8066", "10.0.0.6:8066")):
+        for server, address in zip(self.servers, places):
             changes.append((address, f"127.0.0.1:{server.desk}"))
+        if variant == SHARDS:
+            # The others are away.
+            changes += [(f"10.0.0.{it}:81", "127.0.0.1:81") for it in (5, 6)]
         changes += [(kept + it, to) for it, to in zip(names, self.balances)]
         self.proxy = Proxy(f"{folder}/nginx", CASHIER, changes)
 
@@ -59,11 +70,15 @@ def sell_by_page(browser, account, units):
         "const d = document.getElementById('desk'); d.value = 'D2'; d.oninput();"
         "document.getElementById('account').value = arguments[0];"
         "document.getElementById('sum').value = arguments[1];"
-        "document.getElementById('form').requestSubmit();"
-        "document.getElementById('yes').click()",
+        "document.getElementById('form').requestSubmit()",
         account,
         units,
     )
+    # Among shards the page asks once it has computed the account's book.
+    until = time.monotonic() + 2
+    while time.monotonic() < until and not browser.js("return draft !== null"):
+        time.sleep(0.05)
+    browser.js("document.getElementById('yes').click()")
 
 
 def pair(folder):
@@ -104,43 +119,65 @@ def pair(folder):
 
 
 def shards(folder):
-    """A guest's key and a sale get to the shard that has the account."""
+    """A guest's key and a sale get to the book that has the account, among 16 of them."""
     site = Site(folder, SHARDS)
     browser = Browser(folder)
     first, second = site.servers
     with open(second.config, "a", encoding="utf-8") as file:
         file.write(SHARD_KEY)
     try:
-        site.proxy.settings({}, shards=["s1", "s2"])
+        site.proxy.settings({}, shards=ALL_SHARDS)
         site.start(0)
         site.start(1)
         site.proxy.start()
-        check("shards: a sale names its shard", site.proxy.sell("zoe", 100, "S-1", book="s2"), 201)
+        check("shards: a sale names its book", site.proxy.sell("zoe", 100, "S-1", book="sa"), 201)
         check("without one it gets nowhere", site.proxy.sell("zoe", 100, "S-2"), 404)
+        check("nor to a book of no server", site.proxy.sell("zoe", 100, "S-2", book="s1"), 503)
         status, _, body = site.proxy.curl("/me/balance", key=SHARD_GUEST)
-        check("a key gets to its shard", (status, json.loads(body)["balance"]), (200, 100))
+        check("a key gets to its book", (status, json.loads(body)["balance"]), (200, 100))
         check("another key gets to the first", site.proxy.status("/me/balance", key=GUEST), 200)
-        time.sleep(6)
+        check("eve is in a wrong book", site.proxy.sell("eve", 100, "S-3", book="s0"), 201)
+        time.sleep(2)
         browser.open()
         browser.log_in("anna", "anna-has-a-pass")
         browser.go(site.proxy.url("/desk/"))
         browser.shows("anna", "#cashier")
-        time.sleep(1)
-        sell_by_page(browser, "zoe", "2")
-        check("the page finds the shard", browser.shows("Sold. zoe has 2.00 EUR more."), True)
-        sell_by_page(browser, "nobody yet", "2")
-        check(
-            "and sells nothing to an account of none",
-            browser.shows("in no part of the books"),
-            True,
-        )
+        shards_by_page(browser)
         first.kill(), second.kill()
         sums = [it.split(",", 1)[1] for it in topups(second)]
-        check("the second has both sales", sorted(sums), ["zoe,100", "zoe,200"])
-        check("the first has none", topups(first), [])
+        check("the second has its sales", sorted(sums), ["zoe,100", "zoe,200"])
+        sums = [it.split(",", 1)[1] for it in topups(first)]
+        check("the first has its own", sorted(sums), ["eve,100", "new 2,300"])
     finally:
         browser.kill()
         site.end()
+
+
+def shards_by_page(browser):
+    """The page finds the book of each account, and sells nothing to one in a wrong book."""
+    known = [it for it in accounts() if it == it.strip() and "\0" not in it]
+    lines = "".join(shards_site.shown(it.encode()) + "\n" for it in known)
+    wanted = [it[:2] for it in shards_site.tool("of", input=lines)[1].splitlines()]
+    got = browser.js("return Promise.all(arguments[0].map(shardOf))", known)
+    check(f"the page and radacctd-shards agree on {len(known)} names", got == wanted, True)
+    sell_by_page(browser, "zoe", "2")
+    check("the page finds the book", browser.shows("Sold. zoe has 2.00 EUR more."), True)
+    sell_by_page(browser, "new 2", "3")
+    check("that of a new account, too", browser.shows("Sold. new 2 has 3.00 EUR more."), True)
+    sell_by_page(browser, "eve", "2")
+    check("and sells nothing to one in a wrong book", browser.shows("in a wrong book"), True)
+    browser.js("document.querySelector('#sales button:last-child').click()")
+    command = browser.text("#correction")
+    check("a correction names the shards' tool", "radacctd-shards debit '" in command, True)
+
+
+def accounts():
+    """Names that a cashier could type."""
+    for octets in shards_site.names():
+        try:
+            yield octets.decode()
+        except UnicodeDecodeError:
+            pass
 
 
 def client_certificate(folder):
