@@ -48,10 +48,11 @@ def run(words, **more):
     return done.returncode, done.stdout + done.stderr
 
 
-def root():
-    """The folder of the root, which is made if it isn't there."""
+def root(more=()):
+    """The folder of the root with further packages, which is made if it isn't there."""
     # Another list of packages is another root.
-    name = f"{SUITE}-{zlib.crc32(' '.join(PACKAGES).encode()):08x}"
+    packages = [*PACKAGES, *more]
+    name = f"{SUITE}-{zlib.crc32(' '.join(packages).encode()):08x}"
     made = os.path.join(CACHE, name)
     if os.path.isdir(made):
         return made
@@ -62,7 +63,7 @@ def root():
         subprocess.run(["mount", "-t", "tmpfs", "-o", "size=2g", "tmpfs", memory], check=True)
         try:
             new = os.path.join(memory, SUITE)
-            include = "--include=" + ",".join(PACKAGES)
+            include = "--include=" + ",".join(packages)
             words = ["debootstrap", "--variant=minbase", include, SUITE, new, MIRROR]
             status, text = run(words)
             if status:
@@ -79,10 +80,15 @@ def root():
 
 
 class Machine:
-    """The machine, running; it is stopped at the end, whatever happens before."""
+    """The machine, running; it is stopped at the end, whatever happens before. `more` are packages
+    that it has besides the usual ones.
+    """
+
+    def __init__(self, more=()):
+        self.more = more
 
     def __enter__(self):
-        lower = root()
+        lower = root(self.more)
         self.number = next(NUMBERS)
         self.memory = tempfile.mkdtemp()
         subprocess.run(["mount", "-t", "tmpfs", "-o", "size=2g", "tmpfs", self.memory], check=True)

@@ -1,0 +1,142 @@
+"""The part of interop/units about 16 books: docs/SHARDS.md followed on one machine of systemd."""
+
+import os
+import re
+
+from served import CASHIER, ROOT, check
+from service import CONFIG, until
+
+SHARDS = [f"s{digit:x}" for digit in range(16)]
+TABLE, UNITS = "/etc/radacctd-shards.csv", "/usr/local/lib/systemd/system"
+SOURCES = os.path.join(ROOT, "etc")
+# Where another machine's balances would be, for the copy by ssh.
+OTHER = "/srv/other"
+
+
+def steps(heading):
+    """The commands of a part of the page, for one machine at 127.0.0.1."""
+    with open(os.path.join(ROOT, "docs", "SHARDS.md"), encoding="utf-8") as file:
+        text = file.read()
+    text = text[text.index(heading) + len(heading) :]
+    text = re.split(r"\n##", text)[0].replace("\\\n", " ")
+    lines = [line.strip() for line in text.splitlines() if re.match(" {7}", line)]
+    return [line.replace("10.0.0.5", "127.0.0.1") for line in lines]
+
+
+def is_alike(site):
+    """The unit of one of many books is shut in as that of one book is."""
+    own = lambda name: open(os.path.join(SOURCES, name), encoding="utf-8").read()
+    allowed = ("SocketBindAllow",)
+    rules = {}
+    for name in ("radacctd.service", "shards/radacctd@.service"):
+        text = own(name).split("TimeoutStopSec=5")[1].split("[Install]")[0]
+        lines = [it for it in text.splitlines() if "=" in it and not it.startswith("#")]
+        rules[name] = [it for it in lines if not it.startswith(allowed)]
+    one, many = rules.values()
+    check("radacctd@.service is shut in as radacctd.service is", many, one)
+    for name in ("radacctd@s3.service", "radacctd-shards.service", "radacctd-shards-check.timer"):
+        found = site.box.run(f"systemd-analyze verify --man=no {name}")
+        check(f"systemd-analyze verify finds nothing in {name}", found, (0, ""))
+
+
+def make_books(site):
+    """The page's steps of a machine's books, and what they leave."""
+    box = site.box
+    site.stop()
+    box.must("systemctl disable radacctd")
+    box.must(f"mv {CONFIG} {CONFIG}.one; cp {CONFIG}.one {CONFIG}; chgrp radacctd {CONFIG}")
+    lines = [f"{it},127.0.0.1,{18130 + at},{8100 + at}" for at, it in enumerate(SHARDS)]
+    box.write(TABLE, "shard,address,radius,desk\n" + "\n".join(lines) + "\n")
+    commands = [it for it in steps("### The books") if not it.startswith("cp ")]
+    check("the page has commands", len(commands) > 6, True)
+    status, text = box.run("set -e\n" + "\n".join(commands))
+    check("its commands make 16 books", (status, text.count("book made")), (0, 16))
+    if status:
+        print(text[-500:])
+    states = [site.systemctl(f"is-active radacctd@{it}")[1].strip() for it in SHARDS]
+    check("each is active", set(states), {"active"})
+    mode = box.must("stat -c '%A %U' /var/lib/radacctd/s3 /var/lib/radacctd/s3/book").split("\n")
+    check("a book is its user's", mode[:2], ["drwx------ radacctd", "-rw------- radacctd"])
+    text = box.run("systemd-analyze security --no-pager radacctd@s3")[1]
+    found = re.search(r"Overall exposure level for \S+: ([0-9.]+)", text)
+    check("exposed no more than one book", found and float(found[1]) <= 1.1, True)
+
+
+def sell(site):
+    """Sales, a key and a debit reach the account's book."""
+    box = site.box
+    text = "voucher,account,sum\n" + "".join(f"V-{it},guest {it},500\n" for it in range(200))
+    box.write("/root/vouchers.csv", text)
+    box.write("/root/cashier.key", CASHIER, 0o600)
+    got = box.run("radacctd-shards sell --key-file /root/cashier.key < /root/vouchers.csv")
+    check("a file is sold", (got[0], "added 200, repeated 0, refused 0" in got[1]), (0, True))
+    status, said = box.run("radacctd-shards key new 'guest 7' --days 2")
+    book = box.must("radacctd-shards of 'guest 7'").split(" ")[0]
+    key = said.strip().split(" ")[-1]
+    check("a key begins with its book", (status, key[:3]), (0, f"{book}-"))
+    port = 8100 + SHARDS.index(book)
+    url = f"http://127.0.0.1:{port}/me/balance"
+    answer = box.beside(["curl", "-s", "-H", f"Desk-Key: {key}", url])[1]
+    check("whose server took it", answer, '{"account":"guest 7","balance":500,"overrun":0}')
+    got = box.run("radacctd-shards key revoke 'guest 7'")
+    check("and ends", got, (0, "ended 1 keys\n"))
+
+
+def join(site):
+    """Balances and counts of all books, and the check of them."""
+    box, folder = site.box, "/var/lib/radacctd-balances"
+    check("the service that joins starts", site.systemctl("enable --now radacctd-shards")[0], 0)
+    lines = lambda: box.run(f"grep -c ',500,0$' {folder}/balances.csv")[1].strip()
+    check("all balances are in one file", until(lambda: lines() == "200", 30), True)
+    modes = box.must(f"stat -c '%A %U %G' {folder}/balances.csv").strip()
+    check("for their group", modes, "-rw-r----- radacctd radacctd-balances")
+    count = lambda: box.run("grep -c '^radacctd_accounts{' /var/lib/radacctd-counts/radacctd.prom")
+    check("and the counts of 16 books", until(lambda: count()[1].strip() == "16", 30), True)
+    run = lambda: site.systemctl("start radacctd-shards-check.service")[0]
+    mark = site.mark()
+    check("the check finds nothing", run(), 0)
+    said = site.journal(mark, "radacctd-shards-check")
+    check("and says of how many", "200 accounts in 16 books, together 100000; faults 0" in said, True)
+    check("its timer starts", site.systemctl("enable --now radacctd-shards-check.timer")[0], 0)
+    right = box.must("radacctd-shards of planted").split(" ")[0]
+    wrong = next(it for it in SHARDS if it != right)
+    body = '{"account":"planted","sum":5,"voucher":"X-1"}'
+    url = f"http://127.0.0.1:{8100 + SHARDS.index(wrong)}/topups"
+    box.beside(["curl", "-s", "-H", f"Desk-Key: {CASHIER}", "-d", body, url])
+    mark = site.mark()
+    check("an account in a wrong book: the check fails", until(lambda: run() == 1, 30), True)
+    said = site.journal(mark, "radacctd-shards-check")
+    check("and names it", f"{wrong}: planted belongs into {right}: 5" in said, True)
+
+
+def copied(site):
+    """The balances of another machine come by ssh, and nothing else can be asked for."""
+    box, folder = site.box, "/var/lib/radacctd-balances"
+    box.must(f"systemctl stop radacctd-shards radacctd@sf; mkdir {OTHER}")
+    box.must(f"mv {folder}/sf.csv {OTHER}; chown -R radacctd:radacctd-balances {OTHER}")
+    make = [it for it in steps("### Balances and counts") if it.startswith("useradd")]
+    box.must(make[0])
+    box.must("mkdir -p -m 700 /root/.ssh; ssh-keygen -q -t ed25519 -N '' -f /root/.ssh/id_ed25519")
+    public = box.must("cat /root/.ssh/id_ed25519.pub")
+    home = "/home/radacctd-copy/.ssh"
+    box.must(f"install -d -m 700 -o radacctd-copy {home}")
+    box.write(f"{home}/authorized_keys", f'restrict,command="rrsync -ro {OTHER}" {public}', 0o600)
+    box.must(f"chown radacctd-copy {home}/authorized_keys; systemctl start ssh")
+    box.must("ssh-keyscan 127.0.0.1 2>/dev/null > /root/.ssh/known_hosts")
+    got = site.systemctl("enable --now radacctd-balances-from@127.0.0.1")
+    check("the copy of another machine's balances starts", got[0], 0)
+    there = lambda: box.run(f"cmp {OTHER}/sf.csv {folder}/sf.csv")[0] == 0
+    check("they come", until(there, 30), True)
+    modes = box.must(f"stat -c '%A %U %G' {folder}/sf.csv").strip()
+    check("with their rights", modes, "-rw-r----- radacctd radacctd-balances")
+    status = box.run("ssh -o BatchMode=yes radacctd-copy@127.0.0.1 cat /etc/passwd")[0]
+    check("nothing else can be asked for", status != 0, True)
+
+
+def shards(site):
+    """The units of 16 books."""
+    is_alike(site)
+    make_books(site)
+    sell(site)
+    join(site)
+    copied(site)
