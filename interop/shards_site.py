@@ -37,7 +37,7 @@ block = 1
 unit = 1
 """
 STEMS = ["Müller", "MÜLLER", "Ærø", "宿泊者", "Łukasz", "Ωmega", "😀", "e\u0301mile", "ПЕТЯ"]
-ODD = ['a"b', "a'b", "a,b", "100%", "%{User-Name}", "&User-Name", "a b", " a", "=", "$x`", "a%%b"]
+ODD = ['a"b', "a'b", "a,b", "100%", "%User-Name", "&User-Name", "a b", " a", "=", "$x`", "a%%b"]
 
 
 def names():
@@ -57,7 +57,9 @@ def names():
         elif kind == 18:
             name = f"{ODD[rng.randrange(len(ODD))]}{number}"
         else:
-            found.append(rng.randbytes(rng.randrange(20)) + b"%d" % number)
+            # FreeRADIUS' queue cuts a name at an octet of 0.
+            octets = rng.randbytes(rng.randrange(20)).replace(b"\0", b"")
+            found.append(octets + b"%d" % number)
             continue
         found.append(name.encode())
     return found
@@ -181,6 +183,8 @@ class Site:
             os.makedirs(f"{self.radius.queue}/{shard}")
         done = self.radius.is_right()
         check("FreeRADIUS takes the files of the shards", (done.returncode, done.stderr), (0, ""))
+        if done.returncode:
+            raise SystemExit(done.stdout[-2000:])
 
     def write_readers(self):
         """The table has changed."""
@@ -194,8 +198,8 @@ class Site:
     def make_nginx(self):
         changes = [
             ("include radacctd/desks-one.conf;", "include radacctd/desks-shards.conf;"),
-            ("zone=radacctd_sales:1m rate=1r/s", "zone=radacctd_sales:1m rate=900r/s"),
-            ("zone=radacctd_reads:2m rate=60r/m", "zone=radacctd_reads:2m rate=900r/s"),
+            ("zone=radacctd_sales:1m rate=1r/s", "zone=radacctd_sales:1m rate=9000r/s"),
+            ("zone=radacctd_reads:2m rate=60r/m", "zone=radacctd_reads:2m rate=9000r/s"),
         ]
         self.proxy = proxy.Proxy(f"{self.folder}/nginx", KILL.CASHIER, changes)
         self.proxy.settings({}, shards=SHARDS)
@@ -227,15 +231,17 @@ def waiting_in(radius):
             try:
                 total += os.path.getsize(os.path.join(folder, name))
             except FileNotFoundError:
-                pass
+                # The reader has just renamed it.
+                total += 1
     return total
 
 
 def sent(radius, reports):
     """Sends (session, account, octets, status) to FreeRADIUS, and tests that each is answered."""
+    # All reports of a session come from one access server.
     pairs = [
-        (f"127.0.4.{1 + number % 50}", packet_of(session, account, octets, status))
-        for number, (session, account, octets, status) in enumerate(reports)
+        (f"127.0.4.{1 + int(session[2:]) % 50}", packet_of(session, account, octets, status))
+        for session, account, octets, status in reports
     ]
     begun = time.monotonic()
     check(f"{len(pairs)} reports are answered", Sender(radius.acct).send(pairs), len(pairs))
@@ -243,9 +249,9 @@ def sent(radius, reports):
     print(f"         into the queues at {rate:.0f} a second", flush=True)
 
 
-def drained(radius, what, count):
-    """Waits until the queues are empty, and says how fast that was."""
-    begun = time.monotonic()
+def drained(radius, what, count, begun=None):
+    """Waits until the queues are empty, and says how fast that was from then or now on."""
+    begun = begun or time.monotonic()
     front.waits_for(f"{what}: the queues drain", lambda: waiting_in(radius), 0, 1200)
     rate = count / (time.monotonic() - begun)
     load = os.getloadavg()[0]

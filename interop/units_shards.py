@@ -96,7 +96,8 @@ def join(site):
     mark = site.mark()
     check("the check finds nothing", run(), 0)
     said = site.journal(mark, "radacctd-shards-check")
-    check("and says of how many", "200 accounts in 16 books, together 100000; faults 0" in said, True)
+    told = "200 accounts in 16 books, together 100000; faults 0"
+    check("and says of how many", told in said, True)
     check("its timer starts", site.systemctl("enable --now radacctd-shards-check.timer")[0], 0)
     right = box.must("radacctd-shards of planted").split(" ")[0]
     wrong = next(it for it in SHARDS if it != right)

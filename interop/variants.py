@@ -155,7 +155,7 @@ def shards(folder):
 
 def shards_by_page(browser):
     """The page finds the book of each account, and sells nothing to one in a wrong book."""
-    known = [it for it in accounts() if it == it.strip() and "\0" not in it]
+    known = [it for it in accounts() if it == it.strip()]
     lines = "".join(shards_site.shown(it.encode()) + "\n" for it in known)
     wanted = [it[:2] for it in shards_site.tool("of", input=lines)[1].splitlines()]
     got = browser.js("return Promise.all(arguments[0].map(shardOf))", known)
