@@ -23,7 +23,7 @@ def steps(heading):
     return [line.replace("10.0.0.5", "127.0.0.1") for line in lines]
 
 
-def is_alike(site):
+def is_alike(site, verified):
     """The unit of one of many books is shut in as that of one book is."""
     own = lambda name: open(os.path.join(SOURCES, name), encoding="utf-8").read()
     allowed = ("SocketBindAllow",)
@@ -35,8 +35,7 @@ def is_alike(site):
     one, many = rules.values()
     check("radacctd@.service is shut in as radacctd.service is", many, one)
     for name in ("radacctd@s3.service", "radacctd-shards.service", "radacctd-shards-check.timer"):
-        found = site.box.run(f"systemd-analyze verify --man=no {name}")
-        check(f"systemd-analyze verify finds nothing in {name}", found, (0, ""))
+        check(f"systemd-analyze verify finds nothing in {name}", verified(site.box, name), (0, []))
 
 
 def make_books(site):
@@ -134,9 +133,9 @@ def copied(site):
     check("nothing else can be asked for", status != 0, True)
 
 
-def shards(site):
+def shards(site, verified):
     """The units of 16 books."""
-    is_alike(site)
+    is_alike(site, verified)
     make_books(site)
     sell(site)
     join(site)

@@ -108,7 +108,12 @@ ALLOWED = {
         **each("radacctd-pages makes it", "FOLDER/plans.json", "FOLDER/settings.json"),
         "settings.json": "radacctd-pages makes it",
         **each("an example", "[\\(dqa\\(dq, \\(dqb\\(dq]", "[\\(dqs1\\(dq, \\(dqs2\\(dq]"),
-        "shards": "a member of a file that radacctd-pages makes",
+    },
+    "man/radacctd-shards.8": {"shard,address,radius,desk": "the columns of its table"},
+    "docs/SHARDS.md": {
+        **each("made by the page's steps", "/etc/radacctd-s0.toml", "/root", "s7.moved"),
+        **each("another program's", ".ssh/authorized_keys", "sites-enabled/default"),
+        "radacctd/settings.conf": "a copy of a file of etc/freeradius",
     },
     "man/radacctd-vouchers.8": {
         "code,sum": "the columns of a stock file",

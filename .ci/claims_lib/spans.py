@@ -117,7 +117,8 @@ class Checker:
     def tools(self):
         """The texts of the tools that are installed next to the program."""
         tools = re.findall(r"radacctd-[a-z][a-z-]*", self.tree.scripts["bin/install"])
-        tools += [os.path.basename(it) for it in self.tree.scripts if it.startswith("etc/tools/")]
+        folders = ("etc/tools/", "etc/shards/")
+        tools += [os.path.basename(it) for it in self.tree.scripts if it.startswith(folders)]
         return [it for it in map(self.tool, tools) if it]
 
     def tool(self, name):
@@ -125,7 +126,7 @@ class Checker:
         short = name.removeprefix("radacctd-")
         if short == name:
             return ""
-        places = (f"etc/tools/{name}", f"etc/{short}", f"interop/{short}")
+        places = (f"etc/tools/{name}", f"etc/{short}", f"etc/shards/{name}", f"interop/{short}")
         return next((self.tree.scripts[it] for it in places if it in self.tree.scripts), "")
 
     def tool_line(self, text, _block):
@@ -135,6 +136,9 @@ class Checker:
             return None
         if not self.tool(name):
             return f"`{text}`: no tool `{name}`" if words else None
+        if name == "radacctd-shards" and words[:1] in (["each"], ["for"], ["key"], ["sell"]):
+            # What follows is another program's command line.
+            words = words[:1]
         lost = [it for it in words if it.startswith("--") and not has(self.tool(name), it)]
         lost = [it for it in lost if it != "--help"]
         return f"`{text}`: `{name}` has no option {lost[0]}" if lost else ""
@@ -239,6 +243,7 @@ class Checker:
         if any(word in it for it in known):
             return True
         own = {"docs/FREERADIUS.md": "etc/freeradius/", "docs/WATCHING.md": "etc/monitoring/"}
+        own["docs/SHARDS.md"] = "etc/"
         folder = own.get(self.page, "no folder")
         if self.page == "docs/WATCHING.md" and word.startswith("radacctd_"):
             return False
