@@ -3,7 +3,7 @@
 import os
 import re
 
-from served import CASHIER, ROOT, check
+from served import CASHIER, ROOT, SECRET, check
 from service import CONFIG, until
 
 SHARDS = [f"s{digit:x}" for digit in range(16)]
@@ -64,20 +64,20 @@ def make_books(site):
 def sell(site):
     """Sales, a key and a debit reach the account's book."""
     box = site.box
-    text = "voucher,account,sum\n" + "".join(f"V-{it},guest {it},500\n" for it in range(200))
+    text = "voucher,account,sum\n" + "".join(f"V-{it},guest-{it},500\n" for it in range(200))
     box.write("/root/vouchers.csv", text)
     box.write("/root/cashier.key", CASHIER, 0o600)
     got = box.run("radacctd-shards sell --key-file /root/cashier.key < /root/vouchers.csv")
     check("a file is sold", (got[0], "added 200, repeated 0, refused 0" in got[1]), (0, True))
-    status, said = box.run("radacctd-shards key new 'guest 7' --days 2")
-    book = box.must("radacctd-shards of 'guest 7'").split(" ")[0]
+    status, said = box.run("radacctd-shards key new guest-7 --days 2")
+    book = box.must("radacctd-shards of guest-7").split(" ")[0]
     key = said.strip().split(" ")[-1]
     check("a key begins with its book", (status, key[:3]), (0, f"{book}-"))
     port = 8100 + SHARDS.index(book)
     url = f"http://127.0.0.1:{port}/me/balance"
     answer = box.beside(["curl", "-s", "-H", f"Desk-Key: {key}", url])[1]
-    check("whose server took it", answer, '{"account":"guest 7","balance":500,"overrun":0}')
-    got = box.run("radacctd-shards key revoke 'guest 7'")
+    check("whose server took it", answer, '{"account":"guest-7","balance":500,"overrun":0}')
+    got = box.run("radacctd-shards key revoke guest-7")
     check("and ends", got, (0, "ended 1 keys\n"))
 
 
@@ -107,6 +107,89 @@ def join(site):
     check("an account in a wrong book: the check fails", until(lambda: run() == 1, 30), True)
     said = site.journal(mark, "radacctd-shards-check")
     check("and names it", f"{wrong}: planted belongs into {right}: 5" in said, True)
+
+
+def page_of_freeradius(name, heading, end):
+    """The commands of a part of a page, with the paths that bin/install makes."""
+    with open(os.path.join(ROOT, "docs", name), encoding="utf-8") as file:
+        text = file.read()
+    text = text[text.index(heading) :]
+    text = text[: text.index(end)].replace("\\\n", " ")
+    lines = [it.strip() for it in text.splitlines() if re.match(" {7}", it)]
+    lines = [it for it in lines if re.match("(cd|mkdir|cp|install|chown|chmod) |radacctd[-/]", it)]
+    lines = [it.replace(".../etc/", "/usr/local/share/radacctd/") for it in lines]
+    return "\n".join(["set -e", *lines]).replace("10.0.0.5", "127.0.0.1")
+
+
+def changed(box, name, pairs):
+    """Changes texts of a file of FreeRADIUS, each of which is in it once."""
+    path = f"/etc/freeradius/3.0/{name}"
+    text = box.must(f"cat {path}")
+    for old, new in pairs:
+        check(f"{name} has its place", text.count(old), 1)
+        text = text.replace(old, new)
+    box.write(path, text, 0o640)
+    box.must(f"chgrp freerad {path}")
+
+
+def set_up_freeradius(box):
+    """FreeRADIUS as Debian has it, changed as both pages say."""
+    box.must("systemctl stop freeradius")
+    first = page_of_freeradius("FREERADIUS.md", "## Set it up", "8. Make the folders")
+    box.must(first)
+    secret = ("change-me-freeradius-to-radacctd", SECRET)
+    queue = ("queue = ${radacctdir}/radacctd", 'queue = "${radacctdir}/radacctd/%{Tmp-String-8}"')
+    changed(box, "radacctd/settings.conf", [secret, (queue[0] + "\n", queue[1] + "\n")])
+    own = "secret = change-me-access-points\n\t# Which"
+    networks = [("10.0.0.0/16", "127.0.0.0/8"), (own, f"secret = {SECRET}\n\t# Which")]
+    changed(box, "radacctd/access-servers.conf", networks)
+    box.write("/etc/freeradius/3.0/clients.conf", "", 0o644)
+    lines = "$INCLUDE radacctd/settings.conf\n$INCLUDE radacctd/access-servers.conf\n"
+    changed(box, "radiusd.conf", [("\nmodules {", "\n" + lines + "modules {")])
+    login = '\npost-auth {\n\tupdate reply {\n\t\t&Class := "gold"\n\t}\n\tradacctd_login\n'
+    accounting = "\naccounting {\n\tradacctd_shard\n\tradacctd_accounting\n"
+    pairs = [("\naccounting {\n", accounting), ("\npost-auth {\n", login)]
+    changed(box, "sites-available/default", pairs)
+    users = "/etc/freeradius/3.0/mods-config/files/authorize"
+    box.write(users, 'DEFAULT Cleartext-Password := "right"\n', 0o644)
+    status, text = box.run(page_of_freeradius("SHARDS.md", "3. Copy the policy", "4. In `sites-en"))
+    check("the page's files are copied", (status, text), (0, ""))
+    folders = page_of_freeradius("FREERADIUS.md", "8. Make the folders", "9. Start the mirror")
+    box.must(f"cd /etc/freeradius/3.0; {folders}")
+    box.must(page_of_freeradius("SHARDS.md", "5. Make the folders of", "Logins, quotas"))
+
+
+def freeradius(site):
+    """FreeRADIUS and its mirror under systemd: a report, a login and a refusal."""
+    box = site.box
+    set_up_freeradius(box)
+    status, text = box.run("freeradius -CX")
+    check("freeradius -CX is content", status, 0)
+    if status:
+        print(text[-1500:])
+    box.must("cp /usr/local/share/radacctd/freeradius/radacctd-mirror.service /etc/systemd/system/")
+    box.must("systemctl daemon-reload; systemctl enable --now radacctd-mirror")
+    check("it starts", site.systemctl("restart freeradius"), (0, ""))
+    words = ["User-Name = \"guest-7\"", "Packet-Src-IP-Address = 127.0.0.1"]
+    stop = ["Acct-Status-Type = Stop", 'Acct-Session-Id = "7"', 'Class = "gold"']
+    send = lambda port, kind, lines: box.beside(
+        ["radclient", "-x", "-r", "1", "-t", "5", f"127.0.0.1:{port}", kind, SECRET],
+        input="\n".join(lines) + "\n",
+    )[1]
+    said = send(1813, "acct", [*words, *stop, "Acct-Input-Octets = 1048577"])
+    check("a report is answered", "Received Accounting-Response" in said, True)
+    joined = "/var/lib/radacctd-balances/balances.csv"
+    has = lambda: "guest-7,480,0\n" in box.must(f"cat {joined}")
+    check("and charged in its book", until(has, 40), True)
+    login = lambda lines: send(1812, "auth", [*lines, 'User-Password = "right"'])
+    quota = lambda: "Mikrotik-Total-Limit = 50331648" in login(words)
+    check("a login gets its quota", until(quota, 20), True)
+    said = login(['User-Name = "nobody"', words[1]])
+    check("who never bought is refused", "Your allowance is spent." in said, True)
+    modes = box.must("stat -c '%A %U' /var/lib/radacctd-mirror/balances.db").strip()
+    check("the mirror is its user's", modes, "-rw------- freerad")
+    state = site.systemctl("is-active radacctd-mirror")[1].strip()
+    check("the mirror runs under systemd", state, "active")
 
 
 def copied(site):
@@ -139,4 +222,5 @@ def shards(site, verified):
     make_books(site)
     sell(site)
     join(site)
+    freeradius(site)
     copied(site)

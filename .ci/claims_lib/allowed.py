@@ -107,7 +107,7 @@ ALLOWED = {
     "man/radacctd-pages.8": {
         **each("radacctd-pages makes it", "FOLDER/plans.json", "FOLDER/settings.json"),
         "settings.json": "radacctd-pages makes it",
-        **each("an example", "[\\(dqa\\(dq, \\(dqb\\(dq]", "[\\(dqs1\\(dq, \\(dqs2\\(dq]"),
+        **each("an example", "[\\(dqa\\(dq, \\(dqb\\(dq]"),
     },
     "man/radacctd-shards.8": {"shard,address,radius,desk": "the columns of its table"},
     "docs/SHARDS.md": {
