@@ -159,7 +159,9 @@ class Machine:
 
     def words(self, command):
         """The command line that runs a shell's command in the machine."""
-        return ["nsenter", "-t", str(self.leader()), "-a", "sh", "-c", command]
+        # This machine's folder for temporary files is not there.
+        words = ["nsenter", "-t", str(self.leader()), "-a", "env", "-u", "TMPDIR"]
+        return [*words, "sh", "-c", command]
 
     def run(self, command, **more):
         """Runs a shell's command in the machine: its status and what it printed."""

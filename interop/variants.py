@@ -44,9 +44,15 @@ class Site:
         for server, address in zip(self.servers, places):
             changes.append((address, f"127.0.0.1:{server.desk}"))
         if variant == SHARDS:
-            # The others are away.
+            # The others are away, and have no accounts.
             changes += [(f"10.0.0.{it}:81", "127.0.0.1:81") for it in (5, 6)]
+            os.mkdir(f"{folder}/others")
+            for it in ALL_SHARDS:
+                with open(f"{folder}/others/{it}.csv", "w", encoding="ascii") as file:
+                    file.write("account,balance,overrun\n")
         changes += [(kept + it, to) for it, to in zip(names, self.balances)]
+        if variant == SHARDS:
+            changes.append((f"{kept}s", f"{folder}/others/s"))
         self.proxy = Proxy(f"{folder}/nginx", CASHIER, changes)
 
     def start(self, at):
