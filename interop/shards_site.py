@@ -37,7 +37,7 @@ block = 1
 unit = 1
 """
 STEMS = ["Müller", "MÜLLER", "Ærø", "宿泊者", "Łukasz", "Ωmega", "😀", "e\u0301mile", "ПЕТЯ"]
-ODD = ['a"b', "a'b", "a,b", "100%", "%User-Name", "&User-Name", "a b", " a", "=", "$x`", "a%%b"]
+ODD = ['a"b', "a'b", "a,b", "100%", "%User-Name", "&User-Name", "a b", "b\\c\\", "=", "$x`", "a%%b"]
 
 
 def names():
