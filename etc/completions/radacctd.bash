@@ -24,6 +24,10 @@ _radacctd() {
         --turns) words='9223372036854775807' ;;
         --sync) words='once twice' ;;
         --balances-every) words='60' ;;
+        --before) words='90' ;;
+        --at) words='' ;;
+        --silent) words='' ;;
+        --keep) words='' ;;
         *) case $command in
             feed) words='--config --explain --help' ;;
             check) words='--config --db --status --balances --explain --help' ;;
@@ -33,8 +37,9 @@ _radacctd() {
             export) words='--config --db --explain --help sessions balances topups overruns' ;;
             migrate) words='--config --db --explain --help' ;;
             plans) words='--config --db --explain --help' ;;
-            help) words='feed check init serve import export migrate plans' ;;
-            *) words='feed check init serve import export migrate plans help --help --version' ;;
+            forward) words='--config --db --explain --before --at --silent --keep --dry-run --yes --help' ;;
+            help) words='feed check init serve import export migrate plans forward' ;;
+            *) words='feed check init serve import export migrate plans forward help --help --version' ;;
         esac ;;
     esac
     mapfile -t COMPREPLY < <(compgen -W "$words" -- "$current")
