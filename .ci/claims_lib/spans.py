@@ -117,7 +117,7 @@ class Checker:
     def tools(self):
         """The texts of the tools that are installed next to the program."""
         tools = re.findall(r"radacctd-[a-z][a-z-]*", self.tree.scripts["bin/install"])
-        folders = ("etc/tools/", "etc/shards/")
+        folders = ("etc/tools/", "etc/shards/", "etc/pair/")
         tools += [os.path.basename(it) for it in self.tree.scripts if it.startswith(folders)]
         return [it for it in map(self.tool, tools) if it]
 
@@ -126,7 +126,8 @@ class Checker:
         short = name.removeprefix("radacctd-")
         if short == name:
             return ""
-        places = (f"etc/tools/{name}", f"etc/{short}", f"etc/shards/{name}", f"interop/{short}")
+        folders = ("etc/tools", "etc/shards", "etc/pair")
+        places = [f"{it}/{name}" for it in folders] + [f"etc/{short}", f"interop/{short}"]
         return next((self.tree.scripts[it] for it in places if it in self.tree.scripts), "")
 
     def tool_line(self, text, _block):
@@ -243,7 +244,7 @@ class Checker:
         if any(word in it for it in known):
             return True
         own = {"docs/FREERADIUS.md": "etc/freeradius/", "docs/WATCHING.md": "etc/monitoring/"}
-        own["docs/SHARDS.md"] = "etc/"
+        own |= {"docs/SHARDS.md": "etc/", "docs/PAIR.md": "etc/"}
         folder = own.get(self.page, "no folder")
         if self.page == "docs/WATCHING.md" and word.startswith("radacctd_"):
             return False
