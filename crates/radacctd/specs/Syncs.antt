@@ -21,3 +21,4 @@ SyncsOnce (job.Import paths) = ⊥
 SyncsOnce (job.Export paths what) = ⊥
 SyncsOnce (job.Migrate paths) = ⊥
 SyncsOnce (job.AddPlans paths) = ⊥
+SyncsOnce (job.Forward paths carrying) = ⊥
