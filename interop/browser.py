@@ -156,6 +156,10 @@ class Browser:
         """By how many pixels the page is wider than the window."""
         return self.js("return document.documentElement.scrollWidth - window.innerWidth")
 
+    def height(self):
+        """How high the whole page is."""
+        return self.js("return document.documentElement.scrollHeight")
+
     def theme(self, name):
         feature = {"name": "prefers-color-scheme", "value": name}
         self.debug("Emulation.setEmulatedMedia", features=[feature])

@@ -10,7 +10,7 @@ import subprocess
 import time
 
 from browser import holding
-from served import ROOT, check
+from served import PROGRAM, ROOT, check
 
 TOOLS = os.path.join(ROOT, "etc", "tools")
 LETTERS = "ACDEFHJKMNPQRTUWXY34679"
@@ -83,6 +83,21 @@ def keys(browser, proxy, server, folder):
     check("at once", proxy.status("/me/balance", key=token), 401)
     check("and the configuration is as before", text_of(server.config), before)
     expiry(proxy, server, words)
+    full(server, folder)
+
+
+def full(server, folder):
+    """A configuration with as many keys as one takes."""
+    path, before = os.path.join(folder, "full.toml"), text_of(server.config)
+    count = 4096 - before.count("[[key]]")
+    lines = [f'[[key]]\ntoken = "full-key-{at:09d}"\naccount = "f{at}"\n' for at in range(count)]
+    with open(path, "w", encoding="utf-8") as file:
+        file.write(before + "\n" + "".join(lines))
+    done = subprocess.run([PROGRAM, "check", "--config", path], capture_output=True, text=True)
+    check("4,096 keys are right", done.returncode, 0)
+    status, _, errors = tool("radacctd-key", "--config", path, "new", "zed")
+    named = "set up 16 books (docs/SHARDS.md)" in errors
+    check("one more is refused, and the page named", (status, named), (1, True))
 
 
 def expiry(proxy, server, words):

@@ -20,6 +20,9 @@ SUITE = os.environ.get("RADACCTD_SUITE", "bookworm")
 MIRROR = "http://deb.debian.org/debian"
 # With libbpf1 Debian 13's systemd enforces which ports a unit may bind; Debian 12's never does.
 PACKAGES = ["systemd", "systemd-sysv", "dbus", "python3", "procps", "sensible-utils", "libbpf1"]
+# What a whole site has: FreeRADIUS, nginx, printed vouchers, copies from one machine to another.
+SITE = ["apache2-utils", "curl", "fcgiwrap", "freeradius", "freeradius-utils", "iproute2", "nginx"]
+SITE += ["openssh-client", "openssh-server", "qrencode", "rsync", "sqlite3"]
 CACHE = os.environ.get("RADACCTD_ROOTS", "/var/tmp/radacctd-interop")
 TOOLS = {
     "systemd-nspawn": "systemd-container",
@@ -51,25 +54,25 @@ def run(words, **more):
 def root(more=()):
     """The folder of the root with further packages, which is made if it isn't there."""
     # Another list of packages is another root.
-    packages = [*PACKAGES, *more]
-    name = f"{SUITE}-{zlib.crc32(' '.join(packages).encode()):08x}"
+    name = f"{SUITE}-{zlib.crc32(' '.join([*PACKAGES, *more]).encode()):08x}"
     made = os.path.join(CACHE, name)
     if os.path.isdir(made):
         return made
+    begin = root() if more else None
     print(f"making a root of Debian in {made}: some minutes, once", flush=True)
     os.makedirs(CACHE, exist_ok=True)
     # In memory, since dpkg syncs each file.
     with tempfile.TemporaryDirectory() as memory:
-        subprocess.run(["mount", "-t", "tmpfs", "-o", "size=2g", "tmpfs", memory], check=True)
+        subprocess.run(["mount", "-t", "tmpfs", "-o", "size=3g", "tmpfs", memory], check=True)
         try:
             new = os.path.join(memory, SUITE)
-            include = "--include=" + ",".join(packages)
-            words = ["debootstrap", "--variant=minbase", include, SUITE, new, MIRROR]
-            status, text = run(words)
-            if status:
-                sys.exit(f"debootstrap ended with {status}: {text[-500:]}")
+            if more:
+                subprocess.run(["cp", "-a", begin, new], check=True)
+                add(new, more)
+            else:
+                bootstrap(new)
             for folder in ("var/cache/apt/archives", "var/lib/apt/lists"):
-                shutil.rmtree(os.path.join(new, folder))
+                shutil.rmtree(os.path.join(new, folder), ignore_errors=True)
             part = made + ".part"
             shutil.rmtree(part, ignore_errors=True)
             subprocess.run(["cp", "-a", new, part], check=True)
@@ -79,13 +82,42 @@ def root(more=()):
     return made
 
 
+def bootstrap(new):
+    """Makes a root of the usual packages."""
+    include = "--include=" + ",".join(PACKAGES)
+    status, text = run(["debootstrap", "--variant=minbase", include, SUITE, new, MIRROR])
+    if status:
+        sys.exit(f"debootstrap ended with {status}: {text[-500:]}")
+
+
+def add(new, packages):
+    """Installs packages into a root by apt, which knows what debootstrap cannot resolve. Nothing
+    that they only recommend comes with them, and no service of theirs is started.
+    """
+    policy = os.path.join(new, "usr/sbin/policy-rc.d")
+    with open(policy, "w", encoding="ascii") as file:
+        file.write("#!/bin/sh\nexit 101\n")
+    os.chmod(policy, 0o755)
+    apt = "apt-get -qq update && apt-get -qq install --yes --no-install-recommends "
+    how = {"env": {**os.environ, "DEBIAN_FRONTEND": "noninteractive", "TMPDIR": "/tmp"}}
+    subprocess.run(["mount", "-t", "proc", "proc", os.path.join(new, "proc")], check=True)
+    try:
+        status, text = run(["chroot", new, "sh", "-c", apt + " ".join(packages)], **how)
+    finally:
+        subprocess.run(["umount", os.path.join(new, "proc")], check=True)
+    os.remove(policy)
+    if status:
+        sys.exit(f"apt-get ended with {status}: {text[-500:]}")
+
+
 class Machine:
     """The machine, running; it is stopped at the end, whatever happens before. `more` are packages
-    that it has besides the usual ones.
+    that it has besides the usual ones. It has started once its systemd says one of `states`:
+    "degraded" is for a machine on which a unit of another package may fail.
     """
 
-    def __init__(self, more=()):
-        self.more = more
+    def __init__(self, more=(), states=("running",)):
+        self.more, self.states = more, states
 
     def __enter__(self):
         lower = root(self.more)
@@ -124,7 +156,7 @@ class Machine:
             self.process = subprocess.Popen(words, env=env, **how)
         until = time.monotonic() + PATIENCE
         while time.monotonic() < until and self.process.poll() is None:
-            if self.leader() and self.run("systemctl is-system-running")[1].strip() == "running":
+            if self.leader() and self.run("systemctl is-system-running")[1].strip() in self.states:
                 return
             time.sleep(0.2)
         with open(console, encoding="utf-8", errors="replace") as file:

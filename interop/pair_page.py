@@ -1,26 +1,28 @@
-"""Follows docs/PAIR.md on two Debian machines with systemd, in containers that a wire joins: the
-commands of "Set it up", "Restore a lost book" and "Add a plan", as they are. What the page tells
-an operator to write into a file is written by this test.
+"""Follows docs/PAIR.md on two Debian machines with systemd, in containers that a wire joins: each
+command of the page, as it is. What the page tells an operator to write into a file is written by
+this test.
 
-It needs root, and of Debian's packages systemd-container, debootstrap, iproute2 and util-linux. It
-makes a root of Debian with FreeRADIUS once, which takes some minutes.
+It needs root, and of Debian's packages systemd-container, debootstrap, iproute2, openssl and
+util-linux. It makes a root of Debian with FreeRADIUS and nginx once, which takes some minutes.
 """
 
 import contextlib
+import json
 import os
 import re
 import subprocess
 import tempfile
 import time
 
+import desk_page
 import front
 import machine
 from front import ROOT, check, waits_for
 
-machine.PACKAGES += ["freeradius", "freeradius-utils", "sqlite3", "iproute2", "rsync"]
 PAGE = os.path.join(ROOT, "docs", "PAIR.md")
 FREERADIUS = os.path.join(ROOT, "docs", "FREERADIUS.md")
 RADDB = "/etc/freeradius/3.0"
+QUEUE = "/var/log/freeradius/radacct/radacctd"
 SHARED = "/usr/local/share/radacctd"
 ADDRESSES = ["10.0.0.5", "10.0.0.6"]
 CASHIER = "cash-key-00000001"
@@ -82,15 +84,24 @@ def replaced(it, path, *changes):
         file.write(text)
 
 
-def install(it, staged):
-    """A machine alone, as INSTALL and FREERADIUS say."""
+def install(it, staged, site=SITE):
+    """A machine alone, as INSTALL says."""
     it.copy(staged)
     it.must("systemd-sysusers /usr/local/lib/sysusers.d/radacctd.conf")
     it.must("systemd-tmpfiles --create /usr/local/lib/tmpfiles.d/radacctd.conf")
-    it.write("/etc/radacctd.toml", SITE, 0o640)
-    it.must("chgrp radacctd /etc/radacctd.toml; systemctl daemon-reload")
+    configure(it, site)
+    it.must("systemctl daemon-reload")
     it.must("install -d -m 700 -o radacctd -g radacctd /var/lib/radacctd")
     it.must("install -m 644 /usr/local/share/doc/radacctd/radacctd.default /etc/default/radacctd")
+
+
+def configure(it, site):
+    it.write("/etc/radacctd.toml", site, 0o640)
+    it.must("chgrp radacctd /etc/radacctd.toml")
+
+
+def install_freeradius(it):
+    """FreeRADIUS in front of it, as FREERADIUS says; it is not started."""
     it.must("gpasswd -a freerad radacctd-balances; systemctl stop freeradius")
     commands = steps(section(FREERADIUS, "Set it up"))
     run(it, "FREERADIUS, copies", commands[1].replace(".../etc", SHARED))
@@ -130,6 +141,16 @@ def set_up(it, own, other):
     run(it, "step 9", commands[9])
 
 
+def known(machines):
+    """Lets root of each machine into the others by ssh, as an administrator does."""
+    for it in machines:
+        it.must("ssh-keygen -q -t ed25519 -N '' -f /root/.ssh/id_ed25519; systemctl start ssh")
+    keys = "".join(it.must("cat /root/.ssh/id_ed25519.pub") for it in machines)
+    for it in machines:
+        it.write("/root/.ssh/authorized_keys", keys, 0o600)
+        it.must(f"ssh-keyscan {' '.join(ADDRESSES)} > /root/.ssh/known_hosts 2>/dev/null")
+
+
 def wire(machines):
     """Joins the networks of the two containers."""
     pids = [str(it.leader()) for it in machines]
@@ -162,7 +183,7 @@ def balances(it):
 
 def both_have(machines, name, wanted):
     found = lambda: [balances(it) for it in machines]
-    waits_for(f"both have {name}", found, [wanted, wanted], 60)
+    waits_for(f"both have {name}", found, [wanted, wanted], 180)
 
 
 def is_well(it):
@@ -203,16 +224,16 @@ def lives(first, second):
     first.must("systemctl kill -s KILL radacctd; systemctl stop radacctd")
     check("the first radacctd is down: a sale there", sell(first, ["V-0,bo,5"]), ADDED)
     begun = time.monotonic()
-    waits_for("its logins see that", lambda: mirrored(first), ["400", "95"], 60)
+    waits_for("its logins see that", lambda: mirrored(first), ["400", "95"], 180)
     print(f"         after {time.monotonic() - begun:.0f} s", flush=True)
     first.must("systemctl start radacctd")
     both_have(machines, "what the first missed", {"al": 400, "bo": 95})
     for it in machines:
         name = f"{it.title}: the timer's comparison is well"
-        waits_for(name, lambda it=it: is_well(it), True, 90)
+        waits_for(name, lambda it=it: is_well(it), True, 300)
         text = it.run("stat -c '%U %G %a' /var/lib/radacctd-pair/balances.csv")[1].split()
         check("www-data's group reads the copy", text, ["freerad", "radacctd-balances", "640"])
-        waits_for("and the mirror has it", lambda it=it: mirrored(it), ["400", "95"], 60)
+        waits_for("and the mirror has it", lambda it=it: mirrored(it), ["400", "95"], 180)
 
 
 def restored(first, second):
@@ -226,34 +247,125 @@ def restored(first, second):
     said = run(second, "restore, step 3", commands[3])
     check("it prints four queues", len(said.split("\n")), 5)
     time.sleep(3)
-    # The two containers share no ssh: this test brings the copy over.
-    run(second, "restore, step 4", commands[4].split("\n")[0])
-    words = ["cp", "-a", second.root + "/root/pair-copy", first.root + "/root/"]
-    subprocess.run(words, check=True)
+    run(second, "restore, step 4", commands[4])
     run(first, "restore, step 5", commands[5])
     own, other = commands[6].split("\n")
     run(first, "restore, step 6", own)
     run(second, "restore, step 6", other)
     both_have([first, second], "all after the loss", {"al": 400, "bo": 95, "cy": 60})
     # Root writes what the timer's user writes: both can.
-    waits_for("restore, step 7", lambda: first.run(commands[7])[0], 0, 60)
-    waits_for("and the timer goes on", lambda: is_well(first), True, 60)
+    waits_for("restore, step 7", lambda: first.run(commands[7])[0], 0, 240)
+    waits_for("and the timer goes on", lambda: is_well(first), True, 240)
     failed = lambda: first.run("systemctl --failed --no-legend")[1].strip()
-    waits_for("and nothing has failed", failed, "", 60)
+    waits_for("and nothing has failed", failed, "", 240)
 
 
 def planned(first, second):
     """The steps of "Add a plan"."""
     commands = steps(section(PAGE, "Add a plan"))
     for it in (first, second):
-        text = SITE + PLAN.format("silver", 1 << 20, 3)
-        it.write("/etc/radacctd.toml", text, 0o640)
-        it.must("chgrp radacctd /etc/radacctd.toml")
+        configure(it, SITE + PLAN.format("silver", 1 << 20, 3))
     for it in (first, second):
         check(f"{it.title}: the plan is added", "added 1" in run(it, "plans", commands[2]), True)
+    for it in (first, second):
+        plans = steps(section(FREERADIUS, "Set it up"))[8].split("\n")
+        line = next(line for line in plans if line.startswith("radacctd/plans-of"))
+        run(it, "the mirror's plans", f"cd {RADDB}\n{line}; grep -q silver radacctd/plans.csv")
     check("a report of the new Class", report(second, "s4", "cy", 2 << 20, "silver"), True)
     wanted = {"al": 400, "bo": 95, "cy": 54}
     both_have([first, second], "it at the new price", wanted)
+
+
+def started_again(first, second):
+    """The steps of "Start it again", on the first machine, where a report was filed."""
+    commands = steps(section(PAGE, "Start it again"))
+    first.must("systemctl stop radacctd")
+    check("a report to it", report(first, "s5", "dan", 1 << 20), True)
+    first.must("systemctl stop freeradius")
+    # As if it had been filed as one that radacctd never answers.
+    name = re.search(r"radacctd-unsent/(\S+)", commands[3])[1]
+    first.must(f"cat {QUEUE}/* > {QUEUE}-unsent/{name}; rm {QUEUE}/*")
+    first.must(f"chown freerad:freerad {QUEUE}-unsent/{name}")
+    said = run(first, "start it again, step 1", commands[1])
+    check("it prints four queues", len(said.strip().split("\n")), 4)
+    check("step 2 lists what was filed", name in run(first, "step 2", commands[2]), True)
+    run(first, "step 3", commands[3])
+    both_have([first, second], "it", {"al": 400, "bo": 95, "cy": 54, "dan": -10})
+
+
+def journal_has(it, line):
+    """Waits until the page's command of the alarms prints a line that begins so."""
+    command = re.search(r"\n    (journalctl .*)\n", section(PAGE, "Alarms"))[1]
+    lines = lambda: [at.split("]: ")[-1] for at in it.run(command)[1].split("\n")]
+    found = lambda: any(at.startswith(line) for at in lines())
+    waits_for(f"{it.title}: the journal has `{line}`", found, True, 240)
+
+
+def differ(first, second):
+    """The steps of "If balances differ": a voucher that one book lacks."""
+    text = section(PAGE, "Alarms")
+    commands = steps(text[text.index("### If balances differ") : text.index("### If one book")])
+    lacks = "printf 'voucher,account,sum\\nONE-1,eve,50\\n'"
+    said = first.run(f"{lacks} | radacctd-sell --host {ADDRESSES[0]} 2>/dev/null")[1].strip()
+    check("a voucher is sold straight at one desk", said, ADDED)
+    for it, line in ((first, "account eve: 50 here, 0 there"), (second, "account eve: 0 here, 50")):
+        journal_has(it, line)
+    failed = first.run("systemctl --failed --no-legend")[1]
+    check("systemctl --failed lists the comparison", "radacctd-compare.service" in failed, True)
+    rows = []
+    for it in (first, second):
+        run(it, "if balances differ, step 2", "cd /root\n" + commands[2])
+        rows.append(it.must("cut -d, -f1-3 /root/topups.csv").split())
+    missing = [line for line in rows[0] if line not in rows[1]]
+    check("the exports show the voucher", missing, ["ONE-1,eve,50"])
+    first.must("printf 'voucher,account,sum\\n%s\\n' ONE-1,eve,50 > /root/missing.csv")
+    run(first, "step 3", f"cd /root\n{commands[3]}")
+    wanted = {"al": 400, "bo": 95, "cy": 54, "dan": -10, "eve": 50}
+    both_have([first, second], "it", wanted)
+    for it in (first, second):
+        waits_for(f"{it.title}: the alarm ends", lambda it=it: is_well(it), True, 300)
+
+
+def refused(first, second):
+    """The steps of "If one book refuses a voucher": one number for two accounts."""
+    text = section(PAGE, "Alarms")
+    commands = steps(text[text.index("### If one book refuses") :])
+    at = lambda address, line: first.run(
+        f"printf 'voucher,account,sum\\n{line}\\n' | radacctd-sell --host {address} 2>/dev/null"
+    )[1].strip()
+    check("X-1 is sold to gus straight at one desk", at(ADDRESSES[0], "X-1,gus,5"), ADDED)
+    outbox = "radacctd-sell --port 8067 --give-up 1"
+    second.run(f"printf 'voucher,account,sum\\nX-1,hal,7\\n' | {outbox}")
+    for it in (first, second):
+        journal_has(it, "voucher X-1: one book took it and one refuses it")
+    listed = second.run(commands[1])[1]
+    check("step 1 lists it", "own taken, other differs" in listed, True)
+    check("hal's at the one", at(ADDRESSES[0], "X-1-B,hal,7"), ADDED)
+    check("gus' at the other", at(ADDRESSES[1], "X-1-A,gus,5"), ADDED)
+    run(second, "step 4", commands[4].replace("V-1", "X-1"))
+    wanted = {"al": 400, "bo": 95, "cy": 54, "dan": -10, "eve": 50, "gus": 5, "hal": 7}
+    both_have([first, second], "both", wanted)
+    for it in (first, second):
+        waits_for(f"{it.title}: the alarm ends", lambda it=it: is_well(it), True, 300)
+        rm = re.search(r"\n    (rm .*seen.json)\n", section(PAGE, "Alarms"))[1]
+        run(it, "what was seen is removed", rm)
+
+
+def through_nginx(it):
+    """nginx before the outbox: the steps of DESK, and the page's command."""
+    desk_page.put_proxy(it, CASHIER)
+    text = section(PAGE, "Sell and debit")
+    run(it, "desks-outbox.conf", re.search(r"\n    (install .*outbox.conf .*)\n", text)[1])
+    include = "include radacctd/desks-{}.conf;"
+    file = "/etc/nginx/conf.d/radacctd.conf"
+    replaced(it, file, (f"\n{include.format('one')}", f"\n{include.format('outbox')}"))
+    run(it, "nginx", "nginx -t\nsystemctl restart nginx")
+    sale = json.dumps({"account": "ida", "sum": 9, "voucher": "D1-1"})
+    words = f"curl -sk -u {desk_page.LOGIN} -H 'Radacctd: desk' -d '{sale}'"
+    said = it.run(f"{words} https://localhost/desk/topups")[1]
+    check(f"{it.title}: a sale by the front desk's page", said, '{"result":"new"}')
+    said = it.run(f"curl -sk -u {desk_page.LOGIN} https://localhost/desk/balances.csv")[1]
+    check("and its balances", said.split("\n")[0], "account,balance,overrun")
 
 
 def hardened(it):
@@ -272,12 +384,14 @@ def follow():
         words = [os.path.join(ROOT, "bin", "install")]
         environment = {**os.environ, "DESTDIR": staged}
         subprocess.run(words, env=environment, check=True, stdout=subprocess.DEVNULL)
-        machines = [opened.enter_context(machine.Machine()) for _ in ADDRESSES]
+        machines = [opened.enter_context(machine.Machine(machine.SITE)) for _ in ADDRESSES]
         one, two = machines
         wire(machines)
+        known(machines)
         for it, title, own, other in zip(machines, "AB", ADDRESSES, ADDRESSES[::-1]):
             it.title = title
             install(it, staged)
+            install_freeradius(it)
             set_up(it, own, other)
         for it in machines:
             it.must("radacctd init --config /etc/radacctd.toml --db /var/lib/radacctd/book")
@@ -285,6 +399,6 @@ def follow():
         for it in machines:
             run(it, "step 11", steps(section(PAGE, "Set it up"))[11])
             hardened(it)
-        lives(one, two)
-        restored(one, two)
-        planned(one, two)
+        for part in (lives, restored, planned, started_again, differ, refused):
+            part(one, two)
+        through_nginx(one)
