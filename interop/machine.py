@@ -7,6 +7,7 @@ so its changes and its book vanish at its end. Its network is its own, with a lo
 needs root, and of Debian's packages systemd-container and debootstrap.
 """
 
+import contextlib
 import itertools
 import os
 import shutil
@@ -49,6 +50,23 @@ def run(words, **more):
     """A command of this machine: its status and what it printed."""
     done = subprocess.run(words, capture_output=True, text=True, check=False, **more)
     return done.returncode, done.stdout + done.stderr
+
+
+def groups(name):
+    """The folders of a control group of this name, below this process' own: one in each tree that a
+    systemd uses.
+    """
+    with open("/proc/self/cgroup", encoding="ascii") as file:
+        lines = [line.strip().split(":", 2) for line in file]
+    here = {tree: place.strip("/") for _, tree, place in lines}
+    found = []
+    with open("/proc/self/mounts", encoding="utf-8") as file:
+        for _, top, kind, options, *_ in map(str.split, file):
+            if kind == "cgroup2":
+                found.append(os.path.join(top, here[""], name))
+            elif kind == "cgroup" and "name=systemd" in options.split(","):
+                found.append(os.path.join(top, here["name=systemd"], name))
+    return found
 
 
 def root(more=()):
@@ -118,6 +136,7 @@ class Machine:
 
     def __init__(self, more=(), states=("running",)):
         self.more, self.states = more, states
+        self.groups = []
 
     def __enter__(self):
         lower = root(self.more)
@@ -142,14 +161,21 @@ class Machine:
 
     def boot(self):
         """Starts the machine, and waits until its systemd has started what it starts."""
+        name = f"radacctd-{os.getpid()}-{self.number}"
         words = ["systemd-nspawn", "--quiet", "--directory", self.root, "--boot"]
-        words += ["--private-network", "--console=pipe", f"--machine=radacctd-{os.getpid()}-{self.number}"]
+        words += ["--private-network", "--console=pipe", f"--machine={name}"]
         # So that its systemd can restrict ports.
         words += ["--system-call-filter=bpf"]
         if not os.path.isdir("/run/systemd/system"):
-            # A machine without systemd has nobody who would keep a list of containers.
-            words += ["--register=no", "--keep-unit"]
+            # A machine without systemd has nobody who would keep a list of containers, or give each
+            # a control group: in one group their systemds would remove each other's.
+            self.groups = groups(name)
+            for folder in self.groups:
+                os.makedirs(folder, exist_ok=True)
+            enter = 'for it in $OWN_GROUPS; do echo $$ > "$it/cgroup.procs"; done; exec "$@"'
+            words = ["sh", "-c", enter, "sh", *words, "--register=no", "--keep-unit"]
         env = {**os.environ, "SYSTEMD_NSPAWN_UNIFIED_HIERARCHY": "1"}
+        env["OWN_GROUPS"] = " ".join(self.groups)
         console = os.path.join(self.memory, "console")
         with open(console, "wb") as out:
             how = {"stdin": subprocess.DEVNULL, "stdout": out, "stderr": out}
@@ -188,6 +214,11 @@ class Machine:
         for folder in (self.root, self.memory):
             subprocess.run(["umount", folder], check=False, stderr=subprocess.DEVNULL)
         os.rmdir(self.memory)
+        for top in self.groups:
+            for folder, _, _ in os.walk(top, topdown=False):
+                # One that still holds a process stays.
+                with contextlib.suppress(OSError):
+                    os.rmdir(folder)
 
     def words(self, command):
         """The command line that runs a shell's command in the machine."""
