@@ -150,6 +150,8 @@ class Machine:
         self.process = None
         try:
             subprocess.run(["mount", "-t", "overlay", "overlay", *layers, self.root], check=True)
+            # debootstrap makes none; Debian's installer does.
+            self.write("/etc/hosts", "127.0.0.1 localhost\n")
             self.boot()
         except BaseException:
             self.close()
