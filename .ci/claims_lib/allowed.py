@@ -78,7 +78,6 @@ ALLOWED = {
         "Result": "Rust's own",
         "and_then(word_of)": "shows what the checker does not accept",
     },
-    "docs/DEFINITIONS.md": {"x ∷ xs": "how a list is written"},
     "docs/DESK.md": {
         "fcgiwrap": "Debian's package",
         **each("nginx' paths", "/desk/", "/redeem/"),
