@@ -66,6 +66,10 @@ seconds_rule = number_rule (codes "balances-every") 86400 (codes "60")
 abbrev pub balances_every_rule : Rule
 balances_every_rule = tied seconds_rule
 
+-- `--audit`, which may only be given with `--db`
+abbrev pub audit_rule : Rule
+audit_rule = tied (flag_rule (codes "audit"))
+
 -- an option for a number of days
 abbrev pub days_rule : Text → Rule
 days_rule id = record (option_rule id) { parser = Some (parser.Signed (pos 30) (pos 36500)) }
@@ -78,6 +82,12 @@ before_rule = record (days_rule (codes "before")) { defaults = codes "90" ∷ []
 abbrev pub at_rule : Rule
 at_rule = record (option_rule (codes "at")) {
   parser = Some (parser.Signed (pos 1) (pos 9007199254740991));
+}
+
+-- `--oldest-report DAYS`
+abbrev pub oldest_rule : Rule
+oldest_rule = record (option_rule (codes "oldest-report")) {
+  parser = Some (parser.Signed (pos 1) (pos 36500));
 }
 
 -- `--keep CLIENT`, which may be given more than once
@@ -109,27 +119,28 @@ abbrev pub with_rules : App → List Rule → App
 with_rules a [] = a
 with_rules a (r ∷ rs) = with_rules (with_rule a r) rs
 
--- `check --config FILE [--db FILE] [--status FILE] [--balances FILE] [--explain]`
+-- `check --config FILE [--db FILE [--audit]] [--status FILE] [--balances FILE] [--explain]`
 abbrev pub check_app : App
 check_app = explained (with_rules (configured_app (codes "check"))
-    (database_rule ∷ option_rule (codes "status") ∷ option_rule (codes "balances") ∷ []))
+    (database_rule ∷ option_rule (codes "status") ∷ option_rule (codes "balances")
+    ∷ audit_rule ∷ []))
 
 -- `serve --config FILE --db FILE [--explain] [--bind A.B.C.D].. [--desk-bind A.B.C.D]
 -- [--radius-port PORT] [--desk-port PORT] [--turns N] [--sync HOW] [--quiet] [--status FILE]
--- [--balances FILE [--balances-every SECONDS]]`
+-- [--balances FILE [--balances-every SECONDS]] [--oldest-report DAYS]`
 abbrev pub serve_app : App
 serve_app = with_rules (book_app (codes "serve"))
     (bind_rule ∷ option_rule (codes "desk-bind")
     ∷ port_rule (codes "radius-port") (codes "1813") ∷ port_rule (codes "desk-port") (codes "8066")
     ∷ turns_rule ∷ sync_rule ∷ flag_rule (codes "quiet") ∷ option_rule (codes "status")
-    ∷ option_rule (codes "balances") ∷ balances_every_rule ∷ [])
+    ∷ option_rule (codes "balances") ∷ balances_every_rule ∷ oldest_rule ∷ [])
 
 -- `forward --config FILE --db FILE [--explain] [--before DAYS] [--at MOMENT] [--silent DAYS]
--- [--keep CLIENT].. [--dry-run] [--yes]`
+-- [--keep CLIENT].. [--dry-run] [--yes] [--oldest-report DAYS]`
 abbrev pub forward_app : App
 forward_app = with_rules (book_app (codes "forward"))
     (before_rule ∷ at_rule ∷ days_rule (codes "silent") ∷ keep_rule
-    ∷ flag_rule (codes "dry-run") ∷ flag_rule (codes "yes") ∷ [])
+    ∷ flag_rule (codes "dry-run") ∷ flag_rule (codes "yes") ∷ oldest_rule ∷ [])
 
 -- a command that has a version
 abbrev pub has_version : App → App

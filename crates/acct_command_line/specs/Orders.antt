@@ -1,6 +1,6 @@
 -- What the options of a subcommand ask for.
-use Rattle.std.specs.Prelude.{◌≡◌, ◌≤◌, ◌<◌, ◌^◌, ⊤, ℕ, Bool, true, false, List, length}
-use Rattle.std.specs.Prelude.{[], Option, Some, None, IfSome, unwrap_or, codes}
+use Rattle.std.specs.Prelude.{◌≡◌, ◌≤◌, ◌<◌, ◌^◌, ◌*◌, ⊤, ℕ, Bool, true, false, List, length}
+use Rattle.std.specs.Prelude.{[], Option, Some, None, IfSome, is_some, unwrap_or, codes}
 use Rattle.std.specs.Option.{option_or}
 use Rattle.clap.specs.Words.{Row, Text, all_of, first_of, one_of}
 use Rattle.clap.specs.Takes.{is_given}
@@ -78,12 +78,23 @@ IsTelling rows telling =
     IsFlag (codes "quiet") rows telling.is_quiet
     × (first_of (codes "status") rows ≡ telling.status) × IsBalances rows telling.balances
 
+-- how many days old a report may be
+abbrev pub IsOldest : List Row → Option ℕ → Type 0
+IsOldest rows None = first_of (codes "oldest-report") rows ≡ None
+IsOldest rows (Some days) = IsNumber (codes "oldest-report") rows 36500 days
+
+-- so many days in seconds
+abbrev pub seconds_of : Option ℕ → Option ℕ
+seconds_of None = None
+seconds_of (Some days) = Some (days * 86400)
+
 -- how the options say that a server runs
 abbrev pub IsServing : List Row → Serving → Type 0
 IsServing rows serving =
     IsListening rows serving.listening
     × IsNumber (codes "turns") rows 9223372036854775807 serving.turns
-    × IsSyncs rows serving.syncs × IsTelling rows serving.telling
+    × IsSyncs rows serving.syncs × IsOldest rows serving.oldest_report
+    × IsTelling rows serving.telling
 
 -- the files that the options name
 abbrev pub ArePaths : List Row → Paths → Type 0
@@ -127,14 +138,16 @@ IsCarrying rows carrying =
     IsCutoff rows carrying.cutoff × IsSilence rows carrying.silent
     × (unwrap_or (all_of (codes "keep") rows) [] ≡ carrying.kept.items)
     × IsFlag (codes "dry-run") rows carrying.is_dry × IsFlag (codes "yes") rows carrying.is_sure
+    × IsOldest rows carrying.oldest_report
 
 -- what the rows of a subcommand's options ask for
 abbrev pub WordsAskFor : Text → List Row → Job → Type 0
 WordsAskFor name rows (job.Feed config) =
     (name ≡ codes "feed") × (first_of (codes "config") rows ≡ config)
-WordsAskFor name rows (job.Check config database kept) =
+WordsAskFor name rows (job.Check config database kept audits) =
     (name ≡ codes "check") × (first_of (codes "config") rows ≡ Some config)
     × (first_of (codes "db") rows ≡ database) × AreKeptNames rows kept
+    × IsFlag (codes "audit") rows audits × (audits ≡ true → is_some database ≡ true)
 WordsAskFor name rows (job.Init paths) = (name ≡ codes "init") × ArePaths rows paths
 WordsAskFor name rows (job.Serve paths serving) =
     (name ≡ codes "serve") × ArePaths rows paths × IsServing rows serving
@@ -153,13 +166,14 @@ NamesJob (Some p) order =
     WordsAskFor p.0 p.1 order.job × IsFlag (codes "explain") p.1 order.explains
 
 -- A server makes fewer than 2^63 turns, receives reports at 1 to 16 addresses, and lets 1 to 86,400
--- seconds go by from one writing of the balances to the next.
+-- seconds go by from one writing of the balances to the next. Its reports are up to 36,500 days old.
 pub record IsBounded (serving : Serving) : Type 0 where
   pub turns : serving.turns < 2 ^ 63
   pub some_address : 1 ≤ length serving.listening.addresses.items
   pub addresses : length serving.listening.addresses.items ≤ 16
   pub seconds : IfSome serving.telling.balances
       (λ balances. (1 ≤ balances.seconds) × (balances.seconds ≤ 86400))
+  pub oldest : IfSome serving.oldest_report (λ days. days ≤ 36500)
 
 -- a number of days is 30 to 36,500
 abbrev pub AreDays : ℕ → Type 0
@@ -173,7 +187,7 @@ IsWithin (At moment) = moment < 2 ^ 53
 -- the numbers of a job are within their bounds
 abbrev pub HasBounds : Job → Type 0
 HasBounds (job.Feed config) = ⊤
-HasBounds (job.Check config database kept) = ⊤
+HasBounds (job.Check config database kept audits) = ⊤
 HasBounds (job.Init paths) = ⊤
 HasBounds (job.Serve paths serving) = IsBounded serving
 HasBounds (job.Import paths) = ⊤
@@ -182,3 +196,4 @@ HasBounds (job.Migrate paths) = ⊤
 HasBounds (job.AddPlans paths) = ⊤
 HasBounds (job.Forward paths carrying) =
     IsWithin carrying.cutoff × IfSome carrying.silent AreDays
+    × IfSome carrying.oldest_report (λ days. days ≤ 36500)

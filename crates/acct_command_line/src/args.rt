@@ -6,6 +6,7 @@ ghost use Rattle.acct_command_line.specs.CommandLine.{bind_rule, option_rule, fl
 ghost use Rattle.acct_command_line.specs.CommandLine.{port_rule, turns_rule, sync_rule};
 ghost use Rattle.acct_command_line.specs.CommandLine.{balances_every_rule, seconds_rule, tied};
 ghost use Rattle.acct_command_line.specs.CommandLine.{before_rule, days_rule, at_rule, keep_rule};
+ghost use Rattle.acct_command_line.specs.CommandLine.{oldest_rule, audit_rule};
 
 use clap::{Arg, ArgAction};
 use std::alloc::{AllocError, Global};
@@ -101,6 +102,36 @@ pub fn sync_option<'a>(alloc: Global) -> Arg<'a>
     valued(alloc, "sync", "HOW").default_value("twice").help(
         "once or twice: how often a write of the book is synced; once where disks tear no octet",
     )
+}
+
+/// `--oldest-report DAYS`
+pub fn oldest_option<'a>(alloc: Global, help: &'a str) -> Arg<'a>
+    ensures rule { rule_of result ≡ oldest_rule }
+    ensures local { result.global ≡ false }
+{
+    valued(alloc, "oldest-report", "DAYS")
+        .value_parser(clap::value_parser!(i64).range(1..=36_500))
+        .help(help)
+}
+
+/// `--audit`, which may only be given with `--db`.
+///
+/// # Errors
+///
+/// Only where memory is refused.
+pub fn audit_option<'a>(alloc: Global) -> Result<Arg<'a>, AllocError>
+    ensures rule { IfOk result (λ option. rule_of option ≡ audit_rule) }
+    ensures local { IfOk result (λ option. option.global ≡ false) }
+{
+    needing(audit_flag(alloc), "db")
+}
+
+// `--audit`, alone.
+fn audit_flag<'a>(alloc: Global) -> Arg<'a>
+    ensures rule { rule_of result ≡ flag_rule (codes "audit") }
+    ensures local { result.global ≡ false }
+{
+    flag(alloc, "audit").help("Holds each balance of --db against its vouchers and sessions")
 }
 
 /// `--quiet`

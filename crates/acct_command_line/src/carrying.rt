@@ -5,15 +5,15 @@ ghost use Rattle.std.specs.Prelude.{◌≤◌};
 ghost use Rattle.acct_command_line.specs.Orders.{IsCarrying, IsCutoff, IsSilence, IsNumber};
 
 use crate::job::{Carrying, Cutoff};
-use crate::options::{flag_option, is_given, number_option, text_option, texts_option};
+use crate::options::{
+    MOST_DAYS, flag_option, is_given, number_option, oldest_option, text_option, texts_option,
+};
 use acct_model::Text;
 use clap::ArgMatches;
 use std::alloc::{AllocError, Global};
 
 /// The fewest days, so that a session that still reports is not taken for an old one.
 const FEWEST_DAYS: u64 = 30;
-/// The most days: 100 years.
-const MOST_DAYS: u64 = 36_500;
 /// The last moment, in seconds since 1970.
 const LAST_MOMENT: u64 = (1 << 53) - 1;
 
@@ -28,6 +28,9 @@ pub fn carrying_of(alloc: Global, options: &ArgMatches<'_>) -> Result<Option<Car
     let Some(silent) = silence_of(alloc, options)? else {
         return Ok(None);
     };
+    let Some(oldest_report) = oldest_option(alloc, options)? else {
+        return Ok(None);
+    };
     let kept = kept_clients(alloc, options)?;
     Ok(Some(Carrying {
         cutoff,
@@ -35,6 +38,7 @@ pub fn carrying_of(alloc: Global, options: &ArgMatches<'_>) -> Result<Option<Car
         kept,
         is_dry: flag_option(options, "dry-run"),
         is_sure: flag_option(options, "yes"),
+        oldest_report,
     }))
 }
 

@@ -10,10 +10,10 @@ ghost use Rattle.acct_command_line.specs.CommandLine.{forward_app};
 ghost use Rattle.acct_command_line.specs.inner.Made.{IsMade};
 
 use crate::args::{
-    at_option, balances_every_option, balances_option, before_option, bind_option, config_option,
-    database_option, desk_bind_option, dry_run_flag, explain_flag, keep_option, needed,
-    port_option, quiet_flag, silent_option, status_option, sync_option, turns_option, what_option,
-    yes_flag,
+    at_option, audit_option, balances_every_option, balances_option, before_option, bind_option,
+    config_option, database_option, desk_bind_option, dry_run_flag, explain_flag, keep_option,
+    needed, oldest_option, port_option, quiet_flag, silent_option, status_option, sync_option,
+    turns_option, what_option, yes_flag,
 };
 use clap::{Arg, Command};
 use std::alloc::{AllocError, Global};
@@ -97,10 +97,12 @@ fn check_command<'a>(alloc: Global) -> Result<Command<'a>, AllocError>
 {
     let about = "Reads a configuration, and says what it has or the first thing that is wrong";
     let book = "A book that is to keep the same plans, a SQLite database";
+    let audit = audit_option(alloc)?;
     let command = configured_command(alloc, "check", about);
     let command = with_option(command, database_option(alloc, book));
     let command = with_option(command, status_option(alloc));
     let command = with_option(command, balances_option(alloc));
+    let command = with_option(command, audit);
     with_option(command, explain_flag(alloc))
 }
 
@@ -110,6 +112,7 @@ fn serve_command<'a>(alloc: Global) -> Result<Command<'a>, AllocError>
     let about = "Answers access servers by RADIUS accounting, and callers of the desk by HTTP";
     let reports = "The UDP port for accounting reports, 1 to 65535";
     let desk = "The TCP port of the desk, 1 to 65535";
+    let oldest = "Drops reports that are more than so many days old when they come";
     let balances_every = balances_every_option(alloc)?;
     let command = book_command(alloc, "serve", about);
     let command = with_option(command, bind_option(alloc));
@@ -121,7 +124,8 @@ fn serve_command<'a>(alloc: Global) -> Result<Command<'a>, AllocError>
     let command = with_option(command, quiet_flag(alloc));
     let command = with_option(command, status_option(alloc));
     let command = with_option(command, balances_option(alloc));
-    with_option(command, balances_every)
+    let command = with_option(command, balances_every);
+    with_option(command, oldest_option(alloc, oldest))
 }
 
 fn init_command<'a>(alloc: Global) -> Result<Command<'a>, AllocError>
@@ -163,13 +167,15 @@ fn forward_command<'a>(alloc: Global) -> Result<Command<'a>, AllocError>
     ensures { IsMade forward_app result }
 {
     let about = "Carries old sessions forward into a line for each account; no balance changes";
+    let oldest = "What serve has: refuses to carry sessions whose late reports it would still take";
     let command = book_command(alloc, "forward", about);
     let command = with_option(command, before_option(alloc));
     let command = with_option(command, at_option(alloc));
     let command = with_option(command, silent_option(alloc));
     let command = with_option(command, keep_option(alloc));
     let command = with_option(command, dry_run_flag(alloc));
-    with_option(command, yes_flag(alloc))
+    let command = with_option(command, yes_flag(alloc));
+    with_option(command, oldest_option(alloc, oldest))
 }
 
 // A command that keeps a book.

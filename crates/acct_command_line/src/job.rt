@@ -1,5 +1,22 @@
 //! What the words of the command line ask for.
+ghost use Rattle.std.specs.Prelude.{◌≡◌, ◌≤◌, IfSome};
+ghost use Rattle.acct_command_line.specs.Orders.{seconds_of};
+
 use acct_model::Text;
+
+/// The seconds of a day.
+const DAY: u64 = 86_400;
+
+/// So many days, up to 36,500, in seconds.
+pub fn seconds_in(days: Option<u64>) -> Option<u64>
+    requires { IfSome days (λ days. days ≤ 36500) }
+    ensures { result ≡ seconds_of days }
+{
+    match days {
+        Some(days) => Some(days * DAY),
+        None => None,
+    }
+}
 
 /// What the words of the command line ask for.
 pub struct Order {
@@ -34,6 +51,8 @@ pub enum Job {
         database: Option<Text>,
         /// The files that a server is to write.
         kept: KeptNames,
+        /// Whether each balance of the book is held against its vouchers and sessions.
+        audits: bool,
     },
     /// Makes a book.
     Init {
@@ -87,6 +106,7 @@ impl Drop for Job {
                 config: _,
                 database: _,
                 kept: _,
+                audits: _,
             } => {}
             Job::Init { paths: _ } => {}
             Job::Serve {
@@ -167,6 +187,9 @@ pub struct Carrying {
     pub is_dry: bool,
     /// Whether it goes on if the book is much older than the clock says.
     pub is_sure: bool,
+    /// How many days old a report may be when it comes to the server of the book, 1 to 36,500, if
+    /// that is limited.
+    pub oldest_report: Option<u64>,
 }
 
 // It is written out, so that a caller does not prove again how each part is dropped.
@@ -178,6 +201,7 @@ impl Drop for Carrying {
             kept: _,
             is_dry: _,
             is_sure: _,
+            oldest_report: _,
         } = self;
     }
 }
@@ -199,6 +223,8 @@ pub struct Serving {
     pub turns: u64,
     /// How often the book is synced before a report is answered.
     pub syncs: Syncs,
+    /// How many days old a report may be when it comes, 1 to 36,500, if that is limited.
+    pub oldest_report: Option<u64>,
     /// What it tells beside its replies.
     pub telling: Telling,
 }
@@ -210,6 +236,7 @@ impl Drop for Serving {
             listening: _,
             turns: _,
             syncs: _,
+            oldest_report: _,
             telling: _,
         } = self;
     }

@@ -12,7 +12,7 @@ mod words;
 
 pub use job::{
     BalancesFile, Carrying, Cutoff, Export, Job, KeptNames, Listening, Order, Paths, Serving,
-    Syncs, Telling,
+    Syncs, Telling, seconds_in,
 };
 pub use telling::tell;
 pub use words::job_of;

@@ -2,7 +2,7 @@
 ghost use Rattle.std.specs.Prelude.{◌≡◌, IfOk, IfSome, IfNone, Some, None, map};
 ghost use Rattle.clap.specs.Words.{all_of, first_of, rows_of, found_of};
 ghost use Rattle.clap.specs.Takes.{is_given as given_by_words};
-ghost use Rattle.acct_command_line.specs.Orders.{IsFlag, IsNumber};
+ghost use Rattle.acct_command_line.specs.Orders.{IsFlag, IsNumber, IsOldest};
 
 use acct_feed::number_up_to;
 use acct_model::Text;
@@ -12,6 +12,8 @@ use std::alloc::{AllocError, Global};
 
 /// The greatest number of a port.
 const LAST_PORT: u64 = 65_535;
+/// The most days that an option has: 100 years.
+pub const MOST_DAYS: u64 = 36_500;
 
 /// The text of an option, if it has one.
 pub fn text_option(
@@ -70,6 +72,22 @@ pub fn port_option(options: &ArgMatches<'_>, id: &str) -> Option<u16>
 {
     let port = number_option(options, id, LAST_PORT)?;
     Some(port as u16)
+}
+
+/// How many days old a report may be, if that is given and fits.
+pub fn oldest_option(
+    alloc: Global,
+    options: &ArgMatches<'_>,
+) -> Result<Option<Option<u64>>, AllocError>
+    ensures { IfOk result (λ oldest. IfSome oldest (IsOldest (rows_of (found_of options.now)))) }
+{
+    if text_option(alloc, options, "oldest-report")?.is_none() {
+        return Ok(Some(None));
+    }
+    match number_option(options, "oldest-report", MOST_DAYS) {
+        Some(days) => Ok(Some(Some(days))),
+        None => Ok(None),
+    }
 }
 
 /// Whether a flag is given.

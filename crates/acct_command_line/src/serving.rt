@@ -7,7 +7,7 @@ ghost use Rattle.acct_command_line.specs.Orders.{IsTelling, syncs_name};
 
 use crate::job::{BalancesFile, Listening, Serving, Syncs, Telling};
 use crate::options::{
-    flag_option, is_given, number_option, port_option, text_option, texts_option,
+    flag_option, is_given, number_option, oldest_option, port_option, text_option, texts_option,
 };
 use acct_model::Text;
 use clap::ArgMatches;
@@ -31,6 +31,9 @@ pub fn serving_of(alloc: Global, options: &ArgMatches<'_>) -> Result<Option<Serv
     let Some(syncs) = syncs_option(options) else {
         return Ok(None);
     };
+    let Some(oldest_report) = oldest_option(alloc, options)? else {
+        return Ok(None);
+    };
     let Some(listening) = listening_of(alloc, options)? else {
         return Ok(None);
     };
@@ -41,6 +44,7 @@ pub fn serving_of(alloc: Global, options: &ArgMatches<'_>) -> Result<Option<Serv
         listening,
         turns,
         syncs,
+        oldest_report,
         telling,
     }))
 }

@@ -1,5 +1,5 @@
 //! What the words of the command line ask for.
-ghost use Rattle.std.specs.Prelude.{◌≡◌, IfOk, IfSome, codes, map, string_bytes};
+ghost use Rattle.std.specs.Prelude.{◌≡◌, IfOk, IfSome, Some, codes, map, string_bytes};
 ghost use Rattle.clap.specs.Words.{first_of, rows_of, found_of, subcommand_of};
 ghost use Rattle.acct_command_line.specs.CommandLine.{app};
 ghost use Rattle.acct_command_line.specs.Orders.{AreKeptNames, ArePaths, HasBounds, IsExport};
@@ -11,6 +11,7 @@ use crate::commands::{PROGRAM, command_line};
 use crate::job::{Export, Job, KeptNames, Order, Paths};
 use crate::options::{flag_option, text_option};
 use crate::serving::serving_of;
+use acct_model::Text;
 use clap::error::ErrorKind;
 use clap::{ArgMatches, Command, Error};
 use std::alloc::{AllocError, Global};
@@ -52,17 +53,37 @@ fn asked(alloc: Global, name: &str, options: &ArgMatches<'_>) -> Result<Option<J
     };
     let database = text_option(alloc, options, "db")?;
     if name == "check" {
-        let kept = kept_names(alloc, options)?;
-        return Ok(Some(Job::Check {
-            config,
-            database,
-            kept,
-        }));
+        return asked_to_check(alloc, config, database, options);
     }
     let Some(database) = database else {
         return Ok(None);
     };
     asked_of_book(alloc, name, Paths { config, database }, options)
+}
+
+// What the options of `check` ask for, if there is a book to hold its balances against.
+fn asked_to_check(
+    alloc: Global,
+    config: Text,
+    database: Option<Text>,
+    options: &ArgMatches<'_>,
+) -> Result<Option<Job>, AllocError>
+    requires config { first_of (codes "config") (rows_of (found_of options.now)) ≡ Some config }
+    requires database { first_of (codes "db") (rows_of (found_of options.now)) ≡ database }
+    ensures { IfOk result (λ job. IfSome job
+        (WordsAskFor (codes "check") (rows_of (found_of options.now)))) }
+{
+    let audits = flag_option(options, "audit");
+    if audits && database.is_none() {
+        return Ok(None);
+    }
+    let kept = kept_names(alloc, options)?;
+    Ok(Some(Job::Check {
+        config,
+        database,
+        kept,
+        audits,
+    }))
 }
 
 // The files that the options of `check` say a server is to write.

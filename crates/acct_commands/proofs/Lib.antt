@@ -6,3 +6,5 @@ pub mod Places
 pub mod Elements
 -- what a run of `forward` did to its book
 pub mod Forwarded
+-- what the end of an audit says
+pub mod Audited

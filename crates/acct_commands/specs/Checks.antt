@@ -47,7 +47,9 @@ IsNoConfig text fault.CannotWrite = ⊥
 IsNoConfig text fault.NoMemory = ⊥
 IsNoConfig text fault.WouldOverwrite = ⊥
 IsNoConfig text fault.CutoffTooLate = ⊥
+IsNoConfig text fault.CutoffInReach = ⊥
 IsNoConfig text fault.ClockAhead = ⊥
+IsNoConfig text fault.Unbalanced = ⊥
 
 -- why a text was not checked: it is no configuration, or its sizes could not be written
 abbrev pub IsUnchecked : Option (List ℕ) → Fault → Type 0

@@ -27,8 +27,10 @@ fault_text fault.CannotWrite = codes "cannot write"
 fault_text fault.NoMemory = codes "out of memory"
 fault_text fault.WouldOverwrite = codes "file: would be overwritten"
 fault_text fault.CutoffTooLate = codes "forward: less than 30 days ago"
+fault_text fault.CutoffInReach = codes "forward: less than --oldest-report ago"
 fault_text fault.ClockAhead =
     codes "forward: no report for 7 days; give --yes if the clock is right"
+fault_text fault.Unbalanced = codes "db: Unbalanced"
 
 -- how a command ends that a fault ends
 abbrev pub fault_status : Fault → Status
@@ -42,7 +44,9 @@ fault_status fault.CannotWrite = status.Refused
 fault_status fault.NoMemory = status.Unavailable
 fault_status fault.WouldOverwrite = status.Refused
 fault_status fault.CutoffTooLate = status.Refused
+fault_status fault.CutoffInReach = status.Refused
 fault_status fault.ClockAhead = status.Refused
+fault_status fault.Unbalanced = status.Unavailable
 
 -- how a command ends
 abbrev pub ended_status : Result Status Fault → Status

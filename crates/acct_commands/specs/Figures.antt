@@ -34,7 +34,7 @@ all_reasons =
     reason.UnknownClient ∷ reason.TooShort ∷ reason.BadLength ∷ reason.WrongCode
     ∷ reason.BadAuthenticator ∷ reason.BadAttribute ∷ reason.NoStatus ∷ reason.UnknownStatus
     ∷ reason.NoSessionId ∷ reason.BadField ∷ reason.TotalTooLarge ∷ reason.BalanceLimit
-    ∷ reason.Unavailable ∷ []
+    ∷ reason.Unavailable ∷ reason.TooOld ∷ []
 
 -- what came, but for the drops
 abbrev pub tally_text : Tally → List ℕ

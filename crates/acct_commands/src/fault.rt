@@ -46,8 +46,12 @@ pub enum Fault {
     WouldOverwrite,
     /// Sessions that ended less than 30 days ago were to be carried forward.
     CutoffTooLate,
+    /// Sessions of which the server still takes late reports were to be carried forward.
+    CutoffInReach,
     /// The last report of a book is more than 7 days older than the clock.
     ClockAhead,
+    /// A balance of the book is not the sum of its vouchers less the price of its sessions.
+    Unbalanced,
 }
 
 impl fmt::Display for Fault {
@@ -65,9 +69,11 @@ impl fmt::Display for Fault {
             Fault::NoMemory => f.write_str("out of memory"),
             Fault::WouldOverwrite => f.write_str("file: would be overwritten"),
             Fault::CutoffTooLate => f.write_str("forward: less than 30 days ago"),
+            Fault::CutoffInReach => f.write_str("forward: less than --oldest-report ago"),
             Fault::ClockAhead => {
                 f.write_str("forward: no report for 7 days; give --yes if the clock is right")
             }
+            Fault::Unbalanced => f.write_str("db: Unbalanced"),
         }
     }
 }
@@ -96,10 +102,13 @@ impl Fault {
             | Fault::CannotWrite
             | Fault::WouldOverwrite
             | Fault::CutoffTooLate
+            | Fault::CutoffInReach
             | Fault::ClockAhead => Status::Refused,
-            Fault::CannotOpen | Fault::Store(_) | Fault::StoreMemory | Fault::NoMemory => {
-                Status::Unavailable
-            }
+            Fault::CannotOpen
+            | Fault::Store(_)
+            | Fault::StoreMemory
+            | Fault::NoMemory
+            | Fault::Unbalanced => Status::Unavailable,
             Fault::CannotBind => Status::Socket,
         }
     }

@@ -209,6 +209,7 @@ fn reasons() -> [Reason; Reason::COUNT]
         Reason::TotalTooLarge,
         Reason::BalanceLimit,
         Reason::Unavailable,
+        Reason::TooOld,
     ]
 }
 

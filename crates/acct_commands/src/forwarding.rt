@@ -2,17 +2,20 @@
 //!
 //! It walks twice over the accounts. The first walk only reads: it counts what would be carried, and
 //! finds the last moment that a session tells. The second carries.
-ghost use Rattle.std.specs.Prelude.{◌≡◌, ◌≢◌, ◌<◌, ◌^◌, IfOk};
+ghost use Rattle.std.specs.Prelude.{◌≡◌, ◌≢◌, ◌↔◌, ◌⊎◌, ◌≤◌, ◌<◌, ◌+◌, ◌*◌, ◌^◌, true};
+ghost use Rattle.std.specs.Prelude.{IfOk, IfSome, IsTrue, OnOk};
 ghost use Rattle.acct_book.specs.Step.{Looks};
 ghost use Rattle.acct_book.specs.inner.Step.{OnlyLooks};
 ghost use Rattle.acct_book.specs.Carrying.{CarriesOn};
-ghost use Rattle.acct_commands.specs.Forwarding.{selected, Forwards};
+ghost use Rattle.acct_book.specs.Walk.{AreRowsOf};
+ghost use Rattle.acct_commands.specs.Forwarding.{selected, Forwards, LieBack, LieFarBack};
+ghost use Rattle.acct_commands.specs.Forwarding.{LiesFarBack, IsToldIn, IsNewest, IsTimely};
 
 use crate::fault::Fault;
 use acct_book::{
     Book, Row, Selection, SessionState, Tally, Unavailable, carry_account, is_line, tally_of,
 };
-use acct_command_line::{Carrying, Cutoff};
+use acct_command_line::{Carrying, Cutoff, seconds_in};
 use acct_feed::Status;
 use acct_model::{Plans, Text, show};
 use std::alloc::{AllocError, Global};
@@ -41,7 +44,9 @@ pub struct Totals {
 }
 
 impl Totals {
-    fn new() -> Totals {
+    fn new() -> Totals
+        ensures { result.newest ≡ 0 }
+    {
         Totals {
             accounts: 0,
             touched: 0,
@@ -57,7 +62,9 @@ impl Totals {
     }
 
     // Adds an account.
-    fn add(&mut self, tally: &Tally) {
+    fn add(&mut self, tally: &Tally)
+        ensures { self.new.newest ≡ self.old.newest }
+    {
         self.accounts = self.accounts.saturating_add(1);
         if tally.carried > 0 {
             self.touched = self.touched.saturating_add(1);
@@ -71,20 +78,31 @@ impl Totals {
     }
 
     // Adds an account whose sessions are only counted: those that may go, as if each fitted.
-    fn add_rows(&mut self, selection: &Selection, rows: &[Row]) {
+    fn add_rows(&mut self, selection: &Selection, rows: &[Row])
+        ensures { (self.new.newest ≡ self.old.newest) ⊎ IsToldIn rows.now self.new.newest }
+    {
         let tally = tally_of(selection, rows, 0);
         self.add(&Tally {
             carried: tally.too_large,
             too_large: 0,
             ..tally
         });
-        // A line tells of a run of this command, and of no report.
-        for row in rows {
-            if !is_line(row.client.as_str()) {
-                self.newest = self.newest.max(row.last);
-            }
+        self.newest = newest_of(rows, self.newest);
+    }
+}
+
+// The last moment that sessions tell, or this one if that is later. A line tells of a run of this
+// command, and of no report.
+fn newest_of(rows: &[Row], start: u64) -> u64
+    ensures { (result ≡ start) ⊎ IsToldIn rows.now result }
+{
+    let mut newest = start;
+    for row in rows {
+        if !is_line(row.client.as_str()) && newest < row.last {
+            newest = row.last;
         }
     }
+    newest
 }
 
 /// Carries the sessions of a book forward that are asked for, at a moment, in seconds since 1970,
@@ -94,6 +112,7 @@ impl Totals {
 /// # Errors
 ///
 /// `Store` if the book refuses, `CutoffTooLate` if the cutoff is less than 30 days back,
+/// `CutoffInReach` if it is less than `oldest_report` days back,
 /// `ClockAhead` if the last report is more than 7 days back and the words do not say that this is
 /// right, `NoMemory`, `CannotWrite`. What was carried before stays carried.
 pub fn run_forward<B: Book, W: Write, E: Write>(
@@ -105,12 +124,14 @@ pub fn run_forward<B: Book, W: Write, E: Write>(
     output: &mut W,
     progress: &mut E,
 ) -> Result<Status, Fault>
-    requires { moment < 2 ^ 53 }
+    requires moment { moment < 2 ^ 53 }
+    requires days { IfSome carrying.now.oldest_report (λ days. days ≤ 36500) }
     ensures forwards { Forwards B.Book plans.now carrying.now moment book.old book.new result }
+    ensures far { OnOk result (LiesFarBack carrying.now moment) }
     ensures other { IfOk result (λ status. status ≢ Status.WrongWords) }
 {
     let selection = selection_of(alloc, carrying, moment)?;
-    check_cutoff(&selection, moment)?;
+    check_cutoff(&selection, carrying.oldest_report, moment)?;
     let found = survey(alloc, book, &selection, carrying.silent.is_some(), output)?;
     check_clock(&found, carrying.is_sure, moment)?;
     let totals = carry(
@@ -134,6 +155,9 @@ fn carry<B: Book, E: Write>(
 ) -> Result<Totals, Fault>
     requires moment { moment < 2 ^ 53 }
     requires selected { selection.now ≡ selected carrying.now moment }
+    requires far { LiesFarBack carrying.now moment }
+    requires timely { (carrying.now.is_sure ≡ true)
+        ⊎ (B.is_sound book.old → IsTimely (B.content book.old) moment) }
     requires answers { B.is_sound book.old → B.is_open book.old }
     ensures { Forwards B.Book plans.now carrying.now moment book.old book.new result }
 {
@@ -181,16 +205,36 @@ fn copied(alloc: Global, names: &[Text]) -> Result<Vec<Text>, AllocError>
     Ok(copies)
 }
 
-// A session that still reports is not to be taken for an old one.
-fn check_cutoff(selection: &Selection, moment: u64) -> Result<(), Fault> {
-    if selection.ended_before.saturating_add(FEWEST_DAYS * DAY) > moment {
+// A session that still reports, or of which a server takes late reports, is not to be taken for an
+// old one.
+fn check_cutoff(selection: &Selection, oldest: Option<u64>, moment: u64) -> Result<(), Fault>
+    requires moment { moment < 2 ^ 53 }
+    requires days { IfSome oldest (λ days. days ≤ 36500) }
+    ensures { OnOk result (LieFarBack selection.now oldest moment) }
+{
+    if !lie_back(selection, FEWEST_DAYS * DAY, moment) {
         return Err(Fault::CutoffTooLate);
     }
-    Ok(())
+    match seconds_in(oldest) {
+        Some(oldest) if !lie_back(selection, oldest, moment) => Err(Fault::CutoffInReach),
+        _ => Ok(()),
+    }
+}
+
+// Whether the moments from which on sessions stay lie so many seconds before another one, or more.
+fn lie_back(selection: &Selection, seconds: u64, moment: u64) -> bool
+    requires { moment < 2 ^ 53 }
+    ensures { IsTrue result ↔ LieBack selection.now seconds moment }
+{
+    selection.ended_before.saturating_add(seconds) <= moment
+        && selection.silent_before.saturating_add(seconds) <= moment
 }
 
 // A wrong clock is to forget nothing.
-fn check_clock(found: &Totals, is_sure: bool, moment: u64) -> Result<(), Fault> {
+fn check_clock(found: &Totals, is_sure: bool, moment: u64) -> Result<(), Fault>
+    requires { moment < 2 ^ 53 }
+    ensures { OnOk result ((is_sure ≡ true) ⊎ (moment ≤ found.now.newest + 7 * 86400)) }
+{
     if is_sure || found.newest.saturating_add(IDLE_DAYS * DAY) >= moment {
         return Ok(());
     }
@@ -202,7 +246,9 @@ fn look_next<B: Book>(
     book: &mut B,
     after: &Option<Vec<u8>>,
 ) -> Result<Option<(Vec<u8>, Vec<Row>)>, Unavailable>
-    ensures { Looks B.Book book.old book.new result }
+    ensures looks { Looks B.Book book.old book.new result }
+    ensures rows { B.is_open book.new → IfOk result (λ found. IfSome found
+        (λ next. AreRowsOf (B.content book.old) next.0.items next.1.items)) }
 {
     let Some(account) = next_account(book, after)? else {
         return Ok(None);
@@ -238,6 +284,8 @@ fn survey<B: Book, W: Write>(
 ) -> Result<Totals, Fault>
     ensures looks { OnlyLooks B.Book book.old book.new }
     ensures answers { B.is_sound book.new → IfOk result (λ totals. B.is_open book.new) }
+    ensures newest { B.is_open book.new → IfOk result (λ totals.
+        IsNewest (B.content book.old) totals.newest) }
 {
     let mut totals = Totals::new();
     let mut after: Option<Vec<u8>> = None;

@@ -1,6 +1,7 @@
 //! The commands of the program over any book: what each does, prints and ends with.
 #![tactic(auto)]
 
+mod auditing;
 mod balances_file;
 mod book_clock;
 mod check;
@@ -25,6 +26,7 @@ mod tally;
 mod told;
 mod watching;
 
+pub use auditing::run_audit;
 pub use balances_file::KeptBalances;
 pub use book_clock::note_clock;
 pub use check::{check_from, run_check, write_sizes};

@@ -95,7 +95,7 @@ fn serves_old_and_new<R: Rounds>(alloc: Global, rounds: &mut R) -> Result<bool, 
     let config = site_of(alloc, OLD)?;
     let mut exchange = ListExchange::new(alloc, turns(alloc)?);
     let mut book = MemBook::new(alloc);
-    let ended = serve_in_slices(alloc, &config, &mut book, &mut exchange, rounds, 300);
+    let ended = serve_in_slices(alloc, &config, None, &mut book, &mut exchange, rounds, 300);
     Ok(ended == (counted(), Until::AllMade) && are_old_and_new(exchange.calls()))
 }
 

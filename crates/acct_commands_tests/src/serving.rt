@@ -41,6 +41,7 @@ fn ended<W: Write>(alloc: Global, output: &mut W) -> Result<(Ended, u64), Fail> 
     let ended = serve_exchange(
         alloc,
         &config,
+        None,
         &mut book,
         &mut exchange,
         &mut rounds,
@@ -149,6 +150,7 @@ fn ends_over<B: Book>(
     let ended = serve_exchange(
         alloc,
         &config,
+        None,
         book,
         &mut exchange,
         &mut NoRounds,

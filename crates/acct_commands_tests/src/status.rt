@@ -43,6 +43,7 @@ const TEXT: &str = "# HELP radacctd_events_total Datagrams and requests that cam
     radacctd_drops_total{reason=\"11\",name=\"TotalTooLarge\"} 31\n\
     radacctd_drops_total{reason=\"12\",name=\"BalanceLimit\"} 32\n\
     radacctd_drops_total{reason=\"13\",name=\"Unavailable\"} 33\n\
+    radacctd_drops_total{reason=\"14\",name=\"TooOld\"} 35\n\
     # HELP radacctd_start_time_seconds When the server started, in seconds since 1970.\n\
     # TYPE radacctd_start_time_seconds gauge\n\
     radacctd_start_time_seconds 1700000000\n\
@@ -97,7 +98,7 @@ fn writes_each_figure(rt: HostRuntime) -> Result<(), Fail> {
             mute: 4,
             faults: 5,
         },
-        dropped: [21, 22, 23, 24, 25, 26, 27, 28, 29, 30, 31, 32, 33],
+        dropped: [21, 22, 23, 24, 25, 26, 27, 28, 29, 30, 31, 32, 33, 35],
         started_at: 1_700_000_000,
         last_event_at: 1_700_003_600,
         reports: arrivals(701, 1_700_003_600),

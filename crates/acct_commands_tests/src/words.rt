@@ -80,9 +80,9 @@ fn reads_command_lines(rt: HostRuntime) -> Result<(), Fail> {
 }
 
 // Words after the program's name, and what they ask for: the job, its files, and of a server its
-// addresses, the desk's, both ports, turns, syncs, what it tells, and the two files; a plus where
-// more is told of a fault. None where they name no job.
-static ORDERS: [(&str, Option<&str>); 54] = [
+// addresses, the desk's, both ports, turns, syncs, what it tells, the two files, and how many days
+// old a report may be; a plus where more is told of a fault. None where they name no job.
+static ORDERS: [(&str, Option<&str>); 63] = [
     ("feed", Some("feed none")),
     ("feed --config a", Some("feed a")),
     ("feed --explain", Some("feed none +")),
@@ -97,6 +97,11 @@ static ORDERS: [(&str, Option<&str>); 54] = [
         "check --balances e --config a --status d --db b",
         Some("check a b d e"),
     ),
+    (
+        "check --db b --audit --config a",
+        Some("check a b none none audit"),
+    ),
+    ("check --config a --audit", None),
     ("init --config a --db b", Some("init a b")),
     ("init --config a --db b --explain", Some("init a b +")),
     ("init --config a", None),
@@ -126,6 +131,11 @@ static ORDERS: [(&str, Option<&str>); 54] = [
         "forward --config a --db b --at 1700000000 --dry-run --yes",
         Some("forward a b At(1700000000) None kept dry sure"),
     ),
+    (
+        "forward --config a --db b --oldest-report 36500 --yes",
+        Some("forward a b Before(90) None kept sure oldest 36500"),
+    ),
+    ("forward --config a --db b --oldest-report 0", None),
     ("forward --config a", None),
     ("forward --config a --db b --before 29", None),
     ("forward --config a --db b --before 36501", None),
@@ -208,6 +218,23 @@ static ORDERS: [(&str, Option<&str>); 54] = [
         "serve --config a --db b --turns 7 --balances d --balances-every 86401",
         None,
     ),
+    (
+        "serve --config a --db b --turns 7 --oldest-report 1",
+        Some("serve a b at 127.0.0.1 desk 127.0.0.1 1813 8066 7 Twice loud none none oldest 1"),
+    ),
+    (
+        "serve --config a --db b --turns 7 --oldest-report 36500",
+        Some("serve a b at 127.0.0.1 desk 127.0.0.1 1813 8066 7 Twice loud none none oldest 36500"),
+    ),
+    ("serve --config a --db b --turns 7 --oldest-report 0", None),
+    (
+        "serve --config a --db b --turns 7 --oldest-report 36501",
+        None,
+    ),
+    (
+        "serve --config a --db b --turns 7 --oldest-report 7 --oldest-report 7",
+        None,
+    ),
     ("serve --config a --db b --turns 0", None),
     ("serve --config a --db b --turns 7 --quiet --quiet", None),
     (
@@ -274,7 +301,8 @@ fn shown_job(alloc: Global, job: &Job) -> Result<String, Fail> {
             config,
             database,
             kept,
-        } => shown_check(alloc, config, database, kept),
+            audits,
+        } => shown_check(alloc, config, database, kept, *audits),
         Job::Init { paths } => shown_paths(alloc, "init", paths),
         Job::Serve { paths, serving } => shown_serving(alloc, paths, serving),
         Job::Import { paths } => shown_paths(alloc, "import", paths),
@@ -293,10 +321,12 @@ fn shown_check(
     config: &Text,
     database: &Option<Text>,
     kept: &KeptNames,
+    audits: bool,
 ) -> Result<String, Fail> {
     let (config, database) = (config.as_str(), name_of(database));
     let (status, balances) = (name_of(&kept.status), name_of(&kept.balances));
-    Ok(format!(in alloc; "check {config} {database} {status} {balances}")?)
+    let mark = if audits { " audit" } else { "" };
+    Ok(format!(in alloc; "check {config} {database} {status} {balances}{mark}")?)
 }
 
 fn shown_paths(alloc: Global, command: &str, paths: &Paths) -> Result<String, Fail> {
@@ -314,6 +344,7 @@ fn shown_carrying(alloc: Global, paths: &Paths, carrying: &Carrying) -> Result<S
     }
     shown.push_str(if carrying.is_dry { " dry" } else { "" })?;
     shown.push_str(if carrying.is_sure { " sure" } else { "" })?;
+    shown.push_str(shown_oldest(alloc, carrying.oldest_report)?.as_str())?;
     Ok(shown)
 }
 
@@ -322,7 +353,15 @@ fn shown_serving(alloc: Global, paths: &Paths, serving: &Serving) -> Result<Stri
     let listening = shown_listening(alloc, &serving.listening)?;
     let telling = shown_telling(alloc, &serving.telling)?;
     let (turns, syncs) = (serving.turns, serving.syncs);
-    Ok(format!(in alloc; "{paths} at{listening} {turns} {syncs:?} {telling}")?)
+    let oldest = shown_oldest(alloc, serving.oldest_report)?;
+    Ok(format!(in alloc; "{paths} at{listening} {turns} {syncs:?} {telling}{oldest}")?)
+}
+
+fn shown_oldest(alloc: Global, days: Option<u64>) -> Result<String, Fail> {
+    match days {
+        Some(days) => Ok(format!(in alloc; " oldest {days}")?),
+        None => Ok(String::new(alloc)),
+    }
 }
 
 fn shown_listening(alloc: Global, listening: &Listening) -> Result<String, Fail> {

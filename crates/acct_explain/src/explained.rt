@@ -115,7 +115,7 @@ struct Range {
     most: u64,
 }
 
-static RANGES: [Range; 4] = [
+static RANGES: [Range; 8] = [
     Range {
         option: "--radius-port",
         least: 1,
@@ -135,6 +135,26 @@ static RANGES: [Range; 4] = [
         option: "--balances-every",
         least: 1,
         most: 86_400,
+    },
+    Range {
+        option: "--oldest-report",
+        least: 1,
+        most: 36_500,
+    },
+    Range {
+        option: "--before",
+        least: 30,
+        most: 36_500,
+    },
+    Range {
+        option: "--silent",
+        least: 30,
+        most: 36_500,
+    },
+    Range {
+        option: "--at",
+        least: 1,
+        most: 9_007_199_254_740_991,
     },
 ];
 

@@ -6,7 +6,7 @@ use std::test::Fail;
 // A command line, and what is said of it.
 type Wrong = (&'static str, &'static str);
 
-static WRONG: [Wrong; 7] = [
+static WRONG: [Wrong; 9] = [
     (
         "radacctd serve --sync thrice --explain",
         "explained: --sync takes once or twice\n",
@@ -28,6 +28,14 @@ static WRONG: [Wrong; 7] = [
     (
         "radacctd serve --explain --turns 9223372036854775808",
         "explained: --turns takes a number from 1 to 9223372036854775807\n",
+    ),
+    (
+        "radacctd serve --explain --oldest-report 36501",
+        "explained: --oldest-report takes a number from 1 to 36500\n",
+    ),
+    (
+        "radacctd forward --explain --before=29",
+        "explained: --before takes a number from 30 to 36500\n",
     ),
 ];
 

@@ -1,7 +1,7 @@
 -- What each job does: how it ends, what it has printed where it ends well, and what it leaves of
 -- the book's files, with some configuration. No contract can name the file that it was read from.
 use Rattle.std.specs.Prelude.{◌≡◌, ◌⊎◌, ⊤, ◌<◌, ◌^◌, ℕ, List, [], ◌∷◌, ◌++◌, Option, Some, None}
-use Rattle.std.specs.Prelude.{Result, Ok, Err, IfErr, IfSome, OnOk, codes, decimal}
+use Rattle.std.specs.Prelude.{Result, Ok, Err, IfErr, IfSome, OnOk, Bool, true, codes, decimal}
 use Rattle.std.specs.Io.KnownBytes.{Appends}
 use Rattle.sqlite_disk.specs.declared.Disk as disk
 use Rattle.sqlite_disk.specs.declared.Files.{Files}
@@ -22,6 +22,9 @@ use Rattle.acct_command_line.specs.declared.job.Job.{Job}
 use Rattle.acct_command_line.specs.declared.job.Job.TheVariants as job
 use Rattle.acct_command_line.specs.declared.job.Export.{Export}
 use Rattle.acct_command_line.specs.declared.job.Carrying.{Carrying}
+use Rattle.acct_command_line.specs.declared.job.Serving.{Serving}
+use Rattle.acct_command_line.specs.Orders.{seconds_of}
+use Rattle.acct_commands.specs.Auditing.{Audits}
 use Rattle.acct_commands.specs.Checks.{IsNoConfig, TellsSizes, sizes_line}
 use Rattle.acct_commands.specs.Checks as check
 use Rattle.acct_commands.specs.KeptNames.{NamesSome}
@@ -35,7 +38,7 @@ use Rattle.acct_jobs.specs.declared.left.Left.TheVariants as left
 use Rattle.acct_jobs.specs.declared.making.Making.{Making}
 use Rattle.acct_jobs.specs.declared.making.Making.TheVariants as how
 use Rattle.acct_jobs.specs.Files.{IsMade, HasNotMade, IsBookOf, IsOther, IsUnread, IsUnclosed}
-use Rattle.acct_jobs.specs.Files.{Copies}
+use Rattle.acct_jobs.specs.Files.{Copies, IsRefused}
 use Rattle.acct_jobs.specs.Commands.{Worked, Closes, Fails, WritesOut, FailsToExport}
 
 -- what a command printed, where its output was not lost
@@ -233,6 +236,29 @@ module _ {D : Type 0} {g : disk.Ghosts D} where
         pub why : HasNoConfig told rest
             ⊎ ((config : Config) × FailsToExport b image config.plans told rest)
 
+      -- `check --audit`: the book that the files held was audited, and is open still
+      pub record AuditsBook (ended : Result Status Fault) (rest : Left D g) : Type 0 where
+        pub config : Config
+        pub last : Held (FileStore D g)
+        pub open_is : rest ≡ left.Open last
+        pub worked : Worked image config.plans
+            (λ first last. Audits b config.plans first last ended) last
+
+      -- why none was
+      pub record AuditsNothing (ended : Result Status Fault) (rest : Left D g) : Type 0 where
+        pub told : Fault
+        pub ended_is : ended ≡ Err told
+        pub why : HasNoConfig told rest
+            ⊎ ((config : Config) × IsRefused image config.plans told rest)
+
+      -- `check`, with or without an audit
+      abbrev pub ChecksOrAudits : Option (List ℕ) → Option (List ℕ) → Bool → Option (List ℕ)
+          → Result Status Fault → Left D g → Type 0
+      ChecksOrAudits before after true (Some file) ended rest =
+          AuditsBook ended rest ⊎ AuditsNothing ended rest
+      ChecksOrAudits before after audits database ended rest =
+          DoesCheck database before after ended rest
+
     -- ---- all of them
 
     -- What a job does over the files that held the image: how it ends, and what it leaves of them.
@@ -240,9 +266,10 @@ module _ {D : Type 0} {g : disk.Ghosts D} where
     module _ {X M : Type 0} (b : book.Ghosts (Held (FileStore D g))) (x : exchange.Ghosts X)
         (m : book.Ghosts M) (text before after : Option (List ℕ)) where
       -- turns of a server, and an import at a moment, with a configuration
-      abbrev pub HasServed : ℕ → Config → Result Status Fault → Held (FileStore D g)
+      abbrev pub HasServed : Serving → Config → Result Status Fault → Held (FileStore D g)
           → Held (FileStore D g) → Type 0
-      HasServed turns config = RunsServer b x config turns before after
+      HasServed serving config =
+          RunsServer b x (seconds_of serving.oldest_report) config serving.turns before after
 
       abbrev pub HasImported : ℕ → Config → Result Status Fault → Held (FileStore D g)
           → Held (FileStore D g) → Type 0
@@ -260,15 +287,15 @@ module _ {D : Type 0} {g : disk.Ghosts D} where
           (ended ≡ Ok status.Done
           → (config : Config) × IsSiteOf file config × FeedsScript m config text before after)
           × IfErr ended (check.IsUnchecked None) × (rest ≡ left.Nothing)
-      DoesJob (job.Check file database kept) ended rest =
+      DoesJob (job.Check file database kept audits) ended rest =
           KeepsOthers kept.status kept.balances before after ended rest
-          ⊎ DoesCheck database before after ended rest
+          ⊎ ChecksOrAudits b before after audits database ended rest
       DoesJob (job.Init paths) ended rest =
           ClosesOrFails (MakesNew b before after) FailsToMakeNew ended rest
       DoesJob (job.Serve paths serving) ended rest =
           KeepsOthers serving.telling.status serving.telling.balances before after ended rest
-          ⊎ ClosesOrFails (WorksAndCloses (HasServed serving.turns))
-          (FailsAtWork (HasServed serving.turns)) ended rest
+          ⊎ ClosesOrFails (WorksAndCloses (HasServed serving)) (FailsAtWork (HasServed serving))
+          ended rest
       DoesJob (job.Import paths) ended rest = (moment : ℕ) × (moment < 2 ^ 53)
           × ClosesOrFails (WorksAndCloses (HasImported moment)) (FailsAtWork (HasImported moment))
           ended rest

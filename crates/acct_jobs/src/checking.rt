@@ -1,41 +1,71 @@
-//! `check`: a configuration, and the book of a file where one is given.
+//! `check`: a configuration, and the book of a file where one is given, which may be audited.
 ghost use Rattle.std.specs.Prelude.{◌≢◌, ◌≡◌, ◌⊎◌, IfOk, IfErr};
 ghost use Rattle.std.specs.Option.{option_copied};
 ghost use Rattle.sqlite_wal.specs.Files.{image_at};
 ghost use Rattle.acct_commands.specs.KeptNames.{NamesSome};
 ghost use Rattle.acct_jobs.specs.Jobs.{DoesCheck, ChecksBook, IsChecked, FailsToCheck};
-ghost use Rattle.acct_jobs.specs.Jobs.{text_of, KeepsOthers};
+ghost use Rattle.acct_jobs.specs.Jobs.{text_of, KeepsOthers, ChecksOrAudits};
 
+use crate::auditing::audit_book;
 use crate::command::{Outcome, config_of, without_book};
 use crate::database::{FileConnection, adopted};
 use crate::left::Left;
+use acct_book::Book;
 use acct_command_line::KeptNames;
 use acct_commands::{Fault, ServerFiles, keep_others, run_check, write_sizes};
 use acct_feed::Status;
 use acct_model::Text;
-use sqlite::{FileFrom, Start};
+use acct_sql::SqlBook;
+use sqlite::{FileFrom, FileStore, Start};
 use std::io::Write;
 
 /// `check` of the configuration in a file, of the files that a server is to write, and of the book in
-/// another file, if that is given: whether it keeps the plans of the configuration. It stays as it
-/// is.
-pub(crate) fn check<S: Start, W: Write + Drop>(
+/// another file, if that is given: whether it keeps the plans of the configuration, and, if it is to
+/// be audited, whether its balances are right. It stays as it is.
+pub(crate) fn check<S: Start, W: Write + Drop, E: Write + Drop>(
     runtime: &HostRuntime,
     config: &Text,
     database: Option<&Text>,
     kept: &KeptNames,
+    audits: bool,
     output: W,
+    progress: E,
     start: S,
 ) -> Outcome<W, FileFrom<S>>
     ensures other { IfOk result.ended (λ status. status ≢ Status.WrongWords) }
     ensures does { KeepsOthers kept.now.status kept.now.balances (W.contents output)
         (text_of W.contents result.output) result.ended result.left
-        ⊎ DoesCheck (image_at S.Start) (option_copied database.entry) (W.contents output)
-        (text_of W.contents result.output) result.ended result.left }
+        ⊎ ChecksOrAudits (image_at S.Start) ⟦<SqlBook<FileStore<FileFrom<S>>> as Book>⟧
+        (W.contents output) (text_of W.contents result.output) audits
+        (option_copied database.entry) result.ended result.left }
 {
     match keep_others(runtime, files_of(config, database, kept)) {
-        Ok(()) => check_files(runtime, config, database, output, start),
+        Ok(()) => check_or_audit(runtime, config, database, audits, output, progress, start),
         Err(fault) => without_book(Err(fault), output),
+    }
+}
+
+// `check` of files that a server would not overwrite, with an audit, if that is asked for.
+fn check_or_audit<S: Start, W: Write + Drop, E: Write + Drop>(
+    runtime: &HostRuntime,
+    config: &Text,
+    database: Option<&Text>,
+    audits: bool,
+    output: W,
+    progress: E,
+    start: S,
+) -> Outcome<W, FileFrom<S>>
+    ensures other { IfOk result.ended (λ status. status ≢ Status.WrongWords) }
+    ensures does { ChecksOrAudits (image_at S.Start) ⟦<SqlBook<FileStore<FileFrom<S>>> as Book>⟧
+        (W.contents output) (text_of W.contents result.output) audits
+        (option_copied database.entry) result.ended result.left }
+{
+    if !audits {
+        return check_files(runtime, config, database, output, start);
+    }
+    match database {
+        Some(file) => audit_book(runtime, config, file, output, progress, start),
+        None => check_files(runtime, config, None, output, start),
     }
 }
 

@@ -2,7 +2,8 @@
 //!
 //! `export` only reads the book, and leaves its files as they are. The other jobs that keep a book
 //! close it at their end.
-ghost use Rattle.std.specs.Prelude.{◌≢◌, ◌≡◌, ◌⊎◌, ◌<◌, ◌^◌, ℕ, Ok, Err, IfOk, IfErr, OnOk};
+ghost use Rattle.std.specs.Prelude.{◌≢◌, ◌≡◌, ◌⊎◌, ◌<◌, ◌≤◌, ◌^◌, ℕ, Ok, Err, IfOk, IfErr, IfSome};
+ghost use Rattle.std.specs.Prelude.{OnOk};
 ghost use Rattle.std.specs.Prelude.{true, false, None, Some, List, Option};
 ghost use Rattle.std.specs.Io.KnownBytes.{Appends};
 ghost use Rattle.sqlite_wal.specs.Files.{image_at};
@@ -87,7 +88,14 @@ pub fn run<S: Start, I: Read + Drop, W: Write + Drop, E: Write + Drop>(
             config,
             database,
             kept,
-        } => check(runtime, config, database.as_ref(), kept, output, start),
+            audits,
+        } => {
+            let Errors { notices, .. } = errors;
+            let database = database.as_ref();
+            check(
+                runtime, config, database, kept, *audits, output, notices, start,
+            )
+        }
         Job::Init { paths } => {
             let ending = make(runtime, Making::New, paths, &mut output, start);
             with_book(ending, output)
@@ -360,7 +368,8 @@ fn forward<S: Start, W: Write, E: Write + Drop>(
     progress: E,
     start: S,
 ) -> Ending<S>
-    requires { moment < 2 ^ 53 }
+    requires moment { moment < 2 ^ 53 }
+    requires days { IfSome carrying.now.oldest_report (λ days. days ≤ 36500) }
     ensures other { IfOk result (λ done. done.0 ≢ Status.WrongWords) }
     ensures closed { IfOk result (λ done. WorksAndCloses (image_at S.Start)
         (λ config ended first last. Forwards ⟦<SqlBook<FileStore<FileFrom<S>>> as Book>⟧
@@ -393,7 +402,8 @@ fn forwarded<S: Start, W: Write, E: Write + Drop>(
     progress: E,
     start: S,
 ) -> Ending<S>
-    requires { moment < 2 ^ 53 }
+    requires moment { moment < 2 ^ 53 }
+    requires days { IfSome carrying.now.oldest_report (λ days. days ≤ 36500) }
     ensures other { IfOk result (λ done. done.0 ≢ Status.WrongWords) }
     ensures closed { IfOk result (λ done. Closes (image_at S.Start) config.now.plans
         (λ ended first last. Forwards ⟦<SqlBook<FileStore<FileFrom<S>>> as Book>⟧
@@ -426,7 +436,8 @@ fn carried<T: Alter + Drop, W: Write, E: Write + Drop>(
     output: &mut W,
     mut progress: E,
 ) -> (Result<Status, Fault>, Connection<T>)
-    requires { moment < 2 ^ 53 }
+    requires moment { moment < 2 ^ 53 }
+    requires days { IfSome carrying.now.oldest_report (λ days. days ≤ 36500) }
     ensures other { IfOk result.0 (λ status. status ≢ Status.WrongWords) }
     ensures forwards { Forwards ⟦<SqlBook<T> as Book>⟧ plans.now carrying.now moment book result.1
         result.0 }

@@ -7,6 +7,7 @@
 //!    job is proved for all contents, and for both readings of a write that a crash tore.
 #![tactic(auto)]
 
+mod auditing;
 mod checking;
 mod command;
 mod database;

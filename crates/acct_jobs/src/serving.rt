@@ -1,7 +1,7 @@
 //! `serve`: a server over the book of a file.
 ghost use Rattle.std.specs.Prelude.{◌≢◌, ◌≡◌, IfOk, IfErr, None, true, false};
 ghost use Rattle.sqlite_wal.specs.Files.{image_at};
-ghost use Rattle.acct_command_line.specs.Orders.{IsBounded};
+ghost use Rattle.acct_command_line.specs.Orders.{IsBounded, seconds_of};
 ghost use Rattle.acct_serving.specs.Serving.{RunsServer};
 ghost use Rattle.acct_jobs.specs.Commands.{Closes, Fails};
 ghost use Rattle.acct_jobs.specs.Jobs.{WorksAndCloses, FailsAtWork};
@@ -35,11 +35,13 @@ pub(crate) fn serve<S: Start, W: Write, E: Write + Drop>(
     ensures other { IfOk result (λ done. done.0 ≢ Status.WrongWords) }
     ensures closed { IfOk result (λ done. WorksAndCloses (image_at S.Start)
         (λ config. RunsServer ⟦<SqlBook<FileStore<FileFrom<S>>> as Book>⟧
-        ⟦<Sockets<'static, HostRuntime> as Exchange>⟧ config serving.now.turns
+        ⟦<Sockets<'static, HostRuntime> as Exchange>⟧ (seconds_of serving.now.oldest_report) config
+        serving.now.turns
         (W.contents output.old) (W.contents output.new)) done.0 done.1) }
     ensures failed { IfErr result (λ e. FailsAtWork (image_at S.Start)
         (λ config. RunsServer ⟦<SqlBook<FileStore<FileFrom<S>>> as Book>⟧
-        ⟦<Sockets<'static, HostRuntime> as Exchange>⟧ config serving.now.turns
+        ⟦<Sockets<'static, HostRuntime> as Exchange>⟧ (seconds_of serving.now.oldest_report) config
+        serving.now.turns
         (W.contents output.old) (W.contents output.new)) e.0 e.1) }
 {
     // Before the configuration is read, so that no change of it is missed.
@@ -82,11 +84,13 @@ fn served<S: Start, W: Write, E: Write + Drop>(
     ensures done { IfOk result (λ done. done.0 ≡ Status.Done) }
     ensures closed { IfOk result (λ done. Closes (image_at S.Start) config.now.plans
         (RunsServer ⟦<SqlBook<FileStore<FileFrom<S>>> as Book>⟧
-        ⟦<Sockets<'static, HostRuntime> as Exchange>⟧ config.now serving.now.turns
+        ⟦<Sockets<'static, HostRuntime> as Exchange>⟧ (seconds_of serving.now.oldest_report)
+        config.now serving.now.turns
         (W.contents output.old) (W.contents output.new)) done.0 done.1) }
     ensures failed { IfErr result (λ e. Fails (image_at S.Start) config.now.plans
         (RunsServer ⟦<SqlBook<FileStore<FileFrom<S>>> as Book>⟧
-        ⟦<Sockets<'static, HostRuntime> as Exchange>⟧ config.now serving.now.turns
+        ⟦<Sockets<'static, HostRuntime> as Exchange>⟧ (seconds_of serving.now.oldest_report)
+        config.now serving.now.turns
         (W.contents output.old) (W.contents output.new)) e.0 e.1) }
 {
     // Before it is opened, which may make a log.
@@ -114,7 +118,8 @@ fn run_over<T: Alter + Drop, W: Write, E: Write + Drop>(
     requires { IsBounded serving.now }
     ensures done { IfOk result.0 (λ status. status ≡ Status.Done) }
     ensures serves { RunsServer ⟦<SqlBook<T> as Book>⟧
-        ⟦<Sockets<'static, HostRuntime> as Exchange>⟧ config.now serving.now.turns
+        ⟦<Sockets<'static, HostRuntime> as Exchange>⟧ (seconds_of serving.now.oldest_report)
+        config.now serving.now.turns
         (W.contents output.old) (W.contents output.new) result.0 book result.1 }
 {
     let ended = run_serve(

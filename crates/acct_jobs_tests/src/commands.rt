@@ -189,7 +189,7 @@ fn fill(
 }
 
 // An older book, before and after it is made one of today's.
-static OLDER: [(Command<'static>, Wanted<'static>); 15] = [
+static OLDER: [(Command<'static>, Wanted<'static>); 17] = [
     (
         ("check --config older.toml --db older-book", ""),
         (Status::Unavailable, "", "db: WrongSchema\n"),
@@ -237,6 +237,28 @@ static OLDER: [(Command<'static>, Wanted<'static>); 15] = [
             "",
         ),
         (Status::Refused, "", "forward: less than 30 days ago\n"),
+    ),
+    (
+        (
+            "forward --config older.toml --db older-book --yes --oldest-report 91",
+            "",
+        ),
+        (
+            Status::Refused,
+            "",
+            "forward: less than --oldest-report ago\n",
+        ),
+    ),
+    (
+        (
+            "forward --config older.toml --db older-book --yes --oldest-report 90 --dry-run",
+            "",
+        ),
+        (
+            Status::Done,
+            "would carry 1 sessions of 1 accounts\nstay: 1 open, 0 recent, 0 kept, 0 too large\n",
+            "",
+        ),
     ),
     (
         (

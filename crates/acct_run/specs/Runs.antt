@@ -50,25 +50,26 @@ module _ {B X : Type 0} (b : book.Ghosts B) (x : exchange.Ghosts X) where
   -- It made so many turns of the exchange: all, or as many as there were until the book was found
   -- shut, which a steady book never is, or refused each report of a slice; a sound book that is not
   -- open was found shut. They are a run of the machine in slices, each under the configuration that
-  -- it had, and these are the counts of that run. Between the slices the rounds went so.
-  pub record Ran (config : Config) (turns : ℕ) (Went : List Slice → Type 0) (old new : B)
+  -- it had, and these are the counts of that run. Between the slices the rounds went so. In all of
+  -- them a report could be at most so many seconds old, if that was limited.
+  pub record Ran (oldest : Option ℕ) (config : Config) (turns : ℕ) (Went : List Slice → Type 0) (old new : B)
       (first last : X) (served : Served) (why : Until) : Type 0 where
     pub turns_made : MakesTurns turns (x.turn_count first) (x.turn_count last) why
     pub shut : why ≡ until.Shut → b.is_steady old → ⊥
     pub stuck : why ≡ until.Stuck → 0 < drops_of served reason.Unavailable
     pub open_is : why ≡ until.AllMade → 0 < turns → b.is_sound new → b.is_open new
     pub faults : x.failure_count last ≡ x.failure_count first + served.faults
-    pub run : ServesInSlices b config old new (x.told first) (x.told last) Went served
+    pub run : ServesInSlices b oldest config old new (x.told first) (x.told last) Went served
 
   -- How a server ended. Once it has begun its turns are a run, whatever the output does. What it
   -- then printed is `serving` and the counts of that run, and nothing else. Before that it does
   -- nothing.
-  abbrev pub Ends : Config → ℕ → (List Slice → Type 0) → B → B → X → X → Option (List ℕ)
+  abbrev pub Ends : Option ℕ → Config → ℕ → (List Slice → Type 0) → B → B → X → X → Option (List ℕ)
       → Option (List ℕ) → Ended → Type 0
-  Ends config turns Went old new first last before after (how.Told served why) =
-      Ran config turns Went old new first last served why
+  Ends oldest config turns Went old new first last before after (how.Told served why) =
+      Ran oldest config turns Went old new first last served why
       × Appends before after (whole_text served)
-  Ends config turns Went old new first last before after (how.Untold served why) =
-      Ran config turns Went old new first last served why
-  Ends config turns Went old new first last before after how.NotBegun =
+  Ends oldest config turns Went old new first last before after (how.Untold served why) =
+      Ran oldest config turns Went old new first last served why
+  Ends oldest config turns Went old new first last before after how.NotBegun =
       (new ≡ old) × (last ≡ first)

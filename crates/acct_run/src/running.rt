@@ -14,7 +14,8 @@ use std::io;
 use std::io::Write;
 
 /// Makes this many turns of an exchange over a book in slices, between which `rounds` looks round;
-/// fewer only if the book is found shut or stuck. It says how far it came. `serving` is printed and
+/// fewer only if the book is found shut or stuck. A report may be at most `oldest` seconds old when
+/// it comes, if that is limited. It says how far it came. `serving` is printed and
 /// flushed before the first turn, and what was counted after the last one, flushed too.
 ///
 /// What comes in the turns is answered whatever the output does then: a run of `serve_in_slices`,
@@ -22,6 +23,7 @@ use std::io::Write;
 pub fn serve_exchange<B: Book, X: Exchange, G: Rounds, W: Write>(
     alloc: Global,
     config: &Config,
+    oldest: Option<u64>,
     book: &mut B,
     exchange: &mut X,
     rounds: &mut G,
@@ -30,14 +32,14 @@ pub fn serve_exchange<B: Book, X: Exchange, G: Rounds, W: Write>(
 ) -> Ended
     requires turns { X.turn_count exchange.old + turns ≤ 2 ^ 64 - 1 }
     requires failures { X.failure_count exchange.old + turns ≤ 2 ^ 64 - 1 }
-    ensures { Ends B.Book X.Exchange config.now turns
+    ensures { Ends B.Book X.Exchange oldest config.now turns
         (λ slices. GoRounds G.Rounds rounds.old slices rounds.new) book.old book.new exchange.old
         exchange.new (W.contents output.old) (W.contents output.new) result }
 {
     let Ok(()) = write_serving(output) else {
         return Ended::NotBegun;
     };
-    let (served, until) = serve_in_slices(alloc, config, book, exchange, rounds, turns);
+    let (served, until) = serve_in_slices(alloc, config, oldest, book, exchange, rounds, turns);
     match write_counts(output, &served) {
         Ok(()) => Ended::Told(served, until),
         Err(_) => Ended::Untold(served, until),

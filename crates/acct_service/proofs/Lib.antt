@@ -9,7 +9,9 @@ mod Kept
 mod InForce
 mod Resent
 mod Aside
+mod Tried
 mod Names
+mod Ages
 mod Settled
 mod Stops
 mod WorkedLives

@@ -1,6 +1,6 @@
 -- If no client has the name of a line, no report of a line is accepted.
 use Rattle.std.proofs.Common.{◌≡◌, inl, inr, ℕ, false, List, [], ◌∷◌, ◌++◌, refl, sym, ◌∙◌}
-use Rattle.std.proofs.Common.{ap, subst, append_assoc, true≢false, Result, Ok, Err}
+use Rattle.std.proofs.Common.{ap, subst, append_assoc, true≢false, Option, Result, Ok, Err}
 use Rattle.std.proofs.lemmas.List.{append_cancel_right}
 use Rattle.std.proofs.lemmas.List.Elements.{Contains-append_cases, filter_map-append}
 use Rattle.std.specs.Prelude.{Contains}
@@ -15,21 +15,15 @@ use Rattle.acct_model.specs.Plans.{plans_added}
 use Rattle.acct_model.specs.History.{Accepted, PlansAdded, History, session_of, report_in}
 use Rattle.acct_model.specs.History.{all_reports}
 use Rattle.acct_model.proofs.Lists.{here, deeper, nowhere, front_or_behind, from_map, find-some}
-use Rattle.acct_book.specs.declared.recording.Recorded.{Recorded}
-use Rattle.acct_book.specs.declared.recording.Recorded.TheVariants.{New, Repeat}
-use Rattle.acct_book.specs.declared.recording.RecordError.{RecordError}
-use Rattle.acct_book.specs.declared.recording.RecordError.TheVariants as error
 use Rattle.acct_book.specs.Carrying.{is_line}
 use Rattle.acct_book.specs.Effect.{Effect, added, repeated, differs, limited, failed, looked}
-use Rattle.acct_book.specs.Effect.{passed, unasked, after_effect, effect_of}
+use Rattle.acct_book.specs.Effect.{passed, unasked, after_effect}
 use Rattle.acct_wire.specs.declared.client.Client.{Client}
 use Rattle.acct_wire.specs.declared.reason.Reason.{Reason}
 use Rattle.acct_wire.specs.declared.reason.Reason.TheVariants as why
 use Rattle.acct_wire.specs.Clients.{has_address}
 use Rattle.acct_wire.specs.Datagrams.{RequestAsks}
 use Rattle.acct_wire.specs.Outcomes as wire
-use Rattle.acct_desk.specs.Asks.{Ask, refused, me, overruns, credit}
-use Rattle.acct_desk.specs.Handling.{AnswersAsk, Mutes}
 use Rattle.acct_site.specs.declared.config.Config.{Config}
 use Rattle.acct_files.specs.declared.import_report.Cause.{Cause}
 use Rattle.acct_files.specs.declared.import_report.Cause.TheVariants as cause
@@ -46,21 +40,22 @@ use Rattle.acct_service.specs.Life.{Span, served, imported, extended, carried, P
 use Rattle.acct_service.specs.Life.{LivesOn, Life, NoneIsOf, NoneIsLate, carried_in}
 use Rattle.acct_service.specs.Life.{HaveProperNames}
 use Rattle.acct_service.proofs.Aside.{only_carried}
+use Rattle.acct_service.proofs.Tried.{OfReport, Tries, asked_tries, muted_tries}
 use Rattle.acct_service.proofs.Spans.{Grown, moved, same_growth}
 
 -- ---- what an event asks for
 
+-- the report is of no line
+abbrev NoLine : ReportFacts → Type 0
+NoLine report = is_line report.client ≡ false
+
 -- the entry is no report of a line
 abbrev IsProper : Entry → Type 0
-IsProper (entry.Report report) = is_line report.client ≡ false
-IsProper (entry.Restart restart) = Unit {0}
-IsProper (entry.TopUp topup) = Unit {0}
+IsProper asked = OfReport NoLine asked
 
 -- nor is the one that an effect adds or tries
 abbrev TriesProper : Effect → Type 0
-TriesProper (added e) = IsProper e
-TriesProper (failed e) = IsProper e
-TriesProper effect = Unit {0}
+TriesProper effect = Tries NoLine effect
 
 abbrev Named : List Client → Type 0
 Named clients = (client : Client) → Contains clients client → is_line client.name ≡ false
@@ -82,79 +77,44 @@ asks_proper clients source bytes moment client identifier authenticator attribut
     spelled_proper client.name attributes moment asked
     (named client (find-some (has_address source) clients client asks.known).0) asks.spelled
 
-dropped_proper : (clients : List Client) (source bytes : List ℕ) (moment : ℕ) (reason : Reason)
+dropped_proper : (oldest : Option ℕ) (clients : List Client) (source bytes : List ℕ) (moment : ℕ) (reason : Reason)
     (effect : Effect) → Named clients
-    → wire.AnswersDrop clients source bytes moment reason effect → TriesProper effect
-dropped_proper clients source bytes moment why.BalanceLimit effect named says =
-    subst TriesProper (sym says.2.1) tt
-dropped_proper clients source bytes moment why.Unavailable effect named says =
+    → wire.DropsWithin oldest clients source bytes moment reason effect → TriesProper effect
+dropped_proper oldest clients source bytes moment why.BalanceLimit effect named says =
+    subst TriesProper (sym says.3.1) tt
+dropped_proper oldest clients source bytes moment why.Unavailable effect named says =
     let by = says.1 in
-    subst TriesProper (sym says.2)
-    (asks_proper clients source bytes moment by.client by.identifier by.authenticator
-    by.attributes says.0 named by.asks)
-dropped_proper clients source bytes moment reason effect named says =
+    elim says.2 [
+      | inl old ↦ subst TriesProper (sym old.1) tt
+      | inr recent ↦ subst TriesProper (sym recent.1)
+          (asks_proper clients source bytes moment by.client by.identifier by.authenticator
+          by.attributes says.0 named by.asks)
+    ]
+dropped_proper oldest clients source bytes moment reason effect named says =
     subst TriesProper (sym says.1) tt
 
-recorded_proper : (t : TopUpFacts) (recorded : Result Recorded RecordError)
-    → TriesProper (effect_of (entry.TopUp t) recorded)
-recorded_proper t (Ok New) = tt
-recorded_proper t (Ok Repeat) = tt
-recorded_proper t (Err (error.VoucherDiffers kept)) = tt
-recorded_proper t (Err (error.BalanceLimit balance)) = tt
-recorded_proper t (Err error.Unavailable) = tt
-
-asked_proper : (ask : Ask) (octets : List ℕ) (effect : Effect) → AnswersAsk ask octets effect
+answered_proper : (oldest : Option ℕ) (config : Config) (moment : ℕ) (what : What) (answer : Answer)
+    (effect : Effect) → Named config.clients → AnswersEvent oldest config moment what answer effect
     → TriesProper effect
-asked_proper (refused refusal) octets effect (is_octets, is) = subst TriesProper (sym is) tt
-asked_proper (me page account) octets effect says =
-    elim says [
-      | inl is ↦ subst TriesProper (sym is) tt
-      | inr (is_octets, is) ↦ subst TriesProper (sym is) tt
-    ]
-asked_proper overruns octets effect says =
-    elim says [
-      | inl is ↦ subst TriesProper (sym is) tt
-      | inr (is_octets, is) ↦ subst TriesProper (sym is) tt
-    ]
-asked_proper (credit t) octets effect (recorded, is_octets, is) =
-    subst TriesProper (sym is) (recorded_proper t recorded)
-
-muted_proper : (ask : Ask) (effect : Effect) → Mutes ask effect → TriesProper effect
-muted_proper (refused refusal) effect is = subst TriesProper (sym is) tt
-muted_proper (me page account) effect says =
-    elim says [
-      | inl is ↦ subst TriesProper (sym is) tt
-      | inr is ↦ subst TriesProper (sym is) tt
-    ]
-muted_proper overruns effect says =
-    elim says [
-      | inl is ↦ subst TriesProper (sym is) tt
-      | inr is ↦ subst TriesProper (sym is) tt
-    ]
-muted_proper (credit t) effect is = subst TriesProper (sym is) tt
-
-answered_proper : (config : Config) (moment : ℕ) (what : What) (answer : Answer)
-    (effect : Effect) → Named config.clients → AnswersEvent config moment what answer effect
-    → TriesProper effect
-answered_proper config moment (Datagram source port bytes) (replied octets) effect named
-    (asked, by, is) =
+answered_proper oldest config moment (Datagram source port bytes) (replied octets) effect named
+    (asked, by, recent, is) =
     subst TriesProper (sym is)
     (asks_proper config.clients source bytes moment by.client by.identifier by.authenticator
     by.attributes asked named by.asks)
-answered_proper config moment (Datagram source port bytes) (dropped reason) effect named says =
-    dropped_proper config.clients source bytes moment reason effect named says
-answered_proper config moment (Datagram source port bytes) mute effect named says = absurd says
-answered_proper config moment (Desk bytes) (replied octets) effect named (ask, asks, says) =
-    asked_proper ask octets effect says
-answered_proper config moment (Desk bytes) (dropped reason) effect named says = absurd says
-answered_proper config moment (Desk bytes) mute effect named (ask, asks, says) =
-    muted_proper ask effect says
+answered_proper oldest config moment (Datagram source port bytes) (dropped reason) effect named says =
+    dropped_proper oldest config.clients source bytes moment reason effect named says
+answered_proper oldest config moment (Datagram source port bytes) mute effect named says = absurd says
+answered_proper oldest config moment (Desk bytes) (replied octets) effect named (ask, asks, says) =
+    asked_tries NoLine ask octets effect says
+answered_proper oldest config moment (Desk bytes) (dropped reason) effect named says = absurd says
+answered_proper oldest config moment (Desk bytes) mute effect named (ask, asks, says) =
+    muted_tries NoLine ask effect says
 
 visit_proper : (visit : Visit) → Named visit.site.clients → IsAnswered visit
     → TriesProper visit.effect
 visit_proper visit named answered =
-    answered_proper visit.site visit.event.moment visit.event.what visit.answer visit.effect named
-    answered
+    answered_proper visit.oldest visit.site visit.event.moment visit.event.what visit.answer
+    visit.effect named answered
 
 -- ---- members
 

@@ -48,6 +48,7 @@ served_in : (config : Config) (older : History) (e : Entry)
 served_in config older e holds (event, octets, answers) =
     let visit : Visit = record {
       site = config;
+      oldest = None;
       event = event;
       answer = replied octets;
       effect = added e;

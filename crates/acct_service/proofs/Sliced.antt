@@ -1,5 +1,5 @@
 -- Slices of turns, one after another.
-use Rattle.std.proofs.Common.{◌≡◌, List, [], ◌∷◌, ◌++◌, refl, sym, ◌∙◌, ap, subst, arith}
+use Rattle.std.proofs.Common.{◌≡◌, ℕ, List, [], ◌∷◌, ◌++◌, refl, sym, ◌∙◌, ap, subst, arith}
 use Rattle.std.proofs.Common.{inl, inr, Bor}
 use Rattle.std.specs.Prelude.{Option, Some, None, Contains, IfSome, unwrap_or}
 use Rattle.std.specs.Option.{option_or, option_copied}
@@ -24,17 +24,18 @@ abbrev pub site_after : Config → List Slice → Config
 site_after site [] = site
 site_after site (slice ∷ later) = site_after (site_then slice.site slice.given) later
 
-follow_more : (site : Config) (slices : List Slice) (slice : Slice) → Follow site slices
-    → slice.site ≡ site_after site slices → AreUnder slice.site slice.visits
-    → Follow site (slices ++ slice ∷ [])
-follow_more site [] slice follow is under =
-    (is, subst (λ c. AreUnder c slice.visits) is under, tt)
-follow_more site (first ∷ later) slice (same, all, rest) is under =
+follow_more : (oldest : Option ℕ) (site : Config) (slices : List Slice) (slice : Slice)
+    → Follow oldest site slices
+    → slice.site ≡ site_after site slices → AreUnder oldest slice.site slice.visits
+    → Follow oldest site (slices ++ slice ∷ [])
+follow_more oldest site [] slice follow is under =
+    (is, subst (λ c. AreUnder oldest c slice.visits) is under, tt)
+follow_more oldest site (first ∷ later) slice (same, all, rest) is under =
     let here : site_then first.site first.given ≡ site_then site first.given =
     ap (λ c. site_then c first.given) same in (
       same,
       all,
-      follow_more (site_then site first.given) later slice rest
+      follow_more oldest (site_then site first.given) later slice rest
           (is ∙ ap (λ c. site_after c later) here) under,
     )
 
@@ -77,11 +78,12 @@ rounds_more r first then last [] slice same goes =
 rounds_more r first then last (one ∷ later) slice (next, went, rest) goes =
     (next, went, rounds_more r next then last later slice rest goes)
 
-module _ {B R : Type 0} (b : book.Ghosts B) (r : rounds.Ghosts R) (config : Config) where
+module _ {B R : Type 0} (b : book.Ghosts B) (r : rounds.Ghosts R) (oldest : Option ℕ)
+    (config : Config) where
   -- how far the slices came: the run so far, and the configuration for the turns that follow
   pub record Reached (old new : B) (old_told new_told : Option (List Call)) (first last : R)
       (site : Config) (served : Served) : Type 0 where
-    pub so_far : ServesInSlices b config old new old_told new_told
+    pub so_far : ServesInSlices b oldest config old new old_told new_told
         (λ slices. GoRounds r first slices last) served
     pub site_is : site ≡ site_after config so_far.slices
     pub plans_are : site.plans ≡ config.plans
@@ -106,7 +108,7 @@ module _ {B R : Type 0} (b : book.Ghosts B) (r : rounds.Ghosts R) (config : Conf
   pub reached_more : (old mid looked new : B) (told later last : Option (List Call))
       (first before after : R) (site : Config) (was is : Served) (gave : Option Config)
       → Reached old mid told later first before site was
-      → TakesTurns b site mid looked later last was is → OnlyLooks b looked new
+      → TakesTurns b oldest site mid looked later last was is → OnlyLooks b looked new
       → IfSome gave (λ other. other.plans ≡ site.plans) → r.goes before site gave after
       → Reached old new told last first after (site_then site gave) is
   reached_more old mid looked new told later last first before after site was is gave reached
@@ -123,7 +125,7 @@ module _ {B R : Type 0} (b : book.Ghosts B) (r : rounds.Ghosts R) (config : Conf
       record {
         so_far = record {
           slices = so_far.slices ++ slice ∷ [];
-          follow = follow_more config so_far.slices slice so_far.follow reached.site_is
+          follow = follow_more oldest config so_far.slices slice so_far.follow reached.site_is
               turns.under;
           same_plans = λ other at. elim (Contains-push_cases (given_in so_far.slices) gave
               (Some other) (subst (λ gs. Contains gs (Some other)) (sym given_are) at)) [
@@ -172,7 +174,7 @@ module _ {B R : Type 0} (b : book.Ghosts B) (r : rounds.Ghosts R) (config : Conf
       (first before after : R) (changed gave : Option Config)
       (site : Config) (was is : Served) → site ≡ unwrap_or changed config
       → Reached old mid told later first before (unwrap_or changed config) was
-      → TakesTurns b site mid turned later last was is → OnlyLooks b turned looked
+      → TakesTurns b oldest site mid turned later last was is → OnlyLooks b turned looked
       → IfSome gave (λ other. other.plans ≡ site.plans) → r.goes before site gave after
       → OnlyLooks b looked new
       → Reached old new told last first after (unwrap_or (option_or gave changed) config) is
@@ -183,6 +185,6 @@ module _ {B R : Type 0} (b : book.Ghosts B) (r : rounds.Ghosts R) (config : Conf
       subst (λ c. Reached old new told last first after c is) (sym (site_kept config changed gave))
       (reached_looked old looked new told last first after then is
       (reached_more old mid turned looked told later last first before after now was is gave reached
-      (subst (λ c. TakesTurns b c mid turned later last was is) found turns) looks
+      (subst (λ c. TakesTurns b oldest c mid turned later last was is) found turns) looks
       (subst (λ (c : Config). IfSome gave (λ other. other.plans ≡ c.plans)) found plans)
       (subst (λ c. r.goes before c gave after) found goes)) again)

@@ -1,6 +1,6 @@
 -- What `answer` and `handle` say is a step of the machine.
 use Rattle.std.proofs.Common.{◌≡◌, ℕ, List, take, subst, inl, inr}
-use Rattle.std.specs.Prelude.{Result, Ok, Err, Vec}
+use Rattle.std.specs.Prelude.{Option, Result, Ok, Err, Vec}
 use Rattle.std.specs.Global.{Global}
 use Rattle.acct_book.specs.declared.book.Book.{Ghosts}
 use Rattle.acct_book.specs.Effect.{Effect, limited, failed, looked, passed, unasked}
@@ -29,13 +29,16 @@ response_by (Ok octets) = replied octets.items
 response_by (Err error) = mute
 
 -- a datagram has no page to be told
-dropped_looks : (clients : List Client) (source bytes : List ℕ) (moment : ℕ) (reason : Reason)
-    → wire.AnswersDrop clients source bytes moment reason looked → ⊥
-dropped_looks clients source bytes moment why.BalanceLimit says =
-    let clash : looked ≡ limited says.0 says.2.0 = says.2.1 in cc
-dropped_looks clients source bytes moment why.Unavailable says =
-    let clash : looked ≡ failed says.0 = says.2 in cc
-dropped_looks clients source bytes moment reason says =
+dropped_looks : (oldest : Option ℕ) (clients : List Client) (source bytes : List ℕ) (moment : ℕ) (reason : Reason)
+    → wire.DropsWithin oldest clients source bytes moment reason looked → ⊥
+dropped_looks oldest clients source bytes moment why.BalanceLimit says =
+    let clash : looked ≡ limited says.0 says.3.0 = says.3.1 in cc
+dropped_looks oldest clients source bytes moment why.Unavailable says =
+    elim says.2 [
+      | inl old ↦ let clash : looked ≡ unasked = old.1 in cc
+      | inr recent ↦ let clash : looked ≡ failed says.0 = recent.1 in cc
+    ]
+dropped_looks oldest clients source bytes moment reason says =
     let clash : looked ≡ unasked = says.1 in cc
 
 mute_looks : (ask : Ask) → Mutes ask looked → ⊥
@@ -46,31 +49,31 @@ mute_looks overruns (inl is) = let clash : looked ≡ unasked = is in cc
 mute_looks overruns (inr is) = let clash : looked ≡ passed = is in cc
 mute_looks (credit topup) is = let clash : looked ≡ unasked = is in cc
 
-module _ {B : Type 0} (b : Ghosts B) (config : Config) (old new : B) where
+module _ {B : Type 0} (b : Ghosts B) (oldest : Option ℕ) (config : Config) (old new : B) where
   pub datagram_step : (source bytes array : List ℕ) (moment port : ℕ) (outcome : Outcome)
-      → (effect : Effect) × wire.Answers config.clients source bytes moment array outcome effect
+      → (effect : Effect) × wire.AnswersWithin oldest config.clients source bytes moment array outcome effect
       × Does b config.plans old new effect
-      → TakesStep b config moment (Datagram source port bytes) old new (answer_by outcome array)
+      → TakesStep b oldest config moment (Datagram source port bytes) old new (answer_by outcome array)
   datagram_step source bytes array moment port (Reply size) (effect, says, does) = record {
     effect = effect;
     answers = says;
     does = does;
-    tells = λ sound history stood is. let (asked, reply, was) = says in absurd (cc (is, was));
+    tells = λ sound history stood is. let (asked, reply, recent, was) = says in absurd (cc (is, was));
     steady = λ steady none. absurd none;
   }
   datagram_step source bytes array moment port (Drop reason) (effect, says, does) = record {
     effect = effect;
     answers = says;
     does = does;
-    tells = λ sound history stood is. absurd (dropped_looks config.clients source bytes moment
-        reason (subst (wire.AnswersDrop config.clients source bytes moment reason) is says));
+    tells = λ sound history stood is. absurd (dropped_looks oldest config.clients source bytes moment
+        reason (subst (wire.DropsWithin oldest config.clients source bytes moment reason) is says));
     steady = λ steady none. absurd none;
   }
 
   pub request_step : {E : Type 0} (bytes : List ℕ) (moment : ℕ) (ask : Ask)
       (result : Result (Vec ℕ Global) E)
       → Asks config.keys bytes moment ask → Handles b config.plans ask old new result
-      → TakesStep b config moment (Desk bytes) old new (response_by result)
+      → TakesStep b oldest config moment (Desk bytes) old new (response_by result)
   request_step bytes moment ask (Ok octets) asks h = record {
     effect = h.effect;
     answers = (ask, asks, h.answers);

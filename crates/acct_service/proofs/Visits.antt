@@ -29,7 +29,7 @@ use Rattle.acct_service.specs.Machine.{AsksBalance}
 use Rattle.acct_service.specs.Told.{Grows}
 use Rattle.acct_service.specs.Serving.{calls_of, is_replied, is_dropped_for, is_mute}
 use Rattle.acct_service.specs.Serving.{Counts, CountsMore, HasFailed, MayLeave, Leads, Attends}
-use Rattle.acct_service.specs.Serving.{TakesTurn, TakesTurns, Serves, Keeps, AtMost, AreUnder}
+use Rattle.acct_service.specs.Serving.{TakesTurn, TakesTurns, Serves, Keeps, AtMost, IsUnder, AreUnder}
 
 -- two runs are one
 run_join : (plans : List Plan) (history mid after : History) (visits more : List Visit)
@@ -166,15 +166,17 @@ of_one P only visit holds at =
     ]
 
 -- no visit, one, and those of two lists are under one configuration
-pub under_none : (config : Config) → AreUnder config []
-under_none config visit at = absurd (nowhere visit at)
+pub under_none : (oldest : Option ℕ) (config : Config) → AreUnder oldest config []
+under_none oldest config visit at = absurd (nowhere visit at)
 
-under_one : (config : Config) (only : Visit) → only.site ≡ config → AreUnder config (only ∷ [])
-under_one config only is visit = of_one (λ v. v.site ≡ config) only visit is
+under_one : (oldest : Option ℕ) (config : Config) (only : Visit) → IsUnder oldest config only
+    → AreUnder oldest config (only ∷ [])
+under_one oldest config only is visit = of_one (IsUnder oldest config) only visit is
 
-under_both : (config : Config) (visits more : List Visit) → AreUnder config visits
-    → AreUnder config more → AreUnder config (visits ++ more)
-under_both config visits more = of_both (λ v. v.site ≡ config) visits more
+under_both : (oldest : Option ℕ) (config : Config) (visits more : List Visit)
+    → AreUnder oldest config visits → AreUnder oldest config more
+    → AreUnder oldest config (visits ++ more)
+under_both oldest config visits more = of_both (IsUnder oldest config) visits more
 
 module _ {B : Type 0} (b : Ghosts B) (plans : List Plan) where
   -- no visit
@@ -280,13 +282,14 @@ module _ {B : Type 0} (b : Ghosts B) (plans : List Plan) where
     told = a.told;
   }
 
-module _ {B : Type 0} (b : Ghosts B) (config : Config) where
+module _ {B : Type 0} (b : Ghosts B) (oldest : Option ℕ) (config : Config) where
   -- one visit, whose event was answered so
   pub attends_one : (old new : B) (old_told new_told : Option (List Call)) (event : Event)
       (answer : Answer) (is_taken : Bool)
-      (t : TakesStep b config event.moment event.what old new answer)
+      (t : TakesStep b oldest config event.moment event.what old new answer)
       → (let visit : Visit = record {
         site = config;
+        oldest = oldest;
         event = event;
         answer = answer;
         effect = t.effect;
@@ -297,6 +300,7 @@ module _ {B : Type 0} (b : Ghosts B) (config : Config) where
   attends_one old new old_told new_told event answer is_taken t grows =
       let visit : Visit = record {
         site = config;
+        oldest = oldest;
         event = event;
         answer = answer;
         effect = t.effect;
@@ -334,10 +338,10 @@ module _ {B : Type 0} (b : Ghosts B) (config : Config) where
 
   -- no turn
   pub turns_none : (book : B) (told : Option (List Call)) (served : Served)
-      → TakesTurns b config book book told told served served
+      → TakesTurns b oldest config book book told told served served
   turns_none book told served = record {
     visits = [];
-    under = under_none config;
+    under = under_none oldest config;
     attends = attends_none b config.plans book told told (grows_none told);
     counts = record {
       events = omega arith;
@@ -349,46 +353,24 @@ module _ {B : Type 0} (b : Ghosts B) (config : Config) where
 
   -- one turn more
   pub turns_more : (old mid new : B) (told later last : Option (List Call)) (was now is : Served)
-      → TakesTurns b config old mid told later was now
-      → TakesTurn b config mid new later last now is
-      → TakesTurns b config old new told last was is
+      → TakesTurns b oldest config old mid told later was now
+      → TakesTurn b oldest config mid new later last now is
+      → TakesTurns b oldest config old new told last was is
   turns_more old mid new told later last was now is turns turn = record {
     visits = turns.visits ++ turn.visits;
-    under = under_both config turns.visits turn.visits turns.under turn.under;
+    under = under_both oldest config turns.visits turn.visits turns.under turn.under;
     attends = attends_join b config.plans turns.visits turn.visits old mid new told later last turns.attends
         turn.attends;
     counts = counts_more turns.visits turn.visits was now is turns.counts turn.counts;
   }
 
-  -- before the first turn
-  pub serves_first : (book : B) (told : Option (List Call)) (served : Served) → Counts [] served
-      → Serves b config book book told told served
-  serves_first book told served counts = record {
-    visits = [];
-    under = under_none config;
-    attends = attends_none b config.plans book told told (grows_none told);
-    counts = counts;
-  }
-
-  -- after more turns
-  pub serves_more : (old mid new : B) (told later last : Option (List Call)) (was is : Served)
-      → Serves b config old mid told later was → TakesTurns b config mid new later last was is
-      → Serves b config old new told last is
-  serves_more old mid new told later last was is s turns = record {
-    visits = s.visits ++ turns.visits;
-    under = under_both config s.visits turns.visits s.under turns.under;
-    attends = attends_join b config.plans s.visits turns.visits old mid new told later last s.attends
-        turns.attends;
-    counts = counts_join s.visits turns.visits was is s.counts turns.counts;
-  }
-
   -- a turn in which nothing came
   pub turn_none : (book : B) (told later : Option (List Call)) (was is : Served)
-      → Grows told [] later → CountsMore [] was is → TakesTurn b config book book told later was is
+      → Grows told [] later → CountsMore [] was is → TakesTurn b oldest config book book told later was is
   turn_none book told later was is grows counts = record {
     visits = [];
     at_most_one = omega arith;
-    under = under_none config;
+    under = under_none oldest config;
     attends = attends_none b config.plans book told later grows;
     counts = counts;
   }
@@ -396,19 +378,21 @@ module _ {B : Type 0} (b : Ghosts B) (config : Config) where
   -- a turn in which an event came and was answered
   pub turn_one : (old new : B) (told later : Option (List Call)) (was is : Served)
       (event : Event) (answer : Answer) (is_taken : Bool)
-      (t : TakesStep b config event.moment event.what old new answer)
+      (t : TakesStep b oldest config event.moment event.what old new answer)
       → (let visit : Visit = record {
         site = config;
+        oldest = oldest;
         event = event;
         answer = answer;
         effect = t.effect;
         is_taken = is_taken;
       } in
       Grows told (calls_of visit) later × CountsMore (visit ∷ []) was is)
-      → TakesTurn b config old new told later was is
+      → TakesTurn b oldest config old new told later was is
   turn_one old new told later was is event answer is_taken t (grows, counts) =
       let visit : Visit = record {
         site = config;
+        oldest = oldest;
         event = event;
         answer = answer;
         effect = t.effect;
@@ -417,7 +401,30 @@ module _ {B : Type 0} (b : Ghosts B) (config : Config) where
       record {
         visits = visit ∷ [];
         at_most_one = omega arith;
-        under = under_one config visit refl;
+        under = under_one oldest config visit (refl, refl);
         attends = attends_one old new told later event answer is_taken t grows;
         counts = counts;
       }
+
+module _ {B : Type 0} (b : Ghosts B) (config : Config) where
+  -- before the first turn
+  pub serves_first : (book : B) (told : Option (List Call)) (served : Served) → Counts [] served
+      → Serves b config book book told told served
+  serves_first book told served counts = record {
+    visits = [];
+    under = under_none None config;
+    attends = attends_none b config.plans book told told (grows_none told);
+    counts = counts;
+  }
+
+  -- after more turns
+  pub serves_more : (old mid new : B) (told later last : Option (List Call)) (was is : Served)
+      → Serves b config old mid told later was → TakesTurns b None config mid new later last was is
+      → Serves b config old new told last is
+  serves_more old mid new told later last was is s turns = record {
+    visits = s.visits ++ turns.visits;
+    under = under_both None config s.visits turns.visits s.under turns.under;
+    attends = attends_join b config.plans s.visits turns.visits old mid new told later last s.attends
+        turns.attends;
+    counts = counts_join s.visits turns.visits was is s.counts turns.counts;
+  }

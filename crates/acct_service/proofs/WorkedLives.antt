@@ -1,6 +1,6 @@
 -- Worked rows of `acknowledged`: what counts as acknowledged, and what doesn't.
 use Rattle.std.proofs.Common.{◌≡◌, ℕ, Bool, true, false, List, [], ◌∷◌, refl, arith}
-use Rattle.std.specs.Prelude.{codes}
+use Rattle.std.specs.Prelude.{codes, None}
 use Rattle.acct_model.specs.declared.entry.Entry.{Entry}
 use Rattle.acct_model.specs.declared.entry.Entry.TheVariants as entry
 use Rattle.acct_book.specs.Effect.{Effect, added, repeated, differs, failed, looked}
@@ -32,6 +32,7 @@ event = record { moment = 1000; what = Desk []; moment_fits = omega arith }
 abbrev visit : Answer → Effect → Bool → Visit
 visit answer effect is_taken = record {
   site = site;
+  oldest = None;
   event = event;
   answer = answer;
   effect = effect;

@@ -7,3 +7,4 @@ pub mod Listed
 pub mod Life
 pub mod Settling
 pub mod Stops
+pub mod Ages

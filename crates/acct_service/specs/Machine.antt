@@ -2,14 +2,14 @@
 -- newest first; lists of events and visits have the oldest first. The plans of a configuration are
 -- those in force at the end of the history: while events come none are added. Clients and keys may
 -- change between two events, so each visit has the configuration that it was answered under.
-use Rattle.std.specs.Prelude.{◌≡◌, ◌≢◌, ℕ, Bool, List, [], ◌∷◌}
+use Rattle.std.specs.Prelude.{◌≡◌, ◌≢◌, ℕ, Bool, List, [], ◌∷◌, Option}
 use Rattle.acct_model.specs.declared.plan.Plan.{Plan}
 use Rattle.acct_model.specs.History.{History}
 use Rattle.acct_book.specs.declared.book.Book.{Ghosts}
 use Rattle.acct_book.specs.Effect.{Effect, looked, after_effect, Holds}
 use Rattle.acct_book.specs.Step.{StoodFor, Does}
 use Rattle.acct_wire.specs.declared.reason.Reason.{Reason}
-use Rattle.acct_wire.specs.Outcomes.{AnswersReply, AnswersDrop}
+use Rattle.acct_wire.specs.Outcomes.{RepliesWithin, DropsWithin}
 use Rattle.acct_desk.specs.Asks.{Ask, Asks}
 use Rattle.acct_pages.specs.Responses.{unavailable_response}
 use Rattle.acct_desk.specs.Handling.{AnswersAsk, Mutes, IsResponseOf, IsOfBalance}
@@ -37,13 +37,14 @@ answer_of turn.Reply octets = replied octets
 answer_of (turn.Dropped reason) octets = dropped reason
 answer_of turn.Mute octets = mute
 
--- A datagram is answered as acct_wire has it, and is never mute.
-abbrev pub AnswersDatagram : Config → List ℕ → List ℕ → ℕ → Answer → Effect → Type 0
-AnswersDatagram config source bytes moment (replied octets) effect =
-    AnswersReply config.clients source bytes moment octets effect
-AnswersDatagram config source bytes moment (dropped reason) effect =
-    AnswersDrop config.clients source bytes moment reason effect
-AnswersDatagram config source bytes moment mute effect = ⊥
+-- A datagram is answered as acct_wire has it, and is never mute. A report may be at most so many
+-- seconds old when it comes, if that is limited.
+abbrev pub AnswersDatagram : Option ℕ → Config → List ℕ → List ℕ → ℕ → Answer → Effect → Type 0
+AnswersDatagram oldest config source bytes moment (replied octets) effect =
+    RepliesWithin oldest config.clients source bytes moment octets effect
+AnswersDatagram oldest config source bytes moment (dropped reason) effect =
+    DropsWithin oldest config.clients source bytes moment reason effect
+AnswersDatagram oldest config source bytes moment mute effect = ⊥
 
 -- A request at the desk is answered by what it asks, and is never dropped.
 abbrev pub AnswersRequest : Config → List ℕ → ℕ → Answer → Effect → Type 0
@@ -54,10 +55,10 @@ AnswersRequest config bytes moment mute effect =
     (ask : Ask) × Asks config.keys bytes moment ask × Mutes ask effect
 
 -- what comes at a moment may be answered so, and this is what that does
-abbrev pub AnswersEvent : Config → ℕ → What → Answer → Effect → Type 0
-AnswersEvent config moment (Datagram source port bytes) answer effect =
-    AnswersDatagram config source bytes moment answer effect
-AnswersEvent config moment (Desk bytes) answer effect =
+abbrev pub AnswersEvent : Option ℕ → Config → ℕ → What → Answer → Effect → Type 0
+AnswersEvent oldest config moment (Datagram source port bytes) answer effect =
+    AnswersDatagram oldest config source bytes moment answer effect
+AnswersEvent oldest config moment (Desk bytes) answer effect =
     AnswersRequest config bytes moment answer effect
 
 -- a request at the desk for the balance of the account whose key it bears
@@ -74,10 +75,12 @@ IsPage config history moment what answer = ⊥
 
 -- ---- steps
 
--- An event that came, under which configuration it was answered, its answer, what that did, and
--- whether the reply was taken, if it has one.
+-- An event that came, under which configuration it was answered, how many seconds old a report
+-- could be, if that was limited, its answer, what that did, and whether the reply was taken, if it
+-- has one.
 pub record Visit : Type 0 where
   pub site : Config
+  pub oldest : Option ℕ
   pub event : Event
   pub answer : Answer
   pub effect : Effect
@@ -86,7 +89,8 @@ pub record Visit : Type 0 where
 -- the event is answered so under the configuration that it came under
 abbrev pub IsAnswered : Visit → Type 0
 IsAnswered visit =
-    AnswersEvent visit.site visit.event.moment visit.event.what visit.answer visit.effect
+    AnswersEvent visit.oldest visit.site visit.event.moment visit.event.what visit.answer
+    visit.effect
 
 -- One step, from a history to the next, under a configuration with these plans: the event is
 -- answered so, what that does is true of the history, what was looked up is told of it, and the
@@ -110,10 +114,10 @@ Run plans history (visit ∷ visits) after =
 
 -- What comes at a moment is answered so over a book: a step of the machine from each history for
 -- which its content stood.
-pub record TakesStep {B : Type 0} (b : Ghosts B) (config : Config) (moment : ℕ) (what : What)
-    (old new : B) (answer : Answer) : Type 0 where
+pub record TakesStep {B : Type 0} (b : Ghosts B) (oldest : Option ℕ) (config : Config) (moment : ℕ)
+    (what : What) (old new : B) (answer : Answer) : Type 0 where
   pub effect : Effect
-  pub answers : AnswersEvent config moment what answer effect
+  pub answers : AnswersEvent oldest config moment what answer effect
   pub does : Does b config.plans old new effect
   pub tells : b.is_sound new → (history : History) → StoodFor b config.plans old history
       → effect ≡ looked → IsPage config history moment what answer

@@ -1,7 +1,7 @@
 -- What a server does in its turns: a run of the machine, over a book, told by the exchange, and
 -- counted.
 use Rattle.std.specs.Prelude.{◌≡◌, ◌≢◌, ◌⊎◌, ◌+◌, ◌-◌, ◌≤◌, ℕ, Bool, true, false, ◌==◌, List, []}
-use Rattle.std.specs.Prelude.{◌∷◌, Option, map, length, count_by, slice_index, Contains}
+use Rattle.std.specs.Prelude.{◌∷◌, Option, None, map, length, count_by, slice_index, Contains}
 use Rattle.std.specs.List.{flat_map}
 use Rattle.acct_model.specs.declared.plan.Plan.{Plan}
 use Rattle.acct_model.specs.declared.entry.Entry.{Entry}
@@ -145,31 +145,36 @@ pub record Attends {B : Type 0} (b : Ghosts B) (plans : List Plan) (visits : Lis
   -- others, each of them between its own event and the next
   pub told : Grows old_told (flat_map calls_of visits) new_told
 
--- all were answered under this configuration
-abbrev pub AreUnder : Config → List Visit → Type 0
-AreUnder config visits = (visit : Visit) → Contains visits visit → visit.site ≡ config
+-- it was answered under this configuration, and a report could be so old
+abbrev pub IsUnder : Option ℕ → Config → Visit → Type 0
+IsUnder oldest config visit = (visit.site ≡ config) × (visit.oldest ≡ oldest)
+
+-- all were
+abbrev pub AreUnder : Option ℕ → Config → List Visit → Type 0
+AreUnder oldest config visits =
+    (visit : Visit) → Contains visits visit → IsUnder oldest config visit
 
 -- a turn: one visit, or none where nothing came
-pub record TakesTurn {B : Type 0} (b : Ghosts B) (config : Config) (old new : B)
+pub record TakesTurn {B : Type 0} (b : Ghosts B) (oldest : Option ℕ) (config : Config) (old new : B)
     (old_told new_told : Option (List Call)) (old_served new_served : Served) : Type 0 where
   pub visits : List Visit
   pub at_most_one : length visits ≤ 1
-  pub under : AreUnder config visits
+  pub under : AreUnder oldest config visits
   pub attends : Attends b config.plans visits old new old_told new_told
   pub counts : CountsMore visits old_served new_served
 
 -- turns, and what was counted in them beside what was counted before
-pub record TakesTurns {B : Type 0} (b : Ghosts B) (config : Config) (old new : B)
+pub record TakesTurns {B : Type 0} (b : Ghosts B) (oldest : Option ℕ) (config : Config) (old new : B)
     (old_told new_told : Option (List Call)) (old_served new_served : Served) : Type 0 where
   pub visits : List Visit
-  pub under : AreUnder config visits
+  pub under : AreUnder oldest config visits
   pub attends : Attends b config.plans visits old new old_told new_told
   pub counts : CountsMore visits old_served new_served
 
--- turns, as many as there were
+-- turns, as many as there were, for reports of any age
 pub record Serves {B : Type 0} (b : Ghosts B) (config : Config) (old new : B)
     (old_told new_told : Option (List Call)) (served : Served) : Type 0 where
   pub visits : List Visit
-  pub under : AreUnder config visits
+  pub under : AreUnder None config visits
   pub attends : Attends b config.plans visits old new old_told new_told
   pub counts : Counts visits served

@@ -3,7 +3,7 @@
 -- What was sent is a history too: the one that would have been, had nothing been lost, repeated or
 -- reordered. A list of entries is one in which no plans were added. What stays in a life is said of
 -- its whole history, in which nothing was carried forward, and balances of the book's.
-use Rattle.std.specs.Prelude.{◌≡◌, ◌⊎◌, ◌≤◌, ℕ, List, [], ◌∷◌, ◌++◌, map, Contains, Ok}
+use Rattle.std.specs.Prelude.{◌≡◌, ◌⊎◌, ◌≤◌, ℕ, List, [], ◌∷◌, ◌++◌, map, Contains, Ok, None}
 use Rattle.std.specs.List.{flat_map}
 use Rattle.acct_model.specs.declared.plan.Plan.{Plan}
 use Rattle.acct_model.specs.declared.entry.Entry.{Entry}
@@ -102,7 +102,7 @@ uncarried plans history =
 abbrev pub CanBeServed : Config → Entry → Type 0
 CanBeServed config asked =
     (event : Event) × (octets : List ℕ)
-    × AnswersEvent config event.moment event.what (replied octets) (added asked)
+    × AnswersEvent None config event.moment event.what (replied octets) (added asked)
 
 -- it is the top-up of a line of an import
 abbrev pub CanBeImported : Entry → Type 0

@@ -33,11 +33,12 @@ site_then site None = site
 site_then site (Some other) = other
 
 -- Each slice and all its visits have the configuration that the last round before it gave that gave
--- one; where none did, the first one.
-abbrev pub Follow : Config → List Slice → Type 0
-Follow site [] = ⊤
-Follow site (slice ∷ later) =
-    (slice.site ≡ site) × AreUnder site slice.visits × Follow (site_then site slice.given) later
+-- one; where none did, the first one. In all of them a report could be as old.
+abbrev pub Follow : Option ℕ → Config → List Slice → Type 0
+Follow oldest site [] = ⊤
+Follow oldest site (slice ∷ later) =
+    (slice.site ≡ site) × AreUnder oldest site slice.visits
+    × Follow oldest (site_then site slice.given) later
 
 -- what came in all of them
 abbrev pub visits_in : List Slice → List Visit
@@ -56,11 +57,11 @@ GoRounds r first (slice ∷ later) last =
 -- Turns in slices, each under the configuration that it had; together they are what turns under one
 -- configuration are, since all have the same plans. Of the slices is also said how the rounds after
 -- them went.
-pub record ServesInSlices {B : Type 0} (b : book.Ghosts B) (config : Config) (old new : B)
-    (old_told new_told : Option (List Call)) (Went : List Slice → Type 0) (served : Served)
+pub record ServesInSlices {B : Type 0} (b : book.Ghosts B) (oldest : Option ℕ) (config : Config)
+    (old new : B) (old_told new_told : Option (List Call)) (Went : List Slice → Type 0) (served : Served)
     : Type 0 where
   pub slices : List Slice
-  pub follow : Follow config slices
+  pub follow : Follow oldest config slices
   -- no round gave other plans
   pub same_plans : (site : Config) → Contains (given_in slices) (Some site)
       → site.plans ≡ config.plans

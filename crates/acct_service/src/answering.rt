@@ -1,5 +1,5 @@
 //! Datagrams and requests answered, and the octets that are then to be sent.
-ghost use Rattle.std.specs.Prelude.{◌≡◌, ◌≤◌, ◌<◌, ◌^◌, [], ℕ};
+ghost use Rattle.std.specs.Prelude.{◌≡◌, ◌≤◌, ◌<◌, ◌^◌, [], ℕ, Option};
 ghost use Rattle.acct_service.specs.declared.event.What.TheVariants as what;
 ghost use Rattle.acct_service.specs.Machine.{TakesStep, answer_of};
 
@@ -7,7 +7,7 @@ use crate::stepping::Turn;
 use acct_book::Book;
 use acct_desk::handle;
 use acct_site::Config;
-use acct_wire::{Datagram, Outcome, answer};
+use acct_wire::{Datagram, Outcome, answer_within};
 use std::alloc::Global;
 use std::marker::Model;
 
@@ -71,22 +71,25 @@ impl Outbox {
         self.answered
     }
 
-    // Answers a datagram, and keeps the reply.
+    // Answers a datagram, and keeps the reply. A report may be at most so many seconds old, if that
+    // is limited.
     pub(crate) fn answer_datagram<B: Book>(
         &mut self,
         alloc: Global,
         config: &Config,
+        oldest: Option<u64>,
         book: &mut B,
         datagram: &Datagram<'_>,
     ) -> Turn
-        ensures { (port : ℕ) → TakesStep B.Book config.now datagram.now.moment
+        ensures { (port : ℕ) → TakesStep B.Book oldest config.now datagram.now.moment
             (what.Datagram datagram.now.source port datagram.now.bytes.now) book.old book.new
             (answer_of result self.new) }
     {
-        let outcome = answer(
+        let outcome = answer_within(
             alloc,
             &config.clients,
             &config.plans,
+            oldest,
             book,
             datagram,
             &mut self.reply,
@@ -112,8 +115,8 @@ impl Outbox {
         moment: u64,
     ) -> Turn
         requires { moment < 2 ^ 53 }
-        ensures { TakesStep B.Book config.now moment (what.Desk bytes.now) book.old book.new
-            (answer_of result self.new) }
+        ensures { (oldest : Option ℕ) → TakesStep B.Book oldest config.now moment
+            (what.Desk bytes.now) book.old book.new (answer_of result self.new) }
     {
         match handle(alloc, &config.keys, &config.plans, book, bytes, moment) {
             Ok(response) => {

@@ -6,6 +6,7 @@ ghost use Rattle.acct_service.specs.Machine.{Visit};
 ghost use Rattle.acct_service.specs.Serving.{Attends};
 ghost use Rattle.acct_service.specs.Settling.{LifeSettles};
 ghost use Rattle.acct_service.specs.Stops.{StopsAreLived};
+ghost use Rattle.acct_service.specs.Ages.{TakesNoneTooOld};
 
 use acct_book::Book;
 
@@ -26,6 +27,13 @@ pub fn life_settles()
 /// a `T` or an `E`: as many batches as came. The next start may have the plans in another order.
 pub fn stops_are_lived<B: Book, T, E>()
     ensures { StopsAreLived B.Book T E }
+{}
+
+/// A server that limits how old a report may be takes no older one: it is not added, and no crash
+/// leaves it. So a report that was accepted before its session was carried forward, and comes again
+/// with its own moment, is not charged again, if the cutoff lies that far back.
+pub fn old_reports_are_dropped()
+    ensures { TakesNoneTooOld }
 {}
 
 /// Turns after turns are turns: what `serve` says of two runs over one book and exchange holds of

@@ -29,4 +29,4 @@ pub use exchange::{Asked, Call, Exchange, Fault};
 pub use rounds::{NoRounds, Rounds};
 pub use server::{Served, serve, take_turn, take_turns};
 pub use slices::{Until, serve_in_slices};
-pub use stepping::{Turn, step};
+pub use stepping::{Turn, step, step_within};

@@ -9,7 +9,7 @@ ghost use Rattle.acct_service.specs.Serving.{drops_of};
 
 use crate::answering::Outbox;
 use crate::exchange::Exchange;
-use crate::stepping::{Turn, step};
+use crate::stepping::{Turn, step_within};
 use acct_book::Book;
 use acct_site::Config;
 use acct_wire::Reason;
@@ -72,8 +72,9 @@ impl Served {
     }
 }
 
-/// Makes one turn: one `next`, and at most one `step` and one `reply` or `note_drop`. What comes is
-/// answered and counted. A fault is counted too, and an entry that was recorded stays recorded when
+/// Makes one turn: one `next`, and at most one `step_within` and one `reply` or `note_drop`. A report
+/// may be at most `oldest` seconds old when it comes, if that is limited. What comes is answered and
+/// counted. A fault is counted too, and an entry that was recorded stays recorded when
 /// its reply fails.
 ///
 /// Turns join (`laws::turns_join`), so all that `serve` says of its end holds after each of its
@@ -85,6 +86,7 @@ impl Served {
 pub fn take_turn<B: Book, X: Exchange>(
     alloc: Global,
     config: &Config,
+    oldest: Option<u64>,
     book: &mut B,
     exchange: &mut X,
     out: &mut Outbox,
@@ -98,7 +100,7 @@ pub fn take_turn<B: Book, X: Exchange>(
         ≡ X.failure_count exchange.old + served.new.faults }
     ensures few { X.failure_count exchange.new ≤ X.failure_count exchange.old + 1 }
     ensures room { (n : ℕ) → AtMost n served.old → AtMost (n + 1) served.new }
-    ensures turn { TakesTurn B.Book config.now book.old book.new (X.told exchange.old)
+    ensures turn { TakesTurn B.Book oldest config.now book.old book.new (X.told exchange.old)
         (X.told exchange.new) served.old served.new }
 {
     match exchange.next() {
@@ -106,7 +108,7 @@ pub fn take_turn<B: Book, X: Exchange>(
         Ok(None) => {}
         Ok(Some(event)) => {
             served.events += 1;
-            match step(alloc, config, book, &event, out) {
+            match step_within(alloc, config, oldest, book, &event, out) {
                 Turn::Reply => match exchange.reply(&event, out.bytes()) {
                     Ok(()) => served.replies += 1,
                     Err(_) => served.faults += 1,
@@ -126,6 +128,7 @@ pub fn take_turn<B: Book, X: Exchange>(
 pub fn take_turns<B: Book, X: Exchange>(
     alloc: Global,
     config: &Config,
+    oldest: Option<u64>,
     book: &mut B,
     exchange: &mut X,
     limit: u64,
@@ -140,11 +143,11 @@ pub fn take_turns<B: Book, X: Exchange>(
         ≡ X.failure_count exchange.old + served.new.faults }
     ensures few { X.failure_count exchange.new ≤ X.failure_count exchange.old + limit }
     ensures room { (n : ℕ) → AtMost n served.old → AtMost (n + limit) served.new }
-    ensures taken { TakesTurns B.Book config.now book.old book.new (X.told exchange.old)
+    ensures taken { TakesTurns B.Book oldest config.now book.old book.new (X.told exchange.old)
         (X.told exchange.new) served.old served.new }
 {
     for turn in 0..limit {
-        take_turn(alloc, config, book, exchange, out, served);
+        take_turn(alloc, config, oldest, book, exchange, out, served);
     }
 }
 
@@ -184,6 +187,15 @@ pub fn serve<B: Book, X: Exchange>(
 {
     let mut out = Outbox::new();
     let mut served = Served::none();
-    take_turns(alloc, config, book, exchange, limit, &mut out, &mut served);
+    take_turns(
+        alloc,
+        config,
+        None,
+        book,
+        exchange,
+        limit,
+        &mut out,
+        &mut served,
+    );
     served
 }

@@ -31,7 +31,8 @@ pub enum Until {
     Stuck,
 }
 
-/// Makes `limit` turns, as `serve` does, in slices, after each of which `rounds` looks round. The
+/// Makes `limit` turns, as `serve` does, in slices, after each of which `rounds` looks round. A
+/// report may be at most `oldest` seconds old when it comes, if that is limited. The
 /// turns that follow have the configuration that it gives, if it gives one. It ends early if the
 /// book refuses to tell a balance after a slice, since a book that is shut answers nobody any more;
 /// or if in a slice the book refused every report that it could have recorded, and there was one.
@@ -45,6 +46,7 @@ pub enum Until {
 pub fn serve_in_slices<B: Book, X: Exchange, G: Rounds>(
     alloc: Global,
     config: &Config,
+    oldest: Option<u64>,
     book: &mut B,
     exchange: &mut X,
     rounds: &mut G,
@@ -57,7 +59,7 @@ pub fn serve_in_slices<B: Book, X: Exchange, G: Rounds>(
     ensures faults { X.failure_count exchange.new
         ≡ X.failure_count exchange.old + result.0.faults }
     ensures within { AtMost limit result.0 }
-    ensures serves { ServesInSlices B.Book config.now book.old book.new (X.told exchange.old)
+    ensures serves { ServesInSlices B.Book oldest config.now book.old book.new (X.told exchange.old)
         (X.told exchange.new) (λ slices. GoRounds G.Rounds rounds.old slices rounds.new)
         result.0 }
     // A book that never refuses to tell a balance ends no run so.
@@ -75,7 +77,16 @@ pub fn serve_in_slices<B: Book, X: Exchange, G: Rounds>(
         let slice = left.min(SLICE);
         let site = changed.as_ref().unwrap_or(config);
         let (answered, refused) = (out.answered(), served.drops_for(Reason::Unavailable));
-        take_turns(alloc, site, book, exchange, slice, &mut out, &mut served);
+        take_turns(
+            alloc,
+            site,
+            oldest,
+            book,
+            exchange,
+            slice,
+            &mut out,
+            &mut served,
+        );
         left -= slice;
         let is_stuck = out.answered() == answered
             && served.drops_for(Reason::Unavailable) > refused;

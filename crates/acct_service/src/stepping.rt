@@ -1,4 +1,5 @@
 //! One event, one answer.
+ghost use Rattle.std.specs.Prelude.{None};
 ghost use Rattle.acct_service.specs.Machine.{TakesStep, answer_of};
 
 use crate::answering::Outbox;
@@ -31,7 +32,23 @@ pub fn step<B: Book>(
     event: &Event,
     out: &mut Outbox,
 ) -> Turn
-    ensures { TakesStep B.Book config.now event.now.moment event.now.what book.old book.new
+    ensures { TakesStep B.Book None config.now event.now.moment event.now.what book.old book.new
+        (answer_of result out.new) }
+{
+    step_within(alloc, config, None, book, event, out)
+}
+
+/// Answers one event as `step` does, but drops a report whose own moment lies more than `oldest`
+/// seconds before the event's (`acct_wire::answer_within`). Without `oldest` no report is too old.
+pub fn step_within<B: Book>(
+    alloc: Global,
+    config: &Config,
+    oldest: Option<u64>,
+    book: &mut B,
+    event: &Event,
+    out: &mut Outbox,
+) -> Turn
+    ensures { TakesStep B.Book oldest config.now event.now.moment event.now.what book.old book.new
         (answer_of result out.new) }
 {
     match &event.what {
@@ -45,7 +62,7 @@ pub fn step<B: Book>(
                 bytes: bytes.as_slice(),
                 moment: event.moment,
             };
-            out.answer_datagram(alloc, config, book, &datagram)
+            out.answer_datagram(alloc, config, oldest, book, &datagram)
         }
         What::Desk { bytes } => {
             out.answer_request(alloc, config, book, bytes.as_slice(), event.moment)

@@ -22,11 +22,12 @@ pub record Agrees {X Y : Type 0} (x : exchange.Ghosts X) (y : exchange.Ghosts Y)
   pub told : y.told other ≡ x.told one
 
 module _ {B X Y : Type 0} (b : book.Ghosts B) (x : exchange.Ghosts X) (y : exchange.Ghosts Y)
-    (config : Config) (turns : ℕ) (Went : List Slice → Type 0) (old new : B) (first last : X)
+    (oldest : Option ℕ) (config : Config) (turns : ℕ) (Went : List Slice → Type 0) (old new : B)
+    (first last : X)
     (given back : Y) (starts : Agrees x y first given) (stops : Agrees x y last back) where
   ran_so : (served : Served) (why : Until)
-      → Ran b x config turns Went old new first last served why
-      → Ran b y config turns Went old new given back served why
+      → Ran b x oldest config turns Went old new first last served why
+      → Ran b y oldest config turns Went old new given back served why
   ran_so served why ran = record {
     turns_made = rw (starts.turns, stops.turns) ran.turns_made;
     shut = ran.shut;
@@ -37,8 +38,8 @@ module _ {B X Y : Type 0} (b : book.Ghosts B) (x : exchange.Ghosts X) (y : excha
   }
 
   pub ends_so : (before after : Option (List ℕ)) (ended : Ended)
-      → Ends b x config turns Went old new first last before after ended
-      → EndsOver b y config turns Went old new given back before after ended
+      → Ends b x oldest config turns Went old new first last before after ended
+      → EndsOver b y oldest config turns Went old new given back before after ended
   ends_so before after (how.Told served why) (ran, printed) = (ran_so served why ran, printed)
   ends_so before after (how.Untold served why) ran = ran_so served why ran
   ends_so before after how.NotBegun (same_book, same_last) = (
@@ -51,11 +52,11 @@ module _ {B X Y : Type 0} (b : book.Ghosts B) (x : exchange.Ghosts X) (y : excha
   )
 
 -- a run of slices, of whose rounds nothing is said any more
-however : {B : Type 0} (b : book.Ghosts B) (config : Config) (old new : B)
+however : {B : Type 0} (b : book.Ghosts B) (oldest : Option ℕ) (config : Config) (old new : B)
     (told later : Option (List Call)) (Went : List Slice → Type 0) (served : Served)
-    → ServesInSlices b config old new told later Went served
-    → ServesInSlices b config old new told later (λ _. ⊤) served
-however b config old new told later Went served run = record {
+    → ServesInSlices b oldest config old new told later Went served
+    → ServesInSlices b oldest config old new told later (λ _. ⊤) served
+however b oldest config old new told later Went served run = record {
   slices = run.slices;
   follow = run.follow;
   same_plans = run.same_plans;
@@ -64,25 +65,25 @@ however b config old new told later Went served run = record {
   counts = run.counts;
 }
 
-module _ {B X : Type 0} (b : book.Ghosts B) (x : exchange.Ghosts X) (config : Config) (turns : ℕ)
-    (Went : List Slice → Type 0) (before_all old new : B) (looked : OnlyLooks b before_all old)
+module _ {B X : Type 0} (b : book.Ghosts B) (x : exchange.Ghosts X) (oldest : Option ℕ)
+    (config : Config) (turns : ℕ) (Went : List Slice → Type 0) (before_all old new : B) (looked : OnlyLooks b before_all old)
     (first last : X) (fresh : x.turn_count first ≡ 0) (faultless : x.failure_count first ≡ 0) where
   ran_however : (served : Served) (why : Until)
-      → Ran b x config turns Went old new first last served why
-      → Ran b x config turns (λ _. ⊤) old new first last served why
+      → Ran b x oldest config turns Went old new first last served why
+      → Ran b x oldest config turns (λ _. ⊤) old new first last served why
   ran_however served why ran = record {
     turns_made = ran.turns_made;
     shut = ran.shut;
     stuck = ran.stuck;
     open_is = ran.open_is;
     faults = ran.faults;
-    run = however b config old new (x.told first) (x.told last) Went served ran.run;
+    run = however b oldest config old new (x.told first) (x.told last) Went served ran.run;
   }
 
   -- a server ended so over an exchange that had made no turn and no fault
   pub ends_afresh : (before after : Option (List ℕ)) (ended : Ended)
-      → EndsOver b x config turns Went old new first last before after ended
-      → EndsAfresh b x config turns before_all new last before after ended
+      → EndsOver b x oldest config turns Went old new first last before after ended
+      → EndsAfresh b x oldest config turns before_all new last before after ended
   ends_afresh before after (how.Told served why) (ran, printed) = record {
     begun = old;
     looked = looked;

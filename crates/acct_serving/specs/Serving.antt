@@ -41,33 +41,33 @@ module _ {B X : Type 0} (b : book.Ghosts B) (x : exchange.Ghosts X) where
   -- How a server ended over an exchange that is handed back. Once it has begun its turns are a run,
   -- whatever the output does. What it then printed is `serving` and the counts of that run, and
   -- nothing else. Before that it does nothing.
-  abbrev pub EndsOver : Config → ℕ → (List Slice → Type 0) → B → B → X → X → Option (List ℕ)
+  abbrev pub EndsOver : Option ℕ → Config → ℕ → (List Slice → Type 0) → B → B → X → X → Option (List ℕ)
       → Option (List ℕ) → Ended → Type 0
-  EndsOver config turns Went old new first last before after (how.Told served why) =
-      Ran b x config turns Went old new first last served why
+  EndsOver oldest config turns Went old new first last before after (how.Told served why) =
+      Ran b x oldest config turns Went old new first last served why
       × Appends before after (whole_text served)
-  EndsOver config turns Went old new first last before after (how.Untold served why) =
-      Ran b x config turns Went old new first last served why
-  EndsOver config turns Went old new first last before after how.NotBegun =
+  EndsOver oldest config turns Went old new first last before after (how.Untold served why) =
+      Ran b x oldest config turns Went old new first last served why
+  EndsOver oldest config turns Went old new first last before after how.NotBegun =
       (new ≡ old) × IsUnasked first last
 
   -- A server ended so over an exchange that had made no turn and no fault. Before it began the book
   -- was read, for the file of balances, and stayed as it was. How the rounds went is not said here:
   -- the file that they poll is one that no contract can name.
-  pub record EndsAfresh (config : Config) (turns : ℕ) (old new : B) (last : X)
+  pub record EndsAfresh (oldest : Option ℕ) (config : Config) (turns : ℕ) (old new : B) (last : X)
       (before after : Option (List ℕ)) (ended : Ended) : Type 0 where
     pub begun : B
     pub looked : OnlyLooks b old begun
     pub first : X
     pub fresh : x.turn_count first ≡ 0
     pub faultless : x.failure_count first ≡ 0
-    pub ends : Ends b x config turns (λ _. ⊤) begun new first last before after ended
+    pub ends : Ends b x oldest config turns (λ _. ⊤) begun new first last before after ended
 
   -- The command: the sockets could not be bound, and nothing was done; or a server ended so over an
   -- exchange that had made no turn and no fault.
-  abbrev pub RunsServer : Config → ℕ → Option (List ℕ) → Option (List ℕ) → Result Status Fault → B
+  abbrev pub RunsServer : Option ℕ → Config → ℕ → Option (List ℕ) → Option (List ℕ) → Result Status Fault → B
       → B → Type 0
-  RunsServer config turns before after result old new =
+  RunsServer oldest config turns before after result old new =
       ((told : Fault) × (result ≡ Err told) × IsUnbound told × (new ≡ old) × (after ≡ before))
       ⊎ ((ended : Ended) × (result ≡ ended_of ended) × ((last : X)
-      × EndsAfresh config turns old new last before after ended))
+      × EndsAfresh oldest config turns old new last before after ended))

@@ -1,11 +1,12 @@
 //! A server over sockets: they are bound, and then it is watched over them.
-ghost use Rattle.std.specs.Prelude.{◌≡◌, ◌<◌, ◌^◌, IfOk, IfErr, OnErr};
+ghost use Rattle.std.specs.Prelude.{◌≡◌, ◌≤◌, ◌<◌, ◌^◌, IfOk, IfErr, IfSome, OnErr};
 ghost use Rattle.acct_book.specs.inner.Step.{OnlyLooks};
+ghost use Rattle.acct_command_line.specs.Orders.{seconds_of};
 ghost use Rattle.acct_serving.specs.Serving.{EndsAfresh, RunsServer, IsUnbound, ended_of};
 
 use crate::watcher::Watcher;
 use acct_book::Book;
-use acct_command_line::{Listening, Serving, Telling};
+use acct_command_line::{Listening, Serving, Telling, seconds_in};
 use acct_commands::{
     Fault, FileRounds, Gauges, KeptBalances, Shared, SiteSource, StateSource, StatusFile,
     StoreFault, Watch,
@@ -73,9 +74,11 @@ pub fn run_serve<
     serving: &Serving,
     output: &mut W,
 ) -> Result<Status, Fault>
-    requires { serving.now.turns < 2 ^ 63 }
+    requires turns { serving.now.turns < 2 ^ 63 }
+    requires days { IfSome serving.now.oldest_report (λ days. days ≤ 36500) }
     ensures done { IfOk result (λ status. status ≡ Status.Done) }
-    ensures serves { RunsServer B.Book ⟦<Sockets<'r, R> as Exchange>⟧ config.now serving.now.turns
+    ensures serves { RunsServer B.Book ⟦<Sockets<'r, R> as Exchange>⟧
+        (seconds_of serving.now.oldest_report) config.now serving.now.turns
         (W.contents output.old) (W.contents output.new) result book.old book.new }
 {
     let served = serve_sockets(
@@ -119,9 +122,10 @@ fn serve_sockets<
     serving: &Serving,
     output: &mut W,
 ) -> Result<(Sockets<'r, R>, Ended), Fault>
-    requires { serving.now.turns < 2 ^ 63 }
+    requires turns { serving.now.turns < 2 ^ 63 }
+    requires days { IfSome serving.now.oldest_report (λ days. days ≤ 36500) }
     ensures serves { IfOk result (λ done. EndsAfresh B.Book ⟦<Sockets<'r, R> as Exchange>⟧
-        config.now serving.now.turns book.old book.new done.0 (W.contents output.old)
+        (seconds_of serving.now.oldest_report) config.now serving.now.turns book.old book.new done.0 (W.contents output.old)
         (W.contents output.new) done.1) }
     ensures unbound { OnErr result ((book.new ≡ book.old) × (output.new ≡ output.old)) }
     ensures why { IfErr result IsUnbound }
@@ -158,8 +162,18 @@ fn serve_sockets<
         drops: watch_on(drops),
         counts,
     };
-    let turns = serving.turns;
-    Ok(watcher.serve(alloc, config, book, sockets, &mut rounds, turns, output))
+    let (turns, oldest) = (serving.turns, seconds_in(serving.oldest_report));
+    let served = watcher.serve(
+        alloc,
+        config,
+        oldest,
+        book,
+        sockets,
+        &mut rounds,
+        turns,
+        output,
+    );
+    Ok(served)
 }
 
 // Writes the file of balances for the first time, if there is one.

@@ -25,7 +25,7 @@ pub struct Watcher<'r, R, D: Write, E: Drop> {
 
 impl<'r, R: Clock + Files, D: Write + Drop, E: Write + Drop> Watcher<'r, R, D, E> {
     /// Serves a configuration over a book and an exchange for so many turns, and hands the exchange
-    /// back. It prints that it serves before the first turn, and the counts after the last one:
+    /// back. A report may be at most `oldest` seconds old when it comes, if that is limited. It prints that it serves before the first turn, and the counts after the last one:
     /// `serve_exchange`, which says how it may end.
     ///
     /// Whatever is told and written of it, the calls of the exchange are those of the run, the
@@ -34,6 +34,7 @@ impl<'r, R: Clock + Files, D: Write + Drop, E: Write + Drop> Watcher<'r, R, D, E
         self,
         alloc: Global,
         config: &Config,
+        oldest: Option<u64>,
         book: &mut B,
         exchange: X,
         rounds: &mut G,
@@ -42,7 +43,7 @@ impl<'r, R: Clock + Files, D: Write + Drop, E: Write + Drop> Watcher<'r, R, D, E
     ) -> (X, Ended)
         requires turns { X.turn_count exchange + turns ≤ 2 ^ 64 - 1 }
         requires failures { X.failure_count exchange + turns ≤ 2 ^ 64 - 1 }
-        ensures { EndsOver B.Book X.Exchange config.now turns
+        ensures { EndsOver B.Book X.Exchange oldest config.now turns
             (λ slices. GoRounds G.Rounds rounds.old slices rounds.new) book.old book.new
             exchange result.0 (W.contents output.old) (W.contents output.new) result.1 }
     {
@@ -52,7 +53,16 @@ impl<'r, R: Clock + Files, D: Write + Drop, E: Write + Drop> Watcher<'r, R, D, E
             counts,
         } = self;
         let mut watched = Watched::new(clock, exchange, drops, counts);
-        let ended = serve_exchange(alloc, config, book, &mut watched, rounds, turns, output);
+        let ended = serve_exchange(
+            alloc,
+            config,
+            oldest,
+            book,
+            &mut watched,
+            rounds,
+            turns,
+            output,
+        );
         let (exchange, _drops) = watched.finish();
         (exchange, ended)
     }

@@ -1,7 +1,8 @@
 -- What an answer says, put together from what its parts say.
 use Rattle.std.proofs.Common.{◌≡◌, ℕ, ◌+◌, ◌≤◌, inl, inr, ⊎_elim, List, ◌++◌, take, drop, refl}
 use Rattle.std.proofs.Common.{sym, ap, ◌∙◌, subst, arith, ◌⊎◌, length}
-use Rattle.std.specs.Prelude.{Some, Result, Ok, Err}
+use Rattle.std.specs.Prelude.{Option, Some, Result, Ok, Err}
+use Rattle.std.proofs.lemmas.Bool.{cases_order}
 use Rattle.std.proofs.lemmas.List.{take_at, drop_at}
 use Rattle.radius_codec.specs.Attributes.{spellings}
 use Rattle.radius_codec.specs.Packet.{proxy_states, reply_octets}
@@ -24,14 +25,14 @@ use Rattle.acct_book.proofs.StepLemmas.{unasked_by, failed_by}
 use Rattle.acct_wire.specs.declared.client.Client.{Client}
 use Rattle.acct_wire.specs.declared.reason.Reason.{Reason}
 use Rattle.acct_wire.specs.declared.reason.Reason.TheVariants.{UnknownClient, BalanceLimit}
-use Rattle.acct_wire.specs.declared.reason.Reason.TheVariants.{Unavailable}
+use Rattle.acct_wire.specs.declared.reason.Reason.TheVariants.{Unavailable, TooOld}
 use Rattle.acct_wire.specs.declared.answering.Outcome.TheVariants.{Reply, Drop}
 use Rattle.acct_wire.specs.Clients.{client_at}
 use Rattle.acct_wire.specs.Datagrams.{IsRequest, IsSpelled, BreaksFirst, Breaks, RequestAsks}
 use Rattle.acct_wire.specs.Datagrams.{RequestAsksFor}
-use Rattle.acct_wire.specs.Datagrams.{IsAsking}
-use Rattle.acct_wire.specs.inner.Datagrams.{reason_of, RefusesAs}
-use Rattle.acct_wire.specs.Outcomes.{AnswersDrop, Answers, WritesReply}
+use Rattle.acct_wire.specs.Datagrams.{IsTooOld}
+use Rattle.acct_wire.specs.inner.Datagrams.{reason_of, RefusesAs, IsDropped}
+use Rattle.acct_wire.specs.Outcomes.{DropsWithin, AnswersWithin, WritesReply}
 use Rattle.acct_wire.proofs.Spelled.{asked_some}
 
 -- ---- the datagram alone
@@ -56,23 +57,19 @@ misspelled secret bytes identifier authenticator attributes entry.TotalTooLarge 
 misspelled secret bytes identifier authenticator attributes entry.Memory request refuses =
     inr (refl, (identifier, authenticator, attributes, request, refuses))
 
--- what is said where a datagram asks for no entry, or for one that memory was refused for
-abbrev pub IsDropped : List Client → List ℕ → List ℕ → Reason → Type 0
-IsDropped clients source bytes reason =
-    Breaks clients source bytes reason ⊎ ((reason ≡ Unavailable) × IsAsking clients source bytes)
-
 -- the attributes of a known client's request are refused
-pub refused : (clients : List Client) (source bytes : List ℕ) (client : Client) (identifier : ℕ)
-    (authenticator : List ℕ) (attributes : Attributes) (reason : Reason)
+pub refused : (oldest : Option ℕ) (clients : List Client) (source bytes : List ℕ) (moment : ℕ)
+    (client : Client) (identifier : ℕ) (authenticator : List ℕ) (attributes : Attributes)
+    (reason : Reason)
     → client_at source clients ≡ Some client
     → IsRequest client.secret bytes identifier authenticator attributes
     → RefusesAs attributes reason
-    → IsDropped clients source bytes reason
-refused clients source bytes client identifier authenticator attributes reason known request
-    (error, refuses, is) =
+    → IsDropped oldest clients source bytes moment reason
+refused oldest clients source bytes moment client identifier authenticator attributes reason known
+    request (error, refuses, is) =
     ⊎_elim (λ breaks. inl
     (inr (client, known, subst (BreaksFirst client.secret bytes) (sym is) breaks)))
-    (λ (memory, spelled). inr (is ∙ memory, (client, known, spelled)))
+    (λ (memory, spelled). inr (inr (is ∙ memory, (client, known, spelled))))
     (misspelled client.secret bytes identifier authenticator attributes error request refuses)
 
 no_limit : (clients : List Client) (source bytes : List ℕ) (reason : Reason)
@@ -89,14 +86,37 @@ no_unavailable clients source bytes reason (inl (none, is)) memory =
 no_unavailable clients source bytes reason (inr (client, known, breaks)) memory =
     subst (BreaksFirst client.secret bytes) memory breaks
 
+no_age : (clients : List Client) (source bytes : List ℕ) (reason : Reason)
+    → Breaks clients source bytes reason → reason ≡ TooOld → ⊥
+no_age clients source bytes reason (inl (none, is)) old =
+    let clash : UnknownClient ≡ TooOld = sym is ∙ old in cc
+no_age clients source bytes reason (inr (client, known, breaks)) old =
+    subst (BreaksFirst client.secret bytes) old breaks
+
 -- a rule that is broken is the reason
-breaks_so : (clients : List Client) (source bytes : List ℕ) (moment : ℕ) (reason : Reason)
-    → Breaks clients source bytes reason → AnswersDrop clients source bytes moment reason unasked
-breaks_so clients source bytes moment BalanceLimit breaks =
+breaks_so : (oldest : Option ℕ) (clients : List Client) (source bytes : List ℕ) (moment : ℕ)
+    (reason : Reason) → Breaks clients source bytes reason
+    → DropsWithin oldest clients source bytes moment reason unasked
+breaks_so oldest clients source bytes moment BalanceLimit breaks =
     absurd (no_limit clients source bytes BalanceLimit breaks refl)
-breaks_so clients source bytes moment Unavailable breaks =
+breaks_so oldest clients source bytes moment Unavailable breaks =
     absurd (no_unavailable clients source bytes Unavailable breaks refl)
-breaks_so clients source bytes moment reason breaks = (breaks, refl)
+breaks_so oldest clients source bytes moment TooOld breaks =
+    absurd (no_age clients source bytes TooOld breaks refl)
+breaks_so oldest clients source bytes moment reason breaks = (breaks, refl)
+
+-- an entry is too old, or it is not
+old_or_not : (oldest : Option ℕ) (moment : ℕ) (asked : Entry)
+    → IsTooOld oldest moment asked ⊎ (¬ IsTooOld oldest moment asked)
+old_or_not (Some oldest) moment (entries.Report report) =
+    elim (cases_order (report.when + oldest) moment) [
+      | inl same ↦ inr (λ less. omega (arith, same, less))
+      | inr order ↦ elim order [
+        | inl less ↦ inl less
+        | inr more ↦ inr (λ less. omega (arith, more, less))
+      ]
+    ]
+old_or_not oldest moment asked = inr (λ old. old)
 
 -- ---- what was done
 
@@ -107,27 +127,43 @@ no_topup name attributes moment (entries.Report report) spelled is = is
 no_topup name attributes moment (entries.Restart restart) spelled is = is
 no_topup name attributes moment (entries.TopUp topup) spelled is = spelled
 
-module _ {B : Type 0} (b : Ghosts B) (clients : List Client) (plans : List Plan)
-    (source bytes : List ℕ) (moment : ℕ) where
+module _ {B : Type 0} (b : Ghosts B) (oldest : Option ℕ) (clients : List Client)
+    (plans : List Plan) (source bytes : List ℕ) (moment : ℕ) where
+  -- there was no memory for an entry that the datagram asks for
+  no_memory : (array : List ℕ) (book : B) (asked : Entry)
+      → RequestAsksFor clients source bytes moment asked
+      → IsTooOld oldest moment asked ⊎ (¬ IsTooOld oldest moment asked)
+      → (effect : Effect)
+      × AnswersWithin oldest clients source bytes moment array (Drop Unavailable) effect
+      × Does b plans book book effect
+  no_memory array book asked asks (inl old) =
+      (unasked, (asked, asks, inl (old, refl)), unasked_by b plans book)
+  no_memory array book asked asks (inr recent) =
+      (failed asked, (asked, asks, inr (recent, refl)), failed_by b plans book asked)
+
   -- the book wasn't asked
   pub dropped_does : (array : List ℕ) (book : B) (reason : Reason)
-      → IsDropped clients source bytes reason
-      → (effect : Effect) × Answers clients source bytes moment array (Drop reason) effect
-      × Does b plans book book effect
+      → IsDropped oldest clients source bytes moment reason
+      → (effect : Effect) × AnswersWithin oldest clients source bytes moment array (Drop reason)
+      effect × Does b plans book book effect
   dropped_does array book reason (inl breaks) =
-      (unasked, breaks_so clients source bytes moment reason breaks, unasked_by b plans book)
-  dropped_does array book reason (inr (memory, asking)) =
-      let (asked, asks) = asked_some clients source bytes moment asking in (
-        failed asked,
-        subst (λ r. AnswersDrop clients source bytes moment r (failed asked)) (sym memory)
-            (asked, asks, refl),
-        failed_by b plans book asked,
-      )
+      (unasked, breaks_so oldest clients source bytes moment reason breaks, unasked_by b plans book)
+  dropped_does array book reason (inr (inl (is, old))) = (
+    unasked,
+    subst (λ r. DropsWithin oldest clients source bytes moment r unasked) (sym is) (old, refl),
+    unasked_by b plans book,
+  )
+  dropped_does array book reason (inr (inr (memory, asking))) =
+      let (asked, asks) = asked_some clients source bytes moment asking in
+      subst (λ r. (effect : Effect)
+      × AnswersWithin oldest clients source bytes moment array (Drop r) effect
+      × Does b plans book book effect) (sym memory)
+      (no_memory array book asked asks (old_or_not oldest moment asked))
 
   module _ (old new : B) (client : Client) (identifier : ℕ) (authenticator : List ℕ)
       (attributes : Attributes) (asked : Entry)
       (asks : RequestAsks clients source bytes moment client identifier authenticator attributes
-      asked)
+      asked) (recent : ¬ IsTooOld oldest moment asked)
     where
       for : RequestAsksFor clients source bytes moment asked
       for = record {
@@ -147,7 +183,8 @@ module _ {B : Type 0} (b : Ghosts B) (clients : List Client) (plans : List Plan)
           → after ≡ reply_octets identifier authenticator attributes secret ++ drop size before
           → size ≡ 20 + length (spellings (proxy_states attributes))
           → Does b plans old new (effect_of asked result)
-          → (effect : Effect) × Answers clients source bytes moment after (Reply size) effect
+          → (effect : Effect)
+          × AnswersWithin oldest clients source bytes moment after (Reply size) effect
           × Does b plans old new effect
       reply_does size before after result New secret same is octets counted does = (
         added asked,
@@ -166,6 +203,7 @@ module _ {B : Type 0} (b : Ghosts B) (clients : List Client) (plans : List Plan)
                 secret ∙ sym counted)
                 ∙ ap (reply_octets identifier authenticator attributes) same;
           },
+          recent,
           refl,
         ),
         subst (λ r. Does b plans old new (effect_of asked r)) is does,
@@ -177,11 +215,12 @@ module _ {B : Type 0} (b : Ghosts B) (clients : List Client) (plans : List Plan)
       pub limit_does : (array : List ℕ) (result : Result Recorded RecordError) (balance : _)
           → result ≡ Err (error.BalanceLimit balance)
           → Does b plans old new (effect_of asked result)
-          → (effect : Effect) × Answers clients source bytes moment array (Drop BalanceLimit) effect
+          → (effect : Effect)
+          × AnswersWithin oldest clients source bytes moment array (Drop BalanceLimit) effect
           × Does b plans old new effect
       limit_does array result balance is does = (
         limited asked balance,
-        (asked, for, (balance, refl)),
+        (asked, for, recent, (balance, refl)),
         subst (λ r. Does b plans old new (effect_of asked r)) is does,
       )
 
@@ -189,11 +228,12 @@ module _ {B : Type 0} (b : Ghosts B) (clients : List Client) (plans : List Plan)
       pub refused_does : (array : List ℕ) (result : Result Recorded RecordError)
           → result ≡ Err error.Unavailable
           → Does b plans old new (effect_of asked result)
-          → (effect : Effect) × Answers clients source bytes moment array (Drop Unavailable) effect
+          → (effect : Effect)
+          × AnswersWithin oldest clients source bytes moment array (Drop Unavailable) effect
           × Does b plans old new effect
       refused_does array result is does = (
         failed asked,
-        (asked, for, refl),
+        (asked, for, inr (recent, refl)),
         subst (λ r. Does b plans old new (effect_of asked r)) is does,
       )
 

@@ -17,7 +17,7 @@ use Rattle.acct_wire.specs.declared.reason.Reason.TheVariants.{WrongCode, BadAut
 use Rattle.acct_wire.specs.declared.reason.Reason.TheVariants.{BadAttribute, NoStatus}
 use Rattle.acct_wire.specs.declared.reason.Reason.TheVariants.{UnknownStatus, NoSessionId, BadField}
 use Rattle.acct_wire.specs.declared.reason.Reason.TheVariants.{TotalTooLarge, BalanceLimit}
-use Rattle.acct_wire.specs.declared.reason.Reason.TheVariants.{Unavailable}
+use Rattle.acct_wire.specs.declared.reason.Reason.TheVariants.{Unavailable, TooOld}
 use Rattle.acct_wire.specs.Clients.{client_at}
 use Rattle.acct_wire.specs.Datagrams.{IsRequest, BeginsFront, BeginsRequest, BeginsSigned}
 use Rattle.acct_wire.specs.Datagrams.{IsMisspelled, IsSpelled, BreaksFirst, IsBroken, IsAsking}
@@ -55,6 +55,7 @@ kept_before BadField = 5
 kept_before TotalTooLarge = 5
 kept_before BalanceLimit = 5
 kept_before Unavailable = 5
+kept_before TooOld = 5
 
 -- a signed request begins so, and its attributes are read
 read_of : (secret bytes : List ℕ) (identifier : ℕ) (authenticator : List ℕ)
@@ -133,6 +134,7 @@ keeps_before secret bytes TotalTooLarge (i, a, ps, request, is) =
     read_of secret bytes i a ps request
 keeps_before secret bytes BalanceLimit breaks = absurd breaks
 keeps_before secret bytes Unavailable breaks = absurd breaks
+keeps_before secret bytes TooOld breaks = absurd breaks
 
 -- the first rule that is broken isn't kept
 breaks_next : (secret bytes : List ℕ) (reason : Reason) → BreaksFirst secret bytes reason
@@ -155,6 +157,7 @@ breaks_next secret bytes TotalTooLarge breaks kept =
     misspelled_none secret bytes entry.TotalTooLarge breaks kept
 breaks_next secret bytes BalanceLimit breaks kept = breaks
 breaks_next secret bytes Unavailable breaks kept = breaks
+breaks_next secret bytes TooOld breaks kept = breaks
 
 -- the reason of the rule behind so many
 abbrev reason_behind : ℕ → Reason
@@ -188,6 +191,7 @@ early_or_late secret bytes BadField breaks = inr (refl, (entry.BadField, breaks,
 early_or_late secret bytes TotalTooLarge breaks = inr (refl, (entry.TotalTooLarge, breaks, refl))
 early_or_late secret bytes BalanceLimit breaks = absurd breaks
 early_or_late secret bytes Unavailable breaks = absurd breaks
+early_or_late secret bytes TooOld breaks = absurd breaks
 
 at_one : (secret bytes : List ℕ) (one other : Reason) → kept_before one ≡ kept_before other
     → IsEarly one ⊎ IsLate secret bytes one → IsEarly other ⊎ IsLate secret bytes other → one

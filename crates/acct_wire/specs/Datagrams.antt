@@ -1,10 +1,12 @@
 -- How a datagram is judged: the first rule that it breaks, or the entry that it asks to be
 -- recorded.
-use Rattle.std.specs.Prelude.{◌≡◌, ◌≢◌, ◌⊎◌, ℕ, ◌≤◌, List, length, drop, slice_index, Some, None}
+use Rattle.std.specs.Prelude.{◌≡◌, ◌≢◌, ◌⊎◌, ◌+◌, ℕ, ◌≤◌, ◌<◌, List, length, drop, slice_index}
+use Rattle.std.specs.Prelude.{Option, Some, None}
 use Rattle.radius_codec.specs.Attributes.{Spells}
 use Rattle.radius_codec.specs.Packet.{HasFront, front_of, Framed, IsFrontFault, IsSigned}
 use Rattle.radius_codec.specs.declared.packet.CodecError.TheVariants as codec
 use Rattle.acct_model.specs.declared.entry.Entry.{Entry}
+use Rattle.acct_model.specs.declared.entry.Entry.TheVariants as entries
 use Rattle.acct_model.specs.declared.reading.EntryError.{EntryError}
 use Rattle.acct_model.specs.declared.reading.EntryError.TheVariants as entry
 use Rattle.acct_model.specs.Entries.{Attributes, refusal_of, IsEntryOf}
@@ -15,7 +17,7 @@ use Rattle.acct_wire.specs.declared.reason.Reason.TheVariants.{WrongCode, BadAut
 use Rattle.acct_wire.specs.declared.reason.Reason.TheVariants.{BadAttribute, NoStatus}
 use Rattle.acct_wire.specs.declared.reason.Reason.TheVariants.{UnknownStatus, NoSessionId, BadField}
 use Rattle.acct_wire.specs.declared.reason.Reason.TheVariants.{TotalTooLarge, BalanceLimit}
-use Rattle.acct_wire.specs.declared.reason.Reason.TheVariants.{Unavailable}
+use Rattle.acct_wire.specs.declared.reason.Reason.TheVariants.{Unavailable, TooOld}
 use Rattle.acct_wire.specs.Clients.{client_at}
 
 -- The bytes begin with an Accounting-Request of this identifier, authenticator and list of
@@ -72,6 +74,7 @@ BreaksFirst secret bytes BadField = IsMisspelled secret bytes entry.BadField
 BreaksFirst secret bytes TotalTooLarge = IsMisspelled secret bytes entry.TotalTooLarge
 BreaksFirst secret bytes BalanceLimit = ⊥
 BreaksFirst secret bytes Unavailable = ⊥
+BreaksFirst secret bytes TooOld = ⊥
 
 -- the source is a client's, and the bytes break this rule first
 abbrev pub IsBroken : List Client → List ℕ → List ℕ → Reason → Type 0
@@ -110,4 +113,16 @@ abbrev pub IsAsking : List Client → List ℕ → List ℕ → Type 0
 IsAsking clients source bytes =
     (client : Client) × (client_at source clients ≡ Some client) × IsSpelled client.secret bytes
 
--- ---- how attributes are read
+-- ---- how old a report may be
+
+-- The entry is a report that is too old at the moment at which it came: its own moment (RFC 2866,
+-- section 5.2) lies more seconds back than a report may be old, if that is limited.
+abbrev pub IsTooOld : Option ℕ → ℕ → Entry → Type 0
+IsTooOld (Some oldest) moment (entries.Report report) = report.when + oldest < moment
+IsTooOld oldest moment asked = ⊥
+
+-- the datagram is a client's signed request for a report that is too old
+abbrev pub AsksTooOld : Option ℕ → List Client → List ℕ → List ℕ → ℕ → Type 0
+AsksTooOld oldest clients source bytes moment =
+    (asked : Entry) × RequestAsksFor clients source bytes moment asked
+    × IsTooOld oldest moment asked

@@ -1,5 +1,5 @@
 -- What a datagram is answered, what that does, and what the array then holds.
-use Rattle.std.specs.Prelude.{◌≡◌, ℕ, ℤ, ◌≤◌, List, take, drop}
+use Rattle.std.specs.Prelude.{◌≡◌, ◌⊎◌, ℕ, ℤ, ◌≤◌, List, take, drop, Option, None}
 use Rattle.radius_codec.specs.Packet.{reply_octets}
 use Rattle.acct_model.specs.declared.entry.Entry.{Entry}
 use Rattle.acct_model.specs.Entries.{Attributes}
@@ -7,9 +7,11 @@ use Rattle.acct_book.specs.Effect.{Effect, added, limited, failed, unasked}
 use Rattle.acct_wire.specs.declared.client.Client.{Client}
 use Rattle.acct_wire.specs.declared.reason.Reason.{Reason}
 use Rattle.acct_wire.specs.declared.reason.Reason.TheVariants.{BalanceLimit, Unavailable}
+use Rattle.acct_wire.specs.declared.reason.Reason.TheVariants.{TooOld}
 use Rattle.acct_wire.specs.declared.answering.Outcome.{Outcome}
 use Rattle.acct_wire.specs.declared.answering.Outcome.TheVariants.{Reply, Drop}
-use Rattle.acct_wire.specs.Datagrams.{Breaks, RequestAsks, RequestAsksFor}
+use Rattle.acct_wire.specs.Datagrams.{Breaks, RequestAsks, RequestAsksFor, IsTooOld}
+use Rattle.acct_wire.specs.Datagrams.{AsksTooOld}
 
 -- The datagram is a client's signed request that spells this entry, and these octets are the reply
 -- to that request (RFC 2866, section 3).
@@ -23,28 +25,46 @@ pub record IsReplyFor (clients : List Client) (source bytes : List ℕ) (moment 
       asked
   pub reply : octets ≡ reply_octets identifier authenticator attributes client.secret
 
--- A reply says that the entry which the datagram asks for was added.
-abbrev pub AnswersReply : List Client → List ℕ → List ℕ → ℕ → List ℕ → Effect → Type 0
-AnswersReply clients source bytes moment octets effect =
-    (asked : Entry) × IsReplyFor clients source bytes moment asked octets × (effect ≡ added asked)
+-- A reply says that the entry which the datagram asks for was added. It is not too old.
+abbrev pub RepliesWithin : Option ℕ → List Client → List ℕ → List ℕ → ℕ → List ℕ → Effect
+    → Type 0
+RepliesWithin oldest clients source bytes moment octets effect =
+    (asked : Entry) × IsReplyFor clients source bytes moment asked octets
+    × (¬ IsTooOld oldest moment asked) × (effect ≡ added asked)
+
+-- The store or memory refused an entry. If it is too old, the book was not asked.
+abbrev pub Fails : Option ℕ → ℕ → Entry → Effect → Type 0
+Fails oldest moment asked effect =
+    (IsTooOld oldest moment asked × (effect ≡ unasked))
+    ⊎ ((¬ IsTooOld oldest moment asked) × (effect ≡ failed asked))
 
 -- A drop for the balance says that the entry was refused; a drop for the book, that the store or
--- memory refused. Any other names the first rule that is broken, and then the book was not asked.
-abbrev pub AnswersDrop : List Client → List ℕ → List ℕ → ℕ → Reason → Effect → Type 0
-AnswersDrop clients source bytes moment BalanceLimit effect =
+-- memory refused; a drop for its age, that it is too old. Any other names the first rule that is
+-- broken. For the age or a rule the book was not asked.
+abbrev pub DropsWithin : Option ℕ → List Client → List ℕ → List ℕ → ℕ → Reason → Effect → Type 0
+DropsWithin oldest clients source bytes moment BalanceLimit effect =
     (asked : Entry) × RequestAsksFor clients source bytes moment asked
-    × ((balance : ℤ) × (effect ≡ limited asked balance))
-AnswersDrop clients source bytes moment Unavailable effect =
-    (asked : Entry) × RequestAsksFor clients source bytes moment asked × (effect ≡ failed asked)
-AnswersDrop clients source bytes moment reason effect =
+    × (¬ IsTooOld oldest moment asked) × ((balance : ℤ) × (effect ≡ limited asked balance))
+DropsWithin oldest clients source bytes moment Unavailable effect =
+    (asked : Entry) × RequestAsksFor clients source bytes moment asked
+    × Fails oldest moment asked effect
+DropsWithin oldest clients source bytes moment TooOld effect =
+    AsksTooOld oldest clients source bytes moment × (effect ≡ unasked)
+DropsWithin oldest clients source bytes moment reason effect =
     Breaks clients source bytes reason × (effect ≡ unasked)
 
--- a datagram may be answered so, where the array then holds these octets, and has this effect
+-- A datagram may be answered so, where the array then holds these octets, and has this effect. A
+-- report may be at most so many seconds old when it comes, if that is limited.
+abbrev pub AnswersWithin : Option ℕ → List Client → List ℕ → List ℕ → ℕ → List ℕ → Outcome → Effect
+    → Type 0
+AnswersWithin oldest clients source bytes moment array (Reply size) effect =
+    RepliesWithin oldest clients source bytes moment (take size array) effect
+AnswersWithin oldest clients source bytes moment array (Drop reason) effect =
+    DropsWithin oldest clients source bytes moment reason effect
+
+-- the same of reports of any age
 abbrev pub Answers : List Client → List ℕ → List ℕ → ℕ → List ℕ → Outcome → Effect → Type 0
-Answers clients source bytes moment array (Reply size) effect =
-    AnswersReply clients source bytes moment (take size array) effect
-Answers clients source bytes moment array (Drop reason) effect =
-    AnswersDrop clients source bytes moment reason effect
+Answers = AnswersWithin None
 
 -- past the reply the array is as it was
 pub record WritesReply (before after : List ℕ) (size : ℕ) : Type 0 where

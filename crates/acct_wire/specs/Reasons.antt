@@ -18,6 +18,7 @@ reason_number reason.BadField = 10
 reason_number reason.TotalTooLarge = 11
 reason_number reason.BalanceLimit = 12
 reason_number reason.Unavailable = 13
+reason_number reason.TooOld = 14
 
 -- its name, which operators see beside the number
 abbrev pub reason_name : Reason → List ℕ
@@ -34,3 +35,4 @@ reason_name reason.BadField = codes "BadField"
 reason_name reason.TotalTooLarge = codes "TotalTooLarge"
 reason_name reason.BalanceLimit = codes "BalanceLimit"
 reason_name reason.Unavailable = codes "Unavailable"
+reason_name reason.TooOld = codes "TooOld"

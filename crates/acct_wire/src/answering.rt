@@ -1,12 +1,12 @@
 //! A datagram judged, recorded and answered.
-ghost use Rattle.std.specs.Prelude.{◌≡◌, ◌⊎◌, ◌≤◌, ◌<◌, ◌^◌, IfOk, IfErr};
+ghost use Rattle.std.specs.Prelude.{◌≡◌, ◌↔◌, ◌≤◌, ◌<◌, ◌^◌, IfOk, IfErr, IsTrue};
 ghost use Rattle.acct_book.specs.Effect.{Effect};
 ghost use Rattle.acct_book.specs.Step.{Does};
-ghost use Rattle.acct_wire.specs.Datagrams.{IsRequest, BreaksFirst, Breaks, RequestAsks};
-ghost use Rattle.acct_wire.specs.Datagrams.{IsAsking};
+ghost use Rattle.acct_wire.specs.Datagrams.{IsRequest, BreaksFirst, RequestAsks};
+ghost use Rattle.acct_wire.specs.Datagrams.{IsTooOld};
 ghost use Rattle.acct_wire.specs.inner.Datagrams.{SpellsEntry, reason_of as reason_in};
-ghost use Rattle.acct_wire.specs.inner.Datagrams.{RefusesAs};
-ghost use Rattle.acct_wire.specs.Outcomes.{Answers, Written};
+ghost use Rattle.acct_wire.specs.inner.Datagrams.{RefusesAs, IsDropped};
+ghost use Rattle.acct_wire.specs.Outcomes.{Answers, AnswersWithin, Written};
 
 use crate::client::{Client, Clients};
 use crate::datagram::Datagram;
@@ -50,7 +50,29 @@ pub fn answer<B: Book>(
         × Does B.Book plans.now book.old book.new effect }
     ensures written { Written out.old out.new result }
 {
-    let request = match requested(alloc, clients, datagram) {
+    answer_within(alloc, clients, plans, None, book, datagram, out)
+}
+
+/// Answers a datagram as `answer` does, but drops a report that is too old: its own moment lies more
+/// than `oldest` seconds before the datagram's. That is tested before the book is asked. Without
+/// `oldest` no report is too old.
+pub fn answer_within<B: Book>(
+    alloc: Global,
+    clients: &Clients,
+    plans: &Plans,
+    oldest: Option<u64>,
+    book: &mut B,
+    datagram: &Datagram<'_>,
+    out: &mut [u8; 4096],
+) -> Outcome
+    // What is answered and what that does, over any book, and what the array then holds.
+    ensures answers { (effect : Effect)
+        × AnswersWithin oldest clients.now datagram.now.source datagram.now.bytes.now
+        datagram.now.moment out.new result effect
+        × Does B.Book plans.now book.old book.new effect }
+    ensures written { Written out.old out.new result }
+{
+    let request = match requested(alloc, clients, oldest, datagram) {
         Ok(request) => request,
         Err(reason) => return Outcome::Drop(reason),
     };
@@ -77,15 +99,16 @@ struct Request<'c, 'b> {
 fn requested<'c, 'b>(
     alloc: Global,
     clients: &'c Clients,
+    oldest: Option<u64>,
     datagram: &Datagram<'b>,
 ) -> Result<Request<'c, 'b>, Reason>
     ensures asks { IfOk result (λ request. RequestAsks clients.now datagram.now.source
         datagram.now.bytes.now datagram.now.moment request.client.now request.packet.id
         request.packet.authenticator request.packet.attributes request.entry) }
-    ensures dropped { IfErr result (λ reason.
-        Breaks clients.now datagram.now.source datagram.now.bytes.now reason
-        ⊎ ((reason ≡ Reason.Unavailable)
-        × IsAsking clients.now datagram.now.source datagram.now.bytes.now)) }
+    ensures recent { IfOk result (λ request.
+        ¬ IsTooOld oldest datagram.now.moment request.entry) }
+    ensures dropped { IfErr result (IsDropped oldest clients.now datagram.now.source
+        datagram.now.bytes.now datagram.now.moment) }
 {
     let Some(client) = clients.at(datagram.source) else {
         return Err(Reason::UnknownClient);
@@ -94,13 +117,27 @@ fn requested<'c, 'b>(
         Ok(packet) => packet,
         Err(reason) => return Err(reason),
     };
-    match asked_of(alloc, client.name.as_str(), &packet, datagram.moment) {
-        Ok(entry) => Ok(Request {
-            client,
-            packet,
-            entry,
-        }),
-        Err(reason) => Err(reason),
+    let entry = match asked_of(alloc, client.name.as_str(), &packet, datagram.moment) {
+        Ok(entry) => entry,
+        Err(reason) => return Err(reason),
+    };
+    if is_too_old(&entry, oldest, datagram.moment) {
+        return Err(Reason::TooOld);
+    }
+    Ok(Request {
+        client,
+        packet,
+        entry,
+    })
+}
+
+// Whether an entry is a report whose own moment lies more than so many seconds before another one.
+fn is_too_old(entry: &Entry, oldest: Option<u64>, moment: u64) -> bool
+    ensures { IsTrue result ↔ IsTooOld oldest moment entry.now }
+{
+    match (oldest, entry) {
+        (Some(oldest), Entry::Report(report)) => oldest < moment.saturating_sub(report.when),
+        _ => false,
     }
 }
 

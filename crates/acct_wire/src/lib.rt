@@ -10,6 +10,7 @@
 //!    (RFC 2866, section 4). Writing it takes no memory.
 //! 4. An entry that would take a balance out of range is dropped (12), and so is one that the book
 //!    or memory refuses (13). Nothing has changed then, in a book that goes on answering.
+//! 5. A report may be dropped for its age (14), before the book is asked (`answer_within`).
 #![tactic(auto)]
 
 mod answering;
@@ -18,7 +19,7 @@ mod datagram;
 pub mod laws;
 mod reason;
 
-pub use answering::{Outcome, answer};
+pub use answering::{Outcome, answer, answer_within};
 pub use client::{Client, ClientError, Clients};
 pub use datagram::Datagram;
 pub use reason::Reason;

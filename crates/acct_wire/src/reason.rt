@@ -6,8 +6,8 @@ ghost use Rattle.acct_wire.specs.declared.reason.TheConstants.Reason.{COUNT};
 use std::error::Error;
 use std::fmt;
 
-/// Why a datagram is dropped, in the order in which it is tested. The number of a reason is the one
-/// that operators see.
+/// Why a datagram is dropped. It is tested in the order of the numbers, but for 14, which stands
+/// between 11 and 12. The number of a reason is the one that operators see.
 #[derive(Clone, Copy, PartialEq, Eq, Debug)]
 pub enum Reason {
     /// No client has the address that it came from (RFC 2866, section 3).
@@ -36,11 +36,13 @@ pub enum Reason {
     BalanceLimit = 12,
     /// The book or memory refused.
     Unavailable = 13,
+    /// A report is older than the server takes it.
+    TooOld = 14,
 }
 
 impl Reason {
     /// How many reasons there are. They are numbered from 1 on, and no number is left out.
-    pub const COUNT: usize = 13;
+    pub const COUNT: usize = 14;
 
     /// The number that operators see, 1 to `COUNT`.
     pub fn number(self) -> u8
@@ -69,6 +71,7 @@ impl Reason {
             Reason::TotalTooLarge => "TotalTooLarge",
             Reason::BalanceLimit => "BalanceLimit",
             Reason::Unavailable => "Unavailable",
+            Reason::TooOld => "TooOld",
         }
     }
 
@@ -90,6 +93,7 @@ impl Reason {
             Reason::TotalTooLarge => "the total is above 9223372036854775807 octets",
             Reason::BalanceLimit => "the balance would leave its range",
             Reason::Unavailable => "the book is unavailable",
+            Reason::TooOld => "the report is too old",
         }
     }
 }

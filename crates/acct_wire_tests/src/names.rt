@@ -19,6 +19,7 @@ static REASONS: [Reason; Reason::COUNT] = [
     Reason::TotalTooLarge,
     Reason::BalanceLimit,
     Reason::Unavailable,
+    Reason::TooOld,
 ];
 
 // Their names in the same order, as the table of drops has them for operators.
@@ -36,6 +37,7 @@ const NAMES: [&str; Reason::COUNT] = [
     "TotalTooLarge",
     "BalanceLimit",
     "Unavailable",
+    "TooOld",
 ];
 
 const CLIENT_ERRORS: [u8; 3] = [

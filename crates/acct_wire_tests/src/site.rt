@@ -3,7 +3,7 @@ use acct_book::{Book, Key, MemBook, Row};
 use acct_fakes::FailingBook;
 use acct_model::{Octets, Plans, Text};
 use acct_samples::{sample_clients, sample_plans};
-use acct_wire::{Clients, Datagram, Outcome, answer};
+use acct_wire::{Clients, Datagram, Outcome, answer, answer_within};
 use foreign_packets::SECRET;
 use radius_codec::{sign_request, write_request};
 use std::alloc::Global;
@@ -18,11 +18,12 @@ pub(crate) const STRANGER: [u8; 4] = [10, 0, 0, 2];
 /// A reply without Proxy-States.
 pub(crate) const SHORT_REPLY: Outcome = Outcome::Reply(20);
 
-/// The sample site, its book, of which a call can be refused, and the array that its replies are
-/// written to.
+/// The sample site, its book, of which a call can be refused, how many seconds old a report may be,
+/// and the array that its replies are written to.
 pub(crate) struct Site {
     pub(crate) book: FailingBook<MemBook>,
     pub(crate) plans: Plans,
+    pub(crate) oldest: Option<u64>,
     pub(crate) out: [u8; 4096],
     alloc: Global,
     clients: Clients,
@@ -34,6 +35,7 @@ impl Drop for Site {
         let Site {
             book: _,
             plans: _,
+            oldest: _,
             out: _,
             alloc: _,
             clients: _,
@@ -49,27 +51,39 @@ impl Site {
         Ok(Site {
             book: FailingBook::new(MemBook::new(alloc), 0),
             plans,
+            oldest: None,
             out: [0; 4096],
             alloc,
             clients,
         })
     }
 
-    /// Answers a datagram.
+    /// Answers a datagram, by the plain call if a report may have any age.
     pub(crate) fn answer(&mut self, source: [u8; 4], moment: u32, bytes: &[u8]) -> Outcome {
         let datagram = Datagram {
             source,
             bytes,
             moment: u64::from(moment),
         };
-        answer(
-            self.alloc,
-            &self.clients,
-            &self.plans,
-            &mut self.book,
-            &datagram,
-            &mut self.out,
-        )
+        match self.oldest {
+            None => answer(
+                self.alloc,
+                &self.clients,
+                &self.plans,
+                &mut self.book,
+                &datagram,
+                &mut self.out,
+            ),
+            Some(_) => answer_within(
+                self.alloc,
+                &self.clients,
+                &self.plans,
+                self.oldest,
+                &mut self.book,
+                &datagram,
+                &mut self.out,
+            ),
+        }
     }
 
     /// Answers a request of `ap1` with these attribute octets, signed.

@@ -7,6 +7,8 @@ mod books;
 #[cfg(test)]
 mod forward;
 #[cfg(test)]
+mod late;
+#[cfg(test)]
 mod refusals;
 #[cfg(test)]
 mod reports;

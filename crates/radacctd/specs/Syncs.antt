@@ -14,7 +14,7 @@ EitherWay (Twice b) This That = That b
 -- the job is a server that is to sync its book once before it answers a report
 abbrev pub SyncsOnce : Job → Type 0
 SyncsOnce (job.Feed config) = ⊥
-SyncsOnce (job.Check config database kept) = ⊥
+SyncsOnce (job.Check config database kept audits) = ⊥
 SyncsOnce (job.Init paths) = ⊥
 SyncsOnce (job.Serve paths serving) = serving.syncs ≡ syncs.Once
 SyncsOnce (job.Import paths) = ⊥

@@ -1,14 +1,16 @@
 -- How a refusal of attributes is a reason for a drop.
-use Rattle.std.specs.Prelude.{◌≡◌, ℕ, List, None}
+use Rattle.std.specs.Prelude.{◌≡◌, ◌⊎◌, ℕ, List, Option, None}
 use Rattle.acct_model.specs.declared.entry.Entry.{Entry}
 use Rattle.acct_model.specs.declared.reading.EntryError.{EntryError}
 use Rattle.acct_model.specs.declared.reading.EntryError.TheVariants as entry
 use Rattle.acct_model.specs.Entries.{Attributes, refusal_of, RefusesEntry, IsEntryOf}
+use Rattle.acct_wire.specs.declared.client.Client.{Client}
 use Rattle.acct_wire.specs.declared.reason.Reason.{Reason}
 use Rattle.acct_wire.specs.declared.reason.Reason.TheVariants.{NoStatus}
 use Rattle.acct_wire.specs.declared.reason.Reason.TheVariants.{UnknownStatus, NoSessionId, BadField}
 use Rattle.acct_wire.specs.declared.reason.Reason.TheVariants.{TotalTooLarge}
-use Rattle.acct_wire.specs.declared.reason.Reason.TheVariants.{Unavailable}
+use Rattle.acct_wire.specs.declared.reason.Reason.TheVariants.{Unavailable, TooOld}
+use Rattle.acct_wire.specs.Datagrams.{Breaks, IsAsking, AsksTooOld}
 
 -- the attributes are faultless and spell this entry
 abbrev pub SpellsEntry : List ℕ → Attributes → ℕ → Entry → Type 0
@@ -28,3 +30,11 @@ reason_of entry.Memory = Unavailable
 abbrev pub RefusesAs : Attributes → Reason → Type 0
 RefusesAs attributes reason =
     (error : EntryError) × RefusesEntry (refusal_of attributes) error × (reason ≡ reason_of error)
+
+-- Why a datagram is dropped before the book is asked: it breaks a rule, or it asks for an entry that
+-- is too old, or for which there was no memory.
+abbrev pub IsDropped : Option ℕ → List Client → List ℕ → List ℕ → ℕ → Reason → Type 0
+IsDropped oldest clients source bytes moment reason =
+    Breaks clients source bytes reason
+    ⊎ (((reason ≡ TooOld) × AsksTooOld oldest clients source bytes moment)
+    ⊎ ((reason ≡ Unavailable) × IsAsking clients source bytes))

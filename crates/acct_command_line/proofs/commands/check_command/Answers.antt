@@ -6,4 +6,5 @@ returns c =
     c.database_option.ensures.rule in
     let status = c.with_option-command-2.ensures _ _ database c.status_option.ensures.rule in
     let balances = c.with_option-command-3.ensures _ _ status c.balances_option.ensures.rule in
-    c.with_option.ensures _ _ balances c.explain_flag.ensures.rule
+    let audit = c.with_option-command-4.ensures _ _ balances c.in_ok-audit.ensures.rule in
+    c.with_option.ensures _ _ audit c.explain_flag.ensures.rule

@@ -12,4 +12,5 @@ returns c =
     let quiet = c.with_option-command-7.ensures _ _ sync c.quiet_flag.ensures.rule in
     let status = c.with_option-command-8.ensures _ _ quiet c.status_option.ensures.rule in
     let balances = c.with_option-command-9.ensures _ _ status c.balances_option.ensures.rule in
-    c.with_option.ensures _ _ balances c.in_ok-balances_every.ensures.rule
+    let every = c.with_option-command-10.ensures _ _ balances c.in_ok-balances_every.ensures.rule in
+    c.with_option.ensures _ _ every c.oldest_option.ensures.rule

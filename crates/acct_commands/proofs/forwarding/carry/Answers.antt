@@ -11,4 +11,5 @@ pub returns : goal.returns
 returns g c =
     forwards_carried g.B.Book c.args.plans.now c.args.carrying.now c.args.moment
     c.args.selection.now c.args.book.now c.carry_all.new.book c.carry_all.result
-    c.if-carrying.false c.requires.selected c.carry_all.ensures
+    c.if-carrying.false c.requires.selected c.requires.far c.requires.timely
+    c.carry_all.ensures

@@ -14,7 +14,7 @@ returns-in-Feed-clause-does g c =
 
 pub returns-in-Check-clause-does : goal.returns-in-Check-clause-does
 returns-in-Check-clause-does g c =
-    rw c.in-Check.is (rw c.as_ref-in-Check.ensures.value at c.check.ensures.does)
+    rw c.in-Check.is (rw c.as_ref-database.ensures.value at c.check.ensures.does)
 
 pub returns-in-Init-clause-does : goal.returns-in-Init-clause-does
 returns-in-Init-clause-does g c =

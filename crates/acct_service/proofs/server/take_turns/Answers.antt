@@ -11,7 +11,7 @@ loop-turn-init g c =
       faults = omega arith;
       few = omega arith;
       room = λ n most. at_most_greater n (n + 0) c.args.served.now (omega arith) most;
-      taken = turns_none b c.args.config.now c.args.book.now (x.told c.args.exchange.now)
+      taken = turns_none b c.args.oldest c.args.config.now c.args.book.now (x.told c.args.exchange.now)
           c.args.served.now;
     }
 
@@ -28,7 +28,7 @@ loop-turn-preserved g c =
       room = λ n most. at_most_greater (n + c.loop-turn.turn + 1) (n + (c.loop-turn.turn + 1))
           c.take_turn.new.served (omega arith)
           (turn.room (n + c.loop-turn.turn) (before.room n most));
-      taken = turns_more b c.args.config.now c.args.book.now c.loop-turn.book
+      taken = turns_more b c.args.oldest c.args.config.now c.args.book.now c.loop-turn.book
           c.take_turn.new.book (x.told c.args.exchange.now) (x.told c.loop-turn.exchange)
           (x.told c.take_turn.new.exchange) c.args.served.now c.loop-turn.served
           c.take_turn.new.served before.taken turn.turn;

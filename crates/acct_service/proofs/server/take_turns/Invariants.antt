@@ -12,6 +12,6 @@ invariant-loop-turn g l =
           ≡ x.failure_count l.fn.exchange + l.served.faults;
       few : x.failure_count l.exchange ≤ x.failure_count l.fn.exchange + l.turn;
       room : (n : ℕ) → AtMost n l.fn.served → AtMost (n + l.turn) l.served;
-      taken : TakesTurns b l.config l.fn.book l.book (x.told l.fn.exchange) (x.told l.exchange)
+      taken : TakesTurns b l.oldest l.config l.fn.book l.book (x.told l.fn.exchange) (x.told l.exchange)
           l.fn.served l.served;
     }

@@ -14,7 +14,7 @@ loop-left-init g c =
       open_is = λ less. absurd (omega (arith, less));
       room = at_most_greater 0 _ c.none-served.result (omega arith)
           (none_at_most c.none-served.result none.counts none.faults);
-      reached = reached_none g.B.Book g.G.Rounds c.args.config.now c.args.book.now
+      reached = reached_none g.B.Book g.G.Rounds c.args.oldest c.args.config.now c.args.book.now
           (x.told c.args.exchange.now) c.args.rounds.now c.none-served.result none.counts;
     }
 
@@ -30,7 +30,7 @@ returns-in-Some-clause-serves g c =
     let r = g.G.Rounds in
     let found = ap (λ (s : _). s.now) c.unwrap_or-site.ensures
     ∙ site_found c.args.config c.loop-left.changed c.as_ref.result c.as_ref.ensures.value in
-    (reached_slice b r c.args.config.now c.args.book.now c.loop-left.book c.take_turns.new.book
+    (reached_slice b r c.args.oldest c.args.config.now c.args.book.now c.loop-left.book c.take_turns.new.book
     c.go_round.new.book c.ending.new.book (x.told c.args.exchange.now)
     (x.told c.loop-left.exchange) (x.told c.take_turns.new.exchange)
     c.args.rounds.now c.loop-left.rounds c.go_round.new.self
@@ -48,7 +48,7 @@ loop-left-preserved g c =
     let turns = c.take_turns.ensures in
     let found = ap (λ (s : _). s.now) c.unwrap_or-site.ensures
     ∙ site_found c.args.config c.loop-left.changed c.as_ref.result c.as_ref.ensures.value in
-    let reached = reached_slice b r c.args.config.now c.args.book.now c.loop-left.book
+    let reached = reached_slice b r c.args.oldest c.args.config.now c.args.book.now c.loop-left.book
     c.take_turns.new.book c.go_round.new.book c.ending.new.book (x.told c.args.exchange.now)
     (x.told c.loop-left.exchange) (x.told c.take_turns.new.exchange)
     c.args.rounds.now c.loop-left.rounds c.go_round.new.self

@@ -15,7 +15,7 @@ invariant-loop-left g l =
       faults : x.failure_count l.exchange ≡ x.failure_count l.fn.exchange + l.served.faults;
       open_is : l.left < l.limit → b.is_sound l.book → b.is_open l.book;
       room : AtMost (l.limit - l.left) l.served;
-      reached : Reached b r l.config l.fn.book l.book (x.told l.fn.exchange) (x.told l.exchange)
+      reached : Reached b r l.oldest l.config l.fn.book l.book (x.told l.fn.exchange) (x.told l.exchange)
           l.fn.rounds l.rounds (unwrap_or l.changed l.config) l.served;
     }
 

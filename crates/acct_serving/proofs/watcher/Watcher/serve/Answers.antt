@@ -6,7 +6,7 @@ pub returns : goal.returns
 returns g c =
     let begun = c.new-watched.ensures in
     let done = c.finish-exchange.ensures in
-    ends_so _ _ _ _ _ _ _ _ _ _ _ _ (record {
+    ends_so _ _ _ _ _ _ _ _ _ _ _ _ _ (record {
       turns = sym begun.turns;
       failures = sym begun.failures;
       told = sym begun.told;
