@@ -24,20 +24,21 @@ _radacctd() {
         --turns) words='9223372036854775807' ;;
         --sync) words='once twice' ;;
         --balances-every) words='60' ;;
+        --oldest-report) words='' ;;
         --before) words='90' ;;
         --at) words='' ;;
         --silent) words='' ;;
         --keep) words='' ;;
         *) case $command in
             feed) words='--config --explain --help' ;;
-            check) words='--config --db --status --balances --explain --help' ;;
+            check) words='--config --db --status --balances --audit --explain --help' ;;
             init) words='--config --db --explain --help' ;;
-            serve) words='--config --db --explain --bind --desk-bind --radius-port --desk-port --turns --sync --quiet --status --balances --balances-every --help' ;;
+            serve) words='--config --db --explain --bind --desk-bind --radius-port --desk-port --turns --sync --quiet --status --balances --balances-every --oldest-report --help' ;;
             import) words='--config --db --explain --help' ;;
             export) words='--config --db --explain --help sessions balances topups overruns' ;;
             migrate) words='--config --db --explain --help' ;;
             plans) words='--config --db --explain --help' ;;
-            forward) words='--config --db --explain --before --at --silent --keep --dry-run --yes --help' ;;
+            forward) words='--config --db --explain --before --at --silent --keep --dry-run --yes --oldest-report --help' ;;
             help) words='feed check init serve import export migrate plans forward' ;;
             *) words='feed check init serve import export migrate plans forward help --help --version' ;;
         esac ;;
