@@ -18,7 +18,9 @@ const AGAIN: &[u8] = b"\x28\x06\0\0\0\x02\x2c\x04s1\x01\x04al\x19\x06gold\x2a\x0
 
 // When the Stop comes, when it is carried forward, and when it comes again.
 const FIRST: u32 = 1_000;
+
 const CARRIED: u32 = 8_500;
+
 const LATE: u32 = 9_000;
 
 // What becomes of what `ap1` sends, if a report may be so many seconds old.
@@ -39,9 +41,7 @@ fn outcome<B: Book>(
     };
     let (clients, plans) = (&site.clients, &site.plans);
     let mut out = [0; 4096];
-    Ok(answer_within(
-        alloc, clients, plans, oldest, book, &datagram, &mut out,
-    ))
+    Ok(answer_within(alloc, clients, plans, oldest, book, &datagram, &mut out))
 }
 
 // Carries the sessions of `al` forward, and returns how many there were.
