@@ -116,7 +116,7 @@ was_found f (Some x) y h = let same : f x ≡ y = cc in (x, refl, sym same)
 -- ---- a row of each table
 
 -- a session of fewer than 2^64 seconds is one whose plan is kept
-plan_told : (plan : Option (List ℕ)) (bare facts : RowFacts) → facts ≡ with_plan plan bare
+pub plan_told : (plan : Option (List ℕ)) (bare facts : RowFacts) → facts ≡ with_plan plan bare
     → facts.seconds < 2 ^ 64
     → (class : List ℕ) × (plan ≡ Some class) × (facts ≡ record bare { plan = class })
 plan_told None bare facts is fits =

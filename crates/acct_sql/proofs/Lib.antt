@@ -4,3 +4,5 @@ mod ColumnLemmas
 mod KeptPlanLemmas
 mod TiedLemmas
 mod RememberLemmas
+mod CacheLemmas
+mod KnownLemmas

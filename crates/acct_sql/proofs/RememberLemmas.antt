@@ -1,11 +1,10 @@
--- What a book remembers stays true of its tables.
+-- The clients that a book remembers have no live session.
 use Rattle.std.proofs.Common.{◌≡◌, ◌≢◌, ◌⊎◌, inl, inr, ℕ, ℤ, List, [], ◌∷◌, ◌++◌, Bool, true, false, cond}
-use Rattle.std.proofs.Common.{Option, Some, None, option_map, Ok, Err, Result, OnOk, OnErr, IfSome}
+use Rattle.std.proofs.Common.{Option, Some, None, option_map, Ok, Err, Result, OnOk, OnErr}
 use Rattle.std.proofs.Common.{refl, sym, ap, subst, ◌∙◌, true≢false, bytes_eq}
 use Rattle.std.proofs.lemmas.Slice.Eq.{bytes_eq-Decides}
 use Rattle.sqlite.specs.Store.{Ghosts}
 use Rattle.sqlite.specs.Held.{Held, state}
-use Rattle.sqlite.specs.Effect.{Database}
 use Rattle.sqlite.specs.State.{State}
 use Rattle.sqlite_rules.specs.Lists.{Has}
 use Rattle.sqlite_rules.proofs.ListLemmas.{has_either, has_filtered, some_has}
@@ -19,46 +18,28 @@ use Rattle.acct_book.specs.declared.row.SessionState.TheVariants.{Live, Closed, 
 use Rattle.acct_book.specs.Row.{RowFacts}
 use Rattle.acct_book.specs.Content.{Content, same_key, key_of, with_session, with_topup, with_closed}
 use Rattle.acct_book.specs.Content.{closed_by, closed_row, rows_without, with_forward}
-use Rattle.acct_sql.specs.declared.memory.ReadSession.{ReadSession}
 use Rattle.acct_sql.specs.declared.memory.Memory.{Memory}
-use Rattle.acct_tables.specs.Content.{content_in_tables, plans_in_tables}
+use Rattle.acct_tables.specs.Content.{content_in_tables}
 use Rattle.acct_tables.specs.Book.{IsOpenBook, Wrote, content_at, is_open_at}
 use Rattle.acct_tables.specs.inner.AtRest.{ReadsAtRest, WritesAtRest}
-use Rattle.acct_sql.specs.inner.Remembered.{IsReadOf, IsLastRead, KeepsPlan, HasEnded}
-use Rattle.acct_sql.specs.inner.Remembered.{AreEndedAfter, Remembers}
-use Rattle.acct_tables.specs.inner.Inside.{HasPlanOf}
+use Rattle.acct_sql.specs.inner.Remembered.{HasEnded, AreEndedAfter, Remembers}
 
 -- ---- a read
 
-plan_after : {S T E : Type 0} (g : Ghosts S) (old new : Held S) (result : Result T E)
-    → ReadsAtRest g old new result → (read : Option ReadSession)
-    → IfSome read (λ r. KeepsPlan (state g old) r.key r.plan)
-    → IfSome read (λ r. KeepsPlan (state g new) r.key r.plan)
-plan_after g old new result reads None kept = tt
-plan_after g old new result reads (Some r) kept = λ o.
-    ap (λ (d : Database). plans_in_tables d.trees r.key) (reads.tables o)
-    ∙ kept (reads.read.was_open o)
+-- no client is remembered
+pub remembers_none : (s : State) (memory : Memory) → memory.ended.items ≡ [] → Remembers s memory
+remembers_none s memory none = record {
+  ended = λ client there. absurd (subst (λ names. Has names client) none there);
+}
 
 -- a read leaves all of it true
 pub remembers_read : {S T E : Type 0} (g : Ghosts S) (old new : Held S) (result : Result T E)
     (memory : Memory) → ReadsAtRest g old new result → Remembers (state g old) memory
     → Remembers (state g new) memory
 remembers_read g old new result memory reads was = record {
-  read = plan_after g old new result reads memory.last_read was.read;
   ended = λ client there o. subst (λ content. HasEnded content client)
       (sym (reads.read.same o)) (was.ended client there (reads.read.was_open o));
 }
-
--- the plan of a row that was read last is kept
-pub planned : (s : State) (memory : Memory) (row : RowFacts) → Remembers s memory
-    → IsLastRead row memory.last_read → IsOpenBook s → HasPlanOf row s
-planned s memory row was is o = go memory.last_read was.read is
-  where
-    go : (read : Option ReadSession) → IfSome read (λ r. KeepsPlan s r.key r.plan)
-        → IsLastRead row read → HasPlanOf row s
-    go None kept never = absurd never
-    go (Some read) kept is = ap (plans_in_tables s.now.trees) (sym is.key_is) ∙ (kept o
-        ∙ ap Some is.plan_is)
 
 -- ---- a write
 
@@ -221,40 +202,14 @@ not_true : (b : Bool) → not b ≡ true → b ≡ false
 not_true false is = refl
 not_true true is = absurd (true≢false (sym is))
 
-none_read : (P : ReadSession → Type 0) (read : Option ReadSession) → read ≡ None → IfSome read P
-none_read P read is = subst (λ r. IfSome r P) (sym is) tt
-
 module _ {S T E : Type 0} (g : Ghosts S) (old new : Held S) (before after : Memory)
     (result : Result T E) (was : Remembers (state g old) before) where
-  -- a session that was read is remembered
-  pub remembers_session : (row : Option RowFacts) → ReadsAtRest g old new result
-      → IsReadOf row after.last_read → after.ended.items ≡ before.ended.items
-      → (is_open_at g new → IfSome row (λ r. HasPlanOf r (state g old)))
-      → Remembers (state g new) after
-  remembers_session row reads is same kept = record {
-    read = go row after.last_read is kept;
-    ended = λ client there o. subst (λ content. HasEnded content client)
-        (sym (reads.read.same o)) (was.ended client (subst (λ names. Has names client) same there)
-        (reads.read.was_open o));
-  }
-    where
-      go : (row : Option RowFacts) (read : Option ReadSession) → IsReadOf row read
-          → (is_open_at g new → IfSome row (λ r. HasPlanOf r (state g old)))
-          → IfSome read (λ r. KeepsPlan (state g new) r.key r.plan)
-      go row None is kept = tt
-      go None (Some read) never kept = absurd never
-      go (Some row) (Some read) is kept = λ o.
-          ap (λ (d : Database). plans_in_tables d.trees read.key) (reads.tables o)
-          ∙ (ap (plans_in_tables (state g old).now.trees) is.key_is ∙ (kept o
-          ∙ ap Some (sym is.plan_is)))
-
   -- a row was set
-  pub remembers_set : (row : RowFacts) (balance : ℤ) → after.last_read ≡ None
+  pub remembers_set : (row : RowFacts) (balance : ℤ)
       → AreEndedAfter row before.ended.items after.ended.items
       → Wrote g old new (λ content. with_session content row balance) result
       → Remembers (state g new) after
-  remembers_set row balance none ended w = record {
-    read = none_read (λ r. KeepsPlan (state g new) r.key r.plan) after.last_read none;
+  remembers_set row balance ended w = record {
     ended = λ client there o.
         let it = ended client there in
         holds_after g old new (λ content. with_session content row balance)
@@ -263,12 +218,11 @@ module _ {S T E : Type 0} (g : Ghosts S) (old new : Held S) (before after : Memo
   }
 
   -- sessions were removed and a row was set
-  pub remembers_forward : (gone : List Key) (row : RowFacts) → after.last_read ≡ None
+  pub remembers_forward : (gone : List Key) (row : RowFacts)
       → AreEndedAfter row before.ended.items after.ended.items
       → Wrote g old new (λ content. with_forward content gone row) result
       → Remembers (state g new) after
-  remembers_forward gone row none ended w = record {
-    read = none_read (λ r. KeepsPlan (state g new) r.key r.plan) after.last_read none;
+  remembers_forward gone row ended w = record {
     ended = λ client there o.
         let it = ended client there in
         holds_after g old new (λ content. with_forward content gone row)
@@ -277,12 +231,11 @@ module _ {S T E : Type 0} (g : Ghosts S) (old new : Held S) (before after : Memo
   }
 
   -- a top-up was set
-  pub remembers_credit : (topup : TopUpFacts) (balance : ℤ) → after.last_read ≡ None
+  pub remembers_credit : (topup : TopUpFacts) (balance : ℤ)
       → after.ended.items ≡ before.ended.items
       → Wrote g old new (λ content. with_topup content topup balance) result
       → Remembers (state g new) after
-  remembers_credit topup balance none same w = record {
-    read = none_read (λ r. KeepsPlan (state g new) r.key r.plan) after.last_read none;
+  remembers_credit topup balance same w = record {
     ended = λ client there o. holds_after g old new
         (λ content. with_topup content topup balance) (λ content. HasEnded content client)
         result w (was.ended client (subst (λ names. Has names client) same there))
@@ -290,12 +243,11 @@ module _ {S T E : Type 0} (g : Ghosts S) (old new : Held S) (before after : Memo
   }
 
   -- the live sessions of a client were closed
-  pub remembers_close : (client : List ℕ) → after.last_read ≡ None
+  pub remembers_close : (client : List ℕ)
       → after.ended.items ≡ before.ended.items
       → Wrote g old new (λ content. with_closed content client) result
       → Remembers (state g new) after
-  remembers_close client none same w = record {
-    read = none_read (λ r. KeepsPlan (state g new) r.key r.plan) after.last_read none;
+  remembers_close client same w = record {
     ended = λ other there o. holds_after g old new
         (λ content. with_closed content client) (λ content. HasEnded content other)
         result w (was.ended other (subst (λ names. Has names other) same there))
@@ -313,12 +265,10 @@ closed_now g old new client result x is w o =
 
 -- one client more is remembered, or none
 pub remembers_more : (s : State) (before after : Memory) (client : List ℕ) → Remembers s before
-    → after.last_read ≡ before.last_read
     → (after.ended.items ≡ before.ended.items)
     ⊎ (after.ended.items ≡ before.ended.items ++ client ∷ [])
     → (IsOpenBook s → HasEnded (content_in_tables s.now.trees) client) → Remembers s after
-remembers_more s before after client was same more ended = record {
-  read = subst (λ r. IfSome r (λ read. KeepsPlan s read.key read.plan)) (sym same) was.read;
+remembers_more s before after client was more ended = record {
   ended = λ other there. go more other there;
 }
   where

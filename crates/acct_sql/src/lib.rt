@@ -19,6 +19,7 @@
 //!    plan is kept.
 #![tactic(auto)]
 
+mod known;
 pub mod laws;
 mod memory;
 mod sql_book;

@@ -1,6 +1,7 @@
 //! The book on tables.
 ghost use Rattle.sqlite.specs.Held.{state};
 
+use crate::known::Known;
 use crate::memory::Memory;
 use crate::writing::{close_client, write_forward, write_session, write_topup};
 use acct_book::{Book, Key, Row, Unavailable};
@@ -23,6 +24,7 @@ pub struct SqlBook<S: Alter> {
     conn: Connection<S>,
     alloc: Global,
     memory: Memory,
+    known: Known,
 }
 
 // It is written out, so that a caller does not prove again how each part is dropped.
@@ -32,6 +34,7 @@ impl<S: Alter + Drop> Drop for SqlBook<S> {
             conn: _,
             alloc: _,
             memory: _,
+            known: _,
         } = self;
     }
 }
@@ -40,6 +43,7 @@ impl<S: Alter> Model for SqlBook<S> {
     ghost use Rattle.sqlite.specs.Held.{Held, held_code, state};
     ghost use Rattle.acct_tables.specs.Book.{IsResting};
     ghost use Rattle.acct_sql.specs.inner.Remembered.{Remembers};
+    ghost use Rattle.acct_sql.specs.inner.Known.{Knows};
 
     ghost Value = { Held S };
 
@@ -48,7 +52,8 @@ impl<S: Alter> Model for SqlBook<S> {
     ghost view = { λ book. book.conn };
 
     ghost invariant = { λ book. IsResting (state S.Store book.conn)
-        × Remembers (state S.Store book.conn) book.memory };
+        × Remembers (state S.Store book.conn) book.memory
+        × Knows (state S.Store book.conn) book.known };
 }
 
 impl<S: Alter> SqlBook<S> {
@@ -108,10 +113,12 @@ impl<S: Alter> SqlBook<S> {
         match make_book(&mut conn, plans) {
             Ok(()) => {
                 let memory = Memory::new(alloc);
+                let known = Known::nothing();
                 Ok(SqlBook {
                     conn,
                     alloc,
                     memory,
+                    known,
                 })
             }
             Err(_) => Err((SqlBookError::Unavailable, conn)),
@@ -155,10 +162,12 @@ impl<S: Alter> SqlBook<S> {
         match examine(&mut conn, plans) {
             Ok(()) => {
                 let memory = Memory::new(alloc);
+                let known = Known::nothing();
                 Ok(SqlBook {
                     conn,
                     alloc,
                     memory,
+                    known,
                 })
             }
             Err(error) => Err((error, conn)),
@@ -211,10 +220,12 @@ impl<S: Alter> SqlBook<S> {
         match migrate_book(&mut conn, plans) {
             Ok(()) => {
                 let memory = Memory::new(alloc);
+                let known = Known::nothing();
                 Ok(SqlBook {
                     conn,
                     alloc,
                     memory,
+                    known,
                 })
             }
             Err(error) => Err((error, conn)),
@@ -274,10 +285,12 @@ impl<S: Alter> SqlBook<S> {
         match add_to_book(&mut conn, plans) {
             Ok(added) => {
                 let memory = Memory::new(alloc);
+                let known = Known::nothing();
                 let book = SqlBook {
                     conn,
                     alloc,
                     memory,
+                    known,
                 };
                 Ok((book, added))
             }
@@ -300,6 +313,7 @@ impl<S: Alter> SqlBook<S> {
             conn,
             alloc: _,
             memory: _,
+            known: _,
         } = self;
         conn
     }
@@ -333,11 +347,19 @@ impl<S: Alter> Book for SqlBook<S> {
         ensures reads { HasReadBook S.Store self.old self.new result }
         ensures plans { LeavesPlans (state S.Store self.old) (state S.Store self.new) }
     {
+        if let Some(row) = self.known.session(self.alloc, key) {
+            return Ok(row);
+        }
         let row = match read_session(self.alloc, &mut self.conn, key) {
             Ok(row) => row,
-            Err(_) => return Err(Unavailable),
+            Err(_) => {
+                self.known.forget();
+                return Err(Unavailable);
+            }
         };
-        self.memory.keep_read(self.alloc, row.as_ref());
+        let (client, session) = (key.client.as_str(), key.session.as_slice());
+        self.known
+            .keep_session(self.alloc, client, session, row.as_ref());
         Ok(row)
     }
 
@@ -348,10 +370,17 @@ impl<S: Alter> Book for SqlBook<S> {
         ensures reads { HasReadBook S.Store self.old self.new result }
         ensures plans { LeavesPlans (state S.Store self.old) (state S.Store self.new) }
     {
+        if let Some(balance) = self.known.balance(account) {
+            return Ok(balance);
+        }
         let balance = match read_balance(&mut self.conn, account) {
             Ok(balance) => balance,
-            Err(_) => return Err(Unavailable),
+            Err(_) => {
+                self.known.forget();
+                return Err(Unavailable);
+            }
         };
+        self.known.keep_balance(self.alloc, account, balance);
         Ok(balance)
     }
 
@@ -363,7 +392,10 @@ impl<S: Alter> Book for SqlBook<S> {
     {
         let topup = match read_voucher(self.alloc, &mut self.conn, number) {
             Ok(topup) => topup,
-            Err(_) => return Err(Unavailable),
+            Err(_) => {
+                self.known.forget();
+                return Err(Unavailable);
+            }
         };
         Ok(topup)
     }
@@ -373,13 +405,20 @@ impl<S: Alter> Book for SqlBook<S> {
             (λ content. with_session content row.now balance) result }
         ensures plans { LeavesPlans (state S.Store self.old) (state S.Store self.new) }
     {
-        let is_planned = self.memory.has_read(row);
-        self.memory.forget_read();
+        let is_planned = self.known.has_plan(self.alloc, row);
         self.memory.forget_ended(row);
         match write_session(&mut self.conn, row, is_planned, balance) {
             Ok(()) => {}
-            Err(_) => return Err(Unavailable),
+            Err(_) => {
+                self.known.forget();
+                return Err(Unavailable);
+            }
         }
+        let (client, session) = (row.client.as_str(), row.session.as_slice());
+        self.known
+            .keep_session(self.alloc, client, session, Some(row));
+        self.known
+            .keep_balance(self.alloc, row.account.as_slice(), balance);
         Ok(())
     }
 
@@ -388,11 +427,15 @@ impl<S: Alter> Book for SqlBook<S> {
             (λ content. with_topup content topup.now balance) result }
         ensures plans { LeavesPlans (state S.Store self.old) (state S.Store self.new) }
     {
-        self.memory.forget_read();
         match write_topup(&mut self.conn, topup, balance) {
             Ok(()) => {}
-            Err(_) => return Err(Unavailable),
+            Err(_) => {
+                self.known.forget();
+                return Err(Unavailable);
+            }
         }
+        self.known
+            .keep_balance(self.alloc, topup.account.as_slice(), balance);
         Ok(())
     }
 
@@ -401,12 +444,15 @@ impl<S: Alter> Book for SqlBook<S> {
             (λ content. with_closed content client.now) result }
         ensures plans { LeavesPlans (state S.Store self.old) (state S.Store self.new) }
     {
-        self.memory.forget_read();
         let has_ended = self.memory.has_ended(client);
         match close_client(&mut self.conn, client, has_ended) {
             Ok(()) => {}
-            Err(_) => return Err(Unavailable),
+            Err(_) => {
+                self.known.forget();
+                return Err(Unavailable);
+            }
         }
+        self.known.forget_closed(has_ended);
         self.memory.keep_ended(self.alloc, client);
         Ok(())
     }
@@ -416,12 +462,15 @@ impl<S: Alter> Book for SqlBook<S> {
             (λ content. with_forward content gone.now row.now) result }
         ensures plans { LeavesPlans (state S.Store self.old) (state S.Store self.new) }
     {
-        self.memory.forget_read();
         self.memory.forget_ended(row);
         match write_forward(&mut self.conn, gone, row) {
             Ok(()) => {}
-            Err(_) => return Err(Unavailable),
+            Err(_) => {
+                self.known.forget();
+                return Err(Unavailable);
+            }
         }
+        self.known.forget_sessions();
         Ok(())
     }
 
@@ -433,7 +482,10 @@ impl<S: Alter> Book for SqlBook<S> {
     {
         let rows = match read_sessions(self.alloc, &mut self.conn, account) {
             Ok(rows) => rows,
-            Err(_) => return Err(Unavailable),
+            Err(_) => {
+                self.known.forget();
+                return Err(Unavailable);
+            }
         };
         Ok(rows)
     }
@@ -446,7 +498,10 @@ impl<S: Alter> Book for SqlBook<S> {
     {
         let topups = match read_topups(self.alloc, &mut self.conn, account) {
             Ok(topups) => topups,
-            Err(_) => return Err(Unavailable),
+            Err(_) => {
+                self.known.forget();
+                return Err(Unavailable);
+            }
         };
         Ok(topups)
     }
@@ -459,7 +514,10 @@ impl<S: Alter> Book for SqlBook<S> {
     {
         let row = match read_next_session(self.alloc, &mut self.conn, after) {
             Ok(row) => row,
-            Err(_) => return Err(Unavailable),
+            Err(_) => {
+                self.known.forget();
+                return Err(Unavailable);
+            }
         };
         Ok(row)
     }
@@ -473,7 +531,10 @@ impl<S: Alter> Book for SqlBook<S> {
     {
         let kept = match read_next_account(&mut self.conn, after) {
             Ok(kept) => kept,
-            Err(_) => return Err(Unavailable),
+            Err(_) => {
+                self.known.forget();
+                return Err(Unavailable);
+            }
         };
         Ok(kept)
     }
@@ -487,7 +548,10 @@ impl<S: Alter> Book for SqlBook<S> {
     {
         let topup = match read_next_topup(self.alloc, &mut self.conn, after) {
             Ok(topup) => topup,
-            Err(_) => return Err(Unavailable),
+            Err(_) => {
+                self.known.forget();
+                return Err(Unavailable);
+            }
         };
         Ok(topup)
     }

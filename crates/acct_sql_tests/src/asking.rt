@@ -2,7 +2,7 @@
 ghost use Rattle.std.specs.Prelude.{IsTrue};
 ghost use Rattle.acct_book.specs.Content.{key_of, IsNone};
 
-use crate::sample_book::{CARRIED, LINE, Name, S1, STOPPED, Usage, key, keys, row};
+use crate::sample_book::{CARRIED, LATER, LINE, Name, S1, STOPPED, Usage, key, keys, row};
 use acct_book::{Book, Key, Row, Unavailable};
 use acct_model::TopUp;
 use std::alloc::Global;
@@ -25,7 +25,10 @@ pub(crate) enum Ask {
     Hidden,
     // The session `s1` of the usage `STOPPED` is put, or told nothing of and put by the next call.
     PutOnce,
-    // The same of the voucher.
+    // The session `s1`, which has the usage `STOPPED`, is put with the usage `LATER`, or told as
+    // before and put by the next call.
+    RaiseOnce,
+    // The same as `PutOnce` of the voucher.
     TopUpOnce,
     // The sessions of these names are removed, and the row of this name of the account `al` is put,
     // which is none of them.
@@ -118,6 +121,25 @@ fn put_once<B: Book>(alloc: Global, book: &mut B) -> Result<bool, Fail> {
     is_set(alloc, book, &row)
 }
 
+// Whether the session `s1` and its balance are as they were or as the row says, and so by the next
+// call.
+fn raise_once<B: Book>(alloc: Global, book: &mut B) -> Result<bool, Fail> {
+    let row = row(alloc, &S1, b"al", &LATER)?;
+    let is_told = if book.put_session(&row, -30).is_ok() {
+        is_raised(alloc, book)?
+    } else {
+        is_session(alloc, book, &STOPPED)?
+    };
+    let _ = book.put_session(&row, -30);
+    Ok(is_told && is_raised(alloc, book)?)
+}
+
+fn is_raised<B: Book>(alloc: Global, book: &mut B) -> Result<bool, Fail> {
+    let has_balance = has_balance(book, -30)?;
+    let row = told(alloc, book, &S1)?;
+    Ok(has_balance && is_of_plan(&row, LATER.plan) && is_of_input(&row, LATER.octets.0))
+}
+
 // Whether the voucher has this sum, which is 0 where there is none.
 fn has_sum<B: Book>(book: &mut B, sum: u64) -> Result<bool, Unavailable> {
     Ok(match &book.voucher("V-1")? {
@@ -208,6 +230,7 @@ pub(crate) fn is_so<B: Book>(alloc: Global, book: &mut B, ask: &Ask) -> Result<b
         Ask::Plan(name, class) => has_plan(alloc, book, name, class),
         Ask::Hidden => is_hidden(alloc, book),
         Ask::PutOnce => put_once(alloc, book),
+        Ask::RaiseOnce => raise_once(alloc, book),
         Ask::TopUpOnce => put_topup_once(alloc, book),
         Ask::Forward(gone, name, usage) => forward(alloc, book, gone, name, usage),
         Ask::ForwardOnce => forward_once(alloc, book),

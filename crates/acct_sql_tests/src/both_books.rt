@@ -262,7 +262,7 @@ fn expect_same(alloc: Global, script: &Script) -> Result<(), Fail> {
 // What a script is of, and its turns.
 type Script = (&'static str, &'static [Turn]);
 
-static SCRIPTS: [Script; 6] = [
+static SCRIPTS: [Script; 7] = [
     // A row, another, and the first with other values; then a restart of their client.
     (
         "rows",
@@ -348,6 +348,30 @@ static SCRIPTS: [Script; 6] = [
             Turn::Close("ap1"),
             Turn::Session(("ap1", b"s0"), Some(SessionState::Closed)),
             Turn::SessionsOf(b"al"),
+        ],
+    ),
+    // What was read or set is set again by another call, and asked for before and after.
+    (
+        "answers after a change",
+        &[
+            Turn::Session(S1, None),
+            Turn::Balance(b"al"),
+            Turn::Put(S1, b"al", LATER, -20),
+            Turn::Session(S1, Some(SessionState::Live)),
+            Turn::Balance(b"al"),
+            Turn::TopUp("V-1", 500, 1000, 480),
+            Turn::Balance(b"al"),
+            Turn::Session(S1, Some(SessionState::Live)),
+            Turn::Close("ap1"),
+            Turn::Session(S1, Some(SessionState::Closed)),
+            Turn::Put(S1, b"bo", STOPPED, 9),
+            Turn::Balance(b"al"),
+            Turn::Balance(b"bo"),
+            Turn::Session(S1, Some(SessionState::Stopped)),
+            Turn::Forward(&[S1], LINE, b"al", CARRIED),
+            Turn::Session(S1, None),
+            Turn::Session(LINE, Some(SessionState::Stopped)),
+            Turn::Balance(b"al"),
         ],
     ),
     // A top-up, another, and that one with other values.

@@ -18,7 +18,11 @@ mod older_books;
 #[cfg(test)]
 mod refused_memory;
 #[cfg(test)]
+mod remembering;
+#[cfg(test)]
 mod sample_book;
+#[cfg(test)]
+mod shut_books;
 #[cfg(test)]
 mod sites;
 #[cfg(test)]

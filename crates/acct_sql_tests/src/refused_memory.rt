@@ -8,7 +8,7 @@ use crate::sites::{SAMPLE, SILVER};
 use crate::trial::{Call, Case, Start, Step, expect};
 use std::test::Fail;
 
-static CASES: [Case; 8] = [
+static CASES: [Case; 9] = [
     (
         "plans are added",
         Start::Credited,
@@ -42,6 +42,11 @@ static CASES: [Case; 8] = [
         "a row and its balance are put",
         Start::Made,
         &[Step::Book(Ask::PutOnce)],
+    ),
+    (
+        "a row that is there and its balance are put",
+        Start::Used,
+        &[Step::Book(Ask::RaiseOnce)],
     ),
     (
         "a top-up and its balance are put",

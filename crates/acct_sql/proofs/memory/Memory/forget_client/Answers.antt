@@ -2,6 +2,6 @@ use Rattle.std.proofs.Common.{rules}
 use Rattle.std.proofs.lemmas.Fn.{filter_same}
 use Rattle.acct_sql.proofs.memory.Memory.forget_client.Goals as goal
 
-pub returns-clause-ended : goal.returns-clause-ended
-returns-clause-ended c = filter_same _ _ _ (λ x b f' k. search rules) _ _
+pub returns : goal.returns
+returns c = filter_same _ _ _ (λ x b f' k. search rules) _ _
     c.retain.ensures.filtered

@@ -1,4 +1,4 @@
-use Rattle.std.proofs.Common.{◌∷◌, sym, subst}
+use Rattle.std.proofs.Common.{rules, ◌∷◌, sym, subst}
 use Rattle.sqlite.specs.Held.{state}
 use Rattle.acct_model.specs.Plans.{plans_added}
 use Rattle.acct_model.specs.History.{PlansAdded}
@@ -8,6 +8,8 @@ use Rattle.acct_tables.specs.Content.{content_in_tables}
 use Rattle.acct_upkeep.specs.inner.Adding.{IsBookAddedTo}
 use Rattle.acct_sql.proofs.AdditionLemmas.{left_by_addition}
 use Rattle.acct_sql.proofs.TiedLemmas.{tied}
+use Rattle.acct_sql.proofs.KnownLemmas.{knows_nothing}
+use Rattle.acct_sql.proofs.RememberLemmas.{remembers_none}
 use Rattle.acct_sql.proofs.sql_book.SqlBook.add_plans.Goals as goal
 
 pub returns-in-Ok-clause-stands : goal.returns-in-Ok-clause-stands
@@ -35,3 +37,11 @@ returns-in-Err-clause-leaves_err g c = record {
   leaves = left_by_addition c.args.plans.now (state g.S.Store c.args.conn)
       (state g.S.Store c.add_to_book.new.conn) c.add_to_book.ensures.survives;
 }
+
+pub invariant_of-book : goal.invariant_of-book
+invariant_of-book g c = (
+  search rules,
+  remembers_none (state g.S.Store c.add_to_book.new.conn) c.new-memory.result c.new-memory.ensures,
+  knows_nothing (state g.S.Store c.add_to_book.new.conn) c.nothing-known.result
+      c.nothing-known.ensures.balances c.nothing-known.ensures.sessions,
+)

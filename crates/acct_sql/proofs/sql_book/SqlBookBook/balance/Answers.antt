@@ -1,5 +1,11 @@
-use Rattle.acct_tables.proofs.ReadLemmas.{read_told, read_done, leaves_told}
+use Rattle.std.proofs.Common.{◌≡◌, refl, sym, rules, w64, SFits}
+use Rattle.std.proofs.lemmas.Int.{to_z-of_z}
+use Rattle.sqlite.specs.Held.{state}
+use Rattle.acct_book.specs.Content.{kept_balance}
+use Rattle.acct_tables.specs.Book.{content_at}
+use Rattle.acct_tables.proofs.ReadLemmas.{read_told, read_done, found_told, leaves_told}
 use Rattle.acct_sql.proofs.RememberLemmas.{remembers_read}
+use Rattle.acct_sql.proofs.KnownLemmas.{knows_nothing, knows_balance}
 use Rattle.acct_sql.proofs.sql_book.SqlBookBook.balance.Goals as goal
 
 pub read_balance-requires : goal.read_balance-requires
@@ -11,6 +17,8 @@ invariant_of-self g c = (
   remembers_read g.S.Store c.self.inside.conn c.read_balance.new.conn c.read_balance.result
       c.self.inside.memory
       c.read_balance.ensures.read c.self.invariant.1,
+  knows_nothing (state g.S.Store c.read_balance.new.conn) c.forget.new.self
+      c.forget.ensures.balances c.forget.ensures.sessions,
 )
 
 pub returns-in-Err-clause-found : goal.returns-in-Err-clause-found
@@ -28,12 +36,21 @@ returns-in-Err-clause-plans g c = leaves_told g.S.Store c.args.self.now c.self.i
     c.read_balance.new.conn c.self.view_is c.read_balance.ensures.read.plans
 
 pub invariant_of-self-2 : goal.invariant_of-self-2
-invariant_of-self-2 g c = (
-  c.read_balance.ensures.read.resting,
-  remembers_read g.S.Store c.self.inside.conn c.read_balance.new.conn c.read_balance.result
-      c.self.inside.memory
-      c.read_balance.ensures.read c.self.invariant.1,
-)
+invariant_of-self-2 g c =
+    let fits : SFits w64 c.in-Ok.balance = search rules in (
+      c.read_balance.ensures.read.resting,
+      remembers_read g.S.Store c.self.inside.conn c.read_balance.new.conn c.read_balance.result
+          c.self.inside.memory
+          c.read_balance.ensures.read c.self.invariant.1,
+      knows_balance g.S.Store c.self.inside.conn c.read_balance.new.conn c.read_balance.result
+          c.in-Ok.balance c.in-Ok.is c.self.inside.known c.self.invariant.2 c.read_balance.ensures.read
+          c.keep_balance.new.self c.args.account.now c.in-Ok.balance
+          (rw (to_z-of_z w64 c.in-Ok.balance fits) at c.keep_balance.ensures.balances)
+          c.keep_balance.ensures.sessions
+          (λ o. sym (found_told (λ conn balance. balance ≡ kept_balance (content_at g.S.Store conn)
+          c.args.account.now) c.self.inside.conn c.self.inside.conn c.read_balance.result
+          c.in-Ok.balance refl c.in-Ok.is c.read_balance.ensures.found o)),
+    )
 
 pub returns-clause-steady : goal.returns-clause-steady
 returns-clause-steady g c = λ none. absurd none

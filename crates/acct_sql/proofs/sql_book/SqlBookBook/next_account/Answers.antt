@@ -1,20 +1,24 @@
+use Rattle.sqlite.specs.Held.{state}
 use Rattle.std.proofs.Common.{option_map}
 use Rattle.std.specs.Option.{option_copied}
 use Rattle.acct_book.specs.Walk.{IsNextBalance}
 use Rattle.acct_tables.specs.Book.{content_at}
 use Rattle.acct_tables.proofs.ReadLemmas.{read_told, read_done, found_told, leaves_told}
 use Rattle.acct_sql.proofs.RememberLemmas.{remembers_read}
+use Rattle.acct_sql.proofs.KnownLemmas.{knows_nothing, knows_read}
 use Rattle.acct_sql.proofs.sql_book.SqlBookBook.next_account.Goals as goal
 
 pub read_next_account-requires : goal.read_next_account-requires
 read_next_account-requires g c = c.self.invariant.0
 
-pub invariant_of-self : goal.invariant_of-self
-invariant_of-self g c = (
+pub invariant_of-self-in-Err : goal.invariant_of-self-in-Err
+invariant_of-self-in-Err g c = (
   c.read_next_account.ensures.read.resting,
   remembers_read g.S.Store c.self.inside.conn c.read_next_account.new.conn
       c.read_next_account.result c.self.inside.memory
       c.read_next_account.ensures.read c.self.invariant.1,
+  knows_nothing (state g.S.Store c.read_next_account.new.conn) c.forget.new.self
+      c.forget.ensures.balances c.forget.ensures.sessions,
 )
 
 pub returns-in-Err-clause-found : goal.returns-in-Err-clause-found
@@ -29,12 +33,14 @@ pub returns-in-Err-clause-plans : goal.returns-in-Err-clause-plans
 returns-in-Err-clause-plans g c = leaves_told g.S.Store c.args.self.now c.self.inside.conn
     c.read_next_account.new.conn c.self.view_is c.read_next_account.ensures.read.plans
 
-pub invariant_of-self-2 : goal.invariant_of-self-2
-invariant_of-self-2 g c = (
+pub invariant_of-self : goal.invariant_of-self
+invariant_of-self g c = (
   c.read_next_account.ensures.read.resting,
   remembers_read g.S.Store c.self.inside.conn c.read_next_account.new.conn
       c.read_next_account.result c.self.inside.memory
       c.read_next_account.ensures.read c.self.invariant.1,
+  knows_read g.S.Store c.self.inside.conn c.read_next_account.new.conn c.read_next_account.result c.in-Ok.kept c.in-Ok.is
+      c.self.inside.known c.self.invariant.2 c.read_next_account.ensures.read,
 )
 
 pub returns-clause-found : goal.returns-clause-found

@@ -1,9 +1,10 @@
-use Rattle.std.proofs.Common.{subst, ◌∙◌}
+use Rattle.sqlite.specs.Held.{state}
+use Rattle.std.proofs.Common.{refl}
 use Rattle.acct_book.specs.Content.{with_forward}
 use Rattle.acct_tables.proofs.CommitLemmas.{wrote_told, wrote_done}
-use Rattle.acct_sql.specs.inner.Remembered.{AreEndedAfter}
 use Rattle.acct_sql.proofs.RememberLemmas.{remembers_forward}
 use Rattle.acct_tables.proofs.ReadLemmas.{leaves_told}
+use Rattle.acct_sql.proofs.KnownLemmas.{knows_nothing, knows_no_row}
 use Rattle.acct_sql.proofs.sql_book.SqlBookBook.put_forward.Goals as goal
 
 pub write_forward-requires : goal.write_forward-requires
@@ -16,10 +17,10 @@ invariant_of-self g c =
       remembers_forward g.S.Store c.self.inside.conn c.write_forward.new.conn
           c.self.inside.memory after c.write_forward.result c.self.invariant.1
           c.args.gone.now c.args.row.now
-          (c.forget_ended.ensures.read ∙ c.forget_read.ensures.read)
-          (subst (λ names. AreEndedAfter c.args.row.now names after.ended.items)
-          c.forget_read.ensures.ended c.forget_ended.ensures.ended)
+          c.forget_ended.ensures
           c.write_forward.ensures.wrote,
+      knows_nothing (state g.S.Store c.write_forward.new.conn) c.forget.new.self
+          c.forget.ensures.balances c.forget.ensures.sessions,
     )
 
 pub invariant_of-self-2 : goal.invariant_of-self-2
@@ -29,10 +30,14 @@ invariant_of-self-2 g c =
       remembers_forward g.S.Store c.self.inside.conn c.write_forward.new.conn
           c.self.inside.memory after c.write_forward.result c.self.invariant.1
           c.args.gone.now c.args.row.now
-          (c.forget_ended.ensures.read ∙ c.forget_read.ensures.read)
-          (subst (λ names. AreEndedAfter c.args.row.now names after.ended.items)
-          c.forget_read.ensures.ended c.forget_ended.ensures.ended)
+          c.forget_ended.ensures
           c.write_forward.ensures.wrote,
+      knows_no_row g.S.Store c.self.inside.conn c.write_forward.new.conn c.write_forward.result _
+          c.in-Ok.is c.self.inside.known c.self.invariant.2
+          (λ content. with_forward content c.args.gone.now c.args.row.now)
+          c.write_forward.ensures.wrote c.forget_sessions.new.self
+          c.forget_sessions.ensures.balances c.forget_sessions.ensures.sessions
+          (λ content. refl),
     )
 
 pub returns-in-Err-clause-writes : goal.returns-in-Err-clause-writes

@@ -1,10 +1,9 @@
-use Rattle.std.proofs.Common.{◌≡◌, refl, subst, IfSome}
+use Rattle.std.proofs.Common.{◌≡◌, refl, sym}
 use Rattle.acct_tables.specs.Book.{content_at}
 use Rattle.sqlite.specs.Held.{state}
-use Rattle.acct_tables.specs.inner.Inside.{HasPlanOf}
-use Rattle.acct_sql.specs.inner.Remembered.{IsReadOf}
 use Rattle.acct_tables.proofs.ReadLemmas.{read_told, read_done, found_told, leaves_told}
-use Rattle.acct_sql.proofs.RememberLemmas.{remembers_read, remembers_session}
+use Rattle.acct_sql.proofs.RememberLemmas.{remembers_read}
+use Rattle.acct_sql.proofs.KnownLemmas.{knows_nothing, knows_row}
 use Rattle.acct_sql.proofs.sql_book.SqlBookBook.session.Goals as goal
 
 pub read_session-requires : goal.read_session-requires
@@ -16,6 +15,8 @@ invariant_of-self g c = (
   remembers_read g.S.Store c.self.inside.conn c.read_session.new.conn c.read_session.result
       c.self.inside.memory
       c.read_session.ensures.read c.self.invariant.1,
+  knows_nothing (state g.S.Store c.read_session.new.conn) c.forget.new.self
+      c.forget.ensures.balances c.forget.ensures.sessions,
 )
 
 pub returns-in-Err-clause-found : goal.returns-in-Err-clause-found
@@ -29,19 +30,19 @@ pub returns-in-Err-clause-plans : goal.returns-in-Err-clause-plans
 returns-in-Err-clause-plans g c = leaves_told g.S.Store c.args.self.now c.self.inside.conn
     c.read_session.new.conn c.self.view_is c.read_session.ensures.read.plans
 
-pub keep_read-requires : goal.keep_read-requires
-keep_read-requires g c = tt
-
 pub invariant_of-self-2 : goal.invariant_of-self-2
 invariant_of-self-2 g c = (
   c.read_session.ensures.read.resting,
-  remembers_session g.S.Store c.self.inside.conn c.read_session.new.conn c.self.inside.memory
-      c.keep_read.new.self c.read_session.result c.self.invariant.1 c.in-Ok.row
-      c.read_session.ensures.read (subst (λ row. IsReadOf row c.keep_read.new.self.last_read)
-      c.as_ref.ensures.value c.keep_read.ensures.read) c.keep_read.ensures.ended
-      (found_told (λ conn row. IfSome row (λ r. HasPlanOf r (state g.S.Store conn)))
+  remembers_read g.S.Store c.self.inside.conn c.read_session.new.conn c.read_session.result
+      c.self.inside.memory c.read_session.ensures.read c.self.invariant.1,
+  knows_row g.S.Store c.self.inside.conn c.read_session.new.conn c.read_session.result c.in-Ok.row
+      c.in-Ok.is c.self.inside.known c.self.invariant.2 c.read_session.ensures.read
+      c.keep_session.new.self c.args.key.now c.in-Ok.row
+      (rw (c.as_str-client.ensures, c.as_slice-session.ensures, c.as_ref.ensures.value)
+      at c.keep_session.ensures.sessions) c.keep_session.ensures.balances
+      (λ o. sym (found_told (λ conn row. row ≡ (content_at g.S.Store conn).rows c.args.key.now)
       c.self.inside.conn c.self.inside.conn c.read_session.result c.in-Ok.row refl c.in-Ok.is
-      c.read_session.ensures.plan),
+      c.read_session.ensures.found o)),
 )
 
 pub returns-clause-found : goal.returns-clause-found

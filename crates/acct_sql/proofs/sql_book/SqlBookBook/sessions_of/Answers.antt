@@ -1,18 +1,22 @@
+use Rattle.sqlite.specs.Held.{state}
 use Rattle.acct_book.specs.Walk.{AreRowsOf}
 use Rattle.acct_tables.specs.Book.{content_at}
 use Rattle.acct_tables.proofs.ReadLemmas.{read_told, read_done, found_told, leaves_told}
 use Rattle.acct_sql.proofs.RememberLemmas.{remembers_read}
+use Rattle.acct_sql.proofs.KnownLemmas.{knows_nothing, knows_read}
 use Rattle.acct_sql.proofs.sql_book.SqlBookBook.sessions_of.Goals as goal
 
 pub read_sessions-requires : goal.read_sessions-requires
 read_sessions-requires g c = c.self.invariant.0
 
-pub invariant_of-self : goal.invariant_of-self
-invariant_of-self g c = (
+pub invariant_of-self-in-Err : goal.invariant_of-self-in-Err
+invariant_of-self-in-Err g c = (
   c.read_sessions.ensures.read.resting,
   remembers_read g.S.Store c.self.inside.conn c.read_sessions.new.conn c.read_sessions.result
       c.self.inside.memory
       c.read_sessions.ensures.read c.self.invariant.1,
+  knows_nothing (state g.S.Store c.read_sessions.new.conn) c.forget.new.self
+      c.forget.ensures.balances c.forget.ensures.sessions,
 )
 
 pub returns-in-Err-clause-found : goal.returns-in-Err-clause-found
@@ -26,12 +30,14 @@ pub returns-in-Err-clause-plans : goal.returns-in-Err-clause-plans
 returns-in-Err-clause-plans g c = leaves_told g.S.Store c.args.self.now c.self.inside.conn
     c.read_sessions.new.conn c.self.view_is c.read_sessions.ensures.read.plans
 
-pub invariant_of-self-2 : goal.invariant_of-self-2
-invariant_of-self-2 g c = (
+pub invariant_of-self : goal.invariant_of-self
+invariant_of-self g c = (
   c.read_sessions.ensures.read.resting,
   remembers_read g.S.Store c.self.inside.conn c.read_sessions.new.conn c.read_sessions.result
       c.self.inside.memory
       c.read_sessions.ensures.read c.self.invariant.1,
+  knows_read g.S.Store c.self.inside.conn c.read_sessions.new.conn c.read_sessions.result c.in-Ok.rows c.in-Ok.is
+      c.self.inside.known c.self.invariant.2 c.read_sessions.ensures.read,
 )
 
 pub returns-clause-found : goal.returns-clause-found

@@ -1,18 +1,22 @@
+use Rattle.sqlite.specs.Held.{state}
 use Rattle.std.proofs.Common.{◌≡◌}
 use Rattle.acct_tables.specs.Book.{content_at}
 use Rattle.acct_tables.proofs.ReadLemmas.{read_told, read_done, found_told, leaves_told}
 use Rattle.acct_sql.proofs.RememberLemmas.{remembers_read}
+use Rattle.acct_sql.proofs.KnownLemmas.{knows_nothing, knows_read}
 use Rattle.acct_sql.proofs.sql_book.SqlBookBook.voucher.Goals as goal
 
 pub read_voucher-requires : goal.read_voucher-requires
 read_voucher-requires g c = c.self.invariant.0
 
-pub invariant_of-self : goal.invariant_of-self
-invariant_of-self g c = (
+pub invariant_of-self-in-Err : goal.invariant_of-self-in-Err
+invariant_of-self-in-Err g c = (
   c.read_voucher.ensures.read.resting,
   remembers_read g.S.Store c.self.inside.conn c.read_voucher.new.conn c.read_voucher.result
       c.self.inside.memory
       c.read_voucher.ensures.read c.self.invariant.1,
+  knows_nothing (state g.S.Store c.read_voucher.new.conn) c.forget.new.self
+      c.forget.ensures.balances c.forget.ensures.sessions,
 )
 
 pub returns-in-Err-clause-found : goal.returns-in-Err-clause-found
@@ -26,12 +30,14 @@ pub returns-in-Err-clause-plans : goal.returns-in-Err-clause-plans
 returns-in-Err-clause-plans g c = leaves_told g.S.Store c.args.self.now c.self.inside.conn
     c.read_voucher.new.conn c.self.view_is c.read_voucher.ensures.read.plans
 
-pub invariant_of-self-2 : goal.invariant_of-self-2
-invariant_of-self-2 g c = (
+pub invariant_of-self : goal.invariant_of-self
+invariant_of-self g c = (
   c.read_voucher.ensures.read.resting,
   remembers_read g.S.Store c.self.inside.conn c.read_voucher.new.conn c.read_voucher.result
       c.self.inside.memory
       c.read_voucher.ensures.read c.self.invariant.1,
+  knows_read g.S.Store c.self.inside.conn c.read_voucher.new.conn c.read_voucher.result c.in-Ok.topup c.in-Ok.is
+      c.self.inside.known c.self.invariant.2 c.read_voucher.ensures.read,
 )
 
 pub returns-clause-found : goal.returns-clause-found
