@@ -6,3 +6,4 @@ mod TiedLemmas
 mod RememberLemmas
 mod CacheLemmas
 mod KnownLemmas
+mod NewRowLemmas

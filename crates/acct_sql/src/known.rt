@@ -35,6 +35,8 @@ type Sessions = LruCache<Name, Option<Row>>;
 pub(crate) struct Known {
     balances: Option<Balances>,
     sessions: Option<Sessions>,
+    // Whether all of it was forgotten once, since a call failed.
+    has_failed: bool,
 }
 
 impl Known {
@@ -46,6 +48,7 @@ impl Known {
         Known {
             balances: None,
             sessions: None,
+            has_failed: false,
         }
     }
 
@@ -56,6 +59,7 @@ impl Known {
     {
         self.balances = None;
         self.forget_sessions();
+        self.has_failed = true;
     }
 
     /// The balance of an account, 0 where the tables have none, if that is known.
@@ -102,6 +106,19 @@ impl Known {
             }
             _ => false,
         }
+    }
+
+    /// Whether it is known that the session of a row has none. It is no longer told once a call
+    /// failed: tables that somebody else wrote may have a plan without its session, and an INSERT
+    /// would be refused again and again.
+    pub(crate) fn is_absent(&self, alloc: Global, row: &Row) -> bool {
+        if self.has_failed {
+            return false;
+        }
+        matches!(
+            self.found(alloc, row.client.as_str(), row.session.as_slice()),
+            Some(None)
+        )
     }
 
     fn found(&self, alloc: Global, client: &str, session: &[u8]) -> Option<&Option<Row>>

@@ -405,9 +405,10 @@ impl<S: Alter> Book for SqlBook<S> {
             (λ content. with_session content row.now balance) result }
         ensures plans { LeavesPlans (state S.Store self.old) (state S.Store self.new) }
     {
+        let is_new = self.known.is_absent(self.alloc, row);
         let is_planned = self.known.has_plan(self.alloc, row);
         self.memory.forget_ended(row);
-        match write_session(&mut self.conn, row, is_planned, balance) {
+        match write_session(&mut self.conn, row, is_new, is_planned, balance) {
             Ok(()) => {}
             Err(_) => {
                 self.known.forget();

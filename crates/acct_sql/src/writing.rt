@@ -94,6 +94,54 @@ fn set_row<S: Alter>(
     set_plan(tx, row)
 }
 
+// Inserts the columns of a session, but for its plan. It is refused if the session has a row.
+fn new_columns<S: Alter>(tx: &mut Transaction<'_, S>, row: &Row) -> Result<(), Refused>
+    requires { HoldsBook S.Store tx.old.conn.now }
+    ensures { RunsInside S.Store tx.old.conn tx.new.conn
+        (HasMadeBare (λ c. with_row c (without_plan row.now))) result }
+{
+    tx.execute(NEW_SESSION, &session_values(row))?;
+    Ok(())
+}
+
+// Inserts the plan of a session. It is refused if one is kept.
+fn new_plan<S: Alter>(tx: &mut Transaction<'_, S>, row: &Row) -> Result<(), Refused>
+    requires { HoldsBook S.Store tx.old.conn.now }
+    ensures { RunsInside S.Store tx.old.conn tx.new.conn
+        (HasSetPlan (key_of row.now) row.now.plan) result }
+{
+    tx.execute(NEW_SESSION_PLAN, &session_plan_values(row))?;
+    Ok(())
+}
+
+// Inserts the columns of a session and its plan.
+fn new_row<S: Alter>(tx: &mut Transaction<'_, S>, row: &Row) -> Result<(), Refused>
+    requires { HoldsBook S.Store tx.old.conn.now }
+    ensures { RunsInside S.Store tx.old.conn tx.new.conn
+        (HasMade (λ c. with_row c row.now)) result }
+{
+    new_columns(tx, row)?;
+    new_plan(tx, row)
+}
+
+// Sets a session by what is known of its row.
+fn keep_row<S: Alter>(
+    tx: &mut Transaction<'_, S>,
+    row: &Row,
+    is_new: bool,
+    is_planned: bool,
+) -> Result<(), Refused>
+    requires book { HoldsBook S.Store tx.old.conn.now }
+    requires planned { IsTrue is_planned → Holds S.Store (HasPlanOf row.now) tx.old.conn.now }
+    ensures { RunsInside S.Store tx.old.conn tx.new.conn
+        (HasMade (λ c. with_row c row.now)) result }
+{
+    if is_new {
+        return new_row(tx, row);
+    }
+    set_row(tx, row, is_planned)
+}
+
 // Removes the columns of a session, but not its plan.
 fn remove_columns<S: Alter>(tx: &mut Transaction<'_, S>, key: &Key) -> Result<(), Refused>
     requires { HoldsBook S.Store tx.old.conn.now }
@@ -183,6 +231,7 @@ fn set_topup<S: Alter>(tx: &mut Transaction<'_, S>, topup: &TopUp) -> Result<(),
 fn set_session<S: Alter>(
     tx: &mut Transaction<'_, S>,
     row: &Row,
+    is_new: bool,
     is_planned: bool,
     balance: i64,
 ) -> Result<(), Refused>
@@ -191,7 +240,7 @@ fn set_session<S: Alter>(
     ensures { RunsInside S.Store tx.old.conn tx.new.conn
         (HasMade (λ c. with_session c row.now balance)) result }
 {
-    set_row(tx, row, is_planned)?;
+    keep_row(tx, row, is_new, is_planned)?;
     set_balance(tx, row.account.as_slice(), balance)
 }
 
@@ -208,11 +257,13 @@ fn set_credit<S: Alter>(
     set_balance(tx, topup.account.as_slice(), balance)
 }
 
-/// Sets a row and the balance of its account in one transaction. Where the session is known to have
-/// the row's plan, the plan is not looked for.
+/// Sets a row and the balance of its account in one transaction. A session that is said to be new is
+/// inserted, which is refused if it has a row or a plan. If the session is known to have the row's
+/// plan, the plan is not looked for.
 pub(crate) fn write_session<S: Alter>(
     conn: &mut Connection<S>,
     row: &Row,
+    is_new: bool,
     is_planned: bool,
     balance: i64,
 ) -> Result<(), Refused>
@@ -222,7 +273,7 @@ pub(crate) fn write_session<S: Alter>(
     ensures { WritesAtRest S.Store conn.old conn.new (λ c. with_session c row.now balance) result }
 {
     let mut tx = conn.transaction();
-    let done = set_session(&mut tx, row, is_planned, balance);
+    let done = set_session(&mut tx, row, is_new, is_planned, balance);
     finish(tx, done)
 }
 

@@ -23,7 +23,8 @@ pub(crate) enum Ask {
     Plan(Name<'static>, &'static [u8]),
     // The session `s1` is refused by its key, in its account's list and in the walk.
     Hidden,
-    // The session `s1` of the usage `STOPPED` is put, or told nothing of and put by the next call.
+    // The session `s1` of the usage `STOPPED` is asked for and put, or told nothing of and put by the
+    // next call.
     PutOnce,
     // The session `s1`, which has the usage `STOPPED`, is put with the usage `LATER`, or told as
     // before and put by the next call.
@@ -118,6 +119,7 @@ fn is_set<B: Book>(alloc: Global, book: &mut B, row: &Row) -> Result<bool, Fail>
 
 fn put_once<B: Book>(alloc: Global, book: &mut B) -> Result<bool, Fail> {
     let row = row(alloc, &S1, b"al", &STOPPED)?;
+    let _ = book.session(&key(alloc, &S1)?);
     is_set(alloc, book, &row)
 }
 

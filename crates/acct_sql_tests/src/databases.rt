@@ -20,7 +20,7 @@ const OF_NUMBER_9: Step = Step::Call(Call::Adopt, SAMPLE, Err(SqlBookError::Wron
 
 // A database that is made a book twice, adoptions after statements, and what a book tells after an
 // adoption.
-static CASES: [Case; 21] = [
+static CASES: [Case; 22] = [
     (
         "a database is made a book twice",
         Start::Empty,
@@ -147,6 +147,19 @@ static CASES: [Case; 21] = [
             ADOPTED,
             Step::Book(Ask::Hidden),
             Step::Book(Ask::Balance(-20)),
+        ],
+    ),
+    // The book asks for the session, which has no row, and so inserts one: that is refused.
+    (
+        "a plan has no session",
+        Start::Made,
+        &[
+            Step::Run(
+                "INSERT INTO session_plan (client, id, plan_class) \
+                 VALUES ('ap1', x'7331', x'676f6c64')",
+            ),
+            ADOPTED,
+            Step::Book(Ask::PutOnce),
         ],
     ),
     // The row of the table that a session's plan stands in gets another class. The plan is told as
