@@ -58,6 +58,29 @@ def free_port(kind):
         return probe.getsockname()[1]
 
 
+def flip(path, at):
+    """Turns one bit of a file over."""
+    with open(path, "r+b") as file:
+        file.seek(at)
+        octet = file.read(1)[0]
+        file.seek(at)
+        file.write(bytes([octet ^ 4]))
+
+
+def commits_of(log):
+    """The number of the last frame of each commit in a log that is whole, from 1."""
+    with open(log, "rb") as file:
+        octets = file.read()
+    size, salts = int.from_bytes(octets[8:12], "big"), octets[16:24]
+    ends = []
+    for number, at in enumerate(range(32, len(octets) - size - 23, 24 + size), 1):
+        if octets[at + 8 : at + 16] != salts:
+            break
+        if any(octets[at + 4 : at + 8]):
+            ends.append(number)
+    return ends
+
+
 class Server:
     """The program, serving on loopback."""
 

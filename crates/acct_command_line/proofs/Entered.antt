@@ -28,6 +28,7 @@ name_of_rows m = name_first (out-ArgMatches m).subcommand
 abbrev Asks : Text → List Row → Order → Type 0
 Asks name rows order =
     WordsAskFor name rows order.job × IsFlag (codes "explain") rows order.explains
+    × IsFlag (codes "lose-damaged-commits") rows order.loses_commits
 
 named : (o : Option (Text × List Row)) (name : Text) (rows : List Row) (order : Order)
     → Some name ≡ option_map first o → Some rows ≡ option_map second o

@@ -110,35 +110,44 @@ configured_app name = with_rule (new_app name) (required config_rule)
 abbrev pub book_app : Text → App
 book_app name = explained (with_rule (configured_app name) (required database_rule))
 
+-- a command that opens a book that is there: `--lose-damaged-commits`
+abbrev pub opening : App → App
+opening a = with_rule a (flag_rule (codes "lose-damaged-commits"))
+
+-- `--config FILE --db FILE [--explain] [--lose-damaged-commits]`
+abbrev pub opening_app : Text → App
+opening_app name = opening (book_app name)
+
 -- the same with `WHAT`, of `export`
 abbrev pub export_app : App
-export_app = with_rule (book_app (codes "export")) (required what_rule)
+export_app = with_rule (opening_app (codes "export")) (required what_rule)
 
 -- a command with these options, from the first on
 abbrev pub with_rules : App → List Rule → App
 with_rules a [] = a
 with_rules a (r ∷ rs) = with_rules (with_rule a r) rs
 
--- `check --config FILE [--db FILE [--audit]] [--status FILE] [--balances FILE] [--explain]`
+-- `check --config FILE [--db FILE [--audit]] [--status FILE] [--balances FILE] [--explain]
+-- [--lose-damaged-commits]`
 abbrev pub check_app : App
-check_app = explained (with_rules (configured_app (codes "check"))
+check_app = opening (explained (with_rules (configured_app (codes "check"))
     (database_rule ∷ option_rule (codes "status") ∷ option_rule (codes "balances")
-    ∷ audit_rule ∷ []))
+    ∷ audit_rule ∷ [])))
 
--- `serve --config FILE --db FILE [--explain] [--bind A.B.C.D].. [--desk-bind A.B.C.D]
--- [--radius-port PORT] [--desk-port PORT] [--turns N] [--sync HOW] [--quiet] [--status FILE]
+-- `serve --config FILE --db FILE [--explain] [--lose-damaged-commits] [--bind A.B.C.D]..
+-- [--desk-bind A.B.C.D] [--radius-port PORT] [--desk-port PORT] [--turns N] [--sync HOW] [--quiet] [--status FILE]
 -- [--balances FILE [--balances-every SECONDS]] [--oldest-report DAYS]`
 abbrev pub serve_app : App
-serve_app = with_rules (book_app (codes "serve"))
+serve_app = with_rules (opening_app (codes "serve"))
     (bind_rule ∷ option_rule (codes "desk-bind")
     ∷ port_rule (codes "radius-port") (codes "1813") ∷ port_rule (codes "desk-port") (codes "8066")
     ∷ turns_rule ∷ sync_rule ∷ flag_rule (codes "quiet") ∷ option_rule (codes "status")
     ∷ option_rule (codes "balances") ∷ balances_every_rule ∷ oldest_rule ∷ [])
 
--- `forward --config FILE --db FILE [--explain] [--before DAYS] [--at MOMENT] [--silent DAYS]
--- [--keep CLIENT].. [--dry-run] [--yes] [--oldest-report DAYS]`
+-- `forward --config FILE --db FILE [--explain] [--lose-damaged-commits] [--before DAYS]
+-- [--at MOMENT] [--silent DAYS] [--keep CLIENT].. [--dry-run] [--yes] [--oldest-report DAYS]`
 abbrev pub forward_app : App
-forward_app = with_rules (book_app (codes "forward"))
+forward_app = with_rules (opening_app (codes "forward"))
     (before_rule ∷ at_rule ∷ days_rule (codes "silent") ∷ keep_rule
     ∷ flag_rule (codes "dry-run") ∷ flag_rule (codes "yes") ∷ oldest_rule ∷ [])
 
@@ -162,5 +171,6 @@ with_commands a (c ∷ cs) = with_commands (with_subcommand a c.top) cs
 -- the program's command line
 abbrev pub app : App
 app = with_commands bare_app
-    (feed_app ∷ check_app ∷ book_app (codes "init") ∷ serve_app ∷ book_app (codes "import")
-    ∷ export_app ∷ book_app (codes "migrate") ∷ book_app (codes "plans") ∷ forward_app ∷ [])
+    (feed_app ∷ check_app ∷ book_app (codes "init") ∷ serve_app ∷ opening_app (codes "import")
+    ∷ export_app ∷ opening_app (codes "migrate") ∷ opening_app (codes "plans") ∷ forward_app
+    ∷ [])

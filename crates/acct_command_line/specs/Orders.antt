@@ -164,6 +164,7 @@ abbrev pub NamesJob : Option (Text × List Row) → Order → Type 0
 NamesJob None order = ⊥
 NamesJob (Some p) order =
     WordsAskFor p.0 p.1 order.job × IsFlag (codes "explain") p.1 order.explains
+    × IsFlag (codes "lose-damaged-commits") p.1 order.loses_commits
 
 -- A server makes fewer than 2^63 turns, receives reports at 1 to 16 addresses, and lets 1 to 86,400
 -- seconds go by from one writing of the balances to the next. Its reports are up to 36,500 days old.

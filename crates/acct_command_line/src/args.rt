@@ -48,6 +48,16 @@ pub fn explain_flag<'a>(alloc: Global) -> Arg<'a>
     flag(alloc, "explain").help("Tells more of a fault, in a second line on standard error")
 }
 
+/// `--lose-damaged-commits`
+pub fn lose_flag<'a>(alloc: Global) -> Arg<'a>
+    ensures rule { rule_of result ≡ flag_rule (codes "lose-damaged-commits") }
+    ensures local { result.global ≡ false }
+{
+    flag(alloc, "lose-damaged-commits").help(
+        "Opens a book whose log is damaged, without what was recorded from the damage on",
+    )
+}
+
 /// `--bind A.B.C.D`
 pub fn bind_option<'a>(alloc: Global) -> Arg<'a>
     ensures rule { rule_of result ≡ bind_rule }

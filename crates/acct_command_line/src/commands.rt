@@ -6,14 +6,14 @@ ghost use Rattle.std.specs.Prelude.{◌≡◌, false, true, codes};
 ghost use Rattle.clap.specs.Words.{App, Rule, app_of, rule_of, new_app, with_rule, with_subcommand};
 ghost use Rattle.acct_command_line.specs.CommandLine.{app, bare_app, feed_app, check_app, book_app};
 ghost use Rattle.acct_command_line.specs.CommandLine.{configured_app, serve_app, export_app};
-ghost use Rattle.acct_command_line.specs.CommandLine.{forward_app};
+ghost use Rattle.acct_command_line.specs.CommandLine.{forward_app, opening_app};
 ghost use Rattle.acct_command_line.specs.inner.Made.{IsMade};
 
 use crate::args::{
     at_option, audit_option, balances_every_option, balances_option, before_option, bind_option,
     config_option, database_option, desk_bind_option, dry_run_flag, explain_flag, keep_option,
-    needed, oldest_option, port_option, quiet_flag, silent_option, status_option, sync_option,
-    turns_option, what_option, yes_flag,
+    lose_flag, needed, oldest_option, port_option, quiet_flag, silent_option, status_option,
+    sync_option, turns_option, what_option, yes_flag,
 };
 use clap::{Arg, Command};
 use std::alloc::{AllocError, Global};
@@ -103,7 +103,8 @@ fn check_command<'a>(alloc: Global) -> Result<Command<'a>, AllocError>
     let command = with_option(command, status_option(alloc));
     let command = with_option(command, balances_option(alloc));
     let command = with_option(command, audit);
-    with_option(command, explain_flag(alloc))
+    let command = with_option(command, explain_flag(alloc));
+    with_option(command, lose_flag(alloc))
 }
 
 fn serve_command<'a>(alloc: Global) -> Result<Command<'a>, AllocError>
@@ -114,7 +115,7 @@ fn serve_command<'a>(alloc: Global) -> Result<Command<'a>, AllocError>
     let desk = "The TCP port of the desk, 1 to 65535";
     let oldest = "Drops reports that are more than so many days old when they come";
     let balances_every = balances_every_option(alloc)?;
-    let command = book_command(alloc, "serve", about);
+    let command = opening_command(alloc, "serve", about);
     let command = with_option(command, bind_option(alloc));
     let command = with_option(command, desk_bind_option(alloc));
     let command = with_option(command, port_option(alloc, "radius-port", "1813", reports));
@@ -136,31 +137,31 @@ fn init_command<'a>(alloc: Global) -> Result<Command<'a>, AllocError>
 }
 
 fn import_command<'a>(alloc: Global) -> Result<Command<'a>, AllocError>
-    ensures { IsMade (book_app (codes "import")) result }
+    ensures { IsMade (opening_app (codes "import")) result }
 {
     let about = "Credits the vouchers of standard input, CSV of voucher,account,sum";
-    book_command(alloc, "import", about)
+    opening_command(alloc, "import", about)
 }
 
 fn export_command<'a>(alloc: Global) -> Result<Command<'a>, AllocError>
     ensures { IsMade export_app result }
 {
     let about = "Writes the sessions, balances, topups or overruns of a book as CSV";
-    with_option(book_command(alloc, "export", about), what_option(alloc))
+    with_option(opening_command(alloc, "export", about), what_option(alloc))
 }
 
 fn migrate_command<'a>(alloc: Global) -> Result<Command<'a>, AllocError>
-    ensures { IsMade (book_app (codes "migrate")) result }
+    ensures { IsMade (opening_app (codes "migrate")) result }
 {
     let about = "Makes a book of an earlier version one of this version, with the same balances";
-    book_command(alloc, "migrate", about)
+    opening_command(alloc, "migrate", about)
 }
 
 fn plans_command<'a>(alloc: Global) -> Result<Command<'a>, AllocError>
-    ensures { IsMade (book_app (codes "plans")) result }
+    ensures { IsMade (opening_app (codes "plans")) result }
 {
     let about = "Adds the plans of a configuration that a book does not keep yet";
-    book_command(alloc, "plans", about)
+    opening_command(alloc, "plans", about)
 }
 
 fn forward_command<'a>(alloc: Global) -> Result<Command<'a>, AllocError>
@@ -168,7 +169,7 @@ fn forward_command<'a>(alloc: Global) -> Result<Command<'a>, AllocError>
 {
     let about = "Carries old sessions forward into a line for each account; no balance changes";
     let oldest = "What serve has: refuses to carry sessions whose late reports it would still take";
-    let command = book_command(alloc, "forward", about);
+    let command = opening_command(alloc, "forward", about);
     let command = with_option(command, before_option(alloc));
     let command = with_option(command, at_option(alloc));
     let command = with_option(command, silent_option(alloc));
@@ -176,6 +177,17 @@ fn forward_command<'a>(alloc: Global) -> Result<Command<'a>, AllocError>
     let command = with_option(command, dry_run_flag(alloc));
     let command = with_option(command, yes_flag(alloc));
     with_option(command, oldest_option(alloc, oldest))
+}
+
+// A command that opens a book that is there.
+fn opening_command<'a>(
+    alloc: Global,
+    name: &'a str,
+    about: &'a str,
+) -> Result<Command<'a>, AllocError>
+    ensures { IsMade (opening_app name.now) result }
+{
+    with_option(book_command(alloc, name, about), lose_flag(alloc))
 }
 
 // A command that keeps a book.

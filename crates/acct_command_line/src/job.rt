@@ -24,6 +24,8 @@ pub struct Order {
     pub job: Job,
     /// Whether more is told of a fault that ends it.
     pub explains: bool,
+    /// Whether a book whose log is damaged is opened, without the commits from the damage on.
+    pub loses_commits: bool,
 }
 
 // It is written out, so that a caller does not prove again how each part is dropped.
@@ -32,6 +34,7 @@ impl Drop for Order {
         let Order {
             job: _,
             explains: _,
+            loses_commits: _,
         } = self;
     }
 }

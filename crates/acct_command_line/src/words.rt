@@ -34,6 +34,7 @@ pub fn job_of(alloc: Global, words: Vec<String>) -> Result<Order, Error>
         Some(job) => Ok(Order {
             job,
             explains: flag_option(options, "explain"),
+            loses_commits: flag_option(options, "lose-damaged-commits"),
         }),
         None => Err(no_job(alloc)),
     }

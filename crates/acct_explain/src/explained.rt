@@ -1,5 +1,6 @@
 //! What is explained, and where it is written.
 use crate::config::explain_config;
+use crate::damage::{TO_DO, tell_damage};
 use crate::files::{why_unmade, why_unopened, why_unread};
 use acct_config::ConfigError;
 use acct_feed::read_input;
@@ -28,6 +29,8 @@ pub enum Explained<'a> {
     Unopened {
         /// Its file.
         file: &'a Text,
+        /// Whether it would be opened with a damaged log too.
+        loses_commits: bool,
     },
     /// A book that is to be made cannot be opened.
     Unmade {
@@ -52,13 +55,20 @@ pub fn explain<R: Files, E: Write>(
         Explained::Unread { file } => {
             tell(file.as_str(), why_unread(runtime, file.as_str()), errors);
         }
-        Explained::Unopened { file } => {
-            let why = why_unopened(runtime, alloc, file.as_str());
-            tell(file.as_str(), why, errors);
+        Explained::Unopened {
+            file,
+            loses_commits,
+        } => {
+            if loses_commits || !tell_damage(runtime, alloc, file.as_str(), TO_DO, errors) {
+                let why = why_unopened(runtime, alloc, file.as_str());
+                tell(file.as_str(), why, errors);
+            }
         }
         Explained::Unmade { file } => {
-            let why = why_unmade(runtime, alloc, file.as_str());
-            tell(file.as_str(), why, errors);
+            if !tell_damage(runtime, alloc, file.as_str(), "", errors) {
+                let why = why_unmade(runtime, alloc, file.as_str());
+                tell(file.as_str(), why, errors);
+            }
         }
     }
 }

@@ -6,6 +6,7 @@
 
 mod book;
 mod config;
+mod damage;
 mod explained;
 mod fields;
 mod files;

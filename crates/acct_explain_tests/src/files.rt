@@ -14,13 +14,15 @@ enum Asked {
     Config,
     Unread,
     Unopened,
+    // With `--lose-damaged-commits`.
+    Lossy,
     Unmade,
 }
 
 // What is asked of which file, and what is said.
 type Row = (Asked, &'static str, &'static str);
 
-static ROWS: [Row; 9] = [
+static ROWS: [Row; 12] = [
     (
         Asked::Config,
         "acct_explain_test/site",
@@ -59,6 +61,23 @@ static ROWS: [Row; 9] = [
         "explained: acct_explain_test/two: it has a second name (a hard link)\n",
     ),
     (
+        Asked::Unopened,
+        "acct_explain_test/hurt",
+        "explained: acct_explain_test/hurt: the header of its log is damaged, and 2 commits are behind \
+         it: restore a copy, or give --lose-damaged-commits, which loses them\n",
+    ),
+    (
+        Asked::Unmade,
+        "acct_explain_test/hurt",
+        "explained: acct_explain_test/hurt: the header of its log is damaged, and 2 commits are behind \
+         it\n",
+    ),
+    (
+        Asked::Lossy,
+        "acct_explain_test/hurt",
+        "explained: acct_explain_test/hurt: it is no SQLite database\n",
+    ),
+    (
         Asked::Unmade,
         "acct_explain_test/none/book",
         "explained: acct_explain_test/none/book: its folder is missing\n",
@@ -81,6 +100,12 @@ fn says_why_a_file_is_refused(rt: HostRuntime) -> Result<(), Fail> {
     )?;
     fs::write(&rt, "acct_explain_test/text", [b'-'; 200].as_slice())?;
     fs::write(&rt, "acct_explain_test/two", [b'-'; 200].as_slice())?;
+    fs::write(&rt, "acct_explain_test/hurt", [b'-'; 200].as_slice())?;
+    fs::write(
+        &rt,
+        "acct_explain_test/hurt-wal",
+        damaged_log(rt.alloc())?.as_slice(),
+    )?;
     fs::hard_link(&rt, "acct_explain_test/two", "acct_explain_test/three")?;
     for (asked, file, wanted) in &ROWS {
         assert!(rt; is_said_of(&rt, *asked, file, wanted)?, "{wanted}");
@@ -97,6 +122,19 @@ fn is_said_of(rt: &HostRuntime, asked: Asked, file: &str, wanted: &str) -> Resul
     Ok(written.as_slice() == wanted.as_bytes())
 }
 
+// A log of two commits of one page each, by the salts of its header, which breaks its own sum.
+fn damaged_log(alloc: Global) -> Result<Vec<u8>, Fail> {
+    let mut log = Vec::new(alloc);
+    // The version 3007000, pages of 512 octets, the salts 1 and 2, and no sum.
+    log.extend_from_slice(&[0x37, 0x7f, 6, 0x82, 0, 45, 226, 24, 0, 0, 2, 0, 0, 0, 0, 0])?;
+    log.extend_from_slice(&[0, 0, 0, 1, 0, 0, 0, 2, 0, 0, 0, 0, 0, 0, 0, 0])?;
+    for _ in 0..2 {
+        log.extend_from_slice(&[0, 0, 0, 1, 0, 0, 0, 1, 0, 0, 0, 1, 0, 0, 0, 2])?;
+        log.extend_from_slice(&[7; 520])?;
+    }
+    Ok(log)
+}
+
 // What is to be explained of a file.
 fn explained(asked: Asked, file: &Text) -> Explained<'_> {
     match asked {
@@ -109,7 +147,14 @@ fn explained(asked: Asked, file: &Text) -> Explained<'_> {
             },
         },
         Asked::Unread => Explained::Unread { file },
-        Asked::Unopened => Explained::Unopened { file },
+        Asked::Unopened => Explained::Unopened {
+            file,
+            loses_commits: false,
+        },
+        Asked::Lossy => Explained::Unopened {
+            file,
+            loses_commits: true,
+        },
         Asked::Unmade => Explained::Unmade { file },
     }
 }

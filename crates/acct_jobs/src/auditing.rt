@@ -25,6 +25,7 @@ pub(crate) fn audit_book<S: Start, W: Write + Drop, E: Write + Drop>(
     runtime: &HostRuntime,
     config: &Text,
     file: &Text,
+    loses_commits: bool,
     mut output: W,
     mut progress: E,
     start: S,
@@ -35,7 +36,15 @@ pub(crate) fn audit_book<S: Start, W: Write + Drop, E: Write + Drop>(
         ⊎ AuditsNothing (image_at S.Start) ⟦<SqlBook<FileStore<FileFrom<S>>> as Book>⟧
         result.ended result.left }
 {
-    match audited_from(runtime, config, file, &mut output, &mut progress, start) {
+    match audited_from(
+        runtime,
+        config,
+        file,
+        loses_commits,
+        &mut output,
+        &mut progress,
+        start,
+    ) {
         Ok((ended, connection)) => Outcome {
             ended,
             output: Some(output),
@@ -55,6 +64,7 @@ fn audited_from<S: Start, W: Write, E: Write>(
     runtime: &HostRuntime,
     config: &Text,
     file: &Text,
+    loses_commits: bool,
     output: &mut W,
     progress: &mut E,
     start: S,
@@ -67,7 +77,7 @@ fn audited_from<S: Start, W: Write, E: Write>(
         ⊎ ((config : Config) × IsRefused (image_at S.Start) config.plans e.0 e.1)) }
 {
     let config = config_of(runtime, config)?;
-    let book = adopted(runtime, file, &config.plans, start)?;
+    let book = adopted(runtime, file, loses_commits, &config.plans, start)?;
     Ok(audited(runtime.alloc(), &config, book, output, progress))
 }
 

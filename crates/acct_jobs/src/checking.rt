@@ -28,6 +28,7 @@ pub(crate) fn check<S: Start, W: Write + Drop, E: Write + Drop>(
     database: Option<&Text>,
     kept: &KeptNames,
     audits: bool,
+    loses_commits: bool,
     output: W,
     progress: E,
     start: S,
@@ -40,7 +41,16 @@ pub(crate) fn check<S: Start, W: Write + Drop, E: Write + Drop>(
         (option_copied database.entry) result.ended result.left }
 {
     match keep_others(runtime, files_of(config, database, kept)) {
-        Ok(()) => check_or_audit(runtime, config, database, audits, output, progress, start),
+        Ok(()) => check_or_audit(
+            runtime,
+            config,
+            database,
+            audits,
+            loses_commits,
+            output,
+            progress,
+            start,
+        ),
         Err(fault) => without_book(Err(fault), output),
     }
 }
@@ -51,6 +61,7 @@ fn check_or_audit<S: Start, W: Write + Drop, E: Write + Drop>(
     config: &Text,
     database: Option<&Text>,
     audits: bool,
+    loses_commits: bool,
     output: W,
     progress: E,
     start: S,
@@ -61,11 +72,19 @@ fn check_or_audit<S: Start, W: Write + Drop, E: Write + Drop>(
         (option_copied database.entry) result.ended result.left }
 {
     if !audits {
-        return check_files(runtime, config, database, output, start);
+        return check_files(runtime, config, database, loses_commits, output, start);
     }
     match database {
-        Some(file) => audit_book(runtime, config, file, output, progress, start),
-        None => check_files(runtime, config, None, output, start),
+        Some(file) => audit_book(
+            runtime,
+            config,
+            file,
+            loses_commits,
+            output,
+            progress,
+            start,
+        ),
+        None => check_files(runtime, config, None, loses_commits, output, start),
     }
 }
 
@@ -91,6 +110,7 @@ fn check_files<S: Start, W: Write + Drop>(
     runtime: &HostRuntime,
     config: &Text,
     database: Option<&Text>,
+    loses_commits: bool,
     mut output: W,
     start: S,
 ) -> Outcome<W, FileFrom<S>>
@@ -103,7 +123,7 @@ fn check_files<S: Start, W: Write + Drop>(
             let ended = run_check(runtime, runtime.alloc(), config, &mut output);
             without_book(ended, output)
         }
-        Some(file) => check_book(runtime, config, file, output, start),
+        Some(file) => check_book(runtime, config, file, loses_commits, output, start),
     }
 }
 
@@ -112,6 +132,7 @@ fn check_book<S: Start, W: Write + Drop>(
     runtime: &HostRuntime,
     config: &Text,
     file: &Text,
+    loses_commits: bool,
     mut output: W,
     start: S,
 ) -> Outcome<W, FileFrom<S>>
@@ -119,7 +140,7 @@ fn check_book<S: Start, W: Write + Drop>(
     ensures does { ChecksBook (image_at S.Start) (W.contents output)
         (text_of W.contents result.output) result.ended result.left }
 {
-    match checked_from(runtime, config, file, &mut output, start) {
+    match checked_from(runtime, config, file, loses_commits, &mut output, start) {
         Ok(connection) => Outcome {
             ended: Ok(Status::Done),
             output: Some(output),
@@ -139,6 +160,7 @@ fn checked_from<S: Start, W: Write>(
     runtime: &HostRuntime,
     config: &Text,
     file: &Text,
+    loses_commits: bool,
     output: &mut W,
     start: S,
 ) -> Result<FileConnection<S>, (Fault, Left<FileFrom<S>>)>
@@ -147,7 +169,8 @@ fn checked_from<S: Start, W: Write>(
     ensures failed { IfErr result (λ e. FailsToCheck (image_at S.Start) e.0 e.1) }
 {
     let config = config_of(runtime, config)?;
-    let connection = adopted(runtime, file, &config.plans, start)?.into_connection();
+    let book = adopted(runtime, file, loses_commits, &config.plans, start)?;
+    let connection = book.into_connection();
     match write_sizes(output, &config) {
         Ok(_) => Ok(connection),
         Err(fault) => Err((fault, Left::Open(connection))),

@@ -62,11 +62,13 @@ pub struct Outcome<W, D: Disk> {
 /// The end of a command that closes its book, or what a fault left.
 pub(crate) type Ending<S> = Result<(Status, Files<FileFrom<S>>), (Fault, Left<FileFrom<S>>)>;
 
-/// Does a job over these streams. The book's files held what `S` says. What a server prints while it
-/// runs goes to `errors`: its drops and counts only if it isn't quiet.
+/// Does a job over these streams. The book's files held what `S` says. A book whose log is damaged is
+/// refused, unless the commits from the damage on are to be lost. What a server prints while it runs
+/// goes to `errors`: its drops and counts only if it isn't quiet.
 pub fn run<S: Start, I: Read + Drop, W: Write + Drop, E: Write + Drop>(
     runtime: &HostRuntime,
     job: &Job,
+    loses_commits: bool,
     input: I,
     mut output: W,
     errors: Errors<E>,
@@ -93,24 +95,58 @@ pub fn run<S: Start, I: Read + Drop, W: Write + Drop, E: Write + Drop>(
             let Errors { notices, .. } = errors;
             let database = database.as_ref();
             check(
-                runtime, config, database, kept, *audits, output, notices, start,
+                runtime,
+                config,
+                database,
+                kept,
+                *audits,
+                loses_commits,
+                output,
+                notices,
+                start,
             )
         }
         Job::Init { paths } => {
-            let ending = make(runtime, Making::New, paths, &mut output, start);
+            let ending = make(
+                runtime,
+                Making::New,
+                paths,
+                loses_commits,
+                &mut output,
+                start,
+            );
             with_book(ending, output)
         }
         Job::Serve { paths, serving } => {
-            run_server(runtime, paths, serving, output, errors, start)
+            run_server(
+                runtime,
+                paths,
+                serving,
+                loses_commits,
+                output,
+                errors,
+                start,
+            )
         }
         Job::Import { paths } => {
             let moment = moment_of(runtime);
-            let ending = import(runtime, paths, moment, input, &mut output, start);
+            let ending = import(
+                runtime,
+                paths,
+                loses_commits,
+                moment,
+                input,
+                &mut output,
+                start,
+            );
             with_book(ending, output)
         }
-        Job::Export { paths, what } => export(runtime, paths, *what, output, start),
+        Job::Export { paths, what } => {
+            export(runtime, paths, loses_commits, *what, output, start)
+        }
         Job::Migrate { paths } => {
-            let ending = make(runtime, Making::Migrated, paths, &mut output, start);
+            let making = Making::Migrated;
+            let ending = make(runtime, making, paths, loses_commits, &mut output, start);
             with_book(ending, output)
         }
         Job::Forward { paths, carrying } => {
@@ -119,6 +155,7 @@ pub fn run<S: Start, I: Read + Drop, W: Write + Drop, E: Write + Drop>(
             let ending = forward(
                 runtime,
                 paths,
+                loses_commits,
                 carrying,
                 moment,
                 &mut output,
@@ -128,7 +165,8 @@ pub fn run<S: Start, I: Read + Drop, W: Write + Drop, E: Write + Drop>(
             with_book(ending, output)
         }
         Job::AddPlans { paths } => {
-            let ending = make(runtime, Making::Extended, paths, &mut output, start);
+            let making = Making::Extended;
+            let ending = make(runtime, making, paths, loses_commits, &mut output, start);
             with_book(ending, output)
         }
     }
@@ -140,6 +178,7 @@ pub fn run_server<S: Start, W: Write + Drop, E: Write + Drop>(
     runtime: &HostRuntime,
     paths: &Paths,
     serving: &Serving,
+    loses_commits: bool,
     mut output: W,
     errors: Errors<E>,
     start: S,
@@ -154,7 +193,15 @@ pub fn run_server<S: Start, W: Write + Drop, E: Write + Drop>(
 {
     match keep_others(runtime, files_of_server(paths, &serving.telling)) {
         Ok(()) => {
-            let ending = serve(runtime, paths, serving, &mut output, errors, start);
+            let ending = serve(
+                runtime,
+                paths,
+                serving,
+                loses_commits,
+                &mut output,
+                errors,
+                start,
+            );
             with_book(ending, output)
         }
         Err(fault) => without_book(Err(fault), output),
@@ -284,6 +331,7 @@ pub(crate) fn config_of<D: Disk>(
 fn import<S: Start, I: Read + Drop, W: Write>(
     runtime: &HostRuntime,
     paths: &Paths,
+    loses_commits: bool,
     moment: u64,
     input: I,
     output: &mut W,
@@ -305,6 +353,7 @@ fn import<S: Start, I: Read + Drop, W: Write>(
         runtime,
         &config,
         &paths.database,
+        loses_commits,
         moment,
         input,
         output,
@@ -317,6 +366,7 @@ fn imported<S: Start, I: Read + Drop, W: Write>(
     runtime: &HostRuntime,
     config: &Config,
     file: &Text,
+    loses_commits: bool,
     moment: u64,
     input: I,
     output: &mut W,
@@ -335,7 +385,7 @@ fn imported<S: Start, I: Read + Drop, W: Write>(
         (I.remaining input) first last (W.contents output.old) (W.contents output.new) ended)
         e.0 e.1) }
 {
-    let book = adopted(runtime, file, &config.plans, start)?;
+    let book = adopted(runtime, file, loses_commits, &config.plans, start)?;
     let (ended, connection) = credited(runtime.alloc(), &config.plans, book, moment, input, output);
     finished(ended, connection)
 }
@@ -362,6 +412,7 @@ fn credited<T: Alter + Drop, I: Read + Drop, W: Write>(
 fn forward<S: Start, W: Write, E: Write + Drop>(
     runtime: &HostRuntime,
     paths: &Paths,
+    loses_commits: bool,
     carrying: &Carrying,
     moment: u64,
     output: &mut W,
@@ -383,6 +434,7 @@ fn forward<S: Start, W: Write, E: Write + Drop>(
         runtime,
         &config,
         &paths.database,
+        loses_commits,
         carrying,
         moment,
         output,
@@ -396,6 +448,7 @@ fn forwarded<S: Start, W: Write, E: Write + Drop>(
     runtime: &HostRuntime,
     config: &Config,
     file: &Text,
+    loses_commits: bool,
     carrying: &Carrying,
     moment: u64,
     output: &mut W,
@@ -412,7 +465,7 @@ fn forwarded<S: Start, W: Write, E: Write + Drop>(
         (λ ended first last. Forwards ⟦<SqlBook<FileStore<FileFrom<S>>> as Book>⟧
         config.now.plans carrying.now moment first last ended) e.0 e.1) }
 {
-    let book = adopted(runtime, file, &config.plans, start)?;
+    let book = adopted(runtime, file, loses_commits, &config.plans, start)?;
     let plans = &config.plans;
     let (ended, connection) = carried(
         runtime.alloc(),
@@ -458,6 +511,7 @@ fn carried<T: Alter + Drop, W: Write, E: Write + Drop>(
 fn export<S: Start, W: Write + Drop>(
     runtime: &HostRuntime,
     paths: &Paths,
+    loses_commits: bool,
     what: Export,
     output: W,
     start: S,
@@ -472,7 +526,8 @@ fn export<S: Start, W: Write + Drop>(
         Ok(config) => config,
         Err(fault) => return without_book(Err(fault), output),
     };
-    match exported(runtime, &config, &paths.database, what, output, start) {
+    let file = &paths.database;
+    match exported(runtime, &config, file, loses_commits, what, output, start) {
         Ok((output, connection)) => Outcome {
             ended: Ok(Status::Done),
             output: Some(output),
@@ -491,6 +546,7 @@ fn exported<S: Start, W: Write + Drop>(
     runtime: &HostRuntime,
     config: &Config,
     file: &Text,
+    loses_commits: bool,
     what: Export,
     output: W,
     start: S,
@@ -501,7 +557,7 @@ fn exported<S: Start, W: Write + Drop>(
     ensures failed { IfErr result (λ e. FailsToExport
         ⟦<SqlBook<FileStore<FileFrom<S>>> as Book>⟧ (image_at S.Start) config.now.plans e.0 e.1) }
 {
-    let book = adopted(runtime, file, &config.plans, start)?;
+    let book = adopted(runtime, file, loses_commits, &config.plans, start)?;
     match written_out(runtime.alloc(), what, &config.plans, book, output) {
         Ok(done) => Ok(done),
         Err((fault, connection)) => Err((fault, Left::Open(connection))),

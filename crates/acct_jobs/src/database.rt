@@ -16,6 +16,7 @@ ghost use Rattle.acct_jobs.specs.inner.Files.{IsOpenedOn};
 use crate::left::Left;
 use crate::making::Making;
 use acct_commands::{Fault, StoreFault};
+use acct_log::damage_beside;
 use acct_model::{Plans, Text};
 use acct_sql::{SqlBook, SqlBookError};
 use sqlite::{Connection, FileFrom, FileStore, Files, Start};
@@ -42,14 +43,16 @@ pub type FileConnection<S> = Connection<FileStore<FileFrom<S>>>;
 ///
 /// # Errors
 ///
-/// `CannotOpen` if the file cannot be opened. A book that is there is not opened either if its file
-/// is no regular one, if it has 1 to 99 octets, or if it is empty next to a log that has frames.
+/// `CannotOpen` if the file cannot be opened, or if its log is damaged, unless the commits from the
+/// damage on are to be lost. A book that is there is not opened either if its file is no regular one,
+/// if it has 1 to 99 octets, or if it is empty next to a log that has frames.
 /// Else the error of `SqlBook::create`, `migrate` or `add_plans`. Each has what is left of the
 /// files. They hold what they held, but for a crash, which may leave the book that was to be made.
 pub fn made<S: Start>(
     runtime: &HostRuntime,
     making: Making,
     file: &Text,
+    loses_commits: bool,
     plans: &Plans,
     start: S,
 ) -> Result<(FileConnection<S>, u64), (Fault, Left<FileFrom<S>>)>
@@ -58,10 +61,14 @@ pub fn made<S: Start>(
     ensures refused { IfErr result (λ e.
         HasNotMade making (image_at S.Start) plans.now e.0 e.1) }
 {
+    if making != Making::New && !may_be_database(runtime, file) {
+        return Err((Fault::CannotOpen, Left::Nothing));
+    }
+    if !is_readable(runtime, file, loses_commits) {
+        return Err((Fault::CannotOpen, Left::Nothing));
+    }
     if making == Making::New {
         keep_private(runtime, file);
-    } else if !may_be_database(runtime, file) {
-        return Err((Fault::CannotOpen, Left::Nothing));
     }
     let connection = opened(runtime, file, start)?;
     made_of(runtime.alloc(), making, connection, plans)
@@ -72,11 +79,13 @@ pub fn made<S: Start>(
 /// # Errors
 ///
 /// `CannotOpen` if no regular file is there, if it has 1 to 99 octets, if it is empty beside a log
-/// that has frames, or if it cannot be opened; else that of `SqlBook::adopt`, with what is left of
-/// the files, which hold what they held.
+/// that has frames, if its log is damaged, unless the commits from the damage on are to be lost, or
+/// if it cannot be opened; else that of `SqlBook::adopt`, with what is left of the files, which hold
+/// what they held.
 pub fn adopted<S: Start>(
     runtime: &HostRuntime,
     file: &Text,
+    loses_commits: bool,
     plans: &Plans,
     start: S,
 ) -> Result<FileBook<S>, (Fault, Left<FileFrom<S>>)>
@@ -85,8 +94,9 @@ pub fn adopted<S: Start>(
     ensures refused { IfErr result (λ e. IsRefused (image_at S.Start) plans.now e.0 e.1) }
 {
     // An open makes a file that isn't there, makes a database of a text that is shorter than a
-    // header, and waits at a pipe: a slip in a name is to do none of it.
-    if !may_be_database(runtime, file) {
+    // header, and waits at a pipe: a slip in a name is to do none of it. It ends reading a damaged
+    // log where the damage is, and writes behind that.
+    if !may_be_database(runtime, file) || !is_readable(runtime, file, loses_commits) {
         return Err((Fault::CannotOpen, Left::Nothing));
     }
     let connection = opened(runtime, file, start)?;
@@ -151,6 +161,12 @@ fn may_be_database(runtime: &HostRuntime, file: &Text) -> bool {
         Ok(found) => found.is_file() && found.len() >= HEADER_OCTETS,
         Err(_) => false,
     }
+}
+
+// Whether the log of a database may be read: it isn't damaged, or what is behind the damage is to be
+// lost.
+fn is_readable(runtime: &HostRuntime, file: &Text, loses_commits: bool) -> bool {
+    loses_commits || damage_beside(runtime, runtime.alloc(), file.as_str()).is_none()
 }
 
 // Whether the log of a database has a frame. One whose name finds no memory counts as one that has.

@@ -32,6 +32,7 @@ pub(crate) fn make<S: Start, W: Write>(
     runtime: &HostRuntime,
     making: Making,
     paths: &Paths,
+    loses_commits: bool,
     output: &mut W,
     start: S,
 ) -> Ending<S>
@@ -42,7 +43,8 @@ pub(crate) fn make<S: Start, W: Write>(
     ensures failed { IfErr result (λ e. FailsToMake (image_at S.Start) making e.0 e.1) }
 {
     let config = config_of(runtime, &paths.config)?;
-    let (book, count) = made(runtime, making, &paths.database, &config.plans, start)?;
+    let file = &paths.database;
+    let (book, count) = made(runtime, making, file, loses_commits, &config.plans, start)?;
     let files = close(book)?;
     match write_made(output, making, count) {
         Ok(()) => Ok((Status::Done, files)),

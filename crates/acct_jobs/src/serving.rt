@@ -27,6 +27,7 @@ pub(crate) fn serve<S: Start, W: Write, E: Write + Drop>(
     runtime: &HostRuntime,
     paths: &Paths,
     serving: &Serving,
+    loses_commits: bool,
     output: &mut W,
     errors: Errors<E>,
     start: S,
@@ -49,7 +50,15 @@ pub(crate) fn serve<S: Start, W: Write, E: Write + Drop>(
     let config = config_of(runtime, &paths.config)?;
     let errors = told_to(errors, serving.telling.is_quiet);
     served(
-        runtime, &config, site, paths, serving, output, errors, start,
+        runtime,
+        &config,
+        site,
+        paths,
+        serving,
+        loses_commits,
+        output,
+        errors,
+        start,
     )
 }
 
@@ -76,6 +85,7 @@ fn served<S: Start, W: Write, E: Write + Drop>(
     site: SiteFile<'_, HostRuntime>,
     paths: &Paths,
     serving: &Serving,
+    loses_commits: bool,
     output: &mut W,
     mut errors: Errors<E>,
     start: S,
@@ -95,12 +105,12 @@ fn served<S: Start, W: Write, E: Write + Drop>(
 {
     // Before it is opened, which may make a log.
     note_clock(runtime, &paths.database, &mut errors.notices);
-    let book = adopted(runtime, &paths.database, &config.plans, start)?;
+    let file = &paths.database;
+    let book = adopted(runtime, file, loses_commits, &config.plans, start)?;
     let around = Surroundings {
         source: site,
         errors,
     };
-    let file = &paths.database;
     let (ended, connection) = run_over(runtime, config, around, file, book, serving, output);
     finished(ended, connection)
 }

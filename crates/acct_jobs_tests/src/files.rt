@@ -64,6 +64,57 @@ fn becomes_a_book(rt: &HostRuntime) -> Result<bool, Fail> {
     )
 }
 
+// Commands that open the book `hurt-book`, of which `init` opens one that is there to refuse it.
+static OPENING: [Command<'static>; 8] = [
+    ("check --config hurt.toml --db hurt-book", ""),
+    ("init --config hurt.toml --db hurt-book", ""),
+    (
+        "import --config hurt.toml --db hurt-book",
+        "voucher,account,sum\n",
+    ),
+    ("export --config hurt.toml --db hurt-book topups", ""),
+    ("migrate --config hurt.toml --db hurt-book", ""),
+    ("plans --config hurt.toml --db hurt-book", ""),
+    ("forward --config hurt.toml --db hurt-book", ""),
+    (
+        "serve --config hurt.toml --db hurt-book --turns 1 --radius-port 1 --desk-port 1",
+        "",
+    ),
+];
+
+// A book whose log is damaged is not opened, unless what is behind the damage is to be lost.
+#[test]
+fn a_damaged_log_is_refused(rt: HostRuntime) -> Result<(), Fail> {
+    write_sites(&rt, ["hurt.toml", "hurt-more.toml", "hurt-other.toml"])?;
+    let made = (Status::Done, "book made\n", "");
+    assert!(rt; comes(&rt, ("init --config hurt.toml --db hurt-book", ""), made)?);
+    fs::write(&rt, "hurt-book-wal", damaged_log(&rt)?.as_slice())?;
+    let refused = (Status::Unavailable, "", "db: cannot open\n");
+    for command in &OPENING {
+        assert!(rt; comes(&rt, *command, refused)?);
+    }
+    assert!(rt; has_length(&rt, "hurt-book-wal", 1104)?);
+    let lossy = "check --config hurt.toml --db hurt-book --lose-damaged-commits";
+    let sizes = (Status::Done, "ok: 1 clients, 2 plans, 2 keys\n", "");
+    assert!(rt; comes(&rt, (lossy, ""), sizes)?);
+    // The store has begun the log anew.
+    assert!(rt; comes(&rt, ("check --config hurt.toml --db hurt-book", ""), sizes)?);
+    Ok(())
+}
+
+// A log of two commits of one page each, by the salts of its header, which breaks its own sum.
+fn damaged_log(rt: &HostRuntime) -> Result<Vec<u8>, Fail> {
+    let mut log = Vec::new(rt.alloc());
+    // The version 3007000, pages of 512 octets, the salts 1 and 2, and no sum.
+    log.extend_from_slice(&[0x37, 0x7f, 6, 0x82, 0, 45, 226, 24, 0, 0, 2, 0, 0, 0, 0, 0])?;
+    log.extend_from_slice(&[0, 0, 0, 1, 0, 0, 0, 2, 0, 0, 0, 0, 0, 0, 0, 0])?;
+    for _ in 0..2 {
+        log.extend_from_slice(&[0, 0, 0, 1, 0, 0, 0, 1, 0, 0, 0, 1, 0, 0, 0, 2])?;
+        log.extend_from_slice(&[7; 520])?;
+    }
+    Ok(log)
+}
+
 // A new book, and its log, are for their owner alone.
 #[test]
 fn a_new_book_is_private(rt: HostRuntime) -> Result<(), Fail> {

@@ -60,7 +60,15 @@ pub fn came(rt: &HostRuntime, (line, input): Command<'_>) -> Result<Printed, Fai
         ended,
         output,
         left: _left,
-    } = run(rt, &order.job, input.as_bytes(), output, errors, Wary);
+    } = run(
+        rt,
+        &order.job,
+        order.loses_commits,
+        input.as_bytes(),
+        output,
+        errors,
+        Wary,
+    );
     let mut faults = Vec::new(rt.alloc());
     let status = end(&mut faults, ended);
     Ok(Printed {

@@ -54,7 +54,7 @@ pub(crate) fn explain_book<W: Write + Drop>(runtime: &HostRuntime, order: &Order
         BySyncs::Twice(outcome) => explain_outcome(runtime, order, outcome),
     }
     if order.explains && ended == Err(Fault::CannotOpen) {
-        if let Some(what) = unopened(&order.job) {
+        if let Some(what) = unopened(order) {
             explain(runtime, runtime.alloc(), what, &mut runtime.stderr());
         }
     }
@@ -110,11 +110,14 @@ fn explained<'a>(job: &'a Job, fault: Fault) -> Option<Explained<'a>> {
 }
 
 // The book that could not be opened, or made.
-fn unopened<'a>(job: &'a Job) -> Option<Explained<'a>> {
-    let file = book_file(job)?;
-    match job {
+fn unopened<'a>(order: &'a Order) -> Option<Explained<'a>> {
+    let file = book_file(&order.job)?;
+    match order.job {
         Job::Init { .. } => Some(Explained::Unmade { file }),
-        _ => Some(Explained::Unopened { file }),
+        _ => Some(Explained::Unopened {
+            file,
+            loses_commits: order.loses_commits,
+        }),
     }
 }
 

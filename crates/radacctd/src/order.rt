@@ -51,7 +51,8 @@ pub(crate) fn carry_out<I: Read + Drop, W: Write + Drop, E: Write + Drop, F: Wri
         (I.remaining input) (W.contents output) (text_of W.contents twice.output) order.now.job
         twice.ended twice.left) }
 {
-    let ran = run_as_it_syncs(runtime, &order.job, input, output, errors);
+    let loses = order.loses_commits;
+    let ran = run_as_it_syncs(runtime, &order.job, loses, input, output, errors);
     let ended = ended_of(&ran);
     let status = end(faults, ended);
     if let Err(fault) = ended
@@ -67,6 +68,7 @@ pub(crate) fn carry_out<I: Read + Drop, W: Write + Drop, E: Write + Drop, F: Wri
 fn run_as_it_syncs<I: Read + Drop, W: Write + Drop, E: Write + Drop>(
     runtime: &HostRuntime,
     job: &Job,
+    loses_commits: bool,
     input: I,
     output: W,
     errors: Errors<E>,
@@ -91,9 +93,17 @@ fn run_as_it_syncs<I: Read + Drop, W: Write + Drop, E: Write + Drop>(
 {
     match job {
         Job::Serve { paths, serving } if serving.syncs == Syncs::Once => {
-            BySyncs::Once(run_server(runtime, paths, serving, output, errors, Unknown))
+            BySyncs::Once(run_server(
+                runtime,
+                paths,
+                serving,
+                loses_commits,
+                output,
+                errors,
+                Unknown,
+            ))
         }
-        _ => BySyncs::Twice(run(runtime, job, input, output, errors, Wary)),
+        _ => BySyncs::Twice(run(runtime, job, loses_commits, input, output, errors, Wary)),
     }
 }
 

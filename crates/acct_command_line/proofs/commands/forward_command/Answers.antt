@@ -2,7 +2,7 @@ use Rattle.acct_command_line.proofs.commands.forward_command.Goals as goal
 
 pub returns : goal.returns
 returns c =
-    let before = c.with_option-command.ensures _ _ c.book_command-command.ensures
+    let before = c.with_option-command.ensures _ _ c.opening_command-command.ensures
     c.before_option.ensures.rule in
     let at = c.with_option-command-2.ensures _ _ before c.at_option.ensures.rule in
     let silent = c.with_option-command-3.ensures _ _ at c.silent_option.ensures.rule in

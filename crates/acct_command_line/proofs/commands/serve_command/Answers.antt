@@ -2,7 +2,7 @@ use Rattle.acct_command_line.proofs.commands.serve_command.Goals as goal
 
 pub returns : goal.returns
 returns c =
-    let bind = c.with_option-command.ensures _ _ c.book_command-command.ensures
+    let bind = c.with_option-command.ensures _ _ c.opening_command-command.ensures
     c.bind_option.ensures.rule in
     let desk = c.with_option-command-2.ensures _ _ bind c.desk_bind_option.ensures.rule in
     let reports = c.with_option-command-3.ensures _ _ desk c.port_option.ensures.rule in

@@ -21,9 +21,10 @@ returns-in-Some-2-clause-named c =
     names_job c.in_ok-matches.matches _ c.in-Some.name.now _ (record {
       job = c.in-Some-2.job;
       explains = c.flag_option.result;
+      loses_commits = c.flag_option-in-Some-2.result;
     })
     (rows ∙ ap₂ subcommand_of app_is (ap (map (λ s. string_bytes s)) c.as_slice.ensures.value))
-    named with (asked, c.flag_option.ensures)
+    named with (asked, c.flag_option.ensures, c.flag_option-in-Some-2.ensures)
 
 pub returns-in-Some-2-clause-bounds : goal.returns-in-Some-2-clause-bounds
 returns-in-Some-2-clause-bounds c =

@@ -1,0 +1,36 @@
+//! What is known of a log that is damaged.
+use acct_log::{Damage, damage_beside};
+use std::alloc::Global;
+use std::fs::Files;
+use std::io::Write;
+
+/// What is left to do about a book whose log is damaged.
+pub(crate) const TO_DO: &str = ": restore a copy, or give --lose-damaged-commits, which loses them";
+
+// Writes one line that says where the log of a book is damaged, how many commits are lost by that,
+// and what is to be done, if it is damaged.
+pub(crate) fn tell_damage<R: Files, E: Write>(
+    runtime: &R,
+    alloc: Global,
+    file: &str,
+    to_do: &str,
+    errors: &mut E,
+) -> bool {
+    let Some(Damage { link, commits }) = damage_beside(runtime, alloc, file) else {
+        return false;
+    };
+    let _ = if link == 0 {
+        writeln!(
+            errors,
+            "explained: {file}: the header of its log is damaged, and {commits} commits are behind \
+             it{to_do}"
+        )
+    } else {
+        writeln!(
+            errors,
+            "explained: {file}: frame {link} of its log is damaged, and {commits} commits end there \
+             or behind it{to_do}"
+        )
+    };
+    true
+}

@@ -1,0 +1,4 @@
+pub mod Chain
+pub mod Damage
+pub mod Scanner
+pub mod inner

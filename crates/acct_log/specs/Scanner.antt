@@ -1,0 +1,21 @@
+-- What a scanner knows of a log whose first frames it has taken.
+use Rattle.std.specs.Prelude.{◌≡◌, ◌≤◌, ◌↔◌, ℕ, List, Option, Some, None, IsTrue}
+use Rattle.sqlite_wal.specs.Recovery.{header, sum_before}
+use Rattle.acct_log.specs.declared.scanner.Break.{Break}
+use Rattle.acct_log.specs.declared.scanner.Scanner.{Scanner}
+use Rattle.acct_log.specs.Chain.{page_size, Holds, BreaksAt, IsSealed, commits_from}
+
+-- where the chain breaks up to so many frames, and how many commits end there or behind
+abbrev pub IsBreakIn : List ℕ → ℕ → Option Break → Type 0
+IsBreakIn log frames None = (link : ℕ) → link ≤ frames → Holds log link
+IsBreakIn log frames (Some found) =
+    (found.link ≤ frames) × BreaksAt log found.link
+    × (IsTrue found.is_sealed ↔ IsSealed log found.link)
+    × (found.commits ≡ commits_from log found.link frames)
+
+-- it has taken the header and so many frames
+pub record HasTaken (log : List ℕ) (frames : ℕ) (scanner : Scanner) : Type 0 where
+  pub head : scanner.head ≡ header log
+  pub taken : scanner.taken ≡ frames
+  pub sum : scanner.sum ≡ sum_before (page_size log) log frames
+  pub broken : IsBreakIn log frames scanner.broken

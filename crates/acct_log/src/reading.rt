@@ -1,0 +1,103 @@
+//! A log, read from its first octet to its last.
+ghost use Rattle.std.specs.Prelude.{◌≡◌, ◌+◌, ◌≤◌, ◌<◌, ◌^◌, ℕ, List, length, take, IfOk, IfSome};
+ghost use Rattle.std.specs.Io.KnownBytes.{Consumes, IsAtEnd};
+ghost use Rattle.sqlite_wal.specs.PageSize.{IsPageSize};
+ghost use Rattle.acct_log.specs.Chain.{page_size};
+ghost use Rattle.acct_log.specs.Damage.{Finds};
+ghost use Rattle.acct_log.specs.Scanner.{HasTaken};
+ghost use Rattle.acct_log.specs.inner.Reading.{IsReadTo};
+
+use crate::damage::Damage;
+use crate::links::{FRAME_OCTETS, HEADER_OCTETS, number_at};
+use crate::scanner::Scanner;
+use sqlite_wal::PageSize;
+use std::alloc::{AllocError, Global};
+use std::io::{ErrorKind, Read};
+use thiserror::Error;
+
+/// Why a log cannot be read.
+#[derive(Clone, Copy, PartialEq, Eq, Debug, Error)]
+pub enum Unread {
+    /// A read failed.
+    #[error("cannot read")]
+    CannotRead,
+    /// Memory was refused.
+    #[error("out of memory")]
+    NoMemory,
+}
+
+impl From<AllocError> for Unread {
+    fn from(_error: AllocError) -> Unread {
+        Unread::NoMemory
+    }
+}
+
+/// The damage of a log that a reader has. One frame at a time is in memory.
+///
+/// # Errors
+///
+/// `CannotRead` if a read fails, `NoMemory` if a frame can't be kept.
+pub fn damage_in<R: Read>(alloc: Global, log: &mut R) -> Result<Option<Damage>, Unread>
+    ensures { IfOk result (λ found. IfSome (R.remaining log.old) (λ octets. Finds octets found)) }
+{
+    let mut head = [0; HEADER_OCTETS];
+    let count = fill(log, &mut head)?;
+    if count < HEADER_OCTETS {
+        return Ok(None);
+    }
+    let named = number_at(&head, 8) as usize;
+    let Some(size) = PageSize::new(named) else {
+        return Ok(None);
+    };
+    let mut frame = vec![in alloc; 0; FRAME_OCTETS + size.bytes()]?;
+    scan(log, Scanner::new(&head), &mut frame)
+}
+
+// The damage of a log whose header a scanner has taken, read into room for a frame.
+fn scan<R: Read>(
+    log: &mut R,
+    mut scanner: Scanner,
+    frame: &mut [u8],
+) -> Result<Option<Damage>, Unread>
+    requires whole { 24 ≤ length frame.old }
+    requires first { scanner.taken ≡ 0 }
+    ensures { (octets : List ℕ) → IsPageSize (page_size octets)
+        → length frame.old ≡ 24 + page_size octets → HasTaken octets 0 scanner
+        → IsReadTo octets 32 (R.remaining log.old) → IfOk result (Finds octets) }
+{
+    for _ in 0..u64::MAX {
+        let count = fill(log, frame)?;
+        if count < frame.len() {
+            return Ok(scanner.damage());
+        }
+        scanner.take(frame);
+    }
+    Err(Unread::CannotRead)
+}
+
+// Fills a buffer from a reader, as far as that has octets, and says how many it took. A read that was
+// interrupted is tried again.
+fn fill<R: Read>(reader: &mut R, buffer: &mut [u8]) -> Result<usize, Unread>
+    ensures within { IfOk result (λ count. count ≤ length buffer.new) }
+    ensures taken { IfOk result (λ count.
+        Consumes (R.remaining reader.old) (R.remaining reader.new) (take count buffer.new)) }
+    ensures end { IfOk result (λ count.
+        count < length buffer.new → IsAtEnd (R.remaining reader.new)) }
+{
+    let mut count = 0;
+    for _ in 0..u64::MAX {
+        if count == buffer.len() {
+            return Ok(count);
+        }
+        match reader.read(&mut buffer[count..]) {
+            Ok(0) => return Ok(count),
+            Ok(more) => count += more,
+            Err(error) => {
+                if error.kind() != ErrorKind::Interrupted {
+                    return Err(Unread::CannotRead);
+                }
+            }
+        }
+    }
+    Err(Unread::CannotRead)
+}

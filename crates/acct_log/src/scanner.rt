@@ -1,0 +1,122 @@
+//! A log, taken link by link.
+ghost use Rattle.std.specs.Prelude.{◌≡◌, ◌+◌, ◌^◌, ◌≤◌, ◌<◌, ℕ, List, length, if◌then◌else◌};
+ghost use Rattle.std.specs.Option.{ForSome};
+
+use crate::damage::Damage;
+use crate::links::{FIRST, FRAME_SALTS, SALTS, ends_commit, is_frame, is_signed, sum_at};
+
+/// Where the chain breaks first.
+#[derive(Clone, Copy)]
+pub(crate) struct Break {
+    /// The link: 0 for the header, or the number of a frame, from 1.
+    link: u64,
+    /// Whether its last octet was written.
+    is_sealed: bool,
+    /// How many commits end at it or behind it so far.
+    commits: u64,
+}
+
+/// A log whose links are taken one after the other, from the header on.
+#[derive(Drop)]
+pub struct Scanner {
+    head: [u8; 32],
+    /// How many frames were taken.
+    taken: u64,
+    /// The sum that the next frame goes on from.
+    sum: (u32, u32),
+    broken: Option<Break>,
+    ghost few: { ForSome broken (λ found. found.commits ≤ taken) },
+}
+
+impl Scanner {
+    ghost use Rattle.sqlite_wal.specs.Format.{be32};
+    ghost use Rattle.sqlite_wal.specs.Recovery.{header};
+    ghost use Rattle.sqlite_wal.specs.PageSize.{IsPageSize};
+    ghost use Rattle.acct_log.specs.Chain.{page_size, frame_in, frame_count};
+    ghost use Rattle.acct_log.specs.Damage.{Finds};
+    ghost use Rattle.acct_log.specs.Scanner.{HasTaken, IsBreakIn};
+
+    /// Takes the header.
+    pub fn new(head: &[u8; 32]) -> Scanner
+        ensures taken { (log : List ℕ) → head.now ≡ header log → HasTaken log 0 result }
+        ensures none { result.taken ≡ 0 }
+    {
+        let broken = if is_signed(head) {
+            None
+        } else {
+            Some(Break {
+                link: 0,
+                is_sealed: head[0] == FIRST,
+                commits: 0,
+            })
+        };
+        Scanner {
+            head: *head,
+            taken: 0,
+            sum: sum_at(head, 24),
+            broken,
+        }
+    }
+
+    /// Takes the next frame.
+    pub fn take(&mut self, frame: &[u8])
+        requires whole { 24 ≤ length frame.now }
+        requires room { self.old.taken + 1 < 2 ^ 64 }
+        ensures taken { (log : List ℕ) (frames : ℕ) → HasTaken log frames self.old
+            → frame.now ≡ frame_in log frames → HasTaken log (frames + 1) self.new }
+        ensures one { self.new.taken ≡ self.old.taken + 1 }
+    {
+        let broken = self.broken_with(frame);
+        self.sum = sum_at(frame, 16);
+        self.taken += 1;
+        self.broken = broken;
+    }
+
+    // Where the chain breaks first, if the next frame is this one.
+    fn broken_with(&self, frame: &[u8]) -> Option<Break>
+        requires whole { 24 ≤ length frame.now }
+        requires room { self.now.taken + 1 < 2 ^ 64 }
+        ensures few { ForSome result (λ found. found.commits ≤ self.now.taken + 1) }
+        ensures broken { (log : List ℕ) (frames : ℕ) → HasTaken log frames self.now
+            → frame.now ≡ frame_in log frames → IsBreakIn log (frames + 1) result }
+    {
+        let commits = one_if(ends_commit(&self.head, frame));
+        match self.broken {
+            Some(found) => Some(Break {
+                link: found.link,
+                is_sealed: found.is_sealed,
+                commits: found.commits + commits,
+            }),
+            None if is_frame(&self.head, self.sum, frame) => None,
+            None => Some(Break {
+                link: self.taken + 1,
+                is_sealed: frame[FRAME_SALTS] == self.head[SALTS],
+                commits,
+            }),
+        }
+    }
+
+    /// The damage of the log, if all its whole frames were taken.
+    pub fn damage(&self) -> Option<Damage>
+        ensures { (log : List ℕ) → HasTaken log (frame_count log) self.now
+            → IsPageSize (page_size log) → Finds log result }
+    {
+        let found = self.broken?;
+        if found.is_sealed && found.commits > 1 {
+            Some(Damage {
+                link: found.link,
+                commits: found.commits,
+            })
+        } else {
+            None
+        }
+    }
+}
+
+// How many commits a frame ends.
+fn one_if(ends_commit: bool) -> u64
+    ensures count { result ≡ (if ends_commit then 1 else 0) }
+    ensures few { result ≤ 1 }
+{
+    if ends_commit { 1 } else { 0 }
+}
