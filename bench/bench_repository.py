@@ -17,7 +17,7 @@ BENCH = os.path.dirname(os.path.abspath(__file__))
 ROOT = os.path.dirname(BENCH)
 END = "_program.rattle"
 # More seconds than any run is to take.
-SECONDS = 3600
+SECONDS = 14_400
 # What a `use` line may begin with that is no crate of crates.txt's lines.
 NO_CRATES = {"core", "crate", "self", "std", "super"}
 
