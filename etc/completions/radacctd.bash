@@ -31,14 +31,14 @@ _radacctd() {
         --keep) words='' ;;
         *) case $command in
             feed) words='--config --explain --help' ;;
-            check) words='--config --db --status --balances --audit --explain --help' ;;
+            check) words='--config --db --status --balances --audit --explain --lose-damaged-commits --help' ;;
             init) words='--config --db --explain --help' ;;
-            serve) words='--config --db --explain --bind --desk-bind --radius-port --desk-port --turns --sync --quiet --status --balances --balances-every --oldest-report --help' ;;
-            import) words='--config --db --explain --help' ;;
-            export) words='--config --db --explain --help sessions balances topups overruns' ;;
-            migrate) words='--config --db --explain --help' ;;
-            plans) words='--config --db --explain --help' ;;
-            forward) words='--config --db --explain --before --at --silent --keep --dry-run --yes --oldest-report --help' ;;
+            serve) words='--config --db --explain --lose-damaged-commits --bind --desk-bind --radius-port --desk-port --turns --sync --quiet --status --balances --balances-every --oldest-report --help' ;;
+            import) words='--config --db --explain --lose-damaged-commits --help' ;;
+            export) words='--config --db --explain --lose-damaged-commits --help sessions balances topups overruns' ;;
+            migrate) words='--config --db --explain --lose-damaged-commits --help' ;;
+            plans) words='--config --db --explain --lose-damaged-commits --help' ;;
+            forward) words='--config --db --explain --lose-damaged-commits --before --at --silent --keep --dry-run --yes --oldest-report --help' ;;
             help) words='feed check init serve import export migrate plans forward' ;;
             *) words='feed check init serve import export migrate plans forward help --help --version' ;;
         esac ;;
