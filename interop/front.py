@@ -16,6 +16,8 @@ FOLDER = os.path.dirname(os.path.abspath(__file__))
 ROOT = os.path.dirname(FOLDER)
 FILES = os.path.join(ROOT, "etc", "freeradius")
 PROGRAMS = ("balances-mirror", "plans-of", "kept-sessions")
+# The folders of the queue's readers.
+READERS = [f"reader-{number}" for number in range(8)]
 MEBIBYTE = 1 << 20
 PATIENCE = 30
 SECRET = "testing-123"
@@ -352,12 +354,18 @@ class FreeRadius:
     def waiting(self):
         """The octets in the queue."""
         total = 0
-        for name in os.listdir(self.queue):
+        for path in files_in(self.queue):
             try:
-                total += os.path.getsize(os.path.join(self.queue, name))
+                total += os.path.getsize(path)
             except FileNotFoundError:
-                pass
+                # The reader has just renamed it.
+                total += 1
         return total
+
+
+def files_in(folder):
+    """The files of a folder, and of the folders in it."""
+    return [os.path.join(at, name) for at, _, names in os.walk(folder) for name in names]
 
 
 def report(status, session, account, octets, more=(), plan="gold"):

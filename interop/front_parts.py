@@ -52,9 +52,13 @@ def both(folder, options=(), **how):
 def count_in(folder):
     """How many reports the files of a folder have."""
     total = 0
-    for name in os.listdir(folder) if os.path.isdir(folder) else []:
-        with open(os.path.join(folder, name), encoding="latin-1") as file:
-            total += sum(line.startswith("\tAcct-Status-Type") for line in file)
+    for path in front.files_in(folder):
+        try:
+            with open(path, encoding="latin-1") as file:
+                total += sum(line.startswith("\tAcct-Status-Type") for line in file)
+        except FileNotFoundError:
+            # The reader has just renamed it.
+            total += 1
     return total
 
 
@@ -325,9 +329,9 @@ def old(folder):
         check("and none is filed", count_in(radius.unsent), before[1])
 
 
-def limit(radius):
+def limit(radius, session="7D-1"):
     """Sends a report that radacctd drops as BalanceLimit."""
-    return radius.reports("ap1", report("Stop", "7D-1", "bo", 1 << 61, plan="dear"))
+    return radius.reports("ap1", report("Stop", session, "bo", 1 << 61, plan="dear"))
 
 
 FIRST_EDITION = """
@@ -375,6 +379,9 @@ def moved(folder):
         check("two blocks are charged before the move", book.balance("al"), -20)
         old = os.path.join(radius.queue, "ap1", "detail-20261126:10")
         front.written(old, QUEUED.format(now=int(time.time())))
+        # What came since the move is no session of before.
+        newer = os.path.join(radius.queue, "reader-0", "detail-20261126:10")
+        front.written(newer, QUEUED.format(now=int(time.time())))
         book.kill()
         sessions = os.path.join(folder, "sessions.csv")
         front.written(sessions, book.export("sessions"))
@@ -390,6 +397,7 @@ def moved(folder):
             (0, "kept-sessions: 2 sessions\n"),
         )
         front.written(os.path.join(radius.raddb, "radacctd", "kept"), done.stdout)
+        os.remove(newer)
         text = FIRST_EDITION.format(port=book.radius, secret=SECRET, queues=radius.queue)
         front.written(os.path.join(radius.raddb, "sites-enabled", "old-ap1"), text)
         radius.start()
@@ -821,7 +829,7 @@ def restarted(radius, path, text):
 
 
 class Port3799(threading.Thread):
-    """Takes Disconnect-Requests and acknowledges them."""
+    """Takes Disconnect-Requests and acknowledges them, until it is sent an empty datagram."""
 
     def __init__(self, address):
         super().__init__(daemon=True)
@@ -830,15 +838,20 @@ class Port3799(threading.Thread):
         self.got = []
 
     def run(self):
-        while True:
-            try:
-                data, source = self.opened.recvfrom(4096)
-            except OSError:
-                return
+        data, source = self.opened.recvfrom(4096)
+        while data:
             self.got.append(data)
             head = bytes([41, data[1], 0, 20])
             digest = hashlib.md5(head + data[4:20] + SECRET.encode()).digest()
             self.opened.sendto(head + digest, source)
+            data, source = self.opened.recvfrom(4096)
+
+    def end(self):
+        """Frees the port, which a socket holds for as long as a thread waits for it."""
+        with socket.socket(socket.AF_INET, socket.SOCK_DGRAM) as sender:
+            sender.sendto(b"", self.opened.getsockname())
+        self.join()
+        self.opened.close()
 
 
 @part
@@ -871,7 +884,7 @@ def cut(folder):
         use(3)
         waits_for("after the pause: again", lambda: len(port.got), 2)
         check("an access server without a home_server is answered", use(3, name="ap2"), True)
-    port.opened.close()
+    port.end()
 
 
 def mirrored(radius, account):
@@ -1052,60 +1065,3 @@ def edited(raddb):
     with open(path, encoding="utf-8") as file:
         text = file.read()
     front.written(path, text.replace("raddbdir = /etc/freeradius/3.0", f"raddbdir = {raddb}"))
-
-
-# What is measured, and no part of the test. An hour's backlog of 100 a second is 360,000 reports.
-REPORTS = int(os.environ.get("REPORTS", "4000"))
-ALONE = min(REPORTS, 4000)
-LOGINS = 3000
-
-
-def rates(folder):
-    """How fast reports are taken and the queue drains: REPORTS of them, 4,000 by default."""
-    print(f"         load {os.getloadavg()[0]:.1f}", flush=True)
-    with both(folder) as (book, radius):
-        book.sell("bo", 10**9, "V-1")
-        waits_for("bo has money", lambda: (mirrored(radius, "bo") or 0) > 0, True)
-        login_rate(radius)
-        Sender.WINDOW = 1
-        pairs = [("127.0.0.1", packet_of(f"a{n}", b"bo", MEBIBYTE)) for n in range(ALONE)]
-        alone = timed(
-            "radacctd alone, one in flight", Sender(book.radius, front.BOOK_SECRET), pairs
-        )
-        before = book.balance("bo")
-        book.kill()
-        Sender.WINDOW = 64
-        pairs = [
-            (f"127.0.4.{1 + n % 50}", packet_of(f"q{n}", b"bo", MEBIBYTE)) for n in range(REPORTS)
-        ]
-        timed("into the queue, 64 in flight", Sender(radius.acct), pairs)
-        book.start()
-        waits_for("radacctd is sent the first", lambda: book.balance("bo") < before, True)
-        begun = time.monotonic()
-        total, patience = 10**9 - 10 * (ALONE + REPORTS), max(1200, REPORTS // 100)
-        waits_for("the queue drains", lambda: book.balance("bo"), total, patience)
-        took = time.monotonic() - begun
-        rate = REPORTS / took
-        print(f"         the queue drains at {rate:.0f} a second, {rate / alone:.2f} of that")
-        print(f"         {took:.0f} s for {REPORTS} reports, load {os.getloadavg()[0]:.1f}")
-
-
-def login_rate(radius):
-    """Logins by 16 at a time, each with a look-up and a quota."""
-    line = 'Packet-Src-IP-Address = 127.0.2.1\nUser-Name = "bo"\nUser-Password = "right"\n\n'
-    words = ["radclient", "-q", "-s", "-p", "16", "-r", "3", "-t", "5"]
-    words += [f"127.0.0.1:{radius.auth}", "auth", SECRET]
-    begun = time.monotonic()
-    done = subprocess.run(words, input=LOGINS * line, capture_output=True, text=True)
-    seconds = time.monotonic() - begun
-    accepted = re.search(r"Accepted\s*:\s*(\d+)", done.stdout + done.stderr)
-    check("all logins are accepted", accepted and int(accepted.group(1)), LOGINS)
-    print(f"         logins: {LOGINS / seconds:.0f} a second", flush=True)
-
-
-def timed(name, sender, pairs):
-    begun = time.monotonic()
-    check(f"{name}: all answered", sender.send(pairs), len(pairs))
-    rate = len(pairs) / (time.monotonic() - begun)
-    print(f"         {name}: {rate:.0f} a second", flush=True)
-    return rate

@@ -178,11 +178,7 @@ class Machine:
 
     def backlog(self):
         """The octets in the queue for this book."""
-        try:
-            return self.radius.waiting()
-        except FileNotFoundError:
-            # The machine is lost just now.
-            return 0
+        return self.radius.waiting()
 
     def begin(self):
         """Starts all of it."""

@@ -27,7 +27,6 @@ from shards_site import (
     sent,
     shown,
     tool,
-    waiting_in,
 )
 
 SALE = {"Radacctd": "desk", "Content-Type": "application/json"}
@@ -331,7 +330,7 @@ def moves(site, one, model):
         took = time.monotonic() - begun
         time.sleep(4)
     check(f"{book.shard} serves on the new machine", moved.process.poll(), None)
-    front.waits_for("what came is in the books", lambda: waiting_in(site.radius), 0, 60)
+    front.waits_for("what came is in the books", site.radius.waiting, 0, 60)
     print(f"         away for {took:.1f} s; the longest sale {traffic.slowest:.1f} s", flush=True)
     count = len(traffic.reports), len(traffic.sales)
     print(f"         {count[0]} reports and {count[1]} sales came", flush=True)

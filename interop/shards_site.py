@@ -223,19 +223,6 @@ class Site:
             book.stop()
 
 
-def waiting_in(radius):
-    """The octets in FreeRADIUS' queues."""
-    total = 0
-    for folder, _, files in os.walk(radius.queue):
-        for name in files:
-            try:
-                total += os.path.getsize(os.path.join(folder, name))
-            except FileNotFoundError:
-                # The reader has just renamed it.
-                total += 1
-    return total
-
-
 def sent(radius, reports):
     """Sends (session, account, octets, status) to FreeRADIUS, and tests that each is answered."""
     # All reports of a session come from one access server.
@@ -252,7 +239,7 @@ def sent(radius, reports):
 def drained(radius, what, count, begun=None):
     """Waits until the queues are empty, and says how fast that was from then or now on."""
     begun = begun or time.monotonic()
-    front.waits_for(f"{what}: the queues drain", lambda: waiting_in(radius), 0, 1200)
+    front.waits_for(f"{what}: the queues drain", radius.waiting, 0, 1200)
     rate = count / (time.monotonic() - begun)
     load = os.getloadavg()[0]
     print(f"         {what}: {rate:.0f} reports a second, load {load:.1f}", flush=True)

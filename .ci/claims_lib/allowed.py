@@ -37,6 +37,8 @@ FREERADIUS = each(
     "poll-overruns",
     "radacctd/access-servers.conf",
     "radacctd/settings.conf",
+    "reader-0",
+    "reader-7",
     "settings.conf",
     "sites-available/tls",
     "tls",
