@@ -21,10 +21,13 @@ from front import ROOT, check, waits_for
 
 PAGE = os.path.join(ROOT, "docs", "PAIR.md")
 FREERADIUS = os.path.join(ROOT, "docs", "FREERADIUS.md")
+FORWARD = os.path.join(ROOT, "docs", "FORWARD.md")
+CONFIG, BOOK = "/etc/radacctd.toml", "/var/lib/radacctd/book"
 RADDB = "/etc/freeradius/3.0"
 QUEUE = "/var/log/freeradius/radacct/radacctd"
 SHARED = "/usr/local/share/radacctd"
 ADDRESSES = ["10.0.0.5", "10.0.0.6"]
+ACCESS_SERVER = "10.0.0.9"
 CASHIER = "cash-key-00000001"
 PLAN = '[[plan]]\nclass = "{}"\nblock = {}\nunit = {}\n'
 SITE = (
@@ -36,6 +39,8 @@ SITE = (
     + PLAN.format("debit", 1, 1)
 )
 ADDED = "added 1, repeated 0, refused 0"
+# The balances after the parts of `follow` up to `refused`.
+AT_LAST = {"al": 400, "bo": 95, "cy": 54, "dan": -10, "eve": 50, "gus": 5, "hal": 7}
 # A client in FreeRADIUS for the reports of this test, and the one of the page.
 CLIENTS = "client test {\n\tipaddr = 127.0.0.1\n\tsecret = testing-123\n}\n"
 BOOKS = "client books {\n\tipaddr = 127.0.0.9\n\tsecret = books-secret\n}\n"
@@ -160,12 +165,14 @@ def wire(machines):
         it.must(f"ip address add {address}/24 dev pair0; ip link set pair0 up")
 
 
-def report(it, session, account, octets, plan="gold"):
-    """A report of an access server to a machine's FreeRADIUS: whether it was answered."""
+def report(it, session, account, octets, plan="gold", more=(), server="127.0.0.1"):
+    """A report of an access server to FreeRADIUS: whether it was answered. A machine sends it to its
+    own FreeRADIUS if no other is named.
+    """
     lines = ["Acct-Status-Type = Stop", f"Acct-Session-Id = {session}", f"User-Name = {account}"]
-    lines += [f'Class = "{plan}"', f"Acct-Input-Octets = {octets}"]
+    lines += [f'Class = "{plan}"', f"Acct-Input-Octets = {octets}", *more]
     text = "\\n".join(lines).replace('"', '\\"')
-    command = f'printf "{text}\\n" | radclient -r 3 -t 5 127.0.0.1:1813 acct testing-123'
+    command = f'printf "{text}\\n" | radclient -r 3 -t 5 {server}:1813 acct testing-123'
     return "Received Accounting-Response" in it.run(command)[1]
 
 
@@ -284,13 +291,107 @@ def started_again(first, second):
     first.must("systemctl stop freeradius")
     # As if it had been filed as one that radacctd never answers.
     name = re.search(r"radacctd-unsent/(\S+)", commands[3])[1]
-    first.must(f"cat {QUEUE}/* > {QUEUE}-unsent/{name}; rm {QUEUE}/*")
+    files = f"find {QUEUE} -name 'detail*'"
+    first.must(f"{files} -exec cat {{}} + > {QUEUE}-unsent/{name}; {files} -delete")
     first.must(f"chown freerad:freerad {QUEUE}-unsent/{name}")
     said = run(first, "start it again, step 1", commands[1])
     check("it prints four queues", len(said.strip().split("\n")), 4)
     check("step 2 lists what was filed", name in run(first, "step 2", commands[2]), True)
     run(first, "step 3", commands[3])
     both_have([first, second], "it", {"al": 400, "bo": 95, "cy": 54, "dan": -10})
+
+
+def named_in_an_access_server(first, second):
+    """Step 12 of "Set it up": an access server that knows both machines, and asks the second one if
+    the first does not answer. It has one address at both.
+    """
+    access = first
+    access.must(f"ip address add {ACCESS_SERVER}/24 dev pair0")
+    client = f"client ap {{\n\tipaddr = {ACCESS_SERVER}\n\tsecret = testing-123\n}}\n"
+    for it in (first, second):
+        replaced(it, f"{RADDB}/radacctd/access-servers.conf", (CLIENTS, CLIENTS + client))
+        it.must("systemctl restart freeradius")
+    source = [f"Packet-Src-IP-Address = {ACCESS_SERVER}"]
+
+    def asked(octets):
+        """Which of its two servers answered its report."""
+        for address in ADDRESSES:
+            if report(access, "s7", "gil", octets, more=source, server=address):
+                return address
+        return None
+
+    check("an access server of both reports to the first", asked(1 << 20), ADDRESSES[0])
+    first.must("systemctl stop freeradius")
+    check("to the second while that is down", asked(2 << 20), ADDRESSES[1])
+    first.must("systemctl start freeradius")
+    check("and to the first again", asked(3 << 20), ADDRESSES[0])
+    both_have([first, second], "one session of three blocks", {**AT_LAST, "gil": -30})
+    for it in (first, second):
+        rows = exported(it, "sessions")
+        check(f"{it.title}: it is one session", sum(",gil," in row for row in rows), 1)
+
+
+def exported(it, what):
+    """The records of an export, whose server stops for it."""
+    words = f"radacctd export --config {CONFIG} --db {BOOK} {what}"
+    it.must("systemctl stop radacctd")
+    text = it.must(words)
+    it.must("systemctl start radacctd")
+    return text.splitlines()
+
+
+def carried(first, second):
+    """The steps of FORWARD for two books of the same reports."""
+    machines, old = (first, second), [f"Acct-Delay-Time = {100 * 86_400}"]
+    check("a report of 100 days ago", report(first, "s8", "fay", 3 << 20, more=old), True)
+    wanted = {**AT_LAST, "gil": -30, "fay": -30}
+    both_have(machines, "it", wanted)
+    guarded(machines)
+    waits = steps(section(PAGE, "Start it again"))[1].split("\n")[1]
+    empty = lambda: first.run(waits)[1].count(": empty")
+    waits_for("two books, step 2: nothing waits", empty, 4, 60)
+    two = steps(section(FORWARD, "Two books of the same reports"))
+    moment = run(first, "two books, step 3", two[3]).strip()
+    for it in machines:
+        carried_at(it, moment)
+    both_have(machines, "the same balances", wanted)
+    rows = [exported(it, "sessions") for it in machines]
+    lines = [[row for row in it if row.startswith("(") and ",fay," in row] for it in rows]
+    check("each has one line of fay", [len(it) for it in lines], [1, 1])
+    check("and no session", [sum(",fay," in row for row in it) for it in rows], [1, 1])
+    check("the report again is answered", report(first, "s8", "fay", 3 << 20, more=old), True)
+    is_filed = lambda: first.run(f"grep -q /s8/ {QUEUE}-unsent/detail-*")[0]
+    waits_for("and filed", is_filed, 0, 30)
+    time.sleep(15)
+    both_have(machines, "no second charge", wanted)
+    for it in machines:
+        waits_for(f"{it.title}: the comparison is well", lambda it=it: is_well(it), True, 300)
+
+
+def guarded(machines):
+    """The steps of "Late reports": the same age on both."""
+    line = steps(section(FORWARD, "Late reports"))[2].strip()
+    for it in machines:
+        it.must(f"echo '{line}' >> /etc/default/radacctd")
+        setting = "oldest_report = 0", "oldest_report = 60"
+        replaced(it, f"{RADDB}/radacctd/settings.conf", setting)
+        it.must("systemctl restart radacctd freeradius")
+
+
+def carried_at(it, moment):
+    """The steps of "Run it" on a machine."""
+    commands = steps(section(FORWARD, "Run it"))
+    check(f"{it.title}: the queue is empty", run(it, "run it, step 1", commands[1]), "")
+    dry = commands[2].split("\nwould carry")[0]
+    said = run(it, "step 2", with_moment(dry, moment))
+    check("it would carry one", "would carry 1 sessions of 1 accounts" in said, True)
+    for number in (3, 4, 5, 6):
+        run(it, f"step {number}", with_moment(commands[number], moment))
+
+
+def with_moment(command, moment):
+    """A command of the page, in which `forward` has the moment that both machines use."""
+    return re.sub(r"(--keep books)", rf"\1 --at {moment}", command)
 
 
 def journal_has(it, line):
@@ -343,8 +444,7 @@ def refused(first, second):
     check("hal's at the one", at(ADDRESSES[0], "X-1-B,hal,7"), ADDED)
     check("gus' at the other", at(ADDRESSES[1], "X-1-A,gus,5"), ADDED)
     run(second, "step 4", commands[4].replace("V-1", "X-1"))
-    wanted = {"al": 400, "bo": 95, "cy": 54, "dan": -10, "eve": 50, "gus": 5, "hal": 7}
-    both_have([first, second], "both", wanted)
+    both_have([first, second], "both", AT_LAST)
     for it in (first, second):
         waits_for(f"{it.title}: the alarm ends", lambda it=it: is_well(it), True, 300)
         rm = re.search(r"\n    (rm .*seen.json)\n", section(PAGE, "Alarms"))[1]
@@ -401,4 +501,6 @@ def follow():
             hardened(it)
         for part in (lives, restored, planned, started_again, differ, refused):
             part(one, two)
+        named_in_an_access_server(one, two)
+        carried(one, two)
         through_nginx(one)
