@@ -1,0 +1,379 @@
+"""Entries that are sent to a server one after another, and the content that each of them makes.
+
+An entry is a report, a restart of a client or a voucher. The next one is sent once the last one was
+answered, so the content after each of them is known. It is computed here from the rules of
+docs/FILES.md, and compared with what `radacctd export` writes.
+"""
+
+import csv
+import dataclasses
+import hashlib
+import http.client
+import io
+import json
+import os
+import signal
+import socket
+import subprocess
+import time
+import urllib.parse
+
+import served
+from served import CASHIER, PLANS, ROOT, SECRET
+
+# Another client, and a plan whose prices are others.
+MORE = (
+    '\n[[client]]\nname = "nas-8"\naddress = "127.0.0.2"\nsecret = "testing-123"\n'
+    '\n[[plan]]\nclass = "down"\nblock = 4096\nunit = 7\ncount = "out"\n'
+)
+CLIENTS = {"nas-7": "127.0.0.1", "nas-8": "127.0.0.2"}
+# The block, the unit, and what the plan counts.
+PRICES = {
+    b"gold": (1_048_576, 10, lambda octets: sum(octets)),
+    b"down": (4_096, 7, lambda octets: octets[1]),
+}
+ACCOUNTS = [b"room 12", b"al", b"b\xc3\xb6"]
+START, STOP, INTERIM, ON, OFF = 1, 2, 3, 7, 8
+OPEN, CLOSED, STOPPED = "open", "closed", "stopped"
+NAS_REBOOT = 11
+# How long an answer may take, in seconds, and how often an entry is sent.
+PATIENCE, TRIES = 5, 3
+LIMIT = 1 << 32
+
+
+@dataclasses.dataclass(frozen=True)
+class Report:
+    kind: int
+    client: str
+    session: bytes
+    account: bytes = b""
+    plan: bytes = b""
+    octets: tuple = (0, 0)
+    seconds: int = 0
+    delay: int = 0
+    cause: int = 0
+    calling: bytes = b""
+    framed: bytes = b""
+
+    def is_restart(self):
+        return self.kind in (ON, OFF)
+
+
+@dataclasses.dataclass(frozen=True)
+class Voucher:
+    number: str
+    account: bytes
+    sum: int
+
+
+@dataclasses.dataclass(frozen=True)
+class Row:
+    """A session. A moment is the range in which it lies."""
+
+    account: bytes
+    plan: bytes
+    octets: tuple
+    seconds: int
+    first: tuple
+    last: tuple
+    state: str
+    cause: int
+    calling: bytes
+    framed: bytes
+
+    def counted(self):
+        return PRICES[self.plan][2](self.octets)
+
+    def charged(self):
+        block, unit, _ = PRICES[self.plan]
+        return -(-self.counted() // block) * unit
+
+    def raised(self, report, moment):
+        """The row after one more report of its session."""
+        other = dataclasses.replace(self, octets=report.octets)
+        by_count = max(self, other, key=lambda it: (it.counted(), sum(it.octets), it.octets[0]))
+        is_stop = report.kind == STOP and self.state != STOPPED
+        return dataclasses.replace(
+            by_count,
+            seconds=max(self.seconds, report.seconds),
+            first=tuple(map(min, self.first, moment)),
+            last=tuple(map(max, self.last, moment)),
+            state=STOPPED if is_stop else self.state,
+            cause=report.cause if is_stop else self.cause,
+            calling=self.calling or report.calling,
+            framed=self.framed or report.framed,
+        )
+
+
+@dataclasses.dataclass(frozen=True)
+class Content:
+    """What a book has: its rows, and its vouchers with the ranges of their moments."""
+
+    rows: dict
+    vouchers: dict
+
+    def balances(self):
+        paid = [(it.account, it.sum) for it, _ in self.vouchers.values()]
+        return summed(paid + [(it.account, -it.charged()) for it in self.rows.values()])
+
+    def after(self, entry, begun, ended):
+        """The content with one more entry, which was recorded between these two moments."""
+        if isinstance(entry, Voucher):
+            return Content(self.rows, {entry.number: (entry, (begun, ended)), **self.vouchers})
+        if entry.is_restart():
+            return Content(
+                {key: closed(row, key, entry.client) for key, row in self.rows.items()},
+                self.vouchers,
+            )
+        key, moment = (entry.client, entry.session), (begun - entry.delay, ended - entry.delay)
+        row = self.rows.get(key) or first_row(entry, moment)
+        return Content({**self.rows, key: row.raised(entry, moment)}, self.vouchers)
+
+
+NOTHING = Content({}, {})
+
+
+def summed(pairs):
+    """The sums of each account."""
+    found = {}
+    for account, amount in pairs:
+        found[account] = found.get(account, 0) + amount
+    return found
+
+
+def first_row(report, moment):
+    said = (report.account, report.plan, report.octets, report.seconds)
+    return Row(*said, moment, moment, OPEN, 0, b"", b"")
+
+
+def closed(row, key, client):
+    """The row after a restart of a client."""
+    if key[0] != client or row.state != OPEN:
+        return row
+    return dataclasses.replace(row, state=CLOSED, cause=NAS_REBOOT)
+
+
+def differences(content, exports):
+    """What the exports of a book have that this content has not, or the other way round."""
+    sessions, topups, balances = (list(csv.DictReader(io.StringIO(it))) for it in exports)
+    rows = {(it["client"], octets_of(it["session"])): it for it in sessions}
+    vouchers = {it["voucher"]: it for it in topups}
+    found = [
+        f"{name}: {sorted(map(str, set(held) ^ set(wanted)))}"
+        for name, held, wanted in (
+            ("sessions", rows, content.rows),
+            ("vouchers", vouchers, content.vouchers),
+        )
+        if set(held) != set(wanted)
+    ]
+    if found:
+        return found
+    found += [str(key) for key, row in content.rows.items() if not is_row(rows[key], row)]
+    found += [it for it, held in content.vouchers.items() if not is_voucher(vouchers[it], *held)]
+    held = {octets_of(it["account"]): int(it["balance"]) for it in balances}
+    if held != content.balances():
+        found.append(f"balances: {held}, not {content.balances()}")
+    return found + unbalanced(sessions, topups, held)
+
+
+def unbalanced(sessions, topups, balances):
+    """The accounts whose balance isn't the sum of the vouchers less the charges, as exported."""
+    paid = [(octets_of(it["account"]), int(it["sum"])) for it in topups]
+    owed = [(octets_of(it["account"]), -int(it["charged"])) for it in sessions]
+    sums = summed(paid + owed)
+    return [f"the balance of {it}" for it in balances if balances[it] != sums.get(it)]
+
+
+def octets_of(field):
+    return urllib.parse.unquote_to_bytes(field)
+
+
+def is_within(moment, span):
+    return span[0] <= int(moment) <= span[1]
+
+
+def is_voucher(line, voucher, span):
+    said = (octets_of(line["account"]), int(line["sum"]))
+    return said == (voucher.account, voucher.sum) and is_within(line["when"], span)
+
+
+def is_row(line, row):
+    said = (
+        octets_of(line["account"]),
+        octets_of(line["class"]),
+        (int(line["input"]), int(line["output"])),
+        int(line["total"]),
+        int(line["charged"]),
+        int(line["seconds"]),
+        line["state"],
+        int(line["cause"]),
+        octets_of(line["calling"]),
+        line["framed"],
+    )
+    wanted = (
+        row.account,
+        row.plan,
+        row.octets,
+        sum(row.octets),
+        row.charged(),
+        row.seconds,
+        row.state,
+        row.cause,
+        row.calling,
+        ".".join(map(str, row.framed)),
+    )
+    is_seen = is_within(line["first"], row.first) and is_within(line["last"], row.last)
+    return said == wanted and is_seen
+
+
+def next_entry(rng, content, sent):
+    """An entry that may follow this content and the entries that were sent before."""
+    live = [key for key, row in content.rows.items() if row.state == OPEN]
+    share = rng.random()
+    if sent and share < 0.06:
+        return rng.choice(sent)
+    if share < 0.25:
+        number = f"V-{len(content.vouchers)}-{rng.randrange(1000)}"
+        return Voucher(number, rng.choice(ACCOUNTS), rng.randrange(1, 10**6))
+    if share < 0.27:
+        return Report(rng.choice((ON, OFF)), rng.choice(list(CLIENTS)), b"")
+    if not live or share < 0.42:
+        return first_report(rng, len(content.rows))
+    key = rng.choice(live if share < 0.95 else list(content.rows))
+    return later_report(rng, key, content.rows[key], STOP if share < 0.52 else INTERIM)
+
+
+def first_report(rng, number):
+    return Report(
+        START,
+        rng.choice(list(CLIENTS)),
+        b"%x-%x" % (number, rng.randrange(1 << 40)),
+        rng.choice(ACCOUNTS),
+        rng.choice(list(PRICES)),
+        (rng.randrange(1, 1000), rng.randrange(1, 1000)),
+        delay=rng.randrange(5),
+        calling=b"00-11-22-33-44-%02x" % rng.randrange(256),
+        framed=bytes([10, rng.randrange(256), rng.randrange(256), 1 + rng.randrange(250)]),
+    )
+
+
+def later_report(rng, key, row, kind):
+    more = tuple(it + rng.randrange(1 << 22) for it in row.octets)
+    return Report(
+        kind,
+        *key,
+        row.account,
+        row.plan,
+        more,
+        row.seconds + rng.randrange(1, 600),
+        rng.randrange(5),
+        rng.randrange(1, 10) if kind == STOP else 0,
+    )
+
+
+def attribute(kind, value):
+    value = value if isinstance(value, bytes) else value.to_bytes(4, "big")
+    return bytes([kind, len(value) + 2]) + value
+
+
+def packet(identifier, report):
+    """A signed Accounting-Request (RFC 2866, section 3)."""
+    told = [(40, report.kind), (41, report.delay)]
+    if not report.is_restart():
+        told += [(44, report.session), (1, report.account), (25, report.plan)]
+        for octets, low, high in zip(report.octets, (42, 43), (52, 53)):
+            told += [(low, octets % LIMIT), (high, octets // LIMIT)]
+        told += [(46, report.seconds), (49, report.cause)]
+        told += [(31, report.calling)] * bool(report.calling)
+        told += [(8, report.framed)] * bool(report.framed)
+    attributes = b"".join(attribute(*it) for it in told)
+    head = bytes([4, identifier]) + (20 + len(attributes)).to_bytes(2, "big")
+    digest = hashlib.md5(head + bytes(16) + attributes + SECRET.encode()).digest()
+    return head + digest + attributes
+
+
+class Site(served.Server):
+    """The program over a book in a folder, started as a command line says that begins so."""
+
+    def __init__(self, folder, program):
+        served.PROGRAM = program
+        super().__init__(folder, PLANS + MORE)
+        self.identifier = 0
+
+    def make(self, *more):
+        """Makes an empty book, and says whether the program took these words."""
+        done = subprocess.run([*self.words("init"), *more], capture_output=True, check=False)
+        return done.returncode == 0
+
+    def begin(self, before=(), more=()):
+        ports = ["--radius-port", str(self.radius), "--desk-port", str(self.desk), *more]
+        self.process = subprocess.Popen(
+            [*before, *self.words("serve"), *ports], stdout=subprocess.PIPE, text=True
+        )
+        line = self.process.stdout.readline()
+        if line != "serving\n":
+            raise SystemExit(f"the server did not start: {line!r}")
+
+    def send(self, entry):
+        """Sends an entry until it is answered: the moments between which it was recorded."""
+        begun = int(time.time())
+        for _ in range(TRIES):
+            if self.sell(entry) if isinstance(entry, Voucher) else self.report(entry):
+                return begun, int(time.time())
+        raise SystemExit(f"no answer to {entry}")
+
+    def throw(self, report):
+        """Sends a report and does not wait for its reply."""
+        with socket.socket(socket.AF_INET, socket.SOCK_DGRAM) as sender:
+            sender.bind((CLIENTS[report.client], 0))
+            sender.sendto(packet(0, report), ("127.0.0.1", self.radius))
+
+    def report(self, entry):
+        self.identifier = (self.identifier + 1) % 256
+        with socket.socket(socket.AF_INET, socket.SOCK_DGRAM) as sender:
+            sender.settimeout(PATIENCE)
+            sender.bind((CLIENTS[entry.client], 0))
+            sender.connect(("127.0.0.1", self.radius))
+            sender.send(packet(self.identifier, entry))
+            try:
+                return sender.recv(4096)[:2] == bytes([5, self.identifier])
+            except TimeoutError:
+                return False
+
+    def sell(self, entry):
+        account = urllib.parse.quote(entry.account)
+        body = json.dumps({"account": account, "sum": entry.sum, "voucher": entry.number})
+        caller = http.client.HTTPConnection("127.0.0.1", self.desk, timeout=PATIENCE)
+        caller.request("POST", "/topups", body, {"Desk-Key": CASHIER})
+        return caller.getresponse().status in (200, 201)
+
+    def drive(self, rng, content, count):
+        """Sends so many entries: what was sent, and the content after each, with that before."""
+        sent, contents = [], [content]
+        for _ in range(count):
+            entry = next_entry(rng, contents[-1], sent)
+            contents.append(contents[-1].after(entry, *self.send(entry)))
+            sent.append(entry)
+        return sent, contents
+
+    def exports(self):
+        """The status and the faults of three exports of the book, and what they wrote."""
+        how = {"capture_output": True, "text": True, "check": False}
+        kinds = ("sessions", "topups", "balances")
+        done = [subprocess.run([*self.words("export"), it], **how) for it in kinds]
+        status = max(it.returncode for it in done) or min(it.returncode for it in done)
+        return status, "".join(it.stderr for it in done), [it.stdout for it in done]
+
+
+def program():
+    """The built program itself, or the one that RADACCTD names."""
+    if "RADACCTD" in os.environ:
+        return os.environ["RADACCTD"]
+    script = os.path.join(ROOT, "bin", "radacctd")
+    subprocess.run([script, "--version"], stdout=subprocess.DEVNULL, check=True)
+    return os.path.join(ROOT, "crates", "radacctd", "out", "radacctd")
+
+
+def end(process):
+    process.send_signal(signal.SIGKILL)
+    process.communicate()
