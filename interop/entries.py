@@ -7,6 +7,7 @@ docs/FILES.md, and compared with what `radacctd export` writes.
 
 import csv
 import dataclasses
+import functools
 import hashlib
 import http.client
 import io
@@ -36,8 +37,8 @@ ACCOUNTS = [b"room 12", b"al", b"b\xc3\xb6"]
 START, STOP, INTERIM, ON, OFF = 1, 2, 3, 7, 8
 OPEN, CLOSED, STOPPED = "open", "closed", "stopped"
 NAS_REBOOT = 11
-# How long an answer may take, in seconds, and how often an entry is sent.
-PATIENCE, TRIES = 5, 3
+# How long an answer may take, in seconds. Nothing is sent again.
+PATIENCE = 60
 LIMIT = 1 << 32
 
 
@@ -88,6 +89,14 @@ class Row:
         block, unit, _ = PRICES[self.plan]
         return -(-self.counted() // block) * unit
 
+    @functools.cached_property
+    def fields(self):
+        """What an export has of it, but for its name and its moments."""
+        framed = ".".join(map(str, self.framed))
+        sums = (self.octets, sum(self.octets), self.charged(), self.seconds)
+        end = (self.state, self.cause, self.calling, framed)
+        return self.account, self.plan, *sums, *end
+
     def raised(self, report, moment):
         """The row after one more report of its session."""
         other = dataclasses.replace(self, octets=report.octets)
@@ -121,10 +130,8 @@ class Content:
         if isinstance(entry, Voucher):
             return Content(self.rows, {entry.number: (entry, (begun, ended)), **self.vouchers})
         if entry.is_restart():
-            return Content(
-                {key: closed(row, key, entry.client) for key, row in self.rows.items()},
-                self.vouchers,
-            )
+            rows = {key: closed(row) for key, row in self.rows.items() if key[0] == entry.client}
+            return Content({**self.rows, **rows}, self.vouchers)
         key, moment = (entry.client, entry.session), (begun - entry.delay, ended - entry.delay)
         row = self.rows.get(key) or first_row(entry, moment)
         return Content({**self.rows, key: row.raised(entry, moment)}, self.vouchers)
@@ -146,11 +153,10 @@ def first_row(report, moment):
     return Row(*said, moment, moment, OPEN, 0, b"", b"")
 
 
-def closed(row, key, client):
-    """The row after a restart of a client."""
-    if key[0] != client or row.state != OPEN:
-        return row
-    return dataclasses.replace(row, state=CLOSED, cause=NAS_REBOOT)
+@functools.lru_cache(maxsize=1_000)
+def closed(row):
+    """The row after a restart of its client."""
+    return dataclasses.replace(row, state=CLOSED, cause=NAS_REBOOT) if row.state == OPEN else row
 
 
 def differences(content, exports):
@@ -198,6 +204,7 @@ def is_voucher(line, voucher, span):
 
 
 def is_row(line, row):
+    """Whether a line of an export is of this row."""
     said = (
         octets_of(line["account"]),
         octets_of(line["class"]),
@@ -210,20 +217,8 @@ def is_row(line, row):
         octets_of(line["calling"]),
         line["framed"],
     )
-    wanted = (
-        row.account,
-        row.plan,
-        row.octets,
-        sum(row.octets),
-        row.charged(),
-        row.seconds,
-        row.state,
-        row.cause,
-        row.calling,
-        ".".join(map(str, row.framed)),
-    )
     is_seen = is_within(line["first"], row.first) and is_within(line["last"], row.last)
-    return said == wanted and is_seen
+    return said == row.fields and is_seen
 
 
 def next_entry(rng, content, sent):
@@ -315,11 +310,10 @@ class Site(served.Server):
             raise SystemExit(f"the server did not start: {line!r}")
 
     def send(self, entry):
-        """Sends an entry until it is answered: the moments between which it was recorded."""
+        """Sends an entry: the moments between which it was recorded."""
         begun = int(time.time())
-        for _ in range(TRIES):
-            if self.sell(entry) if isinstance(entry, Voucher) else self.report(entry):
-                return begun, int(time.time())
+        if self.sell(entry) if isinstance(entry, Voucher) else self.report(entry):
+            return begun, int(time.time())
         raise SystemExit(f"no answer to {entry}")
 
     def throw(self, report):
@@ -343,9 +337,13 @@ class Site(served.Server):
     def sell(self, entry):
         account = urllib.parse.quote(entry.account)
         body = json.dumps({"account": account, "sum": entry.sum, "voucher": entry.number})
+        return self.status("POST", "/topups", body) in (200, 201)
+
+    def status(self, method, path, body=None):
+        """The status that the desk answers to a cashier."""
         caller = http.client.HTTPConnection("127.0.0.1", self.desk, timeout=PATIENCE)
-        caller.request("POST", "/topups", body, {"Desk-Key": CASHIER})
-        return caller.getresponse().status in (200, 201)
+        caller.request(method, path, body, {"Desk-Key": CASHIER})
+        return caller.getresponse().status
 
     def drive(self, rng, content, count):
         """Sends so many entries: what was sent, and the content after each, with that before."""
