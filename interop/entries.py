@@ -5,12 +5,12 @@ answered, so the content after each of them is known. It is computed here from t
 docs/FILES.md, and compared with what `radacctd export` writes.
 """
 
+import collections
 import csv
 import dataclasses
 import functools
 import hashlib
 import http.client
-import io
 import json
 import os
 import signal
@@ -40,6 +40,13 @@ NAS_REBOOT = 11
 # How long an answer may take, in seconds. Nothing is sent again.
 PATIENCE = 60
 LIMIT = 1 << 32
+# The columns of the exports.
+HEADERS = (
+    "client,session,account,class,input,output,total,charged,seconds,first,last,state,cause,"
+    "calling,framed",
+    "voucher,account,sum,when",
+    "account,balance,overrun",
+)
 
 
 @dataclasses.dataclass(frozen=True)
@@ -65,6 +72,12 @@ class Voucher:
     number: str
     account: bytes
     sum: int
+
+
+# The columns of an exported session, but for its name and its moments.
+Fields = collections.namedtuple(
+    "Fields", "account plan input output total charged seconds state cause calling framed"
+)
 
 
 @dataclasses.dataclass(frozen=True)
@@ -93,9 +106,8 @@ class Row:
     def fields(self):
         """What an export has of it, but for its name and its moments."""
         framed = ".".join(map(str, self.framed))
-        sums = (self.octets, sum(self.octets), self.charged(), self.seconds)
-        end = (self.state, self.cause, self.calling, framed)
-        return self.account, self.plan, *sums, *end
+        sums = (*self.octets, sum(self.octets), self.charged(), self.seconds)
+        return Fields(self.account, self.plan, *sums, self.state, self.cause, self.calling, framed)
 
     def raised(self, report, moment):
         """The row after one more report of its session."""
@@ -121,9 +133,10 @@ class Content:
     rows: dict
     vouchers: dict
 
+    @functools.cached_property
     def balances(self):
         paid = [(it.account, it.sum) for it, _ in self.vouchers.values()]
-        return summed(paid + [(it.account, -it.charged()) for it in self.rows.values()])
+        return summed(paid + [(it.account, -it.fields.charged) for it in self.rows.values()])
 
     def after(self, entry, begun, ended):
         """The content with one more entry, which was recorded between these two moments."""
@@ -161,32 +174,26 @@ def closed(row):
 
 def differences(content, exports):
     """What the exports of a book have that this content has not, or the other way round."""
-    sessions, topups, balances = (list(csv.DictReader(io.StringIO(it))) for it in exports)
-    rows = {(it["client"], octets_of(it["session"])): it for it in sessions}
-    vouchers = {it["voucher"]: it for it in topups}
-    found = [
-        f"{name}: {sorted(map(str, set(held) ^ set(wanted)))}"
-        for name, held, wanted in (
-            ("sessions", rows, content.rows),
-            ("vouchers", vouchers, content.vouchers),
-        )
-        if set(held) != set(wanted)
-    ]
-    if found:
-        return found
-    found += [str(key) for key, row in content.rows.items() if not is_row(rows[key], row)]
-    found += [it for it, held in content.vouchers.items() if not is_voucher(vouchers[it], *held)]
-    held = {octets_of(it["account"]): int(it["balance"]) for it in balances}
-    if held != content.balances():
-        found.append(f"balances: {held}, not {content.balances()}")
-    return found + unbalanced(sessions, topups, held)
+    sessions, topups, balances = (it.splitlines() for it in exports)
+    if (sessions[0], topups[0], balances[0]) != HEADERS:
+        return ["other columns"]
+    rows, vouchers = dict(map(session_of, sessions[1:])), dict(map(voucher_of, topups[1:]))
+    held = dict(map(balance_of, balances[1:]))
+    if rows.keys() != content.rows.keys():
+        return [f"sessions: {sorted(rows.keys() ^ content.rows.keys())}"]
+    if vouchers.keys() != content.vouchers.keys():
+        return [f"vouchers: {sorted(vouchers.keys() ^ content.vouchers.keys())}"]
+    found = [str(it) for it, row in content.rows.items() if not is_row(*rows[it], row)]
+    found += [it for it, said in content.vouchers.items() if not is_voucher(*vouchers[it], *said)]
+    if held != content.balances:
+        found.append(f"balances: {held}, not {content.balances}")
+    return found + unbalanced(rows, vouchers, held)
 
 
-def unbalanced(sessions, topups, balances):
+def unbalanced(rows, vouchers, balances):
     """The accounts whose balance isn't the sum of the vouchers less the charges, as exported."""
-    paid = [(octets_of(it["account"]), int(it["sum"])) for it in topups]
-    owed = [(octets_of(it["account"]), -int(it["charged"])) for it in sessions]
-    sums = summed(paid + owed)
+    paid = [(account, amount) for account, amount, _ in vouchers.values()]
+    sums = summed(paid + [(it.account, -it.charged) for it, _, _ in rows.values()])
     return [f"the balance of {it}" for it in balances if balances[it] != sums.get(it)]
 
 
@@ -194,34 +201,43 @@ def octets_of(field):
     return urllib.parse.unquote_to_bytes(field)
 
 
+# Most lines of a large book are the same in each of its exports.
+@functools.lru_cache(maxsize=500_000)
+def session_of(line):
+    """The name of an exported session, and its fields and moments."""
+    client, name, account, plan, *more = next(csv.reader([line]))
+    numbers, (state, cause, calling, framed) = map(int, more[:7]), more[7:]
+    *sums, first, last = numbers
+    end = (state, int(cause), octets_of(calling), framed)
+    fields = Fields(octets_of(account), octets_of(plan), *sums, *end)
+    return (client, octets_of(name)), (fields, first, last)
+
+
+def voucher_of(line):
+    number, account, amount, moment = next(csv.reader([line]))
+    return number, (octets_of(account), int(amount), int(moment))
+
+
+def balance_of(line):
+    account, balance, _ = next(csv.reader([line]))
+    return octets_of(account), int(balance)
+
+
 def is_within(moment, span):
-    return span[0] <= int(moment) <= span[1]
+    return span[0] <= moment <= span[1]
 
 
-def is_voucher(line, voucher, span):
-    said = (octets_of(line["account"]), int(line["sum"]))
-    return said == (voucher.account, voucher.sum) and is_within(line["when"], span)
+def is_voucher(account, amount, moment, voucher, span):
+    """Whether an exported voucher is this one."""
+    return (account, amount) == (voucher.account, voucher.sum) and is_within(moment, span)
 
 
-def is_row(line, row):
-    """Whether a line of an export is of this row."""
-    said = (
-        octets_of(line["account"]),
-        octets_of(line["class"]),
-        (int(line["input"]), int(line["output"])),
-        int(line["total"]),
-        int(line["charged"]),
-        int(line["seconds"]),
-        line["state"],
-        int(line["cause"]),
-        octets_of(line["calling"]),
-        line["framed"],
-    )
-    is_seen = is_within(line["first"], row.first) and is_within(line["last"], row.last)
-    return said == row.fields and is_seen
+def is_row(fields, first, last, row):
+    """Whether an exported session is this row."""
+    return fields == row.fields and is_within(first, row.first) and is_within(last, row.last)
 
 
-def next_entry(rng, content, sent):
+def next_entry(rng, content, sent, has_restarts):
     """An entry that may follow this content and the entries that were sent before."""
     live = [key for key, row in content.rows.items() if row.state == OPEN]
     share = rng.random()
@@ -230,7 +246,7 @@ def next_entry(rng, content, sent):
     if share < 0.25:
         number = f"V-{len(content.vouchers)}-{rng.randrange(1000)}"
         return Voucher(number, rng.choice(ACCOUNTS), rng.randrange(1, 10**6))
-    if share < 0.27:
+    if share < 0.27 and has_restarts:
         return Report(rng.choice((ON, OFF)), rng.choice(list(CLIENTS)), b"")
     if not live or share < 0.42:
         return first_report(rng, len(content.rows))
@@ -345,11 +361,11 @@ class Site(served.Server):
         caller.request(method, path, body, {"Desk-Key": CASHIER})
         return caller.getresponse().status
 
-    def drive(self, rng, content, count):
+    def drive(self, rng, content, count, has_restarts=True):
         """Sends so many entries: what was sent, and the content after each, with that before."""
         sent, contents = [], [content]
         for _ in range(count):
-            entry = next_entry(rng, contents[-1], sent)
+            entry = next_entry(rng, contents[-1], sent, has_restarts)
             contents.append(contents[-1].after(entry, *self.send(entry)))
             sent.append(entry)
         return sent, contents

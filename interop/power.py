@@ -6,6 +6,7 @@ since. Each of these may be lost, be there whole or in part, and in any order.
 """
 
 import functools
+import itertools
 import os
 import random
 import re
@@ -24,7 +25,8 @@ SIZES = [1 << it for it in range(9, 17)]
 
 def traced(path):
     """The words that run a program and write its calls into a file."""
-    return ["strace", "-f", "-xx", "-s", "99999999", "-e", f"trace={CALLS}", "-o", path]
+    whole = ["-xx", "-s", "99999999"]
+    return ["strace", "-f", "--seccomp-bpf", *whole, "-e", f"trace={CALLS}", "-o", path]
 
 
 def octets_of(text):
@@ -255,22 +257,26 @@ def chained(log):
 
 
 def behind_the_break(log):
-    """Whether the first link that breaks the chain of the log is sealed, and how many frames at it
-    or behind it have the header's salts and commit; none for a log that is too short to count.
+    """Which link first breaks the chain of the log, and how many frames commit from there on, up to
+    the first frame behind it that hasn't the header's salts.
 
-    A link is the header or a frame. The store writes one octet of a commit last, and syncs before
-    and after it or, with one sync, over zeros: the first octet of the salts. With it the link is
-    sealed.
+    A link is the header or a frame. The store writes one octet of it last, and syncs before and
+    after that or, if it syncs once, writes over zeros: the first octet of the header, and that of
+    the salts of a commit's first frame. With that octet the link is sealed, else it is shut.
     """
     if len(log) < HEADER + FRAME:
-        return None
-    places, _ = chained(log)
-    salts, count = numbers(log[16:24]), 0
-    is_sealed = None if is_signed(log) else log[:1] == MAGIC_OCTET
-    behind = places[-1] if places else 0
-    for at, head, _ in frames_of(log):
-        if at > behind:
-            if is_sealed is None:
-                is_sealed = log[at + 8] == log[16]
-            count += head[2:4] == salts and head[1] != 0
-    return bool(is_sealed), count
+        return "no log", 0
+    salts, last = numbers(log[16:24]), max(chained(log)[0], default=0)
+    behind = [(at, head) for at, head, _ in frames_of(log) if at > last]
+    count = commits_of([head for _, head in behind], salts)
+    if not is_signed(log):
+        return ("sealed header" if log[:1] == MAGIC_OCTET else "shut header"), count
+    if not behind:
+        return "end", count
+    return ("sealed frame" if log[behind[0][0] + 8] == log[16] else "shut frame"), count
+
+
+def commits_of(heads, salts):
+    """How many of these frames commit, up to the first one, behind the first, of other salts."""
+    own = itertools.takewhile(lambda head: head[2:4] == salts, heads[1:])
+    return sum(head[2:4] == salts and head[1] != 0 for head in [*heads[:1], *own])
