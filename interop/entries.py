@@ -371,11 +371,12 @@ class Site(served.Server):
         return sent, contents
 
     def exports(self):
-        """The status and the faults of three exports of the book, and what they wrote."""
+        """The worst status of three exports of the book, their faults, and what they wrote."""
         how = {"capture_output": True, "text": True, "check": False}
         kinds = ("sessions", "topups", "balances")
         done = [subprocess.run([*self.words("export"), it], **how) for it in kinds]
-        status = max(it.returncode for it in done) or min(it.returncode for it in done)
+        # A status that is neither 0 nor 3 comes first, and that of a signal is below 0.
+        status = max((it.returncode for it in done), key=lambda it: (it not in (0, 3), abs(it)))
         return status, "".join(it.stderr for it in done), [it.stdout for it in done]
 
 
