@@ -1,5 +1,5 @@
--- The log of a book as a chain: its header is link 0, and its frames are links 1, 2 and so on. A sum
--- in each link goes on from the link before it.
+-- The log of a book as a chain: its header is link 0, and its frames are links 1, 2 and so on. A
+-- sum in each link goes on from the link before it.
 use Rattle.std.specs.Prelude.{◌≡◌, ◌+◌, ◌-◌, ◌/◌, ◌<◌, ◌==◌, ◌&&◌, ℕ, zero, suc, Bool, not}
 use Rattle.std.specs.Prelude.{if◌then◌else◌, nat_le, List, length, slice_index}
 use Rattle.sqlite_wal.specs.Format.{be32, commit_size, IsSigned, IsFrame}
@@ -17,8 +17,8 @@ frame_in log i = frame (page_size log) log i
 abbrev pub frame_count : List ℕ → ℕ
 frame_count log = (length log - 32) / (24 + page_size log)
 
--- a link passes SQLite's test: a frame has the salts of the header, names a page, and its sum goes on
--- from the link before it
+-- a link passes SQLite's test: a frame has the salts of the header, names a page, and its sum goes
+-- on from the link before it
 abbrev pub Holds : List ℕ → ℕ → Type 0
 Holds log zero = IsSigned (header log)
 Holds log (suc i) = IsFrame (header log) (sum_before (page_size log) log i) (frame_in log i)
@@ -28,8 +28,8 @@ pub record BreaksAt (log : List ℕ) (link : ℕ) : Type 0 where
   pub before : (earlier : ℕ) → earlier < link → Holds log earlier
   pub breaks : ¬ Holds log link
 
--- The octet of a link that the store writes last, once the others are on the disk: the first of the
--- header, and the first of the salts in a frame that begins a commit. Until then it has another value.
+-- The octet of a link that the store writes last: the first of the header, and the first of the
+-- salts in a frame that begins a commit. Until then it has another value.
 abbrev pub IsSealed : List ℕ → ℕ → Type 0
 IsSealed log zero = slice_index (header log) 0 ≡ 0x37
 IsSealed log (suc i) = slice_index (frame_in log i) 8 ≡ slice_index (header log) 16
@@ -37,7 +37,8 @@ IsSealed log (suc i) = slice_index (frame_in log i) 8 ≡ slice_index (header lo
 -- a frame has the salts of a header, and ends a commit
 abbrev pub ends_commit : List ℕ → List ℕ → Bool
 ends_commit head octets =
-    (be32 octets 8 == be32 head 16) && (be32 octets 12 == be32 head 20) && not (commit_size octets == 0)
+    (be32 octets 8 == be32 head 16) && (be32 octets 12 == be32 head 20)
+    && not (commit_size octets == 0)
 
 -- how many commits end at or behind a link, among the first frames
 abbrev pub commits_from : List ℕ → ℕ → ℕ → ℕ

@@ -4,8 +4,8 @@ use crate::reading::damage_in;
 use std::alloc::Global;
 use std::fs::{File, Files, metadata};
 
-/// The damage of the log of a book in a file, if it has any. None is known of a log that isn't there
-/// or can't be read: the open of the book reports that. It writes nothing.
+/// The damage of the log of a book in a file, if it has any. None is known of a log that isn't
+/// there or can't be read: the open of the book reports that. It writes nothing.
 pub fn damage_beside<R: Files>(runtime: &R, alloc: Global, file: &str) -> Option<Damage> {
     let name = format!(in alloc; "{file}-wal").ok()?;
     // A pipe would be waited for.

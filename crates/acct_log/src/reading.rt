@@ -75,8 +75,8 @@ fn scan<R: Read>(
     Err(Unread::CannotRead)
 }
 
-// Fills a buffer from a reader, as far as that has octets, and says how many it took. A read that was
-// interrupted is tried again.
+// Fills a buffer from a reader, as far as that has octets, and says how many it took. A read that
+// was interrupted is tried again.
 fn fill<R: Read>(reader: &mut R, buffer: &mut [u8]) -> Result<usize, Unread>
     ensures within { IfOk result (λ count. count ≤ length buffer.new) }
     ensures taken { IfOk result (λ count.
