@@ -3,15 +3,17 @@ use Rattle.std.specs.Prelude.{◌≡◌, ◌≤◌, ◌↔◌, ℕ, List, Option
 use Rattle.sqlite_wal.specs.Recovery.{header, sum_before}
 use Rattle.acct_log.specs.declared.scanner.Break.{Break}
 use Rattle.acct_log.specs.declared.scanner.Scanner.{Scanner}
-use Rattle.acct_log.specs.Chain.{page_size, Holds, BreaksAt, IsSealed, commits_from}
+use Rattle.acct_log.specs.Chain.{page_size, Holds, BreaksAt, IsSealed, commits_from, runs_on}
 
--- where the chain breaks up to so many frames, and how many commits end there or behind
+-- where the chain breaks up to so many frames, how many commits end there or behind, and whether the
+-- frames behind it have the salts of the header so far
 abbrev pub IsBreakIn : List ℕ → ℕ → Option Break → Type 0
 IsBreakIn log frames None = (link : ℕ) → link ≤ frames → Holds log link
 IsBreakIn log frames (Some found) =
     (found.link ≤ frames) × BreaksAt log found.link
     × (IsTrue found.is_sealed ↔ IsSealed log found.link)
     × (found.commits ≡ commits_from log found.link frames)
+    × (found.runs_on ≡ runs_on log found.link frames)
 
 -- it has taken the header and so many frames
 pub record HasTaken (log : List ℕ) (frames : ℕ) (scanner : Scanner) : Type 0 where

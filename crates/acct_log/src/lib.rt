@@ -11,6 +11,9 @@
 //!    sealed link that a crash has torn, no second commit was sealed.
 //! 3. More than one commit at or behind a sealed link that breaks the chain is damage.
 //! 4. Commits of an earlier run of the log have other salts than its header, and don't count.
+//! 5. The count ends at the first frame behind the break that has other salts. A transaction of many
+//!    pages goes to the log in parts. If it was killed, its parts stay in the log, behind the zeros
+//!    that the next run writes after its first commit.
 //!
 //! Not told apart from a crash: damage of the octet of rule 1, and of the last commit alone. A
 //! header is a link as well: the store writes its first octet last, once all frames are in the

@@ -1,7 +1,7 @@
 //! The tests of the links of a log.
 ghost use Rattle.std.specs.Prelude.{◌≡◌, ◌+◌, ◌≤◌, ◌↔◌, length, IsTrue};
 ghost use Rattle.sqlite_wal.specs.Format.{be32, stored_sum, IsSigned, IsFrame};
-ghost use Rattle.acct_log.specs.Chain.{ends_commit as ends_commit_of};
+ghost use Rattle.acct_log.specs.Chain.{ends_commit as ends_commit_of, has_salts as has_salts_of};
 
 use sqlite_wal::checksum_of;
 
@@ -61,12 +61,18 @@ pub fn is_frame(head: &[u8; 32], before: (u32, u32), frame: &[u8]) -> bool
     checksum_of(big, front, &frame[24..]) == sum_at(frame, 16)
 }
 
+/// Whether a frame has the salts of a header.
+pub fn has_salts(head: &[u8; 32], frame: &[u8]) -> bool
+    requires { 24 ≤ length frame.now }
+    ensures { result ≡ has_salts_of head.now frame.now }
+{
+    number_at(frame, 8) == number_at(head, 16) && number_at(frame, 12) == number_at(head, 20)
+}
+
 /// Whether a frame has the salts of a header, and ends a commit.
 pub fn ends_commit(head: &[u8; 32], frame: &[u8]) -> bool
     requires { 24 ≤ length frame.now }
     ensures { result ≡ ends_commit_of head.now frame.now }
 {
-    number_at(frame, 8) == number_at(head, 16)
-        && number_at(frame, 12) == number_at(head, 20)
-        && number_at(frame, 4) != 0
+    has_salts(head, frame) && number_at(frame, 4) != 0
 }

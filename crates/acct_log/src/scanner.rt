@@ -1,9 +1,11 @@
 //! A log, taken link by link.
-ghost use Rattle.std.specs.Prelude.{◌≡◌, ◌+◌, ◌^◌, ◌≤◌, ◌<◌, ℕ, List, length, if◌then◌else◌};
+ghost use Rattle.std.specs.Prelude.{◌≡◌, ◌+◌, ◌^◌, ◌≤◌, ◌<◌, ◌&&◌, ℕ, List, length, if◌then◌else◌};
 ghost use Rattle.std.specs.Option.{ForSome};
 
 use crate::damage::Damage;
-use crate::links::{FIRST, FRAME_SALTS, SALTS, ends_commit, is_frame, is_signed, sum_at};
+use crate::links::{
+    FIRST, FRAME_SALTS, SALTS, ends_commit, has_salts, is_frame, is_signed, sum_at,
+};
 
 /// Where the chain breaks first.
 #[derive(Clone, Copy)]
@@ -14,6 +16,8 @@ pub(crate) struct Break {
     is_sealed: bool,
     /// How many commits end at it or behind it so far.
     commits: u64,
+    /// Whether each frame behind it has the salts of the header so far.
+    runs_on: bool,
 }
 
 /// A log whose links are taken one after the other, from the header on.
@@ -48,6 +52,7 @@ impl Scanner {
                 link: 0,
                 is_sealed: head[0] == FIRST,
                 commits: 0,
+                runs_on: true,
             })
         };
         Scanner {
@@ -80,18 +85,23 @@ impl Scanner {
         ensures broken { (log : List ℕ) (frames : ℕ) → HasTaken log frames self.now
             → frame.now ≡ frame_in log frames → IsBreakIn log (frames + 1) result }
     {
-        let commits = one_if(ends_commit(&self.head, frame));
+        let ends = ends_commit(&self.head, frame);
         match self.broken {
-            Some(found) => Some(Break {
-                link: found.link,
-                is_sealed: found.is_sealed,
-                commits: found.commits + commits,
-            }),
+            Some(found) => {
+                let runs_on = both(found.runs_on, has_salts(&self.head, frame));
+                Some(Break {
+                    link: found.link,
+                    is_sealed: found.is_sealed,
+                    commits: found.commits + one_if(both(runs_on, ends)),
+                    runs_on,
+                })
+            }
             None if is_frame(&self.head, self.sum, frame) => None,
             None => Some(Break {
                 link: self.taken + 1,
                 is_sealed: frame[FRAME_SALTS] == self.head[SALTS],
-                commits,
+                commits: one_if(ends),
+                runs_on: true,
             }),
         }
     }
@@ -111,6 +121,12 @@ impl Scanner {
             None
         }
     }
+}
+
+fn both(one: bool, other: bool) -> bool
+    ensures { result ≡ (one && other) }
+{
+    one && other
 }
 
 // How many commits a frame ends.
