@@ -16,21 +16,18 @@ pub(crate) fn tell_damage<R: Files, E: Write>(
     to_do: &str,
     errors: &mut E,
 ) -> bool {
-    let Some(Damage { link, commits }) = damage_beside(runtime, alloc, file) else {
-        return false;
-    };
-    let _ = if link == 0 {
-        writeln!(
+    let _ = match damage_beside(runtime, alloc, file) {
+        None => return false,
+        Some(Damage::Header) => writeln!(
             errors,
-            "explained: {file}: the header of its log is damaged, and {commits} commits are behind \
-             it{to_do}"
-        )
-    } else {
-        writeln!(
+            "explained: {file}: the header of its log is damaged, and each commit in it is \
+             lost{to_do}"
+        ),
+        Some(Damage::Frame { frame, commits }) => writeln!(
             errors,
-            "explained: {file}: frame {link} of its log is damaged, and {commits} commits end there \
-             or behind it{to_do}"
-        )
+            "explained: {file}: frame {frame} of its log is damaged, and {commits} commits end \
+             there or behind it{to_do}"
+        ),
     };
     true
 }

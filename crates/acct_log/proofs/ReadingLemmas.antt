@@ -1,19 +1,20 @@
 -- How a reader goes on, and where it ends.
 use Rattle.std.proofs.Common.{◌≡◌, ◌+◌, ◌-◌, ◌*◌, ◌/◌, ◌≤◌, ◌<◌, ℕ, List, ◌++◌, length, take, drop}
 use Rattle.std.proofs.Common.{Option, Some, None, refl, arith, sym, ◌∙◌, ap, subst}
-use Rattle.std.proofs.Common.{take_at, drop_at, drop-drop}
+use Rattle.std.proofs.Common.{take_at, drop_at, drop-drop, slice_index}
 use Rattle.std.proofs.lemmas.List.{length-drop, length-append}
 use Rattle.std.proofs.Math.Nat.{div-eq_of_lt-le, div-eq_of_lt}
 use Rattle.std.specs.Prelude.{IfOk, IfSome, Result, Ok, Err}
 use Rattle.std.specs.Io.KnownBytes.{Consumes, IsAtEnd}
-use Rattle.sqlite_wal.specs.Format.{part, be32}
+use Rattle.sqlite_wal.specs.Format.{part, be32, IsSigned}
 use Rattle.sqlite_wal.specs.Recovery.{frames_len, frame_at, header}
 use Rattle.sqlite_wal.specs.PageSize.{IsPageSize}
 use Rattle.acct_log.specs.declared.damage.Damage.{Damage}
+use Rattle.acct_log.specs.declared.damage.Damage.TheVariants as damage
 use Rattle.acct_log.specs.declared.reading.Unread.{Unread}
 use Rattle.acct_log.specs.declared.scanner.Scanner.{Scanner}
-use Rattle.acct_log.specs.Chain.{page_size, frame_count, commits_from}
-use Rattle.acct_log.specs.Damage.{Finds}
+use Rattle.acct_log.specs.Chain.{page_size, frame_count}
+use Rattle.acct_log.specs.Damage.{Finds, IsHeaderDamage, IsFrameDamage}
 use Rattle.acct_log.specs.Scanner.{HasTaken}
 use Rattle.acct_log.specs.inner.Reading.{IsReadTo}
 
@@ -56,16 +57,30 @@ counts_frames octets frames n whole few =
     let high : length octets - 32 < (frames + 1) * size = omega arith in
     div-eq_of_lt-le size low high
 
+-- a log that is damaged neither in its header nor in a frame
+pub is_sound : (octets : List ℕ) → ¬ IsHeaderDamage octets
+    → ((frame commits : ℕ) → ¬ IsFrameDamage octets frame commits) → Finds octets None
+is_sound octets head frames damage.Header found = head found
+is_sound octets head frames (damage.Frame frame commits) found = frames frame commits found
+
 -- octets that are fewer than a header's are no damaged log
 pub short_is_sound : (octets : List ℕ) → length octets < 32 → Finds octets None
-short_is_sound octets few damage found =
+short_is_sound octets few = is_sound octets
+    (λ found. let whole = found.whole in omega arith)
+    (λ frame commits found.
     let none : length octets - 32 ≡ 0 = omega arith in
-    let frames : frame_count octets ≡ 0 =
+    let count : frame_count octets ≡ 0 =
     ap (λ n. n / (24 + page_size octets)) none ∙ div-eq_of_lt (omega arith) in
-    let commits : damage.commits ≡ 0 =
-    found.counted ∙ ap (commits_from octets damage.link) frames in
-    let many = found.many in
-    omega arith
+    let within = found.within in
+    let some = found.some in
+    omega arith)
+
+-- nor is one whose header breaks its own sum, and was not sealed
+pub unsealed_is_sound : (octets head : List ℕ) → head ≡ header octets → ¬ IsSigned head
+    → ¬ (slice_index head 0 ≡ 0x37) → Finds octets None
+unsealed_is_sound octets head is broken shut = is_sound octets
+    (λ found. shut (subst (λ (h : List ℕ). slice_index h 0 ≡ 0x37) (sym is) found.was_sealed))
+    (λ frame commits found. broken (subst IsSigned (sym is) (found.first.before 0 found.some)))
 
 -- where the first frame begins, and the next one
 pub first_frame : (size : ℕ) → frame_at size 0 ≡ 32
@@ -94,13 +109,27 @@ short_log (Some octets) (Some ys) bs eats end few =
     let none : length ys ≡ 0 = ap length end in
     short_is_sound octets (omega arith)
 
+-- a log whose header breaks its own sum
+pub unsigned_log : (known new : Option (List ℕ)) (bs : List ℕ) (found : Option Damage)
+    → Consumes known new bs → length bs ≡ 32
+    → ((octets : List ℕ) → 32 ≤ length octets → bs ≡ header octets → Finds octets found)
+    → IfSome known (λ octets. Finds octets found)
+unsigned_log None new bs found eats len finds = tt
+unsigned_log (Some octets) new bs found eats len finds =
+    let read = read_header octets new bs eats len in
+    finds octets read.1.0 (sym read.0)
+
 -- a log whose header names no size of a page
 pub unsized_log : (known new : Option (List ℕ)) (bs : List ℕ) → Consumes known new bs
-    → length bs ≡ 32 → ¬ IsPageSize (be32 bs 8) → IfSome known (λ octets. Finds octets None)
-unsized_log None new bs eats len no_size = tt
-unsized_log (Some octets) new bs eats len no_size = λ damage found.
-    no_size (subst (λ (h : List ℕ). IsPageSize (be32 h 8)) (read_header octets new bs eats len).0
-    found.sized)
+    → length bs ≡ 32 → IsSigned bs → ¬ IsPageSize (be32 bs 8)
+    → IfSome known (λ octets. Finds octets None)
+unsized_log None new bs eats len signed no_size = tt
+unsized_log (Some octets) new bs eats len signed no_size =
+    let is = (read_header octets new bs eats len).0 in
+    is_sound octets
+    (λ found. found.breaks (subst IsSigned (sym is) signed))
+    (λ frame commits found.
+    no_size (subst (λ (h : List ℕ). IsPageSize (be32 h 8)) is found.sized))
 
 -- a log that was scanned
 pub scanned_log : (known new : Option (List ℕ)) (bs : List ℕ) (size : ℕ) (scanner : Scanner)

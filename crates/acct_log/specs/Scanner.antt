@@ -1,5 +1,6 @@
 -- What a scanner knows of a log whose first frames it has taken.
 use Rattle.std.specs.Prelude.{◌≡◌, ◌≤◌, ◌↔◌, ℕ, List, Option, Some, None, IsTrue}
+use Rattle.sqlite_wal.specs.Format.{IsSigned}
 use Rattle.sqlite_wal.specs.Recovery.{header, sum_before}
 use Rattle.acct_log.specs.declared.scanner.Break.{Break}
 use Rattle.acct_log.specs.declared.scanner.Scanner.{Scanner}
@@ -15,9 +16,10 @@ IsBreakIn log frames (Some found) =
     × (found.commits ≡ commits_from log found.link frames)
     × (found.runs_on ≡ runs_on log found.link frames)
 
--- it has taken the header and so many frames
+-- it has taken the header, which meets its own sum, and so many frames
 pub record HasTaken (log : List ℕ) (frames : ℕ) (scanner : Scanner) : Type 0 where
   pub head : scanner.head ≡ header log
+  pub signed : IsSigned (header log)
   pub taken : scanner.taken ≡ frames
   pub sum : scanner.sum ≡ sum_before (page_size log) log frames
   pub broken : IsBreakIn log frames scanner.broken

@@ -2,9 +2,14 @@
 
 /// Where a log is damaged.
 #[derive(Clone, Copy, PartialEq, Eq, Debug)]
-pub struct Damage {
-    /// The link that breaks the chain: 0 for the header, and the number of a frame, from 1.
-    pub link: u64,
-    /// How many commits end at it or behind it. More than one.
-    pub commits: u64,
+pub enum Damage {
+    /// In its header. No frame can be read without it, so its commits are not counted.
+    Header,
+    /// In a frame.
+    Frame {
+        /// The number of the frame that breaks the chain, from 1.
+        frame: u64,
+        /// How many commits end at it or behind it. More than one.
+        commits: u64,
+    },
 }

@@ -15,11 +15,12 @@
 //!    pages goes to the log in parts. If it was killed, its parts stay in the log, behind the zeros
 //!    that the next run writes after its first commit.
 //!
-//! Not told apart from a crash: damage of the octet of rule 1, and of the last commit alone. A
-//! header is a link as well: the store writes its first octet last, once all frames are in the
-//! book's file. A header that breaks its own sum is damage if more than one commit has the salts
-//! that it names. If its salts or its size of a page are damaged, no commit has them, and the store
-//! begins the log anew.
+//! 6. A header is a link as well. The store writes its first octet last, once all frames are in the
+//!    book's file, and syncs before and after it, with `--sync once` too. So a header that has that
+//!    octet and breaks its own sum is damage, whatever comes behind it.
+//!
+//! Not told apart from a crash: damage of the octet of rule 1, of the first octet of the header, and
+//! of the last commit alone.
 #![tactic(auto)]
 
 mod beside;

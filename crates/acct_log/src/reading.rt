@@ -1,14 +1,16 @@
 //! A log, read from its first octet to its last.
 ghost use Rattle.std.specs.Prelude.{◌≡◌, ◌+◌, ◌≤◌, ◌<◌, ◌^◌, ℕ, List, length, take, IfOk, IfSome};
 ghost use Rattle.std.specs.Io.KnownBytes.{Consumes, IsAtEnd};
+ghost use Rattle.sqlite_wal.specs.Format.{IsSigned};
 ghost use Rattle.sqlite_wal.specs.PageSize.{IsPageSize};
+ghost use Rattle.sqlite_wal.specs.Recovery.{header};
 ghost use Rattle.acct_log.specs.Chain.{page_size};
 ghost use Rattle.acct_log.specs.Damage.{Finds};
 ghost use Rattle.acct_log.specs.Scanner.{HasTaken};
 ghost use Rattle.acct_log.specs.inner.Reading.{IsReadTo};
 
 use crate::damage::Damage;
-use crate::links::{FRAME_OCTETS, HEADER_OCTETS, number_at};
+use crate::links::{FIRST, FRAME_OCTETS, HEADER_OCTETS, number_at};
 use crate::scanner::Scanner;
 use sqlite_wal::PageSize;
 use std::alloc::{AllocError, Global};
@@ -45,12 +47,28 @@ pub fn damage_in<R: Read>(alloc: Global, log: &mut R) -> Result<Option<Damage>, 
     if count < HEADER_OCTETS {
         return Ok(None);
     }
+    let Some(scanner) = Scanner::new(&head) else {
+        return Ok(header_damage(&head));
+    };
     let named = number_at(&head, 8) as usize;
     let Some(size) = PageSize::new(named) else {
         return Ok(None);
     };
     let mut frame = vec![in alloc; 0; FRAME_OCTETS + size.bytes()]?;
-    scan(log, Scanner::new(&head), &mut frame)
+    scan(log, scanner, &mut frame)
+}
+
+// The damage of a log whose header breaks its own sum.
+fn header_damage(head: &[u8; HEADER_OCTETS]) -> Option<Damage>
+    requires broken { ¬ IsSigned head.now }
+    ensures { (octets : List ℕ) → 32 ≤ length octets → head.now ≡ header octets
+        → Finds octets result }
+{
+    if head[0] == FIRST {
+        Some(Damage::Header)
+    } else {
+        None
+    }
 }
 
 // The damage of a log whose header a scanner has taken, read into room for a frame.

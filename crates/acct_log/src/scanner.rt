@@ -1,16 +1,15 @@
 //! A log, taken link by link.
 ghost use Rattle.std.specs.Prelude.{◌≡◌, ◌+◌, ◌^◌, ◌≤◌, ◌<◌, ◌&&◌, ℕ, List, length, if◌then◌else◌};
+ghost use Rattle.std.specs.Prelude.{IfSome, IsSome, IsNone};
 ghost use Rattle.std.specs.Option.{ForSome};
 
 use crate::damage::Damage;
-use crate::links::{
-    FIRST, FRAME_SALTS, SALTS, ends_commit, has_salts, is_frame, is_signed, sum_at,
-};
+use crate::links::{FRAME_SALTS, SALTS, ends_commit, has_salts, is_frame, is_signed, sum_at};
 
 /// Where the chain breaks first.
 #[derive(Clone, Copy)]
 pub(crate) struct Break {
-    /// The link: 0 for the header, or the number of a frame, from 1.
+    /// The number of the frame, from 1.
     link: u64,
     /// Whether its last octet was written.
     is_sealed: bool,
@@ -33,34 +32,30 @@ pub struct Scanner {
 }
 
 impl Scanner {
-    ghost use Rattle.sqlite_wal.specs.Format.{be32};
+    ghost use Rattle.sqlite_wal.specs.Format.{be32, IsSigned};
     ghost use Rattle.sqlite_wal.specs.Recovery.{header};
     ghost use Rattle.sqlite_wal.specs.PageSize.{IsPageSize};
     ghost use Rattle.acct_log.specs.Chain.{page_size, frame_in, frame_count};
     ghost use Rattle.acct_log.specs.Damage.{Finds};
     ghost use Rattle.acct_log.specs.Scanner.{HasTaken, IsBreakIn};
 
-    /// Takes the header.
-    pub fn new(head: &[u8; 32]) -> Scanner
-        ensures taken { (log : List ℕ) → head.now ≡ header log → HasTaken log 0 result }
-        ensures none { result.taken ≡ 0 }
+    /// Takes the header, if it meets its own sum. Without one no frame can be told from others.
+    pub fn new(head: &[u8; 32]) -> Option<Scanner>
+        ensures taken { IfSome result (λ scanner.
+            (log : List ℕ) → head.now ≡ header log → HasTaken log 0 scanner) }
+        ensures first { IfSome result (λ scanner. scanner.taken ≡ 0) }
+        ensures signed { IsSome result → IsSigned head.now }
+        ensures unsigned { IsNone result → ¬ IsSigned head.now }
     {
-        let broken = if is_signed(head) {
-            None
-        } else {
-            Some(Break {
-                link: 0,
-                is_sealed: head[0] == FIRST,
-                commits: 0,
-                runs_on: true,
-            })
-        };
-        Scanner {
+        if !is_signed(head) {
+            return None;
+        }
+        Some(Scanner {
             head: *head,
             taken: 0,
             sum: sum_at(head, 24),
-            broken,
-        }
+            broken: None,
+        })
     }
 
     /// Takes the next frame.
@@ -113,8 +108,8 @@ impl Scanner {
     {
         let found = self.broken?;
         if found.is_sealed && found.commits > 1 {
-            Some(Damage {
-                link: found.link,
+            Some(Damage::Frame {
+                frame: found.link,
                 commits: found.commits,
             })
         } else {
