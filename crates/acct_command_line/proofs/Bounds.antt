@@ -32,7 +32,7 @@ pub bounded : (name : Text) (rows : List Row) (asked : Job) → WordsAskFor name
     → HasBounds asked
 bounded name rows (job.Feed config) asked = tt
 bounded name rows (job.Check config database kept audits) asked = tt
-bounded name rows (job.Init paths) asked = tt
+bounded name rows (job.Init paths has_sums) asked = tt
 bounded name rows (job.Serve paths serving) asked = record {
   turns = omega (arith, asked.2.1.4);
   some_address = asked.2.0.0.1;

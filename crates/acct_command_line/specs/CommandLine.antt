@@ -110,6 +110,10 @@ configured_app name = with_rule (new_app name) (required config_rule)
 abbrev pub book_app : Text → App
 book_app name = explained (with_rule (configured_app name) (required database_rule))
 
+-- the same with `--page-sums`, of `init`
+abbrev pub init_app : App
+init_app = with_rule (book_app (codes "init")) (flag_rule (codes "page-sums"))
+
 -- a command that opens a book that is there: `--lose-damaged-commits`
 abbrev pub opening : App → App
 opening a = with_rule a (flag_rule (codes "lose-damaged-commits"))
@@ -171,6 +175,6 @@ with_commands a (c ∷ cs) = with_commands (with_subcommand a c.top) cs
 -- the program's command line
 abbrev pub app : App
 app = with_commands bare_app
-    (feed_app ∷ check_app ∷ book_app (codes "init") ∷ serve_app ∷ opening_app (codes "import")
+    (feed_app ∷ check_app ∷ init_app ∷ serve_app ∷ opening_app (codes "import")
     ∷ export_app ∷ opening_app (codes "migrate") ∷ opening_app (codes "plans") ∷ forward_app
     ∷ [])

@@ -148,7 +148,8 @@ WordsAskFor name rows (job.Check config database kept audits) =
     (name ≡ codes "check") × (first_of (codes "config") rows ≡ Some config)
     × (first_of (codes "db") rows ≡ database) × AreKeptNames rows kept
     × IsFlag (codes "audit") rows audits × (audits ≡ true → is_some database ≡ true)
-WordsAskFor name rows (job.Init paths) = (name ≡ codes "init") × ArePaths rows paths
+WordsAskFor name rows (job.Init paths has_sums) =
+    (name ≡ codes "init") × ArePaths rows paths × IsFlag (codes "page-sums") rows has_sums
 WordsAskFor name rows (job.Serve paths serving) =
     (name ≡ codes "serve") × ArePaths rows paths × IsServing rows serving
 WordsAskFor name rows (job.Import paths) = (name ≡ codes "import") × ArePaths rows paths
@@ -189,7 +190,7 @@ IsWithin (At moment) = moment < 2 ^ 53
 abbrev pub HasBounds : Job → Type 0
 HasBounds (job.Feed config) = ⊤
 HasBounds (job.Check config database kept audits) = ⊤
-HasBounds (job.Init paths) = ⊤
+HasBounds (job.Init paths has_sums) = ⊤
 HasBounds (job.Serve paths serving) = IsBounded serving
 HasBounds (job.Import paths) = ⊤
 HasBounds (job.Export paths what) = ⊤

@@ -58,6 +58,16 @@ pub fn lose_flag<'a>(alloc: Global) -> Arg<'a>
     )
 }
 
+/// `--page-sums`
+pub fn page_sums_flag<'a>(alloc: Global) -> Arg<'a>
+    ensures rule { rule_of result ≡ flag_rule (codes "page-sums") }
+    ensures local { result.global ≡ false }
+{
+    flag(alloc, "page-sums").help(
+        "Ends each page of the book in a sum: damage is found, and sqlite3 must not write it",
+    )
+}
+
 /// `--bind A.B.C.D`
 pub fn bind_option<'a>(alloc: Global) -> Arg<'a>
     ensures rule { rule_of result ≡ bind_rule }

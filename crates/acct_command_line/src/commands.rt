@@ -6,14 +6,14 @@ ghost use Rattle.std.specs.Prelude.{◌≡◌, false, true, codes};
 ghost use Rattle.clap.specs.Words.{App, Rule, app_of, rule_of, new_app, with_rule, with_subcommand};
 ghost use Rattle.acct_command_line.specs.CommandLine.{app, bare_app, feed_app, check_app, book_app};
 ghost use Rattle.acct_command_line.specs.CommandLine.{configured_app, serve_app, export_app};
-ghost use Rattle.acct_command_line.specs.CommandLine.{forward_app, opening_app};
+ghost use Rattle.acct_command_line.specs.CommandLine.{forward_app, init_app, opening_app};
 ghost use Rattle.acct_command_line.specs.inner.Made.{IsMade};
 
 use crate::args::{
     at_option, audit_option, balances_every_option, balances_option, before_option, bind_option,
     config_option, database_option, desk_bind_option, dry_run_flag, explain_flag, keep_option,
-    lose_flag, needed, oldest_option, port_option, quiet_flag, silent_option, status_option,
-    sync_option, turns_option, what_option, yes_flag,
+    lose_flag, needed, oldest_option, page_sums_flag, port_option, quiet_flag, silent_option,
+    status_option, sync_option, turns_option, what_option, yes_flag,
 };
 use clap::{Arg, Command};
 use std::alloc::{AllocError, Global};
@@ -130,10 +130,10 @@ fn serve_command<'a>(alloc: Global) -> Result<Command<'a>, AllocError>
 }
 
 fn init_command<'a>(alloc: Global) -> Result<Command<'a>, AllocError>
-    ensures { IsMade (book_app (codes "init")) result }
+    ensures { IsMade init_app result }
 {
     let about = "Makes an empty book in a file, for the plans of a configuration";
-    book_command(alloc, "init", about)
+    with_option(book_command(alloc, "init", about), page_sums_flag(alloc))
 }
 
 fn import_command<'a>(alloc: Global) -> Result<Command<'a>, AllocError>

@@ -61,6 +61,8 @@ pub enum Job {
     Init {
         /// Its files.
         paths: Paths,
+        /// Whether each page of it is to end in a sum.
+        has_sums: bool,
     },
     /// Answers access servers and callers of the desk.
     Serve {
@@ -111,7 +113,10 @@ impl Drop for Job {
                 kept: _,
                 audits: _,
             } => {}
-            Job::Init { paths: _ } => {}
+            Job::Init {
+                paths: _,
+                has_sums: _,
+            } => {}
             Job::Serve {
                 paths: _,
                 serving: _,

@@ -109,7 +109,10 @@ fn asked_of_book(
         (WordsAskFor name.now (rows_of (found_of options.now)))) }
 {
     match name {
-        "init" => Ok(Some(Job::Init { paths })),
+        "init" => Ok(Some(Job::Init {
+            paths,
+            has_sums: flag_option(options, "page-sums"),
+        })),
         "serve" => asked_to_serve(alloc, paths, options),
         "import" => Ok(Some(Job::Import { paths })),
         "export" => Ok(asked_to_export(paths, options)),

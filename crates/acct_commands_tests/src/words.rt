@@ -81,8 +81,9 @@ fn reads_command_lines(rt: HostRuntime) -> Result<(), Fail> {
 
 // Words after the program's name, and what they ask for: the job, its files, and of a server its
 // addresses, the desk's, both ports, turns, syncs, what it tells, the two files, and how many days
-// old a report may be; a plus where more is told of a fault. None where they name no job.
-static ORDERS: [(&str, Option<&str>); 63] = [
+// old a report may be; a plus if more is told of a fault, and `loses` if a damaged log is no fault.
+// None if they name no job.
+static ORDERS: [(&str, Option<&str>); 69] = [
     ("feed", Some("feed none")),
     ("feed --config a", Some("feed a")),
     ("feed --explain", Some("feed none +")),
@@ -104,10 +105,17 @@ static ORDERS: [(&str, Option<&str>); 63] = [
     ("check --config a --audit", None),
     ("init --config a --db b", Some("init a b")),
     ("init --config a --db b --explain", Some("init a b +")),
+    ("init --page-sums --config a --db b", Some("init a b sums")),
+    ("init --config a --db b --lose-damaged-commits", None),
     ("init --config a", None),
     ("import --config a --db b", Some("import a b")),
     ("import --explain --config a --db b", Some("import a b +")),
     ("import --config a --db b --quiet", None),
+    ("import --config a --db b --page-sums", None),
+    (
+        "import --lose-damaged-commits --config a --db b",
+        Some("import a b loses"),
+    ),
     ("export --config a --db b topups", Some("export a b TopUps")),
     (
         "export --config a --db b --explain balances",
@@ -119,6 +127,11 @@ static ORDERS: [(&str, Option<&str>); 63] = [
     ("migrate --config a --db b --sync once", None),
     ("plans --config a --db b", Some("plans a b")),
     ("plans --config a --db b --explain", Some("plans a b +")),
+    (
+        "plans --lose-damaged-commits --explain --config a --db b",
+        Some("plans a b + loses"),
+    ),
+    ("feed --lose-damaged-commits", None),
     (
         "forward --config a --db b",
         Some("forward a b Before(90) None kept"),
@@ -289,8 +302,9 @@ fn split(alloc: Global, words: &str) -> Result<Vec<String>, Fail> {
 // Whether an order is this one in words of these tests.
 fn is_shown(alloc: Global, order: &Order, wanted: Option<&str>) -> Result<bool, Fail> {
     let mark = if order.explains { " +" } else { "" };
+    let loses = if order.loses_commits { " loses" } else { "" };
     let job = shown_job(alloc, &order.job)?;
-    let shown = format!(in alloc; "{job}{mark}")?;
+    let shown = format!(in alloc; "{job}{mark}{loses}")?;
     Ok(Some(shown.as_str()) == wanted)
 }
 
@@ -303,7 +317,11 @@ fn shown_job(alloc: Global, job: &Job) -> Result<String, Fail> {
             kept,
             audits,
         } => shown_check(alloc, config, database, kept, *audits),
-        Job::Init { paths } => shown_paths(alloc, "init", paths),
+        Job::Init { paths, has_sums } => {
+            let paths = shown_paths(alloc, "init", paths)?;
+            let mark = if *has_sums { " sums" } else { "" };
+            Ok(format!(in alloc; "{paths}{mark}")?)
+        }
         Job::Serve { paths, serving } => shown_serving(alloc, paths, serving),
         Job::Import { paths } => shown_paths(alloc, "import", paths),
         Job::Export { paths, what } => {

@@ -1,7 +1,7 @@
 //! What is explained, and where it is written.
 use crate::config::explain_config;
 use crate::damage::{TO_DO, tell_damage};
-use crate::files::{why_unmade, why_unopened, why_unread};
+use crate::files::{has_sums, why_unmade, why_unopened, why_unread};
 use acct_config::ConfigError;
 use acct_feed::read_input;
 use acct_model::Text;
@@ -31,6 +31,11 @@ pub enum Explained<'a> {
         file: &'a Text,
         /// Whether it would be opened with a damaged log too.
         loses_commits: bool,
+    },
+    /// A book was opened.
+    Opened {
+        /// Its file.
+        file: &'a Text,
     },
     /// A book that is to be made cannot be opened.
     Unmade {
@@ -62,6 +67,11 @@ pub fn explain<R: Files, E: Write>(
             if loses_commits || !tell_damage(runtime, alloc, file.as_str(), TO_DO, errors) {
                 let why = why_unopened(runtime, alloc, file.as_str());
                 tell(file.as_str(), why, errors);
+            }
+        }
+        Explained::Opened { file } => {
+            if has_sums(runtime, file.as_str()) {
+                tell(file.as_str(), "each page ends in a sum", errors);
             }
         }
         Explained::Unmade { file } => {

@@ -62,6 +62,15 @@ fn is_missing(kind: ErrorKind) -> bool {
     kind == ErrorKind::NotFound || kind == ErrorKind::NotADirectory
 }
 
+// Whether each page of a SQLite database ends in a sum, as its header says by 8 reserved octets.
+pub(crate) fn has_sums<R: Files>(runtime: &R, file: &str) -> bool {
+    let mut octets = [0; 21];
+    let Ok(mut opened) = File::open(runtime, file) else {
+        return false;
+    };
+    opened.read_exact(&mut octets).is_ok() && octets.starts_with(MAGIC) && octets[20] == 8
+}
+
 // Why a file that isn't there cannot be made.
 fn why_not_made<R: Files>(runtime: &R, file: &str) -> &'static str {
     if name_of(file).len() > LONGEST_NAME {

@@ -14,6 +14,7 @@ enum Asked {
     Config,
     Unread,
     Unopened,
+    Opened,
     // With `--lose-damaged-commits`.
     Lossy,
     Unmade,
@@ -22,7 +23,7 @@ enum Asked {
 // What is asked of which file, and what is said.
 type Row = (Asked, &'static str, &'static str);
 
-static ROWS: [Row; 12] = [
+static ROWS: [Row; 14] = [
     (
         Asked::Config,
         "acct_explain_test/site",
@@ -78,6 +79,12 @@ static ROWS: [Row; 12] = [
         "explained: acct_explain_test/hurt: it is no SQLite database\n",
     ),
     (
+        Asked::Opened,
+        "acct_explain_test/sums",
+        "explained: acct_explain_test/sums: each page ends in a sum\n",
+    ),
+    (Asked::Opened, "acct_explain_test/hurt", ""),
+    (
         Asked::Unmade,
         "acct_explain_test/none/book",
         "explained: acct_explain_test/none/book: its folder is missing\n",
@@ -105,6 +112,11 @@ fn says_why_a_file_is_refused(rt: HostRuntime) -> Result<(), Fail> {
         &rt,
         "acct_explain_test/hurt-wal",
         damaged_log(rt.alloc())?.as_slice(),
+    )?;
+    fs::write(
+        &rt,
+        "acct_explain_test/sums",
+        b"SQLite format 3\0\x10\0\x02\x02\x08",
     )?;
     fs::hard_link(&rt, "acct_explain_test/two", "acct_explain_test/three")?;
     for (asked, file, wanted) in &ROWS {
@@ -151,6 +163,7 @@ fn explained(asked: Asked, file: &Text) -> Explained<'_> {
             file,
             loses_commits: false,
         },
+        Asked::Opened => Explained::Opened { file },
         Asked::Lossy => Explained::Unopened {
             file,
             loses_commits: true,

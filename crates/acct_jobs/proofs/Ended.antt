@@ -1,5 +1,5 @@
 -- How a command ended that a fault ended.
-use Rattle.std.proofs.Common.{◌≡◌, List, ◌⊎◌, inl, inr, Result, Ok, Err, IfOk, IfErr, sym, subst}
+use Rattle.std.proofs.Common.{◌≡◌, List, inl, inr, Result, Ok, Err, IfOk, IfErr, sym, subst}
 use Rattle.sqlite_disk.specs.declared.Disk as disk
 use Rattle.sqlite_disk.specs.declared.Files.{Files}
 use Rattle.sqlite_wal.specs.Recovery.{Image}
@@ -14,7 +14,7 @@ use Rattle.acct_jobs.specs.declared.left.Left.{Left}
 use Rattle.acct_jobs.specs.declared.left.Left.TheVariants as left
 use Rattle.acct_jobs.specs.Files.{IsRefused, IsUnclosed, Copies}
 use Rattle.acct_jobs.specs.Commands.{Worked, Closes, Fails, FailsToExport, IsNotClosed}
-use Rattle.acct_jobs.specs.Jobs.{ClosesOrFails, IsUnchecked}
+use Rattle.acct_jobs.specs.Jobs.{ClosesOrFails, FailsAtWork, IsUnchecked}
 
 -- what holds with one configuration holds with some
 pub with_config : {A E : Type 0} (P : Config → A → Type 0) (config : Config) (result : Result A E)
@@ -114,3 +114,13 @@ module _ {D : Type 0} {g : disk.Ghosts D} (image : Image) (plans : List Plan) wh
   refused_unchecked told (left.Open last) h = inl h
   refused_unchecked told (left.Unclosed it) h = absurd h
   refused_unchecked told (left.Closed files) h = absurd h
+
+module _ {D : Type 0} {g : disk.Ghosts D} (image : Image)
+    (Did : Config → Result Status Fault → Held (FileStore D g) → Held (FileStore D g) → Type 0)
+  where
+    -- a command that a fault ended by one configuration was ended by some
+    pub fails_by : (config : Config) (result : Result (Status × Files D) (Fault × Left D g))
+        → IfErr result (λ e. Fails image config.plans (Did config) e.0 e.1)
+        → IfErr result (λ e. FailsAtWork image Did e.0 e.1)
+    fails_by config (Ok done) h = tt
+    fails_by config (Err e) h = inr (config, h)

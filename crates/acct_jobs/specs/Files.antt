@@ -1,5 +1,5 @@
 -- What the files of a book held as they were opened, and what they hold afterwards.
-use Rattle.std.specs.Prelude.{◌≡◌, ◌≢◌, ◌⊎◌, ℕ, List, IsTrue, length}
+use Rattle.std.specs.Prelude.{◌≡◌, ◌≢◌, ◌⊎◌, ℕ, List, Bool, Option, Some, None, IsTrue, length}
 use Rattle.sqlite_disk.specs.declared.Disk.{Ghosts}
 use Rattle.sqlite_disk.specs.declared.Files.{Files}
 use Rattle.sqlite_wal.specs.Recovery.{Image}
@@ -29,6 +29,12 @@ use Rattle.acct_jobs.specs.declared.left.Left.TheVariants as left
 use Rattle.acct_jobs.specs.declared.making.Making.{Making}
 use Rattle.acct_jobs.specs.declared.making.Making.TheVariants as how
 use Rattle.acct_jobs.specs.Faults.{store_fault_of}
+
+-- whether the pages of a new book are to end in sums, if one is made
+abbrev pub sums_of : Making → Option Bool
+sums_of (how.New has_sums) = Some has_sums
+sums_of how.Migrated = None
+sums_of how.Extended = None
 
 -- ---- what they held
 
@@ -85,7 +91,7 @@ module _ {D : Type 0} {g : Ghosts D} where
 
   -- the book that is made so of the files, with so many plans added
   abbrev pub IsMade : Making → Image → List Plan → ℕ → Held (FileStore D g) → Type 0
-  IsMade how.New image plans count book = IsMadeIn image plans book
+  IsMade (how.New has_sums) image plans count book = IsMadeIn image plans book
   IsMade how.Migrated image plans count book = IsMigratedIn image plans book
   IsMade how.Extended image plans count book = IsAddedIn image plans count book
 
@@ -149,7 +155,7 @@ module _ {D : Type 0} {g : Ghosts D} where
 
   -- no book was made so
   abbrev pub IsNotMade : Making → Image → List Plan → Fault → Held (FileStore D g) → Type 0
-  IsNotMade how.New image plans told last = IsUnmade image plans told last
+  IsNotMade (how.New has_sums) image plans told last = IsUnmade image plans told last
   IsNotMade how.Migrated image plans told last = IsUnmigrated image plans told last
   IsNotMade how.Extended image plans told last = IsUnadded image plans told last
 

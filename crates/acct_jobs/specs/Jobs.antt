@@ -60,7 +60,7 @@ added_line count = codes "added " ++ decimal count ++ 10 ∷ []
 
 -- the line that says that a book was made so, with so many plans added
 abbrev pub line_of : Making → ℕ → List ℕ
-line_of how.New count = made_line
+line_of (how.New has_sums) count = made_line
 line_of how.Migrated count = schema_line
 line_of how.Extended count = added_line count
 
@@ -145,8 +145,8 @@ module _ {D : Type 0} {g : disk.Ghosts D} where
 
   module _ (image : Image) where
     -- why `init`, `migrate` and `plans` did not end well
-    abbrev pub FailsToMakeNew : Fault → Left D g → Type 0
-    FailsToMakeNew told rest = FailsToMake image how.New told rest
+    abbrev pub FailsToMakeNew : Bool → Fault → Left D g → Type 0
+    FailsToMakeNew has_sums told rest = FailsToMake image (how.New has_sums) told rest
 
     abbrev pub FailsToMigrate : Fault → Left D g → Type 0
     FailsToMigrate told rest = FailsToMake image how.Migrated told rest
@@ -211,8 +211,10 @@ module _ {D : Type 0} {g : disk.Ghosts D} where
         pub told : Appends before after (line_of making count)
 
       -- `init`, `migrate` and `plans` ended well
-      abbrev pub MakesNew : Option (List ℕ) → Option (List ℕ) → Status → Files D → Type 0
-      MakesNew before after ended files = Makes how.New before after ended files
+      abbrev pub MakesNew : Bool → Option (List ℕ) → Option (List ℕ) → Status → Files D
+          → Type 0
+      MakesNew has_sums before after ended files =
+          Makes (how.New has_sums) before after ended files
 
       abbrev pub Migrates : Option (List ℕ) → Option (List ℕ) → Status → Files D → Type 0
       Migrates before after ended files = Makes how.Migrated before after ended files
@@ -290,8 +292,8 @@ module _ {D : Type 0} {g : disk.Ghosts D} where
       DoesJob (job.Check file database kept audits) ended rest =
           KeepsOthers kept.status kept.balances before after ended rest
           ⊎ ChecksOrAudits b before after audits database ended rest
-      DoesJob (job.Init paths) ended rest =
-          ClosesOrFails (MakesNew b before after) FailsToMakeNew ended rest
+      DoesJob (job.Init paths has_sums) ended rest =
+          ClosesOrFails (MakesNew b has_sums before after) (FailsToMakeNew has_sums) ended rest
       DoesJob (job.Serve paths serving) ended rest =
           KeepsOthers serving.telling.status serving.telling.balances before after ended rest
           ⊎ ClosesOrFails (WorksAndCloses (HasServed serving)) (FailsAtWork (HasServed serving))

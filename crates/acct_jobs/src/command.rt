@@ -2,38 +2,31 @@
 //!
 //! `export` only reads the book, and leaves its files as they are. The other jobs that keep a book
 //! close it at their end.
-ghost use Rattle.std.specs.Prelude.{◌≢◌, ◌≡◌, ◌⊎◌, ◌<◌, ◌≤◌, ◌^◌, ℕ, Ok, Err, IfOk, IfErr, IfSome};
-ghost use Rattle.std.specs.Prelude.{OnOk};
+ghost use Rattle.std.specs.Prelude.{◌≢◌, ◌≡◌, ◌⊎◌, ℕ, Ok, Err, IfOk, IfErr};
 ghost use Rattle.std.specs.Prelude.{true, false, None, Some, List, Option};
-ghost use Rattle.std.specs.Io.KnownBytes.{Appends};
 ghost use Rattle.sqlite_wal.specs.Files.{image_at};
 ghost use Rattle.acct_site.specs.declared.config.Config.{Config};
 ghost use Rattle.acct_command_line.specs.Orders.{HasBounds, IsBounded};
-ghost use Rattle.acct_jobs.specs.Commands.{Closes, Fails, Worked, WritesOut, FailsToExport};
-ghost use Rattle.acct_jobs.specs.Commands.{refused, IsNotClosed};
+ghost use Rattle.acct_jobs.specs.Commands.{Worked, WritesOut, FailsToExport, refused};
 ghost use Rattle.acct_book.specs.Step.{Looks};
 ghost use Rattle.acct_commands.specs.Exports.{IsExportFault};
-ghost use Rattle.acct_jobs.specs.Files.{Copies};
-ghost use Rattle.acct_jobs.specs.Jobs.{DoesJob, HasNoConfig, WorksAndCloses, FailsAtWork};
+ghost use Rattle.acct_jobs.specs.Jobs.{DoesJob, HasNoConfig};
 ghost use Rattle.acct_jobs.specs.Jobs.{ExportsBook, ExportsNothing, FeedsScript};
 ghost use Rattle.acct_jobs.specs.Jobs.{text_of, IsSiteOf};
 ghost use Rattle.acct_commands.specs.Checks.{IsUnchecked};
 ghost use Rattle.acct_commands.specs.KeptNames.{NamesSome};
 ghost use Rattle.std.specs.Option.{option_copied};
-ghost use Rattle.acct_commands.specs.Imports.{Runs};
-ghost use Rattle.acct_commands.specs.Forwarding.{Forwards};
 
 use crate::checking::check;
-use crate::database::{FileConnection, adopted, close};
+use crate::database::{FileConnection, adopted};
 use crate::feed::run_feed;
 use crate::left::Left;
 use crate::making::{Making, make};
-use crate::serving::serve;
+use crate::serving::server_of;
+use crate::work::{Forward, Import, work_on};
 use acct_book::Book;
-use acct_command_line::{Carrying, Export, Job, Paths, Serving, Telling};
-use acct_commands::{
-    Fault, ServerFiles, keep_others, read_config, run_export, run_forward, run_import,
-};
+use acct_command_line::{Export, Job, Paths, Serving, Telling};
+use acct_commands::{Fault, ServerFiles, keep_others, read_config, run_export};
 use acct_feed::Status;
 use acct_model::{Plans, Text};
 use acct_samples::sample_config;
@@ -45,7 +38,6 @@ use acct_sql::SqlBook;
 use sqlite::{Alter, Connection, FileFrom, FileStore, Files, MemStore, Start};
 use sqlite_disk::Disk;
 use std::alloc::Global;
-use std::io;
 use std::io::{Read, Write};
 
 /// How a command ended, its output if that was not lost, and what it left of its files.
@@ -106,16 +98,11 @@ pub fn run<S: Start, I: Read + Drop, W: Write + Drop, E: Write + Drop>(
                 start,
             )
         }
-        Job::Init { paths } => {
-            let ending = make(
-                runtime,
-                Making::New,
-                paths,
-                loses_commits,
-                &mut output,
-                start,
-            );
-            with_book(ending, output)
+        Job::Init { paths, has_sums } => {
+            let making = Making::New {
+                has_sums: *has_sums,
+            };
+            make(runtime, making, paths, loses_commits, output, start)
         }
         Job::Serve { paths, serving } => {
             run_server(
@@ -130,44 +117,41 @@ pub fn run<S: Start, I: Read + Drop, W: Write + Drop, E: Write + Drop>(
         }
         Job::Import { paths } => {
             let moment = moment_of(runtime);
-            let ending = import(
-                runtime,
-                paths,
-                loses_commits,
-                moment,
-                input,
-                &mut output,
-                start,
-            );
-            with_book(ending, output)
+            let import = Import { moment, input };
+            work_on(runtime, paths, loses_commits, import, output, start)
         }
         Job::Export { paths, what } => {
             export(runtime, paths, loses_commits, *what, output, start)
         }
         Job::Migrate { paths } => {
-            let making = Making::Migrated;
-            let ending = make(runtime, making, paths, loses_commits, &mut output, start);
-            with_book(ending, output)
+            make(
+                runtime,
+                Making::Migrated,
+                paths,
+                loses_commits,
+                output,
+                start,
+            )
         }
         Job::Forward { paths, carrying } => {
             let moment = moment_of(runtime);
             let Errors { notices, .. } = errors;
-            let ending = forward(
-                runtime,
-                paths,
-                loses_commits,
+            let forward = Forward {
                 carrying,
                 moment,
-                &mut output,
-                notices,
-                start,
-            );
-            with_book(ending, output)
+                progress: notices,
+            };
+            work_on(runtime, paths, loses_commits, forward, output, start)
         }
         Job::AddPlans { paths } => {
-            let making = Making::Extended;
-            let ending = make(runtime, making, paths, loses_commits, &mut output, start);
-            with_book(ending, output)
+            make(
+                runtime,
+                Making::Extended,
+                paths,
+                loses_commits,
+                output,
+                start,
+            )
         }
     }
 }
@@ -179,7 +163,7 @@ pub fn run_server<S: Start, W: Write + Drop, E: Write + Drop>(
     paths: &Paths,
     serving: &Serving,
     loses_commits: bool,
-    mut output: W,
+    output: W,
     errors: Errors<E>,
     start: S,
 ) -> Outcome<W, FileFrom<S>>
@@ -193,16 +177,8 @@ pub fn run_server<S: Start, W: Write + Drop, E: Write + Drop>(
 {
     match keep_others(runtime, files_of_server(paths, &serving.telling)) {
         Ok(()) => {
-            let ending = serve(
-                runtime,
-                paths,
-                serving,
-                loses_commits,
-                &mut output,
-                errors,
-                start,
-            );
-            with_book(ending, output)
+            let server = server_of(runtime, paths, serving, errors);
+            work_on(runtime, paths, loses_commits, server, output, start)
         }
         Err(fault) => without_book(Err(fault), output),
     }
@@ -242,8 +218,8 @@ pub(crate) fn without_book<W: Write, D: Disk>(
     }
 }
 
-// The outcome of a command that closes its book.
-fn with_book<W: Write, D: Disk>(
+/// The outcome of a command that closes its book.
+pub(crate) fn with_book<W: Write, D: Disk>(
     ending: Result<(Status, Files<D>), (Fault, Left<D>)>,
     output: W,
 ) -> Outcome<W, D>
@@ -297,23 +273,6 @@ fn feed<I: Read + Drop, W: Write + Drop>(
     Ok(run_feed(alloc, config, input, output))
 }
 
-/// Closes the book of a command that ended so. After a fault its files stay open.
-pub(crate) fn finished<S: Start>(
-    ended: Result<Status, Fault>,
-    connection: FileConnection<S>,
-) -> Ending<S>
-    ensures closed { IfOk result (λ done. (ended ≡ Ok done.0) × Copies connection done.1) }
-    ensures failed { IfErr result (λ e. IsNotClosed ended connection e.0 e.1) }
-{
-    match ended {
-        Ok(status) => match close(connection) {
-            Ok(files) => Ok((status, files)),
-            Err(failed) => Err(failed),
-        },
-        Err(fault) => Err((fault, Left::Open(connection))),
-    }
-}
-
 /// The configuration of a command that keeps a book, before any file of the book is opened.
 pub(crate) fn config_of<D: Disk>(
     runtime: &HostRuntime,
@@ -325,186 +284,6 @@ pub(crate) fn config_of<D: Disk>(
         Ok(config) => Ok(config),
         Err(fault) => Err((fault, Left::Nothing)),
     }
-}
-
-// `import` into the book of a file, at this moment.
-fn import<S: Start, I: Read + Drop, W: Write>(
-    runtime: &HostRuntime,
-    paths: &Paths,
-    loses_commits: bool,
-    moment: u64,
-    input: I,
-    output: &mut W,
-    start: S,
-) -> Ending<S>
-    requires { moment < 2 ^ 53 }
-    ensures other { IfOk result (λ done. done.0 ≢ Status.WrongWords) }
-    ensures closed { IfOk result (λ done. WorksAndCloses (image_at S.Start)
-        (λ config ended first last. Runs ⟦<SqlBook<FileStore<FileFrom<S>>> as Book>⟧
-        config.plans moment (I.remaining input) first last (W.contents output.old)
-        (W.contents output.new) ended) done.0 done.1) }
-    ensures failed { IfErr result (λ e. FailsAtWork (image_at S.Start)
-        (λ config ended first last. Runs ⟦<SqlBook<FileStore<FileFrom<S>>> as Book>⟧
-        config.plans moment (I.remaining input) first last (W.contents output.old)
-        (W.contents output.new) ended) e.0 e.1) }
-{
-    let config = config_of(runtime, &paths.config)?;
-    imported(
-        runtime,
-        &config,
-        &paths.database,
-        loses_commits,
-        moment,
-        input,
-        output,
-        start,
-    )
-}
-
-// `import` with a configuration that was read, at a moment.
-fn imported<S: Start, I: Read + Drop, W: Write>(
-    runtime: &HostRuntime,
-    config: &Config,
-    file: &Text,
-    loses_commits: bool,
-    moment: u64,
-    input: I,
-    output: &mut W,
-    start: S,
-) -> Ending<S>
-    requires { moment < 2 ^ 53 }
-    ensures other { IfOk result (λ done. done.0 ≢ Status.WrongWords) }
-    ensures closed { IfOk result (λ done. Closes (image_at S.Start) config.now.plans
-        (λ ended first last. Runs ⟦<SqlBook<FileStore<FileFrom<S>>> as Book>⟧
-        config.now.plans moment
-        (I.remaining input) first last (W.contents output.old) (W.contents output.new) ended)
-        done.0 done.1) }
-    ensures failed { IfErr result (λ e. Fails (image_at S.Start) config.now.plans
-        (λ ended first last. Runs ⟦<SqlBook<FileStore<FileFrom<S>>> as Book>⟧
-        config.now.plans moment
-        (I.remaining input) first last (W.contents output.old) (W.contents output.new) ended)
-        e.0 e.1) }
-{
-    let book = adopted(runtime, file, loses_commits, &config.plans, start)?;
-    let (ended, connection) = credited(runtime.alloc(), &config.plans, book, moment, input, output);
-    finished(ended, connection)
-}
-
-// Credits the vouchers of an input to a book in any store, and hands back its connection.
-fn credited<T: Alter + Drop, I: Read + Drop, W: Write>(
-    alloc: Global,
-    plans: &Plans,
-    mut book: SqlBook<T>,
-    moment: u64,
-    input: I,
-    output: &mut W,
-) -> (Result<Status, Fault>, Connection<T>)
-    requires { moment < 2 ^ 53 }
-    ensures other { IfOk result.0 (λ status. status ≢ Status.WrongWords) }
-    ensures runs { Runs ⟦<SqlBook<T> as Book>⟧ plans.now moment (I.remaining input) book result.1
-        (W.contents output.old) (W.contents output.new) result.0 }
-{
-    let ended = run_import(alloc, plans, &mut book, moment, input, output);
-    (ended, book.into_connection())
-}
-
-// `forward` over the book of a file, at this moment.
-fn forward<S: Start, W: Write, E: Write + Drop>(
-    runtime: &HostRuntime,
-    paths: &Paths,
-    loses_commits: bool,
-    carrying: &Carrying,
-    moment: u64,
-    output: &mut W,
-    progress: E,
-    start: S,
-) -> Ending<S>
-    requires moment { moment < 2 ^ 53 }
-    requires days { IfSome carrying.now.oldest_report (λ days. days ≤ 36500) }
-    ensures other { IfOk result (λ done. done.0 ≢ Status.WrongWords) }
-    ensures closed { IfOk result (λ done. WorksAndCloses (image_at S.Start)
-        (λ config ended first last. Forwards ⟦<SqlBook<FileStore<FileFrom<S>>> as Book>⟧
-        config.plans carrying.now moment first last ended) done.0 done.1) }
-    ensures failed { IfErr result (λ e. FailsAtWork (image_at S.Start)
-        (λ config ended first last. Forwards ⟦<SqlBook<FileStore<FileFrom<S>>> as Book>⟧
-        config.plans carrying.now moment first last ended) e.0 e.1) }
-{
-    let config = config_of(runtime, &paths.config)?;
-    forwarded(
-        runtime,
-        &config,
-        &paths.database,
-        loses_commits,
-        carrying,
-        moment,
-        output,
-        progress,
-        start,
-    )
-}
-
-// `forward` by the plans of a configuration.
-fn forwarded<S: Start, W: Write, E: Write + Drop>(
-    runtime: &HostRuntime,
-    config: &Config,
-    file: &Text,
-    loses_commits: bool,
-    carrying: &Carrying,
-    moment: u64,
-    output: &mut W,
-    progress: E,
-    start: S,
-) -> Ending<S>
-    requires moment { moment < 2 ^ 53 }
-    requires days { IfSome carrying.now.oldest_report (λ days. days ≤ 36500) }
-    ensures other { IfOk result (λ done. done.0 ≢ Status.WrongWords) }
-    ensures closed { IfOk result (λ done. Closes (image_at S.Start) config.now.plans
-        (λ ended first last. Forwards ⟦<SqlBook<FileStore<FileFrom<S>>> as Book>⟧
-        config.now.plans carrying.now moment first last ended) done.0 done.1) }
-    ensures failed { IfErr result (λ e. Fails (image_at S.Start) config.now.plans
-        (λ ended first last. Forwards ⟦<SqlBook<FileStore<FileFrom<S>>> as Book>⟧
-        config.now.plans carrying.now moment first last ended) e.0 e.1) }
-{
-    let book = adopted(runtime, file, loses_commits, &config.plans, start)?;
-    let plans = &config.plans;
-    let (ended, connection) = carried(
-        runtime.alloc(),
-        plans,
-        book,
-        carrying,
-        moment,
-        output,
-        progress,
-    );
-    finished(ended, connection)
-}
-
-// Carries sessions of a book in any store forward, and hands back its connection.
-fn carried<T: Alter + Drop, W: Write, E: Write + Drop>(
-    alloc: Global,
-    plans: &Plans,
-    mut book: SqlBook<T>,
-    carrying: &Carrying,
-    moment: u64,
-    output: &mut W,
-    mut progress: E,
-) -> (Result<Status, Fault>, Connection<T>)
-    requires moment { moment < 2 ^ 53 }
-    requires days { IfSome carrying.now.oldest_report (λ days. days ≤ 36500) }
-    ensures other { IfOk result.0 (λ status. status ≢ Status.WrongWords) }
-    ensures forwards { Forwards ⟦<SqlBook<T> as Book>⟧ plans.now carrying.now moment book result.1
-        result.0 }
-{
-    let ended = run_forward(
-        alloc,
-        plans,
-        &mut book,
-        carrying,
-        moment,
-        output,
-        &mut progress,
-    );
-    (ended, book.into_connection())
 }
 
 // `export` of the book of a file.

@@ -7,7 +7,8 @@ ghost use Rattle.std.specs.Fs.{asks_create, asks_create_new, asks_truncate};
 ghost use Rattle.sqlite_wal.specs.Files.{image_at};
 ghost use Rattle.sqlite_wal.specs.Recovery.{Image};
 ghost use Rattle.sqlite.specs.State.{HasCleanDisk};
-ghost use Rattle.sqlite.specs.Files.{file_state};
+ghost use Rattle.sqlite.specs.Files.{file_state, IsBlankAs};
+ghost use Rattle.sqlite_store.specs.FileStore.{view};
 ghost use Rattle.acct_jobs.specs.Faults.{store_fault_of};
 ghost use Rattle.acct_jobs.specs.Files.{IsBookOf, IsMade, IsRefused, HasNotMade, IsUnread};
 ghost use Rattle.acct_jobs.specs.Files.{Copies, IsUnclosed};
@@ -61,16 +62,17 @@ pub fn made<S: Start>(
     ensures refused { IfErr result (λ e.
         HasNotMade making (image_at S.Start) plans.now e.0 e.1) }
 {
-    if making != Making::New && !may_be_database(runtime, file) {
+    let sums = making.sums();
+    if sums.is_none() && !may_be_database(runtime, file) {
         return Err((Fault::CannotOpen, Left::Nothing));
     }
     if !is_readable(runtime, file, loses_commits) {
         return Err((Fault::CannotOpen, Left::Nothing));
     }
-    if making == Making::New {
+    if sums.is_some() {
         keep_private(runtime, file);
     }
-    let connection = opened(runtime, file, start)?;
+    let connection = opened(runtime, file, sums == Some(true), start)?;
     made_of(runtime.alloc(), making, connection, plans)
 }
 
@@ -99,7 +101,7 @@ pub fn adopted<S: Start>(
     if !may_be_database(runtime, file) || !is_readable(runtime, file, loses_commits) {
         return Err((Fault::CannotOpen, Left::Nothing));
     }
-    let connection = opened(runtime, file, start)?;
+    let connection = opened(runtime, file, false, start)?;
     taken(runtime.alloc(), connection, plans)
 }
 
@@ -216,7 +218,7 @@ fn made_of<D: Disk + Drop>(
         → IfErr result (λ e. HasNotMade making image plans.now e.0 e.1) }
 {
     match making {
-        Making::New => match SqlBook::create(alloc, connection, plans) {
+        Making::New { .. } => match SqlBook::create(alloc, connection, plans) {
             Ok(book) => Ok((book.into_connection(), 0)),
             Err((error, connection)) => {
                 Err((Fault::Store(store_fault(error)), Left::Open(connection)))
@@ -237,17 +239,21 @@ fn made_of<D: Disk + Drop>(
     }
 }
 
-// The database in a file, as it was found.
+// The database in a file, as it was found. If none is there yet, the pages of the new one end in sums
+// as that is asked for.
 fn opened<S: Start>(
     runtime: &HostRuntime,
     file: &Text,
+    has_sums: bool,
     start: S,
 ) -> Result<FileConnection<S>, (Fault, Left<FileFrom<S>>)>
     ensures found { IfOk result (IsOpenedOn (image_at S.Start)) }
     ensures idle { IfOk result (λ c. (file_state c).in_transaction ≡ false) }
+    ensures sums { IfOk result (λ c. HasCleanDisk (file_state c)
+        → IsBlankAs has_sums (image_at S.Start) → (view c.store).has_sums ≡ has_sums) }
     ensures unread { IfErr result (λ e. IsUnread (image_at S.Start) e.0 e.1) }
 {
-    match Connection::open_from(runtime, file.as_str(), false, start) {
+    match Connection::open_from(runtime, file.as_str(), has_sums, start) {
         Ok(connection) => Ok(connection),
         Err((_, Some(rest))) => Err((Fault::CannotOpen, Left::Unopened(rest))),
         Err((_, None)) => Err((Fault::CannotOpen, Left::Nothing)),

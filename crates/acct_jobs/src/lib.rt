@@ -15,6 +15,7 @@ mod feed;
 mod left;
 mod making;
 mod serving;
+mod work;
 
 pub use command::{Outcome, run, run_server};
 pub use database::{FileBook, FileConnection, adopted, close, made};

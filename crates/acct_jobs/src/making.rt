@@ -1,10 +1,11 @@
 //! The commands that make a book: a new one, one of today's of an older one, or one with more plans.
-ghost use Rattle.std.specs.Prelude.{◌≢◌, IfOk, IfErr, OnOk};
+ghost use Rattle.std.specs.Prelude.{◌≢◌, ◌≡◌, IfOk, IfErr, OnOk};
 ghost use Rattle.std.specs.Io.KnownBytes.{Appends};
 ghost use Rattle.sqlite_wal.specs.Files.{image_at};
-ghost use Rattle.acct_jobs.specs.Jobs.{Makes, FailsToMake, line_of};
+ghost use Rattle.acct_jobs.specs.Files.{sums_of};
+ghost use Rattle.acct_jobs.specs.Jobs.{ClosesOrFails, Makes, FailsToMake, line_of, text_of};
 
-use crate::command::{Ending, config_of};
+use crate::command::{Ending, Outcome, config_of, with_book};
 use crate::database::{close, made};
 use crate::left::Left;
 use acct_book::Book;
@@ -20,15 +21,49 @@ use std::io::Write;
 #[derive(Clone, Copy, PartialEq, Eq)]
 pub enum Making {
     /// `init`: an empty book, if the files hold no table.
-    New,
+    New {
+        /// Whether each page is to end in a sum, if the files hold no database yet.
+        has_sums: bool,
+    },
     /// `migrate`: an older book, as one of today's.
     Migrated,
     /// `plans`: the book that they hold, with the plans that it did not keep yet.
     Extended,
 }
 
+impl Making {
+    /// Whether each page of a new book is to end in a sum; none if no new book is made.
+    pub(crate) fn sums(self) -> Option<bool>
+        ensures { result ≡ sums_of self }
+    {
+        match self {
+            Making::New { has_sums } => Some(has_sums),
+            Making::Migrated | Making::Extended => None,
+        }
+    }
+}
+
 /// `init`, `migrate` and `plans`: makes a book so, closes it, and prints a line that says so.
-pub(crate) fn make<S: Start, W: Write>(
+pub(crate) fn make<S: Start, W: Write + Drop>(
+    runtime: &HostRuntime,
+    making: Making,
+    paths: &Paths,
+    loses_commits: bool,
+    mut output: W,
+    start: S,
+) -> Outcome<W, FileFrom<S>>
+    ensures other { IfOk result.ended (λ status. status ≢ Status.WrongWords) }
+    ensures does { ClosesOrFails (Makes (image_at S.Start)
+        ⟦<SqlBook<FileStore<FileFrom<S>>> as Book>⟧ making (W.contents output)
+        (text_of W.contents result.output)) (FailsToMake (image_at S.Start) making)
+        result.ended result.left }
+{
+    let ending = made_and_closed(runtime, making, paths, loses_commits, &mut output, start);
+    with_book(ending, output)
+}
+
+// How the making of a book ended, and its files if it was closed.
+fn made_and_closed<S: Start, W: Write>(
     runtime: &HostRuntime,
     making: Making,
     paths: &Paths,
@@ -67,7 +102,7 @@ fn write_line<W: Write>(output: &mut W, making: Making, count: u64) -> io::Resul
         (line_of making count)) }
 {
     match making {
-        Making::New => writeln!(output, "book made"),
+        Making::New { .. } => writeln!(output, "book made"),
         Making::Migrated => writeln!(output, "schema 3"),
         Making::Extended => writeln!(output, "added {count}"),
     }

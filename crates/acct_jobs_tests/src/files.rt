@@ -82,6 +82,31 @@ static OPENING: [Command<'static>; 8] = [
     ),
 ];
 
+// The pages of a new book end in sums only if that is asked for. Both are books.
+#[test]
+fn sums_are_asked_for(rt: HostRuntime) -> Result<(), Fail> {
+    write_sites(&rt, ["sums.toml", "sums-more.toml", "sums-other.toml"])?;
+    let made = (Status::Done, "book made\n", "");
+    let plain = "init --config sums.toml --db plain-book";
+    let summed = "init --config sums.toml --db summed-book --page-sums";
+    assert!(rt; comes(&rt, (plain, ""), made)? && comes(&rt, (summed, ""), made)?);
+    assert!(rt; reserved_in(&rt, "plain-book")? == Some(0));
+    assert!(rt; reserved_in(&rt, "summed-book")? == Some(8));
+    let sizes = (Status::Done, "ok: 1 clients, 2 plans, 2 keys\n", "");
+    for check in [
+        "check --config sums.toml --db plain-book",
+        "check --config sums.toml --db summed-book",
+    ] {
+        assert!(rt; comes(&rt, (check, ""), sizes)?);
+    }
+    Ok(())
+}
+
+// How many octets at the end of each page a database keeps for sums, as its header says.
+fn reserved_in(rt: &HostRuntime, name: &str) -> Result<Option<u8>, Fail> {
+    Ok(fs::read(rt, name)?.as_slice().get(20).copied())
+}
+
 // A book whose log is damaged is not opened, unless what is behind the damage is to be lost.
 #[test]
 fn a_damaged_log_is_refused(rt: HostRuntime) -> Result<(), Fail> {

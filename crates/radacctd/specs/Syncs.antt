@@ -15,7 +15,7 @@ EitherWay (Twice b) This That = That b
 abbrev pub SyncsOnce : Job → Type 0
 SyncsOnce (job.Feed config) = ⊥
 SyncsOnce (job.Check config database kept audits) = ⊥
-SyncsOnce (job.Init paths) = ⊥
+SyncsOnce (job.Init paths has_sums) = ⊥
 SyncsOnce (job.Serve paths serving) = serving.syncs ≡ syncs.Once
 SyncsOnce (job.Import paths) = ⊥
 SyncsOnce (job.Export paths what) = ⊥

@@ -53,7 +53,14 @@ pub(crate) fn explain_book<W: Write + Drop>(runtime: &HostRuntime, order: &Order
         BySyncs::Once(outcome) => explain_outcome(runtime, order, outcome),
         BySyncs::Twice(outcome) => explain_outcome(runtime, order, outcome),
     }
-    if order.explains && ended == Err(Fault::CannotOpen) {
+    if !order.explains {
+        return;
+    }
+    if let (Ok(_), Job::Check { .. }, Some(file)) = (ended, &order.job, book_file(&order.job)) {
+        let what = Explained::Opened { file };
+        explain(runtime, runtime.alloc(), what, &mut runtime.stderr());
+    }
+    if ended == Err(Fault::CannotOpen) {
         if let Some(what) = unopened(order) {
             explain(runtime, runtime.alloc(), what, &mut runtime.stderr());
         }
@@ -148,7 +155,7 @@ fn config_file(job: &Job) -> Option<&Text> {
 fn paths_of(job: &Job) -> Option<&Paths> {
     match job {
         Job::Feed { .. } | Job::Check { .. } => None,
-        Job::Init { paths }
+        Job::Init { paths, .. }
         | Job::Serve { paths, .. }
         | Job::Import { paths }
         | Job::Export { paths, .. }

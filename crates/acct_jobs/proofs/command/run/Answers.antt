@@ -1,5 +1,4 @@
 use Rattle.std.proofs.Common.{◌∙◌, sym, None}
-use Rattle.acct_jobs.proofs.Ended.{ended_so}
 use Rattle.acct_jobs.proofs.command.run.Goals as goal
 
 pub returns-in-Feed-clause-does : goal.returns-in-Feed-clause-does
@@ -17,48 +16,30 @@ returns-in-Check-clause-does g c =
     rw c.in-Check.is (rw c.as_ref-database.ensures.value at c.check.ensures.does)
 
 pub returns-in-Init-clause-does : goal.returns-in-Init-clause-does
-returns-in-Init-clause-does g c =
-    let out = c.with_book.ensures in
-    rw (c.in-Init.is, out.output)
-    (ended_so _ _ c.make-ending.result _ _ out.ok out.err c.make-ending.ensures.made
-    c.make-ending.ensures.failed)
+returns-in-Init-clause-does g c = rw c.in-Init.is c.make.ensures.does
 
 pub returns-in-Serve-clause-does : goal.returns-in-Serve-clause-does
 returns-in-Serve-clause-does g c = rw c.in-Serve.is (c.run_server.ensures.does None)
 
 pub returns-in-Import-clause-does : goal.returns-in-Import-clause-does
-returns-in-Import-clause-does g c =
-    let out = c.with_book-in-Import.ensures in
-    rw (c.in-Import.is, out.output) (
-      c.moment_of-moment.result,
-      c.moment_of-moment.ensures,
-      ended_so _ _ c.import-ending.result _ _ out.ok out.err c.import-ending.ensures.closed
-          c.import-ending.ensures.failed,
-    )
+returns-in-Import-clause-does g c = rw c.in-Import.is (
+  c.moment_of-moment.result,
+  c.moment_of-moment.ensures,
+  c.work_on.ensures.does,
+)
 
 pub returns-in-Forward-clause-does : goal.returns-in-Forward-clause-does
-returns-in-Forward-clause-does g c =
-    let out = c.with_book-in-Forward.ensures in
-    rw c.in-Forward.is (
-      c.moment_of-moment-in-Forward.result,
-      c.moment_of-moment-in-Forward.ensures,
-      ended_so _ _ c.forward-ending.result _ _ out.ok out.err c.forward-ending.ensures.closed
-          c.forward-ending.ensures.failed,
-    )
+returns-in-Forward-clause-does g c = rw c.in-Forward.is (
+  c.moment_of-moment-in-Forward.result,
+  c.moment_of-moment-in-Forward.ensures,
+  c.work_on-in-Forward.ensures.does,
+)
 
 pub returns-in-Export-clause-does : goal.returns-in-Export-clause-does
 returns-in-Export-clause-does g c = rw c.in-Export.is c.export.ensures.does
 
 pub returns-in-Migrate-clause-does : goal.returns-in-Migrate-clause-does
-returns-in-Migrate-clause-does g c =
-    let out = c.with_book-in-Migrate.ensures in
-    rw (c.in-Migrate.is, out.output)
-    (ended_so _ _ c.make-ending-in-Migrate.result _ _ out.ok out.err c.make-ending-in-Migrate.ensures.made
-    c.make-ending-in-Migrate.ensures.failed)
+returns-in-Migrate-clause-does g c = rw c.in-Migrate.is c.make-in-Migrate.ensures.does
 
 pub returns-in-AddPlans-clause-does : goal.returns-in-AddPlans-clause-does
-returns-in-AddPlans-clause-does g c =
-    let out = c.with_book-in-AddPlans.ensures in
-    rw (c.in-AddPlans.is, out.output)
-    (ended_so _ _ c.make-ending-in-AddPlans.result _ _ out.ok out.err c.make-ending-in-AddPlans.ensures.made
-    c.make-ending-in-AddPlans.ensures.failed)
+returns-in-AddPlans-clause-does g c = rw c.in-AddPlans.is c.make-in-AddPlans.ensures.does

@@ -1,13 +1,8 @@
 use Rattle.std.proofs.Common.{inl, inr}
-use Rattle.acct_jobs.proofs.Ended.{ended_so}
 use Rattle.acct_jobs.proofs.command.run_server.Goals as goal
 
 pub returns-in-Ok-clause-does : goal.returns-in-Ok-clause-does
-returns-in-Ok-clause-does g c text =
-    let out = c.with_book.ensures in
-    rw out.output
-    (inr (ended_so _ _ c.serve-ending.result _ _ out.ok out.err c.serve-ending.ensures.closed
-    c.serve-ending.ensures.failed))
+returns-in-Ok-clause-does g c text = inr (rw (← c.server_of-server.ensures) c.work_on.ensures.does)
 
 pub returns-in-Err-clause-does : goal.returns-in-Err-clause-does
 returns-in-Err-clause-does g c text = inl (record {

@@ -1,6 +1,0 @@
-use Rattle.acct_jobs.proofs.Ended.{with_config}
-use Rattle.acct_jobs.proofs.serving.serve.Goals as goal
-
-pub returns-clause-closed : goal.returns-clause-closed
-returns-clause-closed g c =
-    with_config _ c.in_ok-config.config c.served.result c.served.ensures.closed
