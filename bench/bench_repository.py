@@ -54,7 +54,8 @@ def uses_of(name):
 def lines_below(crates):
     """The lines of crates.txt for these crates and all below them, by the crates' names."""
     text = text_of(os.path.join(ROOT, "crates.txt"))
-    lines = {it.split(":")[0].strip(): it for it in text.splitlines() if ":" in it}
+    rows = [it.partition("#")[0] for it in text.splitlines()]
+    lines = {it.split(":")[0].strip(): it for it in rows if ":" in it}
     found, wanted = {}, list(crates)
     while wanted:
         crate = wanted.pop()

@@ -111,7 +111,8 @@ class Tree:
                 sources.append(text_of(path))
         self.all_names = set().union(*self.names.values())
         self.printed, self.sources = "\n".join(sorted(self.pieces)), "\n".join(sources)
-        self.kit = {it for line in text_of("crates.txt").splitlines() for it in line.split()[1:]}
+        rows = [it.partition("#")[0] for it in text_of("crates.txt").splitlines()]
+        self.kit = {it for row in rows for it in row.split()[1:]}
         scripts = [it for it in self.files if it.startswith(SCRIPTS)]
         own = (".ci/claims", ".ci/claims_lib/")
         self.scripts = {it: self.script(it) for it in scripts if not it.startswith(own)}

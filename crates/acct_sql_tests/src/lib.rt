@@ -22,8 +22,6 @@ mod remembering;
 #[cfg(test)]
 mod sample_book;
 #[cfg(test)]
-mod shut_books;
-#[cfg(test)]
 mod sites;
 #[cfg(test)]
 mod trial;
