@@ -312,7 +312,7 @@ class Site(served.Server):
         self.identifier = 0
 
     def make(self, *more):
-        """Makes an empty book, and says whether the program took these words."""
+        """Makes an empty book, and says whether the program took these words more."""
         done = subprocess.run([*self.words("init"), *more], capture_output=True, check=False)
         return done.returncode == 0
 

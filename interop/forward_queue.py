@@ -6,11 +6,11 @@ import hashlib
 import os
 import random
 import signal
-import sqlite3
 import statistics
 import subprocess
 import time
 
+import books
 import front
 from front import KILL, check, waits_for
 from front_parts import Sender, attribute, count_in, packet_of
@@ -93,22 +93,22 @@ class Model:
         return f"{self.source(number)}/S-{number}/{person}".encode()
 
     def fill(self, path):
-        book = sqlite3.connect(path)
+        books.write(path, self.put)
+
+    def put(self, book):
         numbers = range(self.count)
         name = lambda number: self.account(number).encode()
         ends = b"", b""
-        with book:
-            rows = [
-                ("freeradius", self.key(it), name(it), b"gold", self.octets[it], 0, 60,
-                 self.last[it] - 60, self.last[it], self.state[it], self.state[it] // 2, *ends)
-                for it in numbers
-            ]
-            book.executemany(f"INSERT INTO session VALUES ({', '.join('?' * 13)})", rows)
-            rows = [(*row[:2], b"gold") for row in rows]
-            book.executemany("INSERT INTO session_plan VALUES (?, ?, ?)", rows)
-            rows = [(it.encode(), total) for it, total in self.balances().items()]
-            book.executemany("INSERT INTO account VALUES (?, ?)", rows)
-        book.close()
+        rows = [
+            ("freeradius", self.key(it), name(it), b"gold", self.octets[it], 0, 60,
+             self.last[it] - 60, self.last[it], self.state[it], self.state[it] // 2, *ends)
+            for it in numbers
+        ]
+        book.executemany(f"INSERT INTO session VALUES ({', '.join('?' * 13)})", rows)
+        rows = [(*row[:2], b"gold") for row in rows]
+        book.executemany("INSERT INTO session_plan VALUES (?, ?, ?)", rows)
+        rows = [(it.encode(), total) for it, total in self.balances().items()]
+        book.executemany("INSERT INTO account VALUES (?, ?)", rows)
 
     def balances(self):
         found = {}

@@ -12,6 +12,8 @@ import subprocess
 import time
 import urllib.parse
 
+import books
+
 FOLDER = os.path.dirname(os.path.abspath(__file__))
 ROOT = os.path.dirname(FOLDER)
 FILES = os.path.join(ROOT, "etc", "freeradius")
@@ -183,7 +185,7 @@ class Book(KILL.Server):
         self.balances = os.path.join(folder, "balances.csv")
         with open(self.config, "w", encoding="utf-8") as file:
             file.write(self.configuration())
-        words = [KILL.PROGRAM, "init", "--config", self.config, "--db", self.book]
+        words = [KILL.PROGRAM, "init", "--config", self.config, "--db", self.book, *books.INIT]
         subprocess.run(words, check=True, stdout=subprocess.DEVNULL)
         self.process = None
         self.radius = KILL.free_port(KILL.socket.SOCK_DGRAM)

@@ -7,8 +7,10 @@ import socket
 import subprocess
 import time
 
+import books
+
 ROOT = os.path.dirname(os.path.dirname(os.path.abspath(__file__)))
-PROGRAM = os.path.join(ROOT, "bin", "radacctd")
+PROGRAM = os.environ.get("RADACCTD", os.path.join(ROOT, "bin", "radacctd"))
 SECRET = "testing-123"
 CLIENT_AND_KEYS = """
 [[client]]
@@ -95,7 +97,8 @@ class Server:
         self.process = None
 
     def words(self, command):
-        return [PROGRAM, command, "--config", self.config, "--db", self.book]
+        more = books.INIT if command == "init" else []
+        return [PROGRAM, command, "--config", self.config, "--db", self.book, *more]
 
     def init(self):
         done = subprocess.run(self.words("init"), capture_output=True, text=True)
@@ -110,7 +113,7 @@ class Server:
 
     def sqlite(self, text):
         return subprocess.run(
-            ["sqlite3", "-csv", self.book, text], capture_output=True, text=True
+            [*books.words(self.book), text], capture_output=True, text=True
         ).stdout.split()
 
     def roots(self):
