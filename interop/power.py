@@ -260,17 +260,21 @@ def behind_the_break(log):
     """Which link first breaks the chain of the log, and how many frames commit from there on, up to
     the first frame behind it that hasn't the header's salts.
 
-    A link is the header or a frame. The store writes one octet of it last, and syncs before and
-    after that or, if it syncs once, writes over zeros: the first octet of the header, and that of
-    the salts of a commit's first frame. With that octet the link is sealed, else it is shut.
+    A link is the header or a frame. The store writes one octet of it last: the first octet of the
+    header, and that of the salts of a commit's first frame. With that octet the link is sealed,
+    else it is shut. The store syncs before it seals a link and after that. Only for a frame, if it
+    syncs once, it writes over zeros instead. So no crash leaves a sealed header that breaks its own
+    sum, whatever is behind it.
     """
-    if len(log) < HEADER + FRAME:
+    if len(log) < HEADER:
         return "no log", 0
     salts, last = numbers(log[16:24]), max(chained(log)[0], default=0)
     behind = [(at, head) for at, head, _ in frames_of(log) if at > last]
     count = commits_of([head for _, head in behind], salts)
     if not is_signed(log):
         return ("sealed header" if log[:1] == MAGIC_OCTET else "shut header"), count
+    if len(log) < HEADER + FRAME:
+        return "no log", 0
     if not behind:
         return "end", count
     return ("sealed frame" if log[behind[0][0] + 8] == log[16] else "shut frame"), count
