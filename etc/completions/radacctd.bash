@@ -32,7 +32,7 @@ _radacctd() {
         *) case $command in
             feed) words='--config --explain --help' ;;
             check) words='--config --db --status --balances --audit --explain --lose-damaged-commits --help' ;;
-            init) words='--config --db --explain --help' ;;
+            init) words='--config --db --explain --page-sums --help' ;;
             serve) words='--config --db --explain --lose-damaged-commits --bind --desk-bind --radius-port --desk-port --turns --sync --quiet --status --balances --balances-every --oldest-report --help' ;;
             import) words='--config --db --explain --lose-damaged-commits --help' ;;
             export) words='--config --db --explain --lose-damaged-commits --help sessions balances topups overruns' ;;
