@@ -23,7 +23,7 @@ enum Asked {
 // What is asked of which file, and what is said.
 type Row = (Asked, &'static str, &'static str);
 
-static ROWS: [Row; 14] = [
+static ROWS: [Row; 15] = [
     (
         Asked::Config,
         "acct_explain_test/site",
@@ -64,14 +64,20 @@ static ROWS: [Row; 14] = [
     (
         Asked::Unopened,
         "acct_explain_test/hurt",
-        "explained: acct_explain_test/hurt: the header of its log is damaged, and 2 commits are behind \
-         it: restore a copy, or give --lose-damaged-commits, which loses them\n",
+        "explained: acct_explain_test/hurt: the header of its log is damaged, and each commit in it is \
+         lost: restore a copy, or give --lose-damaged-commits, which loses them\n",
+    ),
+    (
+        Asked::Unopened,
+        "acct_explain_test/torn",
+        "explained: acct_explain_test/torn: frame 1 of its log is damaged, and 2 commits end there or \
+         behind it: restore a copy, or give --lose-damaged-commits, which loses them\n",
     ),
     (
         Asked::Unmade,
         "acct_explain_test/hurt",
-        "explained: acct_explain_test/hurt: the header of its log is damaged, and 2 commits are behind \
-         it\n",
+        "explained: acct_explain_test/hurt: the header of its log is damaged, and each commit in it is \
+         lost\n",
     ),
     (
         Asked::Lossy,
@@ -111,7 +117,12 @@ fn says_why_a_file_is_refused(rt: HostRuntime) -> Result<(), Fail> {
     fs::write(
         &rt,
         "acct_explain_test/hurt-wal",
-        damaged_log(rt.alloc())?.as_slice(),
+        damaged_log(rt.alloc(), [0; 8])?.as_slice(),
+    )?;
+    fs::write(
+        &rt,
+        "acct_explain_test/torn-wal",
+        damaged_log(rt.alloc(), SUM)?.as_slice(),
     )?;
     fs::write(
         &rt,
@@ -134,12 +145,16 @@ fn is_said_of(rt: &HostRuntime, asked: Asked, file: &str, wanted: &str) -> Resul
     Ok(written.as_slice() == wanted.as_bytes())
 }
 
-// A log of two commits of one page each, by the salts of its header, which breaks its own sum.
-fn damaged_log(alloc: Global) -> Result<Vec<u8>, Fail> {
+// The sum of the log's header, as Python computed it by SQLite's description of the format.
+const SUM: [u8; 8] = [213, 203, 3, 19, 143, 164, 218, 184];
+
+// A log of two commits of one page each, with this sum of its header. Both frames break theirs.
+fn damaged_log(alloc: Global, sum: [u8; 8]) -> Result<Vec<u8>, Fail> {
     let mut log = Vec::new(alloc);
-    // The version 3007000, pages of 512 octets, the salts 1 and 2, and no sum.
+    // The version 3007000, pages of 512 octets, and the salts 1 and 2.
     log.extend_from_slice(&[0x37, 0x7f, 6, 0x82, 0, 45, 226, 24, 0, 0, 2, 0, 0, 0, 0, 0])?;
-    log.extend_from_slice(&[0, 0, 0, 1, 0, 0, 0, 2, 0, 0, 0, 0, 0, 0, 0, 0])?;
+    log.extend_from_slice(&[0, 0, 0, 1, 0, 0, 0, 2])?;
+    log.extend_from_slice(&sum)?;
     for _ in 0..2 {
         log.extend_from_slice(&[0, 0, 0, 1, 0, 0, 0, 1, 0, 0, 0, 1, 0, 0, 0, 2])?;
         log.extend_from_slice(&[7; 520])?;
