@@ -16,7 +16,7 @@ USE = re.compile(
     r"^\s*(?:pub |ghost )?use Rattle\.(\w+)\.specs\.([\w.]+?)(?:\.\{([^}]*)\}| as (\w+))?;?$", re.M
 )
 # Definitions in an `inner` folder that a trait of the promise names. The page must show each.
-INNER = {"acct_book/specs/inner/Step.antt": "the trait `Rounds` names its `OnlyLooks`"}
+INNER = {}
 
 
 def unread(text):

@@ -11,7 +11,7 @@ import re
 ROOT = os.path.dirname(os.path.dirname(os.path.dirname(os.path.abspath(__file__))))
 # Folders that are made by a build, and no part of the repository.
 MADE = {".git", "out", "target", "__pycache__", "try"}
-FOR_TESTS = re.compile(r"_tests$|^acct_fakes$|^foreign_packets$")
+FOR_TESTS = re.compile(r"_tests$|^acct_book_fakes$|^foreign_packets$")
 # The folders of what is no crate and prints texts or has names of its own.
 SCRIPTS = (".ci/", "bench/", "bin/", "etc/", "interop/")
 
@@ -24,7 +24,7 @@ ITEMS = [
 # A field or a variant, in the block of its type.
 PART = re.compile(r"^\s+(?:pub(?:\(\w+\))? )?(\w+)(?:: |,$|\(| \{$| = )", re.M)
 # `abbrev pub name : ...`, `pub data Name ... where`, and a field or constructor `name other : ...`.
-ANTT_HEAD = re.compile(r"^\s*(?:(?:abbrev|data|record|pub|module)\s+)+([^\s(){}:]+)", re.M)
+ANTT_HEAD = re.compile(r"^\s*(?:(?:abbrev|unfoldable|data|record|pub|module)\s+)+([^\s(){}:]+)", re.M)
 ANTT_LINE = re.compile(r"^\s+(?:pub )?([^\s(){}:]+(?: [^\s(){}:]+)*) : ", re.M)
 BLOCK = re.compile(r"^( *)(?:pub )?(impl|trait|enum|struct)\b([^{;]*)\{$", re.M)
 LITERAL = re.compile(r'"((?:[^"\\]|\\.)*)"', re.S)
@@ -142,7 +142,7 @@ class Tree:
         for literal in LITERAL.findall(text):
             for piece in pieces_of(literal):
                 self.pieces.add(piece)
-                sql = crate in ("acct_tables", "acct_sql", "acct_upkeep")
+                sql = crate in ("acct_sql_tables", "acct_sql", "acct_sql_upkeep")
                 self.words.update(re.findall(r"\w+" if sql else r"\w+_\w+", piece))
                 self.words.update((piece.rstrip(":"), piece.split(":")[0]))
 

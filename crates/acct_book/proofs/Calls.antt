@@ -1,4 +1,4 @@
--- What the calls of a book give together.
+-- What the calls of a book return together.
 use Rattle.std.proofs.Common.{◌≡◌, ◌≢◌, ℕ, List, sym, ap, ◌∙◌, subst, arith}
 use Rattle.std.specs.Prelude.{ℤ, pos, ◌+ℤ◌, ◌-ℤ◌, Option, Some, None}
 use Rattle.std.proofs.lemmas.Int.{ints}
@@ -11,7 +11,7 @@ use Rattle.acct_book.specs.declared.key.Key.{Key}
 use Rattle.acct_book.specs.Row.{RowFacts}
 use Rattle.acct_book.specs.Content.{Content, kept_balance, with_session, with_topup}
 use Rattle.acct_book.specs.Charge.{charge_of_row}
-use Rattle.acct_book.specs.inner.Next.{report_key, next_row, charge_before}
+use Rattle.acct_book.specs.Next.{report_key, next_row, charge_before}
 use Rattle.acct_book.specs.Stands.{Stands}
 use Rattle.acct_book.specs.Outcome.{IsOverLimit, IsRepeated, Differs}
 use Rattle.acct_book.proofs.Steps.{IsNew, after_report, report_new, report_over, topup_new}

@@ -28,8 +28,8 @@ use Rattle.acct_book.specs.Row.{RowFacts}
 use Rattle.acct_book.specs.Content.{same_key, key_of, closed_row, closed_by}
 use Rattle.acct_book.specs.Rows.{name_of, is_stop, has_octets, first_stop, is_restarted, state_of}
 use Rattle.acct_book.specs.Rows.{cause_of, calling_of, framed_of, row_from, row_of}
-use Rattle.acct_book.specs.inner.Next.{report_key, state_after, cause_after, raised_row}
-use Rattle.acct_book.specs.inner.Next.{next_row, charge_before}
+use Rattle.acct_book.specs.Next.{report_key, state_after, cause_after, raised_row}
+use Rattle.acct_book.specs.Next.{next_row, charge_before}
 use Rattle.acct_book.specs.Charge.{plan_of_row}
 use Rattle.acct_book.specs.Laws.{RowsHaveTheirKeys, RowsAreOfSessions, IsFirstWith, IsFirstSaid}
 use Rattle.acct_book.specs.Laws.{RowsAreCharged, IsStopped, IsRestarted, IsStateOf, IsCauseOf}

@@ -14,7 +14,7 @@ pub mod Rows
 pub mod Steps
 -- what the calls of a book give together
 pub mod Calls
--- how a step is put together, for whoever asks a book to record
+-- how a step is put together, for whoever makes a book record
 pub mod StepLemmas
 -- calls that only look, one after another
 pub mod Looking
@@ -28,6 +28,8 @@ pub mod Ends
 pub mod RowLaws
 -- why a walk meets each member once
 pub mod WalkLaws
+-- a walk by a call that gives the next member
+pub mod Walking
 -- why lists of members in order are fixed by their members
 pub mod Fixed
 -- why the entries of others leave an account's part as it is
@@ -36,13 +38,5 @@ pub mod Parts
 pub mod Additions
 -- why an empty content stands for the empty history
 pub mod Empty
--- why a content stands for a history after sessions were carried forward
-pub mod Forwards
 -- rows that are removed from a map
 pub mod Removing
--- what a call does to a book that carries sessions forward
-pub mod Carrying
--- of the rows of an account a part stands in the content
-pub mod CarriedParts
--- calls that carry sessions forward, one after another, and what stays as it was
-pub mod CarriedOn

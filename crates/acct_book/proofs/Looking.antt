@@ -2,7 +2,7 @@
 use Rattle.std.proofs.Common.{refl, ◌∙◌, Result}
 use Rattle.acct_book.specs.declared.book.Book.{Ghosts}
 use Rattle.acct_book.specs.Step.{Looks}
-use Rattle.acct_book.specs.inner.Step.{OnlyLooks}
+use Rattle.acct_book.specs.Step.{OnlyLooks}
 
 module _ {B : Type 0} (b : Ghosts B) where
   pub looks_none : (book : B) → OnlyLooks b book book

@@ -15,7 +15,7 @@ use Rattle.acct_book.specs.declared.key.Key.{Key}
 use Rattle.acct_book.specs.Row.{RowFacts}
 use Rattle.acct_book.specs.Content.{same_key}
 use Rattle.acct_book.specs.Rows.{row_of}
-use Rattle.acct_book.specs.inner.Next.{report_key, next_row}
+use Rattle.acct_book.specs.Next.{report_key, next_row}
 use Rattle.acct_book.specs.Outcome.{account_of}
 use Rattle.acct_book.specs.Part.{own_row, own_topup, OtherPartsStay}
 use Rattle.acct_book.proofs.Keys.{key_is, octets_sym}

@@ -32,8 +32,8 @@ use Rattle.acct_book.specs.Rows.{name_of, smallest, Rank, is_above, exceeds, hig
 use Rattle.acct_book.specs.Rows.{greatest, first_that, is_stop}
 use Rattle.acct_book.specs.Rows.{has_octets, first_stop, calling_of, framed_of, is_restarted}
 use Rattle.acct_book.specs.Rows.{state_of, cause_of, row_from, row_of_reports, row_of}
-use Rattle.acct_book.specs.inner.Next.{report_key, state_after, cause_after, or_octets, first_row}
-use Rattle.acct_book.specs.inner.Next.{raised_row, next_row_by, plan_found, next_row}
+use Rattle.acct_book.specs.Next.{report_key, state_after, cause_after, or_octets, first_row}
+use Rattle.acct_book.specs.Next.{raised_row, next_row_by, plan_found, next_row}
 use Rattle.acct_book.proofs.Keys.{Decides-same_key}
 
 -- ---- counters

@@ -1,5 +1,5 @@
--- What calls do that write nothing: `unasked_by` and `failed_by` where the book isn't asked,
--- `looked_by` where it is only looked at.
+-- What calls do that write nothing: `unasked_by` and `failed_by` if the book is not called,
+-- `looked_by` if it is only read.
 use Rattle.std.proofs.Common.{◌≡◌, List, refl, sym, subst, inl}
 use Rattle.std.specs.Prelude.{Result}
 use Rattle.acct_model.specs.declared.plan.Plan.{Plan}
@@ -17,7 +17,7 @@ use Rattle.acct_book.specs.Step.{Looks, StoodFor, Does}
 abbrev pub Settles : {B : Type 0} → Ghosts B → Type 0
 Settles {B} b = (book : B) → b.is_open book → Only (b.content book) (b.left book)
 
--- no entry was asked for
+-- no entry was requested
 pub unasked_by : {B : Type 0} (b : Ghosts B) (plans : List Plan) (book : B)
     → Does b plans book book unasked
 unasked_by b plans book = record {
@@ -34,7 +34,7 @@ unasked_by b plans book = record {
   leaves = λ sound history stood c may. inl may;
 }
 
--- an entry was asked for, and memory was refused
+-- an entry was requested, and memory ran out
 pub failed_by : {B : Type 0} (b : Ghosts B) (plans : List Plan) (book : B) (asked : Entry)
     → Does b plans book book (failed asked)
 failed_by b plans book asked = record {

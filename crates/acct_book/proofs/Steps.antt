@@ -27,7 +27,7 @@ use Rattle.acct_book.specs.Content.{Content, same_key, key_of, kept_balance, wit
 use Rattle.acct_book.specs.Content.{with_topup, with_closed}
 use Rattle.acct_book.specs.Rows.{name_of, row_from, row_of_reports, is_restarted, row_of}
 use Rattle.acct_book.specs.Charge.{charge_by, charge_of_row}
-use Rattle.acct_book.specs.inner.Next.{report_key, next_row, charge_before}
+use Rattle.acct_book.specs.Next.{report_key, next_row, charge_before}
 use Rattle.acct_book.specs.Stands.{Stands}
 use Rattle.acct_book.specs.inner.Calls.{AddsEntry}
 use Rattle.acct_book.specs.Outcome.{IsFresh, IsOverLimit}

@@ -18,7 +18,7 @@ pub record Reads {B T E : Type 0} (content : B → Content) (is_sound is_open is
   pub adds_none : is_sound new → (c : Content) → left new c → left old c
 
 -- A call that writes this content, all of it or nothing. To what a crash may leave it adds that
--- content at most, and nothing where the book was shut before.
+-- content at most, and nothing if the book was shut before.
 pub record Writes {B T E : Type 0} (content : B → Content) (is_sound is_open is_steady : B → Type 0)
     (left : B → Content → Type 0) (old new : B) (written : Content)
     (result : Result T E) : Type 0 where

@@ -44,7 +44,7 @@ abbrev pub keeping : List Plan → Content → Content
 keeping plans content =
     record content { plans = option_map (λ kept. plan_for plans) content.plans }
 
--- the balance of an account, which is 0 where none is kept
+-- the balance of an account, which is 0 if none is kept
 abbrev pub kept_balance : Content → List ℕ → ℤ
 kept_balance content account = unwrap_or (content.balances account) (pos 0)
 
@@ -107,7 +107,7 @@ with_forward content gone row = record {
 abbrev pub IsNone : List Key → Key → Type 0
 IsNone gone key = (other : Key) → Contains gone other → key ≢ other
 
--- each row stands under its own key, and each top-up under its own number
+-- each row is kept under its own key, and each top-up under its own number
 pub record HasOwnKeys (content : Content) : Type 0 where
   pub rows : (key : Key) (row : RowFacts) → content.rows key ≡ Some row → key_of row ≡ key
   pub topups : (number : List ℕ) (topup : TopUpFacts) → content.topups number ≡ Some topup

@@ -21,13 +21,13 @@ pub data Effect : Type 0 where
   differs : Entry → TopUpFacts → Effect
   -- the entry was refused: the balance of its account, now this one, would leave its range
   limited : Entry → ℤ → Effect
-  -- the entry was asked for, and the store or memory refused
+  -- the entry was requested, and the store or an allocation failed
   failed : Entry → Effect
-  -- no entry was asked for, and the book told what it was asked
+  -- no entry was requested, and the book returned what was read
   looked : Effect
-  -- no entry was asked for, and the book was asked and told nothing
+  -- no entry was requested, and the book was called and returned nothing
   passed : Effect
-  -- the book wasn't asked
+  -- the book was not called
   unasked : Effect
 
 -- the history after it
@@ -43,7 +43,7 @@ Holds plans history (differs asked kept) = Differs history asked kept
 Holds plans history (limited asked balance) = IsOverLimit plans history asked balance
 Holds plans history effect = Unit {0}
 
--- the book told something
+-- the book returned something
 abbrev pub IsTold : Effect → Type 0
 IsTold (failed asked) = ⊥
 IsTold passed = ⊥

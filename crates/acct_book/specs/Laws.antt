@@ -22,7 +22,7 @@ use Rattle.acct_book.specs.Rows.{name_of, counters, Rank, rank_of, row_of}
 
 -- ---- which rows there are
 
--- the row of a session stands under the session's key
+-- the row of a session is kept under the session's key
 abbrev pub RowsHaveTheirKeys : Type 0
 RowsHaveTheirKeys = (plans : List Plan) (history : History) (key : Key) (row : RowFacts)
     → row_of plans history key ≡ Some row → key_of row ≡ key
@@ -41,7 +41,7 @@ pub record IsAtMost (a b : Rank) : Type 0 where
   pub total : a.counted ≡ b.counted → a.total ≤ b.total
   pub input : a.counted ≡ b.counted → a.total ≡ b.total → a.input ≤ b.input
 
--- some report says the number, and each report this of it
+-- some report has the number, and the number of each report keeps the bounds
 pub record IsExtreme (number : ReportFacts → ℕ) (n : ℕ) (Bounds : ℕ → Type 0)
     (all : List ReportFacts) : Type 0 where
   pub said : (report : ReportFacts) × Contains all report × (number report ≡ n)
@@ -56,7 +56,7 @@ pub record IsFirstWith (Keeps : ReportFacts → Type 0) (all : List ReportFacts)
   pub keeps : Keeps first
   pub none_before : All (λ report. Keeps report → ⊥) earlier
 
--- the value of the first report that says one, or this empty value where no report says any
+-- the value of the first report that has one, or this empty value if no report has any
 abbrev pub IsFirstSaid : {V : Type 0} → (ReportFacts → V) → V → List ReportFacts → V → Type 0
 IsFirstSaid value empty all said =
     ((first : ReportFacts) × IsFirstWith (λ report. value report ≢ empty) all first
@@ -112,7 +112,7 @@ IsRestarted history key =
     × (restart.client ≡ key.client)
     × ((report : ReportFacts) × Contains (reports earlier (name_of key)) report)
 
--- Stopped where a Stop was accepted, else Closed after a restart of the client, else Live
+-- Stopped if a Stop was accepted, else Closed after a restart of the client, else Live
 pub record IsStateOf (history : History) (key : Key) (state : SessionState) : Type 0 where
   pub stopped : (state ≡ Stopped) ↔ IsStopped history key
   pub closed : (state ≡ Closed) ↔ ((IsStopped history key → ⊥) × IsRestarted history key)
@@ -149,14 +149,13 @@ EndedStaysEnded = (plans : List Plan) (later history : History) (key : Key) (row
 
 -- ---- plans
 
--- the plan of a row, which is the one in force that has the class that the row keeps, is the plan
--- of its session
+-- a row keeps the class of a plan, and the plan in force of that class is the plan of its session
 abbrev pub RowsKeepTheirPlans : Type 0
 RowsKeepTheirPlans = (plans : List Plan) (history : History) (key : Key) (row : RowFacts)
     → row_of plans history key ≡ Some row
     → plan_of_row plans row ≡ plan_of plans history (name_of key)
 
--- After plans were added that extend the old ones, a content stands for the history with the
+-- Plans were added that extend the old ones. A content then stands for the history with the
 -- addition, if it stood for the history by the old ones. It is the same content, but if the book
 -- keeps a list of plans, that is now the new one.
 abbrev pub AdditionsStand : Type 0

@@ -5,13 +5,15 @@ pub mod Maps
 pub mod Memory
 pub mod Book
 pub mod Walk
+pub mod Meets
 pub mod Stands
 pub mod Addition
 pub mod Effect
 pub mod Step
 pub mod Charge
+pub mod Next
+pub mod Balance
 pub mod Outcome
 pub mod Laws
-pub mod Carrying
 pub mod Part
 pub mod inner

@@ -1,4 +1,4 @@
--- What is said of an entry and the history before it.
+-- Properties of an entry and the history before it.
 use Rattle.std.specs.Prelude.{◌≡◌, ◌≢◌, ℕ, ℤ, List, ◌∷◌, Option, Some, None, option_map}
 use Rattle.acct_model.specs.declared.plan.Plan.{Plan}
 use Rattle.acct_model.specs.declared.entry.Entry.{Entry}

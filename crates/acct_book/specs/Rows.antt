@@ -1,6 +1,6 @@
 -- The row of a session, as its history gives it: each field is a greatest, a least or a first.
 --
--- A history is newest first, so the first report of a session stands deepest in it.
+-- A history is newest first, so the first report of a session is the deepest in it.
 use Rattle.std.specs.Prelude.{ℕ, ◌+◌, ◌==◌, nat_lt, min, Bool, true, false, ◌&&◌, ◌||◌}
 use Rattle.std.specs.Prelude.{if◌then◌else◌, bytes_eq, List, [], ◌∷◌, Option, Some, None, map}
 use Rattle.std.specs.Prelude.{is_some, option_map}

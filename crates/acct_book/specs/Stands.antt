@@ -14,8 +14,8 @@ AreKept plans kept = IfSome kept
     (λ plan_of. (class : List ℕ) → plan_of class ≡ plan_for plans class)
 
 -- The rows are those of the history's sessions, the balances those of the accounts that own a
--- session or a voucher, the top-ups the first of each number, and every balance is in range. If the
--- book keeps a list of plans, these are its plans.
+-- session or a voucher. The top-ups are the first of each number, and every balance is in range. If
+-- the book keeps a list of plans, these are its plans.
 pub record Stands (plans : List Plan) (content : Content) (history : History) : Type 0 where
   pub rows : (key : Key) → content.rows key ≡ row_of plans history key
   pub balances : (account : List ℕ) → content.balances account

@@ -15,12 +15,20 @@ abbrev pub Looks : {B T E : Type 0} → Ghosts B → B → B → Result T E → 
 Looks b old new result =
     Reads b.content b.is_sound b.is_open b.is_steady b.left old new result
 
+-- Calls that only read, whatever they returned: what holds of a book before and after them.
+pub record OnlyLooks {B : Type 0} (b : Ghosts B) (old new : B) : Type 0 where
+  pub was_sound : b.is_sound new → b.is_sound old
+  pub was_open : b.is_open new → b.is_open old
+  pub keeps_steady : b.is_steady old → b.is_steady new
+  pub same : b.is_open new → b.content new ≡ b.content old
+  pub adds_none : b.is_sound new → (c : Content) → b.left new c → b.left old c
+
 -- the entry may be accepted, and the content stands for the history with it
 abbrev pub MayAdd : List Plan → History → Entry → Content → Type 0
 MayAdd plans history next content =
     Admissible plans history next × Stands plans content (Accepted next ∷ history)
 
--- The content stands for the history, unless the book was shut and tells none.
+-- The content stands for the history, unless the book was shut and returns none.
 abbrev pub StoodFor : {B : Type 0} → Ghosts B → List Plan → B → History → Type 0
 StoodFor b plans book history = b.is_open book → Stands plans (b.content book) history
 
@@ -32,7 +40,7 @@ pub record Does {B : Type 0} (b : Ghosts B) (plans : List Plan) (old new : B) (e
   pub was_sound : b.is_sound new → b.is_sound old
   pub was_open : b.is_open new → b.is_open old
   pub keeps_steady : b.is_steady old → b.is_steady new
-  -- who told something is open, and a crash leaves its content and nothing else
+  -- a book that returned something is open, and a crash leaves its content and nothing else
   pub answers : b.is_sound new → IsTold effect → b.is_open new
   pub settled : b.is_sound new → IsTold effect → Only (b.content new) (b.left new)
   pub unchanged : b.is_open new → IsNotAdded effect → b.content new ≡ b.content old

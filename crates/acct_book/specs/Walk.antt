@@ -1,4 +1,4 @@
--- What the calls give that list members, in the order of their keys.
+-- What the calls that list members return, in the order of their keys.
 use Rattle.std.specs.Prelude.{◌≡◌, ℕ, ℤ, ◌↔◌, Bool, IsTrue, bytes_eq, List, [], ◌∷◌, Option, Some}
 use Rattle.std.specs.Prelude.{None, Contains, map, option_map}
 use Rattle.std.specs.List.Sorted.{IsStrictlySortedBy}
@@ -11,12 +11,12 @@ use Rattle.acct_book.specs.Row.{RowFacts}
 use Rattle.acct_book.specs.Content.{Content, key_of}
 use Rattle.acct_book.specs.Maps.{octets_cmp, key_cmp}
 
--- past the start, where there is one
+-- past the start, if there is one
 abbrev pub IsPast : {K : Type 0} → (K → K → Ordering) → Option K → K → Type 0
 IsPast cmp None key = Unit {0}
 IsPast cmp (Some start) key = cmp start key ≡ Less
 
--- the member at the least key past the start, or none where no key past it has a member
+-- the member at the least key past the start, or none if no key past it has a member
 abbrev pub IsNext : {K X : Type 0} → (K → K → Ordering) → (K → Option X) → Option K
     → Option (K × X) → Type 0
 IsNext {K} cmp at after None = (key : K) → IsPast cmp after key → at key ≡ None
@@ -80,7 +80,7 @@ pub record WalksMeetAll (content : Content) : Type 0 where
       → IsWalk octets_cmp content.topups after entries
       → AreAllPast octets_cmp content.topups after entries
 
--- what the calls give that list members is fixed by the content: two such lists are one
+-- what the calls that list members return is fixed by the content: two such lists are one
 pub record ListsAreFixed (content : Content) : Type 0 where
   pub rows : (account : List ℕ) (these those : List RowFacts)
       → AreRowsOf content account these → AreRowsOf content account those → these ≡ those

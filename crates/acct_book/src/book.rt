@@ -13,7 +13,10 @@ use acct_model::TopUp;
 use std::alloc::AllocError;
 use thiserror::Error;
 
-/// The store or memory refused.
+/// The most members that a walk over a book meets.
+pub const WALK_LIMIT: u64 = (1 << 63) - 1;
+
+/// The store or an allocation failed.
 #[derive(Clone, Copy, PartialEq, Eq, Debug, Error)]
 #[error("the book is unavailable")]
 pub struct Unavailable;
@@ -29,22 +32,22 @@ impl From<AllocError> for Unavailable {
 ///
 /// # Errors
 ///
-/// Each call may answer `Unavailable`: a store may refuse without a visible cause. The content of a
-/// book that is still open is then as before. A call may also have shut the book; where it was to
-/// write, a crash may leave the whole of that. Only `balance` of a steady book never answers
+/// Each call may return `Unavailable`: a store may fail without a visible cause. If the book is
+/// still open, its content is then as before. The call may also have shut the book. If it was to
+/// write, a crash may then leave the whole write. Only `balance` of a steady book never returns
 /// `Unavailable`.
 pub trait Book {
-    /// What it contains, however it is kept. It says nothing of a book that is not open.
+    /// What it contains, however it is kept. It has no meaning for a book that is not open.
     ghost content: { Self → Content };
 
     /// The store is as it promises.
     ghost is_sound: { Self → Type 0 };
 
-    /// It is sound, and still tells its content. A store that a failed write has shut is sound, and
-    /// open no more.
+    /// It is sound, and its content can still be read. A store that a failed write has shut is
+    /// sound, but no longer open.
     ghost is_open: { Self → Type 0 };
 
-    /// It never refuses to tell a balance.
+    /// Its `balance` never fails.
     ghost is_steady: { Self → Type 0 };
 
     /// What a crash at this moment may leave.
@@ -56,7 +59,7 @@ pub trait Book {
             → IfOk result (λ row. row ≡ (content self.old).rows key.now) }
         ensures reads { Reads content is_sound is_open is_steady left self.old self.new result };
 
-    /// The balance of an account, 0 where none is kept.
+    /// The balance of an account, 0 if none is kept.
     fn balance(&mut self, account: &[u8]) -> Result<i64, Unavailable>
         ensures found { is_open self.new
             → IfOk result (λ balance. balance ≡ kept_balance (content self.old) account.now) }
@@ -126,7 +129,7 @@ pub trait Book {
     /// An open book is sound.
     ghost open_sound: { (book : Self) → is_open book → is_sound book };
 
-    /// In an open book each row stands under its own key, and each top-up under its own number.
+    /// In an open book each row is kept under its own key, and each top-up under its own number.
     ghost own_keys: { (book : Self) → is_open book → HasOwnKeys (content book) };
 
     /// While a book is open, a crash leaves its content and nothing else.

@@ -10,7 +10,6 @@ pub struct Key {
     pub session: Octets,
 }
 
-// It is written out, so that a caller does not prove again how each part is dropped.
 impl Drop for Key {
     fn drop(self) {
         let Key {

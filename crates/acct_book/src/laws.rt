@@ -8,8 +8,6 @@ ghost use Rattle.acct_book.specs.Laws.{RowsHaveTheirKeys, RowsAreOfSessions, Row
 ghost use Rattle.acct_book.specs.Laws.{RowsAreCharged, RowsSayTheirEnds, EndedStaysEnded};
 ghost use Rattle.acct_book.specs.Laws.{RowsKeepTheirPlans, AdditionsStand};
 ghost use Rattle.acct_book.specs.Part.{OtherPartsStay};
-ghost use Rattle.acct_model.specs.Forward.{Batch};
-ghost use Rattle.acct_book.specs.Carrying.{SelectionFacts, CarriesChosen, CarryingMovesNothing};
 ghost use Rattle.acct_book.specs.Stands.{Stands};
 ghost use Rattle.acct_book.specs.Walk.{WalksMeetAll, ListsAreFixed};
 
@@ -24,8 +22,8 @@ pub fn memory_book_stays(book: &MemBook)
     ensures left { (c : Content) → ⟦<MemBook as Book>⟧.left book.now c → ⊥ }
 {}
 
-/// The empty content stands for the empty history, whatever the plans: of a book that keeps no list
-/// of plans, and of one that keeps these.
+/// The empty content stands for the empty history, whatever the plans. The book keeps no list of
+/// plans, or keeps these.
 pub fn empty_content_stands()
     ensures keeps_none { (plans : List Plan) → Stands plans empty_content [] }
     ensures keeps_these { (plans : List Plan) → Stands plans (empty_keeping plans) [] }
@@ -41,10 +39,11 @@ pub fn rows_are_of_sessions()
     ensures { RowsAreOfSessions }
 {}
 
-/// Account and class of a row are those of its session's first report, its plan the one that this
-/// class found, its counters those of the report that is greatest by what the plan counts, then by
-/// the total and then by the input, its moments and session time the least and the greatest that a
-/// report said, its calling station and its address those of the first report that says one.
+/// A row has the account and class of its session's first report, and the plan that this class
+/// found. Its counters are those of the report that is greatest by what the plan counts, then by
+/// the total and then by the input. Its moments are the least and the greatest of a report, its
+/// session time the greatest. Its calling station and its address are those of the first report
+/// that has one.
 pub fn rows_are_of_reports()
     ensures { RowsAreOfReports }
 {}
@@ -55,9 +54,9 @@ pub fn rows_are_charged()
     ensures { RowsAreCharged }
 {}
 
-/// A session is stopped exactly if a Stop of it was accepted, with the cause of the first; else
-/// closed exactly if a restart of its client was accepted after a report of it, with the cause 11;
-/// else live, with the cause 0.
+/// A session is stopped exactly if a Stop of it was accepted, with the cause of the first. Else it
+/// is closed exactly if a restart of its client was accepted after a report of it, with the cause
+/// 11. Else it is live, with the cause 0.
 pub fn rows_say_their_ends()
     ensures { RowsSayTheirEnds }
 {}
@@ -79,39 +78,30 @@ pub fn lists_are_fixed()
     ensures { (content : Content) → ListsAreFixed content }
 {}
 
-/// Order and repetition: the same claims, in whatever order, with whatever repeats, delays and
-/// restarts between them, give the same balances, where plans were added only for classes that no
-/// report accepted before bears. A claim is what an entry says that a balance depends on: a
-/// report's session, user, class and octets, a top-up's number, account and sum.
+/// Order and repetition: the same claims give the same balances, in whatever order and with
+/// whatever repeats, delays and restarts between them. This holds if plans were added only for
+/// classes that no report accepted before has. A claim is the part of an entry that a balance
+/// depends on: a report's session, user, class and octets, a top-up's number, account and sum.
 pub fn balances_agree()
     ensures { BalancesAgree }
 {}
 
-/// An accepted report of a session that another account owns, and an accepted top-up to another
-/// account, leave the part of an account as it is: its balance, its rows and its top-ups.
+/// The part of an account is its balance, its rows and its top-ups. An accepted report of another
+/// account's session leaves it as it is, and so does an accepted top-up to another account.
 pub fn part_stays()
     ensures { (plans : List Plan) (history : History) (account : List ℕ)
         → OtherPartsStay plans history account }
 {}
 
-/// The plan of a row, which is the one in force that has the class that the row keeps, is the plan
-/// of its session: the one that the session's first report found.
+/// A row keeps the class of a plan. The plan in force of that class is the plan of the row's
+/// session: the one that the session's first report found.
 pub fn rows_keep_their_plans()
     ensures { RowsKeepTheirPlans }
 {}
 
-/// A content that stood for a history stands for it with an addition of plans, if the new plans
-/// extend the old ones: no row, no balance and no voucher changes. If the book keeps a list of
-/// plans, that is then the new one.
+/// If the new plans extend the old ones, a content that stood for a history stands for it with the
+/// addition of plans. No row, no balance and no voucher changes. If the book keeps a list of plans,
+/// that is then the new one.
 pub fn additions_stand()
     ensures { AdditionsStand }
-{}
-
-/// To carry sessions forward, batch after batch, moves no balance and no top-up. The same accounts
-/// are known, and each session that stays and is no line keeps its row.
-pub fn carrying_moves_nothing()
-    ensures { (selection : SelectionFacts) (plans : List Plan) (history : History)
-        (batches : List Batch) (after : History)
-        → CarriesChosen selection plans history batches after
-        → CarryingMovesNothing selection plans history batches after }
 {}

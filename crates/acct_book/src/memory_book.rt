@@ -1,8 +1,8 @@
 //! A book in memory: ordered maps, with the balances stored.
 //!
-//! 1. Each row stands under its own key, and each top-up under its own number.
-//! 2. A growth that is refused leaves all three maps as they were: a first insertion is taken back
-//!    where the second is refused.
+//! 1. Each row is kept under its own key, and each top-up under its own number.
+//! 2. An allocation that fails leaves all three maps as they were: a first insertion is taken back
+//!    if the second fails.
 //! 3. A balance that is kept already is set without memory.
 ghost use Rattle.std.specs.Prelude.{◌≡◌, ℕ, List, Some, None, IsSome, OnOk, OnErr, IfOk, IsTrue};
 ghost use Rattle.std.specs.Prelude.{bytes_eq, option_map, string_bytes};
@@ -38,7 +38,6 @@ pub struct MemBook {
     ghost own_keys: { HasOwnKeys (content_from rows balances topups) },
 }
 
-// It is written out, so that a caller does not prove again how each part is dropped.
 impl Drop for MemBook {
     fn drop(self) {
         let MemBook {
@@ -206,8 +205,7 @@ fn put_both<K: Ord + Drop, V: Drop>(
     }
 }
 
-// Sets a balance that is kept already, and another value. A growth that is refused leaves all as
-// before.
+// Sets a balance that is kept already, and another value. If an allocation fails, all is as before.
 fn put_known<K: Ord + Drop, V: Drop>(
     map: &mut BTreeMap<K, V>,
     key: K,
@@ -233,8 +231,8 @@ fn put_known<K: Ord + Drop, V: Drop>(
     }
 }
 
-// Sets a balance that is not kept yet, and another value. A first insertion is taken back where the
-// second is refused.
+// Sets a balance that is not kept yet, and another value. If the second insertion fails, the first
+// is taken back.
 fn put_first<K: Ord + Drop, V: Drop>(
     map: &mut BTreeMap<K, V>,
     key: K,
@@ -395,7 +393,7 @@ fn text_start(alloc: Global, after: Option<&str>) -> Result<Option<String>, Allo
     }
 }
 
-// The same top-up again.
+// A copy of the top-up.
 fn copy_topup(alloc: Global, topup: &TopUp) -> Result<TopUp, AllocError>
     ensures { IfOk result (λ copy. copy ≡ topup.now) }
 {

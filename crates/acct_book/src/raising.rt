@@ -1,7 +1,7 @@
 //! The row of a session after one more report.
 ghost use Rattle.std.specs.Prelude.{◌≡◌, Some, IfOk};
-ghost use Rattle.acct_book.specs.inner.Next.{first_row, raised_row, raised_counters, state_after};
-ghost use Rattle.acct_book.specs.inner.Next.{cause_after, or_octets};
+ghost use Rattle.acct_book.specs.Next.{first_row, raised_row, raised_counters, state_after};
+ghost use Rattle.acct_book.specs.Next.{cause_after, or_octets};
 
 use crate::row::{Row, SessionState};
 use acct_model::{Octets, Plan, Report, ReportKind, counted};
@@ -69,7 +69,7 @@ pub(crate) fn later_cause(kind: ReportKind, state: SessionState, old: u32, new: 
     }
 }
 
-// The calling station that was told first.
+// The calling station that was reported first.
 pub(crate) fn later_calling(alloc: Global, old: Octets, new: &Octets) -> Result<Octets, AllocError>
     ensures { IfOk result (λ octets. octets ≡ or_octets old new.now) }
 {

@@ -3,17 +3,17 @@
 //! 1. A report is charged to the account of its session's first report, by the plan that the class
 //!    of that report found. The session's row keeps it.
 //! 2. A report debits the price of the greatest number that the session's plan now counts less the
-//!    price of the one before: a number that is no greater debits nothing, and no report gives
+//!    price of the one before. A number that is no greater debits nothing, and no report gives
 //!    money back.
 //! 3. A report changes one row and one balance, both by one call of the book or neither.
 //! 4. A voucher is credited once. A number that is kept with the same account and sum is a repeat
 //!    and changes nothing, with another account or sum it is refused.
-//! 5. A restart closes the live sessions of its client alone and moves no money. An ended session
+//! 5. A restart closes only the live sessions of its client and moves no money. An ended session
 //!    never opens again.
 //! 6. A balance that would leave its range is refused, whoever else has what balance.
-//! 7. Every growth and every test comes before the one call that writes, so what is refused before
-//!    that call changes nothing. Where the call itself fails, the content of a book that is still
-//!    open is as before. Only that call's whole effect can a crash leave besides.
+//! 7. Every allocation and every test comes before the one call that writes, so what is refused
+//!    before that call changes nothing. If the call itself fails, the content of a book that is
+//!    still open is as before. A crash can also leave that call's whole effect, and nothing else.
 ghost use Rattle.std.specs.Prelude.{◌≡◌, ◌≢◌, ◌+◌, ◌^◌, ◌<◌, Err, IfOk, IfErr, IfNone, IfSome};
 ghost use Rattle.std.specs.Prelude.{MatchOption, pos, ◌+ℤ◌, ◌-ℤ◌};
 ghost use Rattle.acct_model.specs.declared.entry.Entry.{Entry};
@@ -21,7 +21,7 @@ ghost use Rattle.acct_model.specs.History.{InRange};
 ghost use Rattle.acct_book.specs.Content.{with_session, with_topup};
 ghost use Rattle.acct_book.specs.Effect.{IsOwn, effect_of};
 ghost use Rattle.acct_book.specs.Step.{Looks, Does};
-ghost use Rattle.acct_book.specs.inner.Next.{report_key, next_row, charge_before};
+ghost use Rattle.acct_book.specs.Next.{report_key, next_row, charge_before};
 ghost use Rattle.acct_book.specs.inner.Calls.{AddsEntry, Repeats, RefusesToAdd};
 
 use crate::book::{Book, Unavailable};
@@ -54,8 +54,8 @@ pub enum RecordError {
     /// The account's balance, this one, would leave its range.
     #[error("the balance would leave its range")]
     BalanceLimit(i64),
-    /// The store or memory refused. It may stand in place of any other answer. Where the write
-    /// failed and shut the book, a crash may leave the whole entry all the same.
+    /// The store or an allocation failed. It may be returned in place of any other answer. If the
+    /// write failed and shut the book, a crash may still leave the whole entry.
     #[error("the book is unavailable")]
     Unavailable,
 }
@@ -83,13 +83,13 @@ impl From<Unavailable> for RecordError {
 }
 
 /// Records one entry in a book whose content stands for a history under these plans. `New` says
-/// that the content then stands for the history with the entry; after each other answer the content
+/// that the content then stands for the history with the entry. After each other result the content
 /// of a book that is still open is as before.
 ///
 /// # Errors
 ///
-/// `VoucherDiffers` and `BalanceLimit` as their names say; `Unavailable` may come in place of any
-/// other answer.
+/// `VoucherDiffers` and `BalanceLimit` as their names say; `Unavailable` may be returned in place
+/// of any other answer.
 pub fn record<B: Book>(
     alloc: Global,
     book: &mut B,
@@ -172,7 +172,7 @@ fn debited<B: Book>(
     }
 }
 
-// The balance of a top-up's account with the top-up, and none where it is kept already.
+// The balance of a top-up's account with the top-up, and none if it is kept already.
 fn credited<B: Book>(book: &mut B, plans: &Plans, topup: &TopUp) -> Result<Option<i64>, RecordError>
     ensures reads { Looks B.Book book.old book.new result }
     ensures answers { B.is_sound book.new → result ≢ Err RecordError.Unavailable
@@ -207,8 +207,13 @@ fn key_for(alloc: Global, report: &Report) -> Result<Key, AllocError>
     })
 }
 
-// The row after a report, and the price before it.
-pub(crate) fn advance(
+/// The row of a report's session after the report, by the row that was found of the session, and
+/// the price of the found row, which is 0 if there is none. No book is asked.
+///
+/// # Errors
+///
+/// `AllocError` if memory is refused.
+pub fn advance(
     alloc: Global,
     plans: &Plans,
     found: Option<Row>,
@@ -231,7 +236,7 @@ pub(crate) fn advance(
     }
 }
 
-// The balance with one price back and another debited, where it may be kept.
+// The balance with one price back and another debited, if it may be kept.
 fn moved(balance: i64, back: u128, debit: u128) -> Option<i64>
     requires back { back < 2 ^ 93 }
     requires debit { debit < 2 ^ 93 }

@@ -55,8 +55,8 @@ pub struct Row {
     pub account: Octets,
     /// The Class of the first report.
     pub class: Octets,
-    /// The class of the plan that the session is charged by: the first report's Class where a plan
-    /// has it, else `default`.
+    /// The class of the plan that the session is charged by: the first report's Class if a plan has
+    /// it, else `default`.
     pub plan: Octets,
     /// Octets received from the user's port, of the report of which the session's plan counts most.
     pub input: u64,
@@ -78,7 +78,6 @@ pub struct Row {
     pub framed: Option<[u8; 4]>,
 }
 
-// It is written out, so that a caller does not prove again how each part is dropped.
 impl Drop for Row {
     fn drop(self) {
         let Row {
@@ -127,7 +126,7 @@ impl Model for Row {
 
 impl Row {
     ghost use Rattle.acct_book.specs.Content.{key_of, closed_by};
-    ghost use Rattle.acct_book.specs.inner.Next.{raised_row};
+    ghost use Rattle.acct_book.specs.Next.{raised_row};
 
     /// The octets of the session, input and output together.
     pub fn total(&self) -> u64
@@ -137,7 +136,7 @@ impl Row {
         self.input + self.output
     }
 
-    /// The key that the row stands under.
+    /// The key that the row is kept under.
     pub fn key(&self, alloc: Global) -> Result<Key, AllocError>
         ensures { IfOk result (λ key. key ≡ key_of self.now) }
     {
@@ -147,7 +146,7 @@ impl Row {
         })
     }
 
-    /// The key that the row stood under, which takes no memory.
+    /// The key that the row was kept under. It takes no memory.
     pub fn into_key(self) -> Key
         ensures { result ≡ key_of self }
     {
@@ -170,7 +169,7 @@ impl Row {
         Key { client, session }
     }
 
-    /// The same row again.
+    /// A copy of the row.
     pub fn copy(&self, alloc: Global) -> Result<Row, AllocError>
         ensures { IfOk result (λ copy. copy ≡ self.now) }
     {
@@ -192,7 +191,7 @@ impl Row {
         })
     }
 
-    /// Closes the session where it is live and this client's, as a restart of the client does.
+    /// Closes the session if it is live and this client's, as a restart of the client does.
     pub fn close(&mut self, client: &str)
         ensures { self.new ≡ closed_by client.now self.old }
     {

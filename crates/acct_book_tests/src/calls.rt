@@ -2,9 +2,9 @@
 use crate::entries::Said::{Restarts, Says, TopsUp};
 use crate::entries::{Said, key, says, takes};
 use acct_book::{Book, Key, MemBook, Row, SessionState};
-use acct_fakes::{FailingBook, ShutBook};
+use acct_book_fakes::{FailingBook, ShutBook};
 use acct_model::{Plans, ReportKind, TopUp};
-use acct_samples::sample_plans;
+use acct_site::sample_plans;
 use std::alloc::Global;
 use std::test::Fail;
 

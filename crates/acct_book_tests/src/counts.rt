@@ -3,7 +3,7 @@ use crate::entries::Said::Tells;
 use crate::entries::{Words, key, says};
 use acct_book::{Book, MemBook};
 use acct_model::{Count, Plan, Plans, ReportKind};
-use acct_samples::plan;
+use acct_site::plan;
 use std::alloc::Global;
 use std::test::Fail;
 

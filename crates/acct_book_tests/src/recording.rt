@@ -5,7 +5,7 @@ use ReportKind::{Interim, Start, Stop};
 use SessionState::{Closed, Live, Stopped};
 use acct_book::{Book, MemBook, Row, SessionState};
 use acct_model::{Plans, ReportKind};
-use acct_samples::{plan, sample_plans};
+use acct_site::{plan, sample_plans};
 use std::alloc::Global;
 use std::test::Fail;
 

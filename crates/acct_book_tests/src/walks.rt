@@ -2,7 +2,7 @@
 use crate::entries::Said::{Begins, TopsUp};
 use crate::entries::{Said, key, takes};
 use acct_book::{Book, MemBook};
-use acct_samples::sample_plans;
+use acct_site::sample_plans;
 use std::alloc::Global;
 use std::test::Fail;
 

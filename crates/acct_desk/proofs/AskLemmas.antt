@@ -1,4 +1,4 @@
--- What octets ask, by the front in which a head is looked for, and bodies as JSON.
+-- What octets ask for, by the front that is searched for a head, and bodies as JSON.
 use Rattle.std.proofs.Common.{◌≡◌, ◌≤◌, ℕ, min, Bool, true, false, cond, Option, Some, None, map}
 use Rattle.std.proofs.Common.{List, length, take, refl, ap, sym, ◌∙◌}
 use Rattle.std.specs.Str.{is_utf8}

@@ -1,4 +1,4 @@
--- The front of the bytes, in which a head is looked for.
+-- The front of the bytes, which is searched for a head.
 use Rattle.std.proofs.Common.{◌≡◌, ◌≤◌, ◌-◌, ◌+◌, ℕ, min, Option, Some, None, arith, length-append}
 use Rattle.std.proofs.Common.{length-take, map, List, ◌++◌, length, take, drop, refl, ap, sym}
 use Rattle.std.proofs.Common.{subst, ◌∙◌}

@@ -1,4 +1,4 @@
--- What becomes of a request, by what its parts told.
+-- What becomes of a request, by what its parts returned.
 use Rattle.std.proofs.Common.{◌≡◌, ◌≢◌, ◌⊎◌, ℕ, List, [], get_or, inl, inr, arith, refl}
 use Rattle.std.proofs.Common.{ap, sym, ◌∙◌, subst}
 use Rattle.std.specs.Prelude.{Result, Ok, Err, IfOk, Vec}
@@ -22,14 +22,14 @@ use Rattle.acct_book.specs.Effect.{IsUnasked, passed, unasked}
 use Rattle.acct_book.specs.Step.{StoodFor, Does}
 use Rattle.acct_book.proofs.StepLemmas.{Settles, unasked_by, only_looked_by}
 use Rattle.acct_desk.specs.declared.asking.Refusal.{Refusal}
-use Rattle.acct_pages.specs.declared.bodies.PageError.{PageError}
-use Rattle.acct_pages.specs.declared.bodies.PageError.TheVariants.{Unavailable, Memory}
+use Rattle.acct_desk_pages.specs.declared.bodies.PageError.{PageError}
+use Rattle.acct_desk_pages.specs.declared.bodies.PageError.TheVariants.{Unavailable, Memory}
 use Rattle.acct_desk.specs.Asks.{Ask, refused, me, overruns, credit}
 use Rattle.acct_desk.specs.Handling.{AnswersAsk, AnswersOrMutes, TellsAsk, Mutes, IsOfBalance}
 use Rattle.acct_desk.specs.Handling.{Handles}
 use Rattle.acct_desk.specs.inner.Pages.{Shows, IsPageResponse}
 use Rattle.acct_desk.specs.Responses.{refusal_response}
-use Rattle.acct_pages.specs.Responses.{response_of, unavailable_response}
+use Rattle.acct_desk_pages.specs.Responses.{response_of, unavailable_response}
 use Rattle.acct_desk.specs.Responses.{recorded_response}
 
 apart : ◌≡◌ {A = ℕ} 50 53 → ⊥

@@ -3,7 +3,6 @@ pub mod FramingLemmas
 pub mod RouteLemmas
 pub mod KeyLemmas
 pub mod AskLemmas
-pub mod Walking
 pub mod PageLemmas
 pub mod HandleLemmas
 pub mod MemberLemmas

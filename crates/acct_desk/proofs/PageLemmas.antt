@@ -1,4 +1,4 @@
--- Pages, by what the book told.
+-- Pages, by what the book returned.
 use Rattle.std.proofs.Common.{true≢false, ◌≡◌, ℕ, ℤ, Bool, true, false, cond, List, [], ◌∷◌}
 use Rattle.std.proofs.Common.{map, refl, ap, sym, ◌∙◌, subst}
 use Rattle.std.specs.Prelude.{Option, Some, None, Result, Ok, Err, IfOk, OnOk, IsOk, IsErr, pos}
@@ -14,7 +14,8 @@ use Rattle.acct_model.specs.Vouchers.{TopUpFacts}
 use Rattle.acct_model.specs.History.{History, topup_of}
 use Rattle.acct_book.specs.declared.book.Book.{Ghosts}
 use Rattle.acct_book.specs.Step.{Looks}
-use Rattle.acct_book.specs.inner.Step.{OnlyLooks}
+use Rattle.acct_book.specs.Step.{OnlyLooks}
+use Rattle.acct_book.specs.Balance.{overrun_of}
 use Rattle.acct_book.specs.Content.{Content, kept_balance, key_of}
 use Rattle.acct_book.specs.Maps.{octets_cmp}
 use Rattle.acct_book.specs.Part.{part_of, own_row, own_topup, AreRowsIn, AreTopUpsIn}
@@ -26,12 +27,12 @@ use Rattle.acct_book.specs.Walk.{IsNextBalance}
 use Rattle.acct_book.proofs.Looking.{looks_once}
 use Rattle.acct_book.proofs.Steps.{kept-balance}
 use Rattle.acct_book.proofs.WalkLaws.{walks-meet-all}
-use Rattle.acct_pages.specs.declared.bodies.PageError.{PageError}
+use Rattle.acct_desk_pages.specs.declared.bodies.PageError.{PageError}
 use Rattle.acct_book.specs.declared.book.Unavailable as book
 use Rattle.acct_desk.specs.declared.asking.Page.TheVariants.{Balance}
 use Rattle.acct_desk.specs.Asks.{Ask, me}
-use Rattle.acct_pages.specs.Bodies.{balance_body, session_item, sessions_body, topup_item}
-use Rattle.acct_pages.specs.Bodies.{topups_body, overrun_of, overrun_item, overrun_in, overruns_body}
+use Rattle.acct_desk_pages.specs.Bodies.{balance_body, session_item, sessions_body, topup_item}
+use Rattle.acct_desk_pages.specs.Bodies.{topups_body, overrun_item, overrun_in, overruns_body}
 use Rattle.acct_desk.specs.Handling.{IsBody, AreBalances}
 use Rattle.acct_desk.specs.inner.Pages.{Shows}
 

@@ -10,10 +10,10 @@ use Rattle.acct_book.specs.Part.{Part, part_of}
 use Rattle.acct_desk.specs.declared.asking.Page.{Page}
 use Rattle.acct_desk.specs.declared.asking.Page.TheVariants.{Balance, Sessions, TopUps}
 use Rattle.acct_desk.specs.Asks.{Ask, me}
-use Rattle.acct_pages.specs.Bodies.{sessions_body, topups_body}
+use Rattle.acct_desk_pages.specs.Bodies.{sessions_body, topups_body}
 use Rattle.acct_desk.specs.Handling.{IsPageBody, IsResponseOf, AnswersAsk, TellsAsk}
 use Rattle.acct_desk.specs.Laws.{MeFromPart}
-use Rattle.acct_pages.specs.Responses.{response_of, unavailable_response}
+use Rattle.acct_desk_pages.specs.Responses.{response_of, unavailable_response}
 use Rattle.acct_desk.proofs.AskLemmas.{one_ask}
 use Rattle.acct_desk.proofs.MemberLemmas.{key_total, octets_total, members_same}
 

@@ -1,4 +1,4 @@
--- Requests that are open, and stay so as octets come.
+-- Requests that are open, and stay so as octets arrive.
 use Rattle.std.proofs.Common.{◌≡◌, ◌≤◌, ◌<◌, ◌+◌, ◌⊎◌, inl, inr, ℕ, zero, suc, Bool, true, false}
 use Rattle.std.proofs.Common.{List, [], ◌∷◌, ◌++◌, length, take, drop, map, refl, ap, sym, subst}
 use Rattle.std.proofs.Common.{◌∙◌, arith, append_assoc, length-append, length-take, Option, Some}
@@ -20,7 +20,7 @@ use Rattle.httparse.specs.Outcome.{IfComplete, OnPartial, IsCompleteAnd}
 use Rattle.httparse.proofs.GrammarLemmas.{ReadsRequest-append, request_unique}
 use Rattle.acct_desk.specs.declared.framing.Reach.{Reach}
 use Rattle.acct_desk.specs.declared.framing.Reach.TheVariants.{More, Whole, Bad, TooLarge}
-use Rattle.acct_desk.specs.declared.reading.Watch.{Watch}
+use Rattle.acct_desk.specs.declared.request_reader.Watch.{Watch}
 use Rattle.acct_desk.specs.Request.{Begins, IsHeadOf, IsExtent, reach_of, reach_of_fields}
 use Rattle.acct_desk.specs.Request.{fields_of, body_length, values_of, is_empty, reach_of_length}
 use Rattle.acct_desk.specs.Reading.{IsSettled}

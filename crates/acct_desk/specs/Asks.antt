@@ -1,5 +1,5 @@
--- What a request asks: the first line of the desk's cases that settles it without the book, or what
--- is asked of the book.
+-- What a request asks for. The first of the desk's cases that applies settles it without the book.
+-- If none does, it is a request to the book.
 use Rattle.std.specs.Prelude.{◌≡◌, ℕ, ◌==◌, List, length, slice_range, codes, bytes_eq, Option}
 use Rattle.std.specs.Prelude.{Some, None, option_and_then, if◌then◌else◌}
 use Rattle.std.specs.List.{before_first, slice_get}
@@ -25,8 +25,8 @@ use Rattle.acct_desk.specs.Routes.{endpoint_of, method_of}
 use Rattle.acct_desk.specs.Keys.{role_at}
 use Rattle.acct_desk.specs.TopUpBodies.{topup_of_value}
 
--- what a request asks: nothing that the desk takes, a page of the key's account, the accounts that
--- are over, or a top-up
+-- what a request asks for: nothing that the desk accepts, a page of the key's account, the
+-- overdrawn accounts, or a top-up
 pub data Ask : Type 0 where
   refused : Refusal → Ask
   me : Page → List ℕ → Ask
@@ -45,7 +45,7 @@ abbrev pub ask_of_json : Option Data → ℕ → Ask
 ask_of_json None moment = refused refusal.BadRequest
 ask_of_json (Some value) moment = ask_of_topup (topup_of_value value moment)
 
--- what a bearer of this role asks at this endpoint
+-- what a request with this role asks for at this endpoint
 abbrev pub ask_of_role : Endpoint → Role → List ℕ → ℕ → Ask
 ask_of_role Balance (Account account) body moment = me page.Balance account
 ask_of_role Balance Cashier body moment = refused refusal.NotAllowed
@@ -83,7 +83,7 @@ ask_of_reach Bad next = refused refusal.BadRequest
 ask_of_reach TooLarge next = refused refusal.TooLarge
 ask_of_reach (Whole end) next = next end
 
--- what a request asks that begins with a head of this length, target, method and fields
+-- what a request asks for, by the length, target, method and fields of its head
 abbrev pub ask_of_fields : List DeskKey → List ℕ → ℕ → ℕ → List ℕ → List ℕ → List (List ℕ × List ℕ)
     → Ask
 ask_of_fields keys request moment head target method fields =
@@ -91,7 +91,7 @@ ask_of_fields keys request moment head target method fields =
     ask_of_endpoint (endpoint_of (path_of target)) method (role_of_fields keys fields)
     (slice_range request head end) moment)
 
--- what the octets ask that begin with this head, or with none
+-- what the octets ask for, by the head that begins them, if there is one
 abbrev pub ask_of : List DeskKey → List ℕ → ℕ → Option RequestHead → Ask
 ask_of keys request moment None =
     ask_of_reach (reach_of None (length request)) (λ _. refused refusal.BadRequest)
@@ -99,7 +99,7 @@ ask_of keys request moment (Some head) =
     ask_of_fields keys request moment (length (print_request head)) head.target head.method
     (fields_of head)
 
--- the octets of a request ask this of a desk with these keys, at this moment
+-- the octets of a request ask a desk with these keys for this, at this moment
 abbrev pub Asks : List DeskKey → List ℕ → ℕ → Ask → Type 0
 Asks keys request moment ask = (head : Option RequestHead) × IsHeadOf request head
     × (ask ≡ ask_of keys request moment head)

@@ -19,14 +19,14 @@ use Rattle.acct_book.specs.Walk.{AreAllPast}
 use Rattle.acct_desk.specs.declared.asking.Page.{Page}
 use Rattle.acct_desk.specs.declared.asking.Page.TheVariants.{Balance, Sessions, TopUps}
 use Rattle.acct_desk.specs.Asks.{Ask, refused, me, overruns, credit}
-use Rattle.acct_pages.specs.Bodies.{balance_body, sessions_body, topups_body, overruns_body}
+use Rattle.acct_desk_pages.specs.Bodies.{balance_body, sessions_body, topups_body, overruns_body}
 use Rattle.acct_desk.specs.Responses.{refusal_response}
-use Rattle.acct_pages.specs.Responses.{response_of, unavailable_response}
+use Rattle.acct_desk_pages.specs.Responses.{response_of, unavailable_response}
 use Rattle.acct_desk.specs.Responses.{recorded_response}
 
--- ---- what the desk tells
+-- ---- what the desk returns
 
--- the body of an account's page, written from its part of the history alone
+-- the body of an account's page, written only from its part of the history
 abbrev pub IsPageBody : List Plan → Part → List ℕ → Page → Data → Type 0
 IsPageBody plans part account Balance body = body ≡ balance_body account part.balance
 IsPageBody plans part account Sessions body = (rows : List RowFacts) × AreRowsIn part rows
@@ -44,7 +44,7 @@ abbrev pub AreBalances : List Plan → History → List (List ℕ × ℤ) → Ty
 AreBalances plans history accounts =
     AreAllPast octets_cmp (known_balance plans history) None accounts
 
--- the body that is told to who asks this of a history
+-- the body of the response over a history, by what the request asks for
 abbrev pub IsBody : List Plan → History → Ask → Data → Type 0
 IsBody plans history (refused refusal) body = ⊥
 IsBody plans history (me page account) body =
@@ -60,8 +60,8 @@ IsResponseOf plans history ask octets = (body : Data) × IsBody plans history as
 
 -- ---- what is answered, and what that does
 
--- What is settled without the book has its own octets. A page was told, or the book was
--- unavailable. A top-up is answered as recording it tells.
+-- A request that is settled without the book has its own response. A page was returned, or the book
+-- was unavailable. A top-up is answered by the result of recording it.
 abbrev pub AnswersAsk : Ask → List ℕ → Effect → Type 0
 AnswersAsk (refused refusal) octets effect =
     (octets ≡ refusal_response refusal) × (effect ≡ unasked)
@@ -74,7 +74,7 @@ AnswersAsk (credit topup) octets effect =
     × (octets ≡ recorded_response recorded)
     × (effect ≡ effect_of (entry.TopUp topup) recorded)
 
--- There was no memory for a response: then the book wasn't asked, or for a page at the most.
+-- There was no memory for a response. Then the book wasn't used, or only for a page.
 abbrev pub Mutes : Ask → Effect → Type 0
 Mutes (me page account) effect = (effect ≡ unasked) ⊎ (effect ≡ passed)
 Mutes overruns effect = (effect ≡ unasked) ⊎ (effect ≡ passed)
@@ -85,7 +85,7 @@ abbrev pub AnswersOrMutes : {E : Type 0} → Ask → Result (Vec ℕ Global) E �
 AnswersOrMutes ask (Ok octets) effect = AnswersAsk ask octets.items effect
 AnswersOrMutes ask (Err error) effect = Mutes ask effect
 
--- what the book told is told: the definition's octets, over the history
+-- if the book answered, the response has the definition's octets, over the history
 abbrev pub TellsAsk : List Plan → History → Ask → List ℕ → Effect → Type 0
 TellsAsk plans history ask octets effect = effect ≡ looked → IsResponseOf plans history ask octets
 
@@ -106,6 +106,6 @@ pub record Handles {B E : Type 0} (b : Ghosts B) (plans : List Plan) (ask : Ask)
   pub does : Does b plans old new effect
   pub tells : b.is_sound new → (history : History) → StoodFor b plans old history
       → IfOk result (λ octets. TellsAsk plans history ask octets.items effect)
-  -- over a steady book a balance is told
+  -- over a steady book a balance is returned
   pub steady : b.is_steady old → IsOfBalance ask
       → IfOk result (λ octets. octets.items ≢ unavailable_response)

@@ -27,7 +27,7 @@ key_fault earlier key =
 abbrev pub keys_fault : List DeskKey → Option KeysError
 keys_fault keys = first_fault key_fault keys
 
--- an error is the first fault, or memory was refused, whatever the fault
+-- an error is the first fault, or out of memory, whatever the fault
 abbrev pub IsKeysError : Option KeysError → KeysError → Type 0
 IsKeysError fault BadToken = fault ≡ Some BadToken
 IsKeysError fault TwiceKeyed = fault ≡ Some TwiceKeyed

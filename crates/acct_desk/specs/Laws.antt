@@ -8,7 +8,7 @@ use Rattle.acct_desk.specs.declared.keys.DeskKey.{DeskKey}
 use Rattle.acct_desk.specs.declared.asking.Page.{Page}
 use Rattle.acct_desk.specs.Asks.{Ask, Asks, me}
 use Rattle.acct_desk.specs.Handling.{AnswersAsk, TellsAsk}
-use Rattle.acct_pages.specs.Responses.{unavailable_response}
+use Rattle.acct_desk_pages.specs.Responses.{unavailable_response}
 
 -- the octets answer the request after this history, with this effect
 abbrev pub MayAnswer : List DeskKey → List Plan → List ℕ → ℕ → History → List ℕ → Effect → Type 0
@@ -16,14 +16,14 @@ MayAnswer keys plans request moment history octets effect = (ask : Ask)
     × Asks keys request moment ask × AnswersAsk ask octets effect
     × TellsAsk plans history ask octets effect
 
--- no request asks two things
+-- no request asks for two things
 abbrev pub OneThingIsAsked : Type 0
 OneThingIsAsked = (keys : List DeskKey) (request : List ℕ) (moment : ℕ) (one other : Ask)
     → Asks keys request moment one → Asks keys request moment other → one ≡ other
 
--- Over two histories at whose ends the same plans are in force, and in which an account has the
--- same part, each request for a page of that account by its own key is answered by the same octets,
--- wherever the book answers at all.
+-- Take two histories at whose ends the same plans are in force, and in which an account has the
+-- same part. A request by its own key for one of its pages gets the same octets over both, if the
+-- book answers at all.
 abbrev pub MeFromPart : Type 0
 MeFromPart = (keys : List DeskKey) (plans : List Plan) (request : List ℕ) (moment : ℕ) (page : Page)
     (account : List ℕ) (one other : History) (first second : Effect) (octets others : List ℕ)

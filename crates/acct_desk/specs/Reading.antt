@@ -7,11 +7,11 @@ use Rattle.acct_desk.specs.declared.framing.Reach.{Reach}
 use Rattle.acct_desk.specs.declared.framing.Reach.TheVariants.{More}
 use Rattle.acct_desk.specs.Request.{IsExtent}
 
--- the extent is known, or no octets can follow that make a request
+-- the extent is known, or no further octets can make a request of them
 abbrev pub IsSettled : List ℕ → Type 0
 IsSettled bytes = ((reach : Reach) × IsExtent bytes reach × (reach ≢ More)) ⊎ NeverHasRequest bytes
 
--- reading ends: the octets are settled or as many as are taken, or the reader has no more
+-- reading ends: the octets are settled, there are 12,288 of them, or the reader has no more
 abbrev pub EndsReading : List ℕ → Option (List ℕ) → Type 0
 EndsReading bytes left = IsSettled bytes ⊎ (length bytes ≡ 12288) ⊎ IsAtEnd left
 

@@ -1,4 +1,4 @@
--- The responses of the desk to what is refused without the book, and to top-ups, octet for octet.
+-- The desk's responses to requests refused without the book, and to top-ups, octet for octet.
 use Rattle.std.specs.Prelude.{ℕ, List, [], ◌++◌, codes, Result, Ok, Err}
 use Rattle.acct_book.specs.declared.recording.Recorded.{Recorded}
 use Rattle.acct_book.specs.declared.recording.Recorded.TheVariants.{New, Repeat}
@@ -11,7 +11,7 @@ use Rattle.acct_desk.specs.declared.asking.Refusal.TheVariants.{BadRequest, TooL
 use Rattle.acct_desk.specs.declared.asking.Refusal.TheVariants.{WrongMethod, NoKey, NotAllowed}
 use Rattle.acct_desk.specs.declared.asking.Refusal.TheVariants.{BadTopUp}
 use Rattle.acct_desk.specs.Routes.{method_of}
-use Rattle.acct_pages.specs.Responses.{error_response, result_response, unavailable_response}
+use Rattle.acct_desk_pages.specs.Responses.{error_response, result_response, unavailable_response}
 
 -- the line that names an endpoint's method (RFC 9110, section 10.2.1)
 abbrev pub allow_line : Endpoint → List ℕ
@@ -36,7 +36,7 @@ refusal_response BadTopUp = error_response 422 [] (codes "bad topup")
 unfoldable pub added_response : List ℕ
 added_response = result_response 201 (codes "new")
 
--- the response to a top-up, by what recording told
+-- the response to a top-up, by the result of recording it
 abbrev pub recorded_response : Result Recorded RecordError → List ℕ
 recorded_response (Ok New) = added_response
 recorded_response (Ok Repeat) = result_response 200 (codes "repeat")

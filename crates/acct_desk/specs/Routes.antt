@@ -6,7 +6,7 @@ use Rattle.acct_desk.specs.declared.routes.Endpoint.{Endpoint}
 use Rattle.acct_desk.specs.declared.routes.Endpoint.TheVariants.{Balance, Sessions, MyTopUps}
 use Rattle.acct_desk.specs.declared.routes.Endpoint.TheVariants.{TopUps, Overruns}
 
--- what stands at a path
+-- the endpoint at a path
 abbrev pub endpoint_of : List ℕ → Option Endpoint
 endpoint_of path =
     if bytes_eq (codes "/me/balance") path then Some Balance

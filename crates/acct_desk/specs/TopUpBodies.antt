@@ -36,7 +36,7 @@ topup_of_value value moment =
     topup_of_members (member_text (codes "account") value) (whole_at (codes "sum") value)
     (member_text (codes "voucher") value) moment
 
--- the octets are JSON that stands for the value, or no JSON
+-- the octets are JSON for the value, or are not JSON
 abbrev pub IsJson : List ℕ → Option Data → Type 0
 IsJson octets (Some value) = IsUtf8 octets × (json.read octets ≡ Some value)
 IsJson octets None = IsUtf8 octets → json.read octets ≡ None

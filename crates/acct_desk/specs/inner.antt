@@ -5,4 +5,3 @@ pub mod Pages
 pub mod Reading
 pub mod Request
 pub mod TopUpAnswers
-pub mod Walk

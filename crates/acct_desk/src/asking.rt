@@ -1,4 +1,4 @@
-//! What a request asks.
+//! What a request asks for.
 ghost use Rattle.std.specs.Prelude.{◌≡◌, ◌≤◌, ◌<◌, ◌^◌, IfOk, IsUtf8, All, length, map, None};
 ghost use Rattle.std.specs.Option.{option_copied};
 ghost use Rattle.httparse.specs.Spans.{IsHeaderWithin, IsWithin, span_bytes, header_bytes};
@@ -18,7 +18,7 @@ use acct_model::{NoMemory, TopUp};
 use httparse::spans::{EMPTY_HEADER_SPAN, HeaderSpan, RequestSpans};
 use std::alloc::Global;
 
-// Why a request is refused, whatever the book says.
+// Why a request is refused without reading the book.
 #[derive(Clone, Copy, PartialEq, Eq)]
 pub(crate) enum Refusal {
     BadRequest,
@@ -30,7 +30,7 @@ pub(crate) enum Refusal {
     BadTopUp,
 }
 
-// What an account may see of itself.
+// A page that an account may read about itself.
 #[derive(Clone, Copy, PartialEq, Eq)]
 pub(crate) enum Page {
     Balance,
@@ -38,20 +38,20 @@ pub(crate) enum Page {
     TopUps,
 }
 
-// What a request asks.
+// What a request asks for.
 #[derive(Drop)]
 pub(crate) enum Ask<'k> {
-    // Nothing of the book.
+    // Refused without reading the book.
     Refused(Refusal),
-    // A page of the account of its key.
+    // A page of the key's account.
     Me(Page, &'k [u8]),
-    // The accounts that are over.
+    // The overdrawn accounts.
     Overruns,
     // To credit a voucher.
     Credit(TopUp),
 }
 
-// What the octets of a request ask.
+// Returns what the octets of a request ask for.
 pub(crate) fn ask_of_octets<'k>(
     alloc: Global,
     keys: &'k Keys,
@@ -78,7 +78,7 @@ pub(crate) fn ask_of_octets<'k>(
     )
 }
 
-// Why so many octets without a head are refused.
+// The refusal of a request of this length that has no head.
 fn refusal_of_length(there: usize) -> Refusal
     ensures { ask_of_reach (reach_of None there) (λ _. refused Refusal.BadRequest)
         ≡ refused result }
@@ -90,7 +90,7 @@ fn refusal_of_length(there: usize) -> Refusal
     }
 }
 
-// What a request asks whose head has these spans.
+// Returns what a request asks for, by the spans of its head.
 fn ask_of_spans<'k>(
     alloc: Global,
     keys: &'k Keys,
@@ -122,7 +122,7 @@ fn ask_of_spans<'k>(
     }
 }
 
-// What stands at the path of a target.
+// The endpoint at the path of a target.
 fn endpoint_of_target(keys: &Keys, target: &[u8]) -> Option<Endpoint>
     requires { IsUtf8 target.now }
     ensures { result ≡ endpoint_of (path_of target.now) }
@@ -143,7 +143,7 @@ fn path_part(target: &str) -> &str
     }
 }
 
-// What the first Desk-Key lets its bearer do.
+// The role of the key in the first Desk-Key field.
 fn role_of_fields<'k>(keys: &'k Keys, front: &[u8], headers: &[HeaderSpan]) -> Option<&'k Role>
     requires { All (IsHeaderWithin (length front.now)) headers.now }
     ensures { option_copied result ≡ role_of_fields keys.now
@@ -153,7 +153,7 @@ fn role_of_fields<'k>(keys: &'k Keys, front: &[u8], headers: &[HeaderSpan]) -> O
     keys.role_of(token)
 }
 
-// What a request with this endpoint, method, role and body asks.
+// Returns what a request asks for, by its parts.
 fn ask_of_parts<'k>(
     alloc: Global,
     endpoint: Option<Endpoint>,
@@ -178,7 +178,7 @@ fn ask_of_parts<'k>(
     }
 }
 
-// What a bearer of this role asks.
+// Returns what a request with this role asks for.
 fn ask_of_role<'k>(
     alloc: Global,
     endpoint: Endpoint,
@@ -208,7 +208,7 @@ fn ask_of_role<'k>(
     }
 }
 
-// What a POST of this body asks.
+// Returns what a POST of this body asks for.
 fn ask_of_post<'k>(alloc: Global, body: &[u8], moment: u64) -> Result<Ask<'k>, NoMemory>
     requires { moment < 2 ^ 53 }
     ensures { IfOk result (λ ask. ask_view ask ≡ ask_of_json (json_of body.now) moment) }

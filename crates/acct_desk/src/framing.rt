@@ -11,23 +11,23 @@ use httparse::spans::{EMPTY_HEADER_SPAN, HeaderSpan};
 /// How far a request reaches.
 #[derive(Clone, Copy, Debug, PartialEq, Eq)]
 pub enum Reach {
-    /// More octets are wanted.
+    /// More octets are needed.
     More,
-    /// The request has so many octets.
+    /// The request is complete and has this many octets.
     Whole(usize),
-    /// This is no request that the desk takes.
+    /// The desk does not accept such a request.
     Bad,
     /// The head or the body is too large.
     TooLarge,
 }
 
-/// The greatest length of a head.
+/// The most octets of a head.
 pub(crate) const HEAD_LIMIT: usize = 8192;
 
-/// The greatest length of a body.
+/// The most octets of a body.
 const BODY_LIMIT: u64 = 4096;
 
-/// The length of the body by the Content-Length fields, if they are in order.
+/// The length of the body by the Content-Length fields, if they are valid.
 pub(crate) fn declared_length(front: &[u8], headers: &[HeaderSpan]) -> Option<u64>
     requires { All (IsHeaderWithin (length front.now)) headers.now }
     ensures { result ≡ body_length
@@ -79,7 +79,7 @@ pub(crate) fn reach_by_fields(
     }
 }
 
-/// The octets in which a head is looked for.
+/// The octets that are searched for a head.
 pub(crate) fn front_of(bytes: &[u8]) -> &[u8]
     ensures { result.now ≡ take (min (length bytes.now) 8192) bytes.now }
 {

@@ -11,22 +11,22 @@ use crate::keys::Keys;
 use crate::pages::{balance_page, overruns_page, page_octets, sessions_page, topups_page};
 use crate::refusals::refusal_octets;
 use acct_book::{Book, RecordError, Recorded, record};
+use acct_desk_pages::json_response::{error_octets, result_octets, unavailable_octets};
 use acct_model::{Entry, NoMemory, Plans, TopUp};
-use acct_pages::response::{error_octets, result_octets, unavailable_octets};
 use http::StatusCode;
 use std::alloc::{AllocError, Global};
 
-/// The whole response to the octets of a request, over a book whose content stands for a history
-/// under these plans. `moment` is in seconds since 1970. It is total over all octets: what is no
-/// request of the desk has its own response, and leaves the book untouched.
+/// Returns the whole response to the octets of a request, over a book whose content stands for a
+/// history under these plans. `moment` is in seconds since 1970. Any octets get a response. Those
+/// that are no request of the desk get one of their own, and leave the book untouched.
 ///
-/// Every answer but a 201 leaves the content of a book that is still open as before. Where a 503
-/// says that the write of a top-up failed and shut the book, a crash may leave it all the same.
+/// Only a 201 changes the content of a book that is still open. A 503 may mean that the write of a
+/// top-up failed and shut the book. A crash may then leave the top-up all the same.
 ///
 /// # Errors
 ///
-/// `NoMemory` where the response can't be grown. Nothing was recorded then: every growth for a
-/// top-up comes before it is recorded.
+/// `NoMemory` if there is no memory for the response. Nothing was recorded then: every allocation
+/// for a top-up's response comes before it is recorded.
 pub fn handle<B: Book>(
     alloc: Global,
     keys: &Keys,
@@ -62,7 +62,7 @@ fn refuse(alloc: Global, refusal: Refusal) -> Result<Vec<u8>, NoMemory>
     }
 }
 
-// Tells a page of an account.
+// Returns a page of an account.
 fn tell_page<B: Book>(
     alloc: Global,
     plans: &Plans,
@@ -79,14 +79,14 @@ fn tell_page<B: Book>(
     }
 }
 
-// Tells who is over.
+// Returns the overdrawn accounts.
 fn tell_overruns<B: Book>(alloc: Global, book: &mut B) -> Result<Vec<u8>, NoMemory>
     ensures { (plans : List Plan) → Handles B.Book plans overruns book.old book.new result }
 {
     page_octets(alloc, overruns_page(alloc, book))
 }
 
-// Takes a top-up. All its responses are made before it is recorded.
+// Records a top-up. All its possible responses are made before.
 fn take_topup<B: Book>(
     alloc: Global,
     plans: &Plans,
@@ -132,7 +132,7 @@ fn topup_answers(alloc: Global) -> Result<TopUpAnswers, AllocError>
     })
 }
 
-// The response for what recording told.
+// The response for the result of recording.
 fn answer_of(answers: TopUpAnswers, recorded: Result<Recorded, RecordError>) -> Vec<u8>
     requires { AreAnswers answers }
     ensures { result.items ≡ recorded_response recorded }

@@ -24,11 +24,10 @@ const LONGEST_TOKEN: usize = 64;
 pub enum Role {
     /// Ask for the balance, the sessions and the vouchers of this account.
     Account(Octets),
-    /// Credit vouchers, and ask who is over.
+    /// Credit vouchers, and list the overdrawn accounts.
     Cashier,
 }
 
-// It is written out, so that a caller does not prove again how each part is dropped.
 impl Drop for Role {
     fn drop(self) {
         match self {
@@ -46,7 +45,6 @@ pub struct DeskKey {
     pub role: Role,
 }
 
-// It is written out, so that a caller does not prove again how each part is dropped.
 impl Drop for DeskKey {
     fn drop(self) {
         let DeskKey { token: _, role: _ } = self;
@@ -62,7 +60,7 @@ pub enum KeysError {
     /// An earlier key has the same token.
     #[error("an earlier key has the same token")]
     TwiceKeyed = 2,
-    /// Memory was refused.
+    /// Out of memory.
     #[error("out of memory")]
     Memory = 3,
 }
@@ -78,7 +76,7 @@ impl From<AllocError> for KeysError {
     }
 }
 
-/// Keys of which no two have one token, with the desk's paths: what every request is looked up in.
+/// Keys with distinct tokens, and the desk's paths. Every request is looked up in them.
 pub struct Keys {
     list: Vec<DeskKey>,
     // The place in the list of each token.
@@ -86,7 +84,6 @@ pub struct Keys {
     router: Router<Endpoint>,
 }
 
-// It is written out, so that a caller does not prove again how each part is dropped.
 impl Drop for Keys {
     fn drop(self) {
         let Keys {
@@ -115,7 +112,7 @@ impl Keys {
     ///
     /// # Errors
     ///
-    /// Only where memory is refused.
+    /// Only `Memory`.
     pub fn none(alloc: Global) -> Result<Keys, KeysError>
         ensures none { IfOk result (λ keys. keys ≡ []) }
         ensures refused { IfErr result (λ error. error ≡ KeysError.Memory) }
@@ -134,8 +131,8 @@ impl Keys {
     ///
     /// # Errors
     ///
-    /// The first fault: each key in its turn for `BadToken` and then for `TwiceKeyed`. `Memory` may
-    /// stand in place of either.
+    /// The first fault. Each key in its turn is tested for `BadToken`, and then for `TwiceKeyed`.
+    /// `Memory` may be returned instead of either.
     pub fn new(alloc: Global, list: Vec<DeskKey>) -> Result<Keys, KeysError>
         ensures kept { IfOk result (λ keys. keys ≡ list.items) }
         ensures faultless { OnOk result (keys_fault list.items ≡ None) }
@@ -153,8 +150,8 @@ impl Keys {
     ///
     /// # Errors
     ///
-    /// The first of `BadToken` and `TwiceKeyed` that holds, and `Memory` only where neither does.
-    /// The keys are then as before.
+    /// The first of `BadToken` and `TwiceKeyed` that holds, and `Memory` only if neither does. An
+    /// error leaves the keys as they were.
     pub fn push(&mut self, alloc: Global, key: DeskKey) -> Result<(), KeysError>
         ensures pushed { OnOk result (self.new ≡ self.old ++ key ∷ []) }
         ensures faultless { OnOk result (key_fault self.old key ≡ None) }
@@ -200,7 +197,7 @@ impl Keys {
         }
     }
 
-    // What stands at a path.
+    // The endpoint at a path.
     pub(crate) fn endpoint_at(&self, path: &str) -> Option<Endpoint>
         ensures { result ≡ endpoint_of path.now }
     {
@@ -208,8 +205,8 @@ impl Keys {
     }
 }
 
-// Puts a key whose token is new at the end of a list, and its place to those of the other tokens.
-// Where memory is refused both stay as they were.
+// Adds a key with a new token at the end of a list, and the token's place to the other places. If
+// memory runs out, both stay as they were.
 fn place(
     alloc: Global,
     list: &mut Vec<DeskKey>,

@@ -8,13 +8,12 @@ mod head;
 mod keys;
 pub mod laws;
 mod pages;
-mod reading;
 mod refusals;
+mod request_reader;
 mod routes;
 mod top_up_body;
 
 pub use framing::{Reach, extent};
 pub use handling::handle;
 pub use keys::{DeskKey, Keys, KeysError, Role};
-pub use pages::WALK_LIMIT;
-pub use reading::{ReadFault, read_request};
+pub use request_reader::{ReadFault, read_request};

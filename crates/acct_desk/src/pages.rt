@@ -1,4 +1,4 @@
-//! The pages that the desk tells from the book.
+//! The pages that the desk makes from the book.
 ghost use Rattle.std.specs.Prelude.{◌≡◌, ◌≢◌, false, List, [], ◌∷◌, ◌++◌, Err, IfOk, OnOk, IsOk};
 ghost use Rattle.std.specs.Prelude.{IsErr, map, option_map, codes};
 ghost use Rattle.std.specs.List.{filter_map};
@@ -9,22 +9,19 @@ ghost use Rattle.serde_json.specs.View.{view, items_view};
 ghost use Rattle.serde_json.specs.Written.{has_float};
 ghost use Rattle.acct_model.specs.declared.plan.Plan.{Plan};
 ghost use Rattle.acct_desk.specs.Asks.{me, overruns};
-ghost use Rattle.acct_pages.specs.Bodies.{balance_body, overrun_in};
+ghost use Rattle.acct_desk_pages.specs.Bodies.{balance_body, overrun_in};
 ghost use Rattle.acct_desk.specs.declared.asking.Page.TheVariants as page;
 ghost use Rattle.acct_desk.specs.inner.Pages.{Shows, IsPageResponse};
 
-use acct_book::{Book, Unavailable};
-use acct_model::{NoMemory, Plans};
-use acct_pages::bodies::{
-    PageError, balance_value, overrun, overrun_value, sessions_value, topups_value,
+use acct_book::{Book, Unavailable, WALK_LIMIT, overrun};
+use acct_desk_pages::bodies::{
+    PageError, balance_value, overrun_value, sessions_value, topups_value,
 };
-use acct_pages::response::{respond, unavailable_octets};
+use acct_desk_pages::json_response::{respond, unavailable_octets};
+use acct_model::{NoMemory, Plans};
 use http::StatusCode;
 use serde_json::{Value, json};
 use std::alloc::{AllocError, Global};
-
-/// The most members that a walk over a book meets.
-pub const WALK_LIMIT: u64 = (1 << 63) - 1;
 
 // The body of `/me/balance`.
 pub(crate) fn balance_page<B: Book>(
@@ -40,7 +37,7 @@ pub(crate) fn balance_page<B: Book>(
     told_balance(alloc, account, told)
 }
 
-// The body with what the book told.
+// The body of `/me/balance`, from the book's answer.
 fn told_balance(
     alloc: Global,
     account: &[u8],
@@ -83,7 +80,7 @@ pub(crate) fn topups_page<B: Book>(
     topups_value(alloc, account, &topups)
 }
 
-// The body of `/overruns`. It holds one account of the book at a time, beside those that are over.
+// The body of `/overruns`. It holds the overdrawn accounts, and one account of the book at a time.
 pub(crate) fn overruns_page<B: Book>(alloc: Global, book: &mut B) -> Result<Value, PageError>
     ensures { (plans : List Plan) → Shows plans overruns B.Book book.old book.new result }
 {
@@ -102,7 +99,7 @@ pub(crate) fn overruns_page<B: Book>(alloc: Global, book: &mut B) -> Result<Valu
     Err(PageError::Unavailable)
 }
 
-// Where a walk goes on.
+// The account after which a walk continues.
 fn start_of(last: &Option<Vec<u8>>) -> Option<&[u8]>
     ensures { option_copied result ≡ option_map (λ account. account.items) last.now }
 {
@@ -112,7 +109,7 @@ fn start_of(last: &Option<Vec<u8>>) -> Option<&[u8]>
     }
 }
 
-// Adds an account to those that are over, if it is.
+// Adds an account to the overdrawn ones, if it is overdrawn.
 fn add_overrun(
     alloc: Global,
     over: &mut Vec<Value>,
@@ -138,7 +135,7 @@ fn overruns_value(alloc: Global, over: Vec<Value>) -> Result<Value, AllocError>
     json!(in alloc; {"overruns": over})
 }
 
-// The response with a page, or the one where the book was unavailable.
+// The response with a page, or the one if the book was unavailable.
 pub(crate) fn page_octets(
     alloc: Global,
     page: Result<Value, PageError>,

@@ -1,10 +1,10 @@
-//! The responses to what is refused without the book.
+//! The responses to requests that are refused without the book.
 ghost use Rattle.std.specs.Prelude.{◌≡◌, IfOk};
 ghost use Rattle.acct_desk.specs.Responses.{allow_line, refusal_response};
 
 use crate::asking::Refusal;
 use crate::routes::Endpoint;
-use acct_pages::response::error_octets;
+use acct_desk_pages::json_response::error_octets;
 use http::StatusCode;
 use std::alloc::{AllocError, Global};
 

@@ -5,7 +5,7 @@ ghost use Rattle.acct_desk.specs.Routes.{endpoint_of, desk_rows, method_of};
 use matchit::{InsertError, Router};
 use std::alloc::Global;
 
-/// What stands at a path.
+/// What is at a path.
 #[derive(Clone, Copy, Debug, PartialEq, Eq)]
 pub enum Endpoint {
     /// `/me/balance`: what is left of an account's vouchers.
@@ -33,7 +33,7 @@ pub(crate) fn router(alloc: Global) -> Result<Router<Endpoint>, InsertError>
     Ok(router)
 }
 
-// What stands at a path.
+// The endpoint at a path.
 pub(crate) fn endpoint_at(router: &Router<Endpoint>, path: &str) -> Option<Endpoint>
     requires { router.now ≡ desk_rows }
     ensures { result ≡ endpoint_of path.now }

@@ -13,11 +13,11 @@ use std::alloc::Global;
 // Why a body asks for no top-up.
 #[derive(Clone, Copy, Debug, PartialEq, Eq)]
 pub(crate) enum BodyError {
-    // It is no JSON.
+    // It is not JSON.
     NotJson,
     // A member is missing or out of its bounds.
     NoTopUp,
-    // Memory was refused.
+    // Out of memory.
     Memory,
 }
 

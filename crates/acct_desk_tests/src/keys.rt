@@ -1,11 +1,11 @@
-//! Lists of keys that are taken, and that are refused.
+//! Lists of keys that are accepted, and that are refused.
 use acct_desk::{DeskKey, Keys, KeysError, Role};
 use acct_model::{Octets, Text};
-use acct_samples::sample_keys;
+use acct_site::sample_keys;
 use std::alloc::{AllocError, Global};
 use std::test::Fail;
 
-// A token, and the account whose key it is, or none where it is the cashier's.
+// A token, and the account whose key it is, or none if it is the cashier's.
 type Owner = (&'static str, Option<&'static [u8]>);
 
 const AL: Owner = ("al-key-0000000001", Some(b"al"));
@@ -69,7 +69,7 @@ fn keys_are_refused(rt: HostRuntime) -> Result<(), Fail> {
     expect_faults(rt.alloc(), &LISTS)
 }
 
-// Whether the sample's keys are as they were given, or memory was refused.
+// Whether the sample's keys are as they were given, or memory ran out.
 fn are_keys(keys: Result<Keys, KeysError>) -> bool {
     match keys {
         Ok(keys) => keys.list().len() == 3,
@@ -77,7 +77,7 @@ fn are_keys(keys: Result<Keys, KeysError>) -> bool {
     }
 }
 
-// Memory may be refused at any place of this test: `rt try --test --fail-alloc N`.
+// Any allocation of this test may fail: `rt try --test --fail-alloc N`.
 #[test]
 fn refused_memory_is_told_of_keys(rt: HostRuntime) {
     assert!(rt; are_keys(sample_keys(rt.alloc())));

@@ -1,4 +1,4 @@
-//! Tests of `acct_desk`, of its public calls alone.
+//! Tests of `acct_desk`, only of its public calls.
 #![tactic(auto)]
 
 #[cfg(test)]

@@ -6,7 +6,7 @@ use acct_desk::{Reach, extent, read_request};
 use std::alloc::Global;
 use std::test::Fail;
 
-// A piece of a request, and how often it stands there.
+// A piece of a request, and how often it is repeated.
 type Piece = (&'static [u8], usize);
 
 // The first 55 octets of a request for a balance.
@@ -61,12 +61,12 @@ const HEAD_8192: [Piece; 3] = [PADDED, (b"p", 8129), HEAD_END];
 
 const BODY_4096: [Piece; 3] = [POST_4096, TOP_UP, (b" ", 4054)];
 
-// A request, how far it reaches, and what a desk answers that has taken no voucher.
+// A request, how far it reaches, and the response of a desk that has recorded no voucher.
 type Limit = (&'static [Piece], Reach, &'static [u8]);
 
 // There are at most 64 header fields: 55 octets with the first one, 4 for each further one, and 2.
 // A head has at most 8,192 octets and a body 4,096. JSON is read up to a depth of 127, of which the
-// object is one. What comes after a request is no part of it.
+// object is one. Octets after a request are no part of it.
 static LIMITS: [Limit; 14] = [
     (
         &[FRONT, (b"A:\r\n", 63), LINE_END],
@@ -123,8 +123,8 @@ static LIMITS: [Limit; 14] = [
 // A request, and how many octets are read of it.
 type Length = (&'static [Piece], usize);
 
-// Reads are of at most 1,024 octets. There are no more than those after which the request is whole,
-// or can't become whole.
+// Reads are of at most 1,024 octets. There are no more reads once the request is whole, or can't
+// become whole.
 static READS: [Length; 6] = [
     (&[(BALANCE, 1), (b"x", 3000)], 1024),
     (&[(CURL_TOP_UP, 1), (b"x", 799)], 1024),
@@ -144,7 +144,7 @@ fn joined(alloc: Global, pieces: &[Piece]) -> Result<Vec<u8>, Fail> {
     Ok(octets)
 }
 
-// Whether a new desk answers a request so.
+// Whether a new desk gives this response to a request.
 fn is_answered(alloc: Global, request: &[u8], want: &[u8]) -> Result<bool, Fail> {
     let mut desk = Desk::new(alloc)?;
     desk.answers(alloc, request, want)
@@ -205,7 +205,7 @@ fn expect_refused_prefixes(
     Ok(())
 }
 
-// The whole is added after them.
+// The whole top-up is added after its prefixes.
 #[test]
 fn prefixes_of_a_top_up_are_refused(rt: HostRuntime) -> Result<(), Fail> {
     let mut desk = Desk::new(rt.alloc())?;

@@ -24,7 +24,7 @@ struct Line {
     framed: [u8; 4],
 }
 
-// Two sessions of `al`, which come back in the order of their keys: 3,000,017 octets of the plan
+// Two sessions of `al`, which are returned in the order of their keys. 3,000,017 octets of the plan
 // gold cost three blocks of 10, and 6,100,000 octets of an unknown plan seven of 5. The third is
 // another account's.
 static LINES: [Line; 3] = [
@@ -67,7 +67,7 @@ const SESSIONS: &[u8] =
 // A voucher as (number, account, sum, moment), and the balance of the account after it.
 type Voucher = (&'static str, &'static [u8], u64, u32, i64);
 
-// Those of `al` come back in the order of their numbers.
+// Those of `al` are returned in the order of their numbers.
 static VOUCHERS: [Voucher; 4] = [
     ("W-2", b"al", 70, 1500, 570),
     ("V-1", b"al", 500, 1001, -31),

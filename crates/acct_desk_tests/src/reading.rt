@@ -41,8 +41,8 @@ fn shorter_requests_want_more(rt: HostRuntime) {
     assert!(rt; first_reach(BALANCE) == (57, Reach::Whole(57)));
 }
 
-// Requests, and how many of their octets are read where they come octet by octet and fail after
-// those: all of a whole one, and of what can't become one as many as there are when they have
+// Requests, and how many of their octets are read if they arrive octet by octet and fail after
+// those. A whole request is read whole. What can't become one is read until its octets have
 // doubled.
 static SLOW: [(&[u8], usize); 4] = [
     (BALANCE, 57),
@@ -51,7 +51,7 @@ static SLOW: [(&[u8], usize); 4] = [
     (b"GET / HTTP/2.0\r\n\r\n", 16),
 ];
 
-// How many reads are made of a request whose octets come one by one and fail after so many, and
+// How many reads are made of a request whose octets arrive one by one and fail after so many. Also
 // whether just those octets are read, or the fault.
 fn reads_of(
     alloc: Global,

@@ -1,11 +1,11 @@
-//! A desk whose book or whose memory refuses.
+//! A desk whose book fails, or whose memory runs out.
 use crate::sample_desk::Desk;
 use crate::texts::{
     ADDED, BAD_TOP_UP, BALANCE, CURL_TOP_UP, DIFFERS, MY_SESSIONS, MY_TOP_UPS, MY_VOUCHERS,
     ONE_SESSION, OTHER_SUM, REPEATED, Turn, WHO_IS_OVER,
 };
 use acct_book::{Book, MemBook};
-use acct_fakes::FailingBook;
+use acct_book_fakes::FailingBook;
 use acct_model::TopUp;
 use std::alloc::Global;
 use std::test::Fail;
@@ -58,8 +58,8 @@ fn seen<B: Book>(book: &mut B) -> Result<(i64, usize, usize), Fail> {
     Ok((book.balance(b"al")?, sessions, vouchers))
 }
 
-// Whether a request is answered as it ought to be where the book refuses this call. Else the answer
-// is to be that the book is unavailable, and the book as it was.
+// Whether a request gets the expected answer over a book that fails this call. Else the answer must
+// be that the book is unavailable, and the book must be as it was.
 fn is_past(
     alloc: Global,
     desk: &mut Desk<FailingBook<MemBook>>,
@@ -79,14 +79,14 @@ fn is_past(
     Err(Fail::from("a refused call was answered otherwise"))
 }
 
-// A desk over a book that refuses a call, filled.
+// A filled desk over a book that may fail a call.
 fn failing(alloc: Global) -> Result<Desk<FailingBook<MemBook>>, Fail> {
     let mut desk = Desk::over(alloc, FailingBook::new(MemBook::new(alloc), 0))?;
     fill(alloc, &mut desk)?;
     Ok(desk)
 }
 
-// How many calls a request takes: each is refused in its turn, up to the first that is not made.
+// How many calls a request takes: each fails in its turn, up to the first that is not made.
 fn calls(alloc: Global, request: &[u8], want: &[u8]) -> Result<u64, Fail> {
     for call in 1..9 {
         if is_past(alloc, &mut failing(alloc)?, request, want, call)? {
@@ -127,8 +127,8 @@ fn balances_have_a_limit(rt: HostRuntime) -> Result<(), Fail> {
     desk.expect_top_ups(rt.alloc(), &AT_THE_LIMIT)
 }
 
-// Whether a request is answered as it ought to be or, where memory is refused, the book is as it
-// was and tells it at the next time.
+// Whether a request gets the expected answer. If memory runs out, the book must be as it was, and
+// the next such request must get the answer.
 fn is_kept(
     alloc: Global,
     desk: &mut Desk<MemBook>,
@@ -150,8 +150,8 @@ fn is_kept_when_filled(alloc: Global, request: &[u8], want: &[u8]) -> Result<boo
     is_kept(alloc, &mut desk, request, want)
 }
 
-// Memory may be refused at any place of this test: `rt try --test --fail-alloc N`. Where that comes
-// before the request it ends without an assertion.
+// Any allocation of this test may fail: `rt try --test --fail-alloc N`. If one before the request
+// does, the test ends without an assertion.
 #[test]
 fn refused_memory_changes_nothing(rt: HostRuntime) -> Result<(), Fail> {
     for (request, want, _) in &ASKED {

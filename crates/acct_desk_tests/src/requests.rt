@@ -91,7 +91,7 @@ fn requests_are_settled_without_the_book(rt: HostRuntime) -> Result<(), Fail> {
     expect_answers(rt.alloc(), &[], &SETTLED)
 }
 
-// Bodies of a top-up, and what becomes of them at a desk that has taken no voucher.
+// Bodies of a top-up, and their responses at a desk that has recorded no voucher.
 static BODIES: [Turn; 22] = [
     (b"{", BAD_REQUEST),
     (b"\xff", BAD_REQUEST),
@@ -174,8 +174,8 @@ fn bodies_are_told_apart(rt: HostRuntime) -> Result<(), Fail> {
     desk.expect_top_ups(rt.alloc(), &BODIES)
 }
 
-// Requests for the balance of `al`: with line feeds alone, of HTTP/1.0 after empty lines, with the
-// key's name and value spelled otherwise, and with another account in the query.
+// Requests for the balance of `al`: with another account in the query, with bare line feeds, and of
+// HTTP/1.0 after empty lines. The last also spells the key's name and value otherwise.
 static BALANCES: [Turn; 4] = [
     (BALANCE, NO_BALANCE),
     (CURL_BALANCE, NO_BALANCE),
@@ -189,7 +189,7 @@ static BALANCES: [Turn; 4] = [
     ),
 ];
 
-// What is left is told to the key's account, whatever the query names.
+// The response has the balance of the key's account, whatever the query names.
 #[test]
 fn balances_are_told(rt: HostRuntime) -> Result<(), Fail> {
     expect_answers(rt.alloc(), &[], &BALANCES)

@@ -3,18 +3,17 @@ use crate::texts::Turn;
 use acct_book::{Book, MemBook, record};
 use acct_desk::{Keys, handle};
 use acct_model::{Entry, NoMemory, Octets, Plans, Report, ReportKind, Text};
-use acct_samples::{sample_keys, sample_plans};
+use acct_site::{sample_keys, sample_plans};
 use std::alloc::Global;
 use std::test::Fail;
 
-// A desk over a book of any kind. Its requests come at the moment 1000.
+// A desk over a book of any kind. Its requests arrive at the moment 1000.
 pub(crate) struct Desk<B> {
     pub(crate) book: B,
     keys: Keys,
     plans: Plans,
 }
 
-// It is written out, so that a caller does not prove again how each part is dropped.
 impl<B: Drop> Drop for Desk<B> {
     fn drop(self) {
         let Desk {
@@ -40,7 +39,7 @@ impl<B: Book + Drop> Desk<B> {
         Ok(Desk { book, keys, plans })
     }
 
-    // What a request is answered, if there is memory for the answer.
+    // The response to a request, if there is memory for it.
     pub(crate) fn answer(&mut self, alloc: Global, request: &[u8]) -> Result<Vec<u8>, NoMemory> {
         handle(
             alloc,
@@ -52,7 +51,7 @@ impl<B: Book + Drop> Desk<B> {
         )
     }
 
-    // Whether a request is answered so.
+    // Whether a request gets this response.
     pub(crate) fn answers(
         &mut self,
         alloc: Global,
@@ -72,7 +71,7 @@ impl<B: Book + Drop> Desk<B> {
         Ok(())
     }
 
-    // The same of top-ups of these bodies.
+    // Fails at the first top-up body, by its place, that is answered otherwise.
     pub(crate) fn expect_top_ups(&mut self, alloc: Global, turns: &[Turn]) -> Result<(), Fail> {
         for i in 0..turns.len() {
             let request = post_of(alloc, turns[i].0)?;

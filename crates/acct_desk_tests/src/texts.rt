@@ -7,8 +7,8 @@ pub(crate) type Turn = (&'static [u8], &'static [u8]);
 pub(crate) const BALANCE: &[u8] =
     b"GET /me/balance HTTP/1.1\r\nDesk-Key: al-key-0000000001\r\n\r\n";
 
-// The same as `curl -H 'Desk-Key: ..' http://127.0.0.1:8066/me/balance?account=bo` writes it (curl
-// 7.88).
+// A request for the balance of `al`, as curl 7.88 writes it for
+// `curl -H 'Desk-Key: ..' http://127.0.0.1:8066/me/balance?account=bo`.
 pub(crate) const CURL_BALANCE: &[u8] =
     b"GET /me/balance?account=bo HTTP/1.1\r\nHost: 127.0.0.1:8066\r\nUser-Agent: curl/7.88.1\r\n\
     Accept: */*\r\nDesk-Key: al-key-0000000001\r\n\r\n";

@@ -1,4 +1,4 @@
--- What `record` says of a voucher, as what a record of an import did.
+-- What `record` returns for a voucher, as what a record of an import did.
 use Rattle.std.proofs.Common.{◌≡◌, ◌+◌, ℕ, inl, inr, List, Option, Some, None, Result, Ok, Err}
 use Rattle.std.proofs.Common.{refl, sym, ◌∙◌, subst, arith}
 use Rattle.std.specs.Prelude.{◌≢◌, IsTrue}

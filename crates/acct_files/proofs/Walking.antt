@@ -1,4 +1,4 @@
--- The text that is written on a walk, and what a whole walk met.
+-- The text that is written on a walk, and what it says of the whole content.
 use Rattle.std.proofs.Common.{◌≡◌, ℕ, List, [], ◌∷◌, ◌++◌, Option, Some, None, Result, Ok, Err}
 use Rattle.std.proofs.Common.{map, refl, sym, ◌∙◌, ap, subst, append_assoc}
 use Rattle.std.specs.Prelude.{flat_map, IfOk}
@@ -7,7 +7,8 @@ use Rattle.std.specs.declared.cmp.Ordering.{Ordering}
 use Rattle.std.proofs.lemmas.Grind.{flat_map-append}
 use Rattle.std.proofs.lemmas.List.{append-nil}
 use Rattle.acct_book.specs.Walk.{AreAllPast, IsNext, IsWalk}
-use Rattle.acct_desk.specs.inner.Walk.{Meets}
+use Rattle.acct_book.specs.Meets.{Meets}
+use Rattle.acct_book.proofs.Walking.{walk_of}
 use Rattle.acct_files.specs.Exporting.{export_text, line}
 use Rattle.acct_files.specs.Vouchers.{Fields}
 
@@ -45,16 +46,6 @@ pub if_ok : {T E : Type 0} (r : Result T E) (P Q : T → Type 0) → ((x : T) �
 if_ok (Ok x) P Q f h = f x h
 if_ok (Err e) P Q f h = tt
 
--- ---- the book
-
--- what is next of the content at the start
-pub next_here : {B C : Type 0} (content : B → C) (is_open : B → Type 0)
-    (IsNextHere : C → Type 0) (start now new : B)
-    → (is_open now → content now ≡ content start) → (is_open new → is_open now)
-    → (is_open new → IsNextHere (content now)) → is_open new → IsNextHere (content start)
-next_here content is_open IsNextHere start now new same was found opens =
-    subst IsNextHere (same (was opens)) (found opens)
-
 -- ---- an export, by the members of a content
 
 pub texts_of : {E M : Type 0} (text : E → List ℕ) (entry : M → E) (members : List M)
@@ -69,15 +60,6 @@ module _ {J K M X : Type 0} (cmp : K → K → Ordering) (at : K → Option X)
     → IsNext cmp at (shown after) (Some (key m, value m)))
     (ends : (after : Option J) → next after None → IsNext cmp at (shown after) None)
     (goes_on : (m : M) → shown (Some (key_of m)) ≡ Some (key m)) where
-  pub walk_of : (after : Option J) (members : List M) → Meets next key_of after members
-      → IsWalk cmp at (shown after) (map (λ m. (key m, value m)) members)
-  walk_of after [] meets = ends after meets
-  walk_of after (m ∷ rest) meets = (
-    finds after m meets.0,
-    subst (λ a. IsWalk cmp at a (map (λ n. (key n, value n)) rest)) (goes_on m)
-        (walk_of (Some (key_of m)) rest meets.1),
-  )
-
   -- what was written of the members was written of the whole content
   pub exported : {W E : Type 0} (contents : W → Option (List ℕ)) (is_open : Type 0)
       (from : Option (List ℕ)) (header : Fields) (text : K × X → List ℕ)
@@ -96,5 +78,6 @@ module _ {J K M X : Type 0} (cmp : K → K → Ordering) (at : K → Option X)
         subst (λ t. Appends from (contents w) (line header ++ t)) (texts_of text entry told.0)
             told.1,
         λ opens. all (map entry told.0) (subst (λ a. IsWalk cmp at a (map entry told.0)) starts
-            (walk_of None told.0 (told.2 opens))),
+            (walk_of cmp at next key_of shown entry finds ends goes_on None told.0
+            (told.2 opens))),
       )) wrote

@@ -9,12 +9,12 @@ use Rattle.acct_model.specs.Shown.{shown, shown_address}
 use Rattle.acct_model.specs.Vouchers.{TopUpFacts}
 use Rattle.acct_book.specs.Row.{RowFacts, state_text}
 use Rattle.acct_book.specs.Charge.{charge_of_row}
-use Rattle.acct_pages.specs.Bodies.{overrun_of}
+use Rattle.acct_book.specs.Balance.{overrun_of}
 use Rattle.acct_files.specs.declared.account_lines.AccountExport.{AccountExport}
 use Rattle.acct_files.specs.declared.account_lines.AccountExport.TheVariants.{Balances, Overruns}
 use Rattle.acct_files.specs.Vouchers.{Fields}
 
--- a line of fields, separated by commas and in quotes where a field needs them
+-- a line of fields, separated by commas and in quotes if a field needs them
 abbrev pub line : Fields → List ℕ
 line fields = row_text default_writer fields
 
@@ -74,7 +74,7 @@ account_line Overruns account balance =
 abbrev pub export_text : {E : Type 0} → Fields → (E → List ℕ) → List E → List ℕ
 export_text header text entries = line header ++ flat_map text entries
 
--- the writer stands between two lines
+-- the writer is between two lines
 module _ {W : Type 0} where
   pub record IsBetweenLines (w : Writer W) : Type 0 where
     pub setup : writer_setup w ≡ default_writer

@@ -31,7 +31,7 @@ use Rattle.acct_files.specs.Vouchers.{Fields, is_header, asked_by}
 
 -- ---- one record
 
--- what a record did that asks for this top-up, or for none, by what became of it
+-- the effect of a record that asks for this top-up, or for none, by its outcome
 abbrev pub Becomes : Result TopUpFacts Cause → Outcome → Effect → Type 0
 Becomes (Ok topup) outcome.Added effect = effect ≡ added (TopUp topup)
 Becomes (Ok topup) outcome.Repeated effect = effect ≡ repeated (TopUp topup)
@@ -70,7 +70,7 @@ is_refused outcome.Added = false
 is_refused outcome.Repeated = false
 is_refused (outcome.Refused cause) = true
 
--- the refused records with their numbers, of which the first record's is n
+-- the refused records with their numbers, if the first record has number n
 abbrev pub refused_from : ℕ → List Outcome → List Refused
 refused_from n [] = []
 refused_from n (outcome.Added ∷ outcomes) = refused_from (n + 1) outcomes
@@ -78,7 +78,7 @@ refused_from n (outcome.Repeated ∷ outcomes) = refused_from (n + 1) outcomes
 refused_from n (outcome.Refused cause ∷ outcomes) =
     record { number = n; cause = cause } ∷ refused_from (n + 1) outcomes
 
--- the report says what became of the records, the first of which is record 2
+-- the report counts the outcomes of the records, the first of which is record 2
 pub record CountsLines (outcomes : List Outcome) (report : ImportReport) : Type 0 where
   pub added : report.added ≡ count_by is_added outcomes
   pub repeated : report.repeated ≡ count_by is_repeated outcomes
@@ -105,7 +105,7 @@ abbrev pub has_header : List ℕ → Bool
 has_header text = option_map_or (λ read. is_header read.0)
     (next_record default_config st.StartRecord [] [] text) false
 
--- the records after the header that were taken, by why the import stopped, if it did
+-- the records after the header that were processed, by why the import stopped, if it did
 abbrev pub AreTaken : ℕ → List ℕ → Option Stopped → Option TopUpFacts → List Fields → Type 0
 AreTaken moment text None tried rows = AreAll text rows × (length rows ≤ 1000000)
 AreTaken moment text (Some stop.BadHeader) tried rows = (rows ≡ []) × (has_header text ≡ false)
@@ -117,7 +117,7 @@ AreTaken moment text (Some stop.Memory) tried rows = (rows ≡ []) ⊎ Begin tex
 AreTaken moment text (Some stop.TooMany) tried rows = (length rows ≡ 1000000) × (fields : Fields)
     × Begin text (rows ++ fields ∷ [])
 
--- a top-up whose call was answered Unavailable is there only where the import stopped for it
+-- a top-up whose call returned Unavailable is there only if the import stopped for it
 abbrev pub MayHaveTried : Option Stopped → Option TopUpFacts → Type 0
 MayHaveTried stopped None = ⊤
 MayHaveTried stopped (Some topup) = stopped ≡ Some stop.Unavailable
@@ -131,9 +131,10 @@ ImportLeaves plans history (Some topup) content =
     Stands plans content history ⊎ MayAdd plans history (TopUp topup) content
 
 module _ {B : Type 0} (b : Ghosts B) where
-  -- From a history to the one after it: the book stands for that while it is open, and a crash
-  -- leaves what stands for it, or for it with the top-up whose call failed, if before it left
-  -- nothing but what stood for the history.
+  -- From a history to the one after it. The book stands for the one after it while it is open.
+  -- Suppose that a crash of the old book leaves only contents that stand for the history. Then a
+  -- crash of the new book leaves one that stands for the one after it, perhaps with the top-up
+  -- whose call failed.
   pub record Moves (plans : List Plan) (history after : History) (tried : Option TopUpFacts)
       (old new : B) : Type 0 where
     pub stands : StoodFor b plans new after

@@ -12,8 +12,8 @@ use Rattle.acct_files.specs.Importing.{AreAll, Imported, is_refused}
 use Rattle.acct_files.specs.Exporting.{export_text, line, topup_fields, topup_header}
 use Rattle.acct_files.specs.Vouchers.{Fields, asked_by}
 
--- A line that one import added or repeated is a repeat in each later one that gets to it, whatever
--- was accepted between the two, and whichever plans were added.
+-- A line that one import added or repeated is a repeat in each later one that reaches it. That
+-- holds whatever was accepted between the two, and whichever plans were added.
 abbrev pub RepeatsLater : Type 0
 RepeatsLater =
     (plans later_plans : List Plan) (moment later : ℕ) (old mid between new : History)
@@ -70,9 +70,9 @@ Credits moment old (topup ∷ topups) (Repeated ∷ outcomes) new = ⊥
 Credits moment old (topup ∷ topups) (Refused cause ∷ outcomes) new =
     (cause ≡ BalanceLimit) × Credits moment old topups outcomes new
 
--- The first three columns of an export of top-ups are a text for an import: its records are the
--- header and a line for each top-up, each line asks for its top-up at the moment of the import,
--- and into an empty book each is added.
+-- The first three columns of an export of top-ups are a text for an import. Its records are the
+-- header and a line for each top-up. Each line asks for its top-up at the moment of the import.
+-- Into an empty book each is added.
 pub record CutExportIsTaken : Type 0 where
   pub lines : (topups : List TopUpFacts) → AreAll (cut_export topups) (map cut_fields topups)
   pub asks : (topup : TopUpFacts) (moment : ℕ) → MayBeKept topup

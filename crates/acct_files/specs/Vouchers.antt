@@ -54,7 +54,7 @@ asked_by moment fields = option_map_or
     (λ f. topup_asked moment f.0 (percent_decode f.1) (sum_of f.2))
     (three_of fields) (Err FieldCount)
 
--- the fault is the rule that the record breaks, or memory was refused
+-- the fault is the rule that the record breaks, or out of memory
 abbrev pub IsLineFault : Fault → Result TopUpFacts Cause → Type 0
 IsLineFault (fault.Refused cause) wanted = wanted ≡ Err cause
 IsLineFault fault.Memory wanted = ⊤

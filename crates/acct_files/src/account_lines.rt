@@ -1,4 +1,4 @@
-//! The exports of accounts: their balances, and what they overran.
+//! The exports of accounts: their balances, and their overdrafts.
 ghost use Rattle.std.specs.Prelude.{◌≡◌, [], ◌∷◌, ℕ, ℤ, List, None, IfOk, OnOk, option_map};
 ghost use Rattle.std.specs.Io.KnownBytes.{Appends};
 ghost use Rattle.csv.specs.Writing.{text_written};
@@ -10,8 +10,7 @@ ghost use Rattle.acct_files.specs.Exporting.{export_text};
 
 use crate::csv_lines::{ExportError, begin, push_number, push_shown, write_line};
 use crate::walk::{Export, write_members};
-use acct_book::{Book, Unavailable};
-use acct_pages::bodies::overrun;
+use acct_book::{Book, Unavailable, overrun};
 use csv::{ByteRecord, Writer};
 use std::alloc::Global;
 use std::io::Write;
@@ -21,7 +20,7 @@ use std::io::Write;
 pub enum AccountExport {
     /// The balance of each account, and by how much it is below 0.
     Balances,
-    /// By how much the balance of each account that is below 0 is so.
+    /// The overdraft of each account with a negative balance.
     Overruns,
 }
 

@@ -7,8 +7,8 @@ ghost use Rattle.acct_files.specs.inner.Reading.{IsWithinLimits};
 use std::io;
 use std::io::{ErrorKind, Read};
 
-/// A reader under limits. Where the limit of octets is passed, the octet past it is still handed on
-/// and the next read fails.
+/// A reader under limits. If the limit of octets is passed, the octet past it is still returned and
+/// the next read fails.
 #[derive(Drop)]
 pub struct Capped<R> {
     inner: R,
@@ -17,7 +17,7 @@ pub struct Capped<R> {
 }
 
 impl<R: Read> Capped<R> {
-    /// The reader, which may hand on this many octets in this many reads, and fails past either.
+    /// The reader, which may return this many octets in this many reads, and fails past either.
     pub fn new(inner: R, octets: u64, reads: u64) -> Capped<R>
         ensures remaining { ⟦<Capped<R> as Read>⟧.remaining result ≡ R.remaining inner }
         ensures octets { result.octets_left ≡ min (octets + 1) (2 ^ 64 - 1) }

@@ -14,16 +14,16 @@ use std::alloc::Global;
 use std::io::Write;
 use thiserror::Error;
 
-/// Why an export ended before its end. The writer is given up.
+/// Why an export stopped before its end. The writer is dropped.
 #[derive(Clone, Copy, PartialEq, Eq, Debug, Error)]
 pub enum ExportError {
-    /// The book refused.
+    /// The book is unavailable.
     #[error("the book is unavailable")]
     Unavailable = 1,
     /// The writer failed.
     #[error("the export cannot be written")]
     WriteFault = 2,
-    /// Memory was refused outside the book.
+    /// Out of memory, outside the book.
     #[error("out of memory")]
     Memory = 3,
 }
@@ -79,7 +79,7 @@ pub(crate) fn finish<W: Write + Drop>(lines: Writer<W>) -> Result<W, ExportError
     }
 }
 
-/// Adds a field that is its own text.
+/// Adds a field with this text as it is.
 pub(crate) fn push(fields: &mut ByteRecord, text: &[u8]) -> Result<(), ExportError>
     requires { partial_of fields.old ≡ [] }
     ensures fields { OnOk result (fields_of fields.new ≡ fields_of fields.old ++ text.now ∷ []) }

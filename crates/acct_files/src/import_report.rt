@@ -18,7 +18,7 @@ pub enum Cause {
     FieldCount = 1,
     /// The voucher's number isn't 1 to 32 of the characters `A` to `Z`, `0` to `9` and `-`.
     BadVoucher = 2,
-    /// The account, its escapes read, isn't 1 to 253 octets.
+    /// The account, percent-decoded, isn't 1 to 253 octets.
     BadAccount = 3,
     /// The sum isn't 1 to 13 digits, or isn't 1 to 10^12.
     BadSum = 4,
@@ -50,11 +50,11 @@ pub enum Stopped {
     BadHeader = 1,
     /// The reader failed, or the limit of octets or of reads was passed.
     Unreadable = 2,
-    /// The book refused, without a visible cause.
+    /// The book is unavailable, without a visible cause.
     Unavailable = 3,
-    /// Memory was refused outside the book.
+    /// Out of memory, outside the book.
     Memory = 4,
-    /// There is a record after the last of 1,000,000.
+    /// There are more than 1,000,000 records after the header.
     TooMany = 5,
 }
 
@@ -104,7 +104,6 @@ pub struct ImportReport {
     pub stopped: Option<Stopped>,
 }
 
-// It is written out, so that a caller does not prove again how each part is dropped.
 impl Drop for ImportReport {
     fn drop(self) {
         let ImportReport {
@@ -130,11 +129,11 @@ impl ImportReport {
         }
     }
 
-    /// Counts what became of the record of a number, which comes after those that were counted.
+    /// Counts the outcome of the record of this number, which follows those that were counted.
     ///
     /// # Errors
     ///
-    /// `Memory` where a refused record can't be kept. Nothing is then counted.
+    /// `Memory` if there is no memory to keep a refused record. Nothing is then counted.
     pub(crate) fn count(&mut self, number: u64, outcome: Outcome) -> Result<(), Stopped>
         requires added { self.old.added < 2 ^ 64 - 1 }
         requires repeated { self.old.repeated < 2 ^ 64 - 1 }

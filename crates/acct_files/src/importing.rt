@@ -29,9 +29,9 @@ const MOST_OCTETS: u64 = 67_108_864;
 /// The most reads of a text.
 const MOST_READS: u64 = 134_217_728;
 
-/// Records the vouchers of a text in a book, at a moment in seconds since 1970: a header, and then
-/// a voucher a record. The text is read as a stream. What was recorded before the import stopped
-/// stays.
+/// Records the vouchers of a text in a book. The text is a header, and then a voucher a record. It
+/// is read as a stream. `moment` is in seconds since 1970. What was recorded before the import
+/// stopped stays.
 pub fn import<R: Read + Drop, B: Book>(
     alloc: Global,
     reader: R,
@@ -71,7 +71,7 @@ fn rows_of<R: Read + Drop>(alloc: Global, text: R) -> Reader<Capped<R>>
         .from_reader(alloc, capped)
 }
 
-// The records of a text, from its start on.
+// Imports the records of a text, from its start on.
 fn import_rows<R: Read, B: Book>(
     alloc: Global,
     rows: &mut Reader<R>,
@@ -106,7 +106,7 @@ fn import_rows<R: Read, B: Book>(
     Ok(())
 }
 
-// Reads the first record, which is to be the header.
+// Reads the first record, which must be the header.
 fn read_header<R: Read>(rows: &mut Reader<R>, row: &mut ByteRecord) -> Result<(), Stopped>
     requires rows { IsAtRecord rows.old }
     requires start { reader_state rows.old ≡ st.StartRecord }
@@ -124,7 +124,7 @@ fn read_header<R: Read>(rows: &mut Reader<R>, row: &mut ByteRecord) -> Result<()
     Ok(())
 }
 
-// Reads a record, and tells whether there was one.
+// Reads a record, and returns whether there was one.
 fn read_row<R: Read>(rows: &mut Reader<R>, row: &mut ByteRecord) -> Result<bool, Stopped>
     requires { IsAtRecord rows.old }
     ensures read { IfOk result (λ found.
@@ -162,7 +162,7 @@ fn outcome_of<B: Book>(
     told(record(alloc, book, plans, &Entry::TopUp(topup)))
 }
 
-// What the answer of `record` says of a record of the text.
+// The outcome of a record of the text for which `record` returned this, or why the import stops.
 fn told(answer: Result<Recorded, RecordError>) -> Result<Outcome, Stopped>
     ensures { result ≡ told_by answer }
 {
@@ -175,7 +175,7 @@ fn told(answer: Result<Recorded, RecordError>) -> Result<Outcome, Stopped>
     }
 }
 
-// What a fault says of a record of the text.
+// The outcome of a record of the text with this fault, or why the import stops.
 fn refused(fault: Fault) -> Result<Outcome, Stopped>
     ensures { result ≡ refused_by fault }
 {

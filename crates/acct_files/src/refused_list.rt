@@ -12,7 +12,6 @@ pub struct RefusedList {
     pub records: Vec<Refused>,
 }
 
-// It is written out, so that a caller does not prove again how each part is dropped.
 impl Drop for RefusedList {
     fn drop(self) {
         let RefusedList { records: _ } = self;
@@ -45,7 +44,7 @@ impl RefusedList {
         &self.records
     }
 
-    /// Adds a record at the end, or nothing where memory is refused.
+    /// Adds a record at the end, or nothing if memory runs out.
     pub fn push(&mut self, refused: Refused) -> Result<(), NoMemory>
         ensures ok { OnOk result (self.new ≡ self.old ++ refused ∷ []) }
         ensures err { OnErr result (self.new ≡ self.old) }

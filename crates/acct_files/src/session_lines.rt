@@ -21,9 +21,9 @@ use csv::{ByteRecord, Writer};
 use std::alloc::Global;
 use std::io::Write;
 
-/// Writes a header and a line for each session, in the order of their keys: who it is, its octets
-/// and their price under these plans, its moments, and how it ended. It holds one session at a
-/// time.
+/// Writes a header and a line for each session, in the order of their keys. A line has the
+/// session's names, its octets and their price under these plans, its moments, and how it ended.
+/// The export holds one session at a time.
 ///
 /// # Errors
 ///
@@ -133,7 +133,7 @@ fn push_counts(fields: &mut ByteRecord, plans: &Plans, row: &Row) -> Result<(), 
     push_number(fields, row.last)
 }
 
-// How the session ended, and from where it was held.
+// How the session ended, its calling station and its address.
 fn push_end(alloc: Global, fields: &mut ByteRecord, row: &Row) -> Result<(), ExportError>
     requires { partial_of fields.old ≡ [] }
     ensures fields { OnOk result (fields_of fields.new

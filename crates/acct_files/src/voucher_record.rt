@@ -19,9 +19,9 @@ const MOST_DIGITS: usize = 13;
 /// Why a record asks for no top-up.
 #[derive(Clone, Copy, PartialEq, Eq, Debug)]
 pub enum Fault {
-    /// It breaks a rule, which is the first that it breaks.
+    /// The first rule that it breaks.
     Refused(Cause),
-    /// Memory was refused.
+    /// Out of memory.
     Memory,
 }
 
@@ -43,7 +43,7 @@ pub fn is_header(row: &ByteRecord) -> bool
 ///
 /// # Errors
 ///
-/// The first rule that the record breaks, in the order of `Cause`. `Memory` may stand in its place.
+/// The first rule that the record breaks, in the order of `Cause`, or `Memory` in its place.
 pub fn topup_in(alloc: Global, row: &ByteRecord, moment: u64) -> Result<TopUp, Fault>
     requires { moment < 2 ^ 53 }
     ensures asked { IfOk result (λ topup. asked_by moment (fields_of row.now) ≡ Ok topup) }

@@ -3,21 +3,20 @@ ghost use Rattle.std.specs.Prelude.{◌≡◌, ℕ, List, Option, None, IfOk, On
 ghost use Rattle.std.specs.Io.KnownBytes.{Appends};
 ghost use Rattle.csv.specs.Writing.{text_written};
 ghost use Rattle.acct_book.specs.Content.{Content};
+ghost use Rattle.acct_book.specs.Meets.{Meets};
 ghost use Rattle.acct_book.specs.Step.{Looks};
-ghost use Rattle.acct_desk.specs.inner.Walk.{Meets};
 ghost use Rattle.acct_files.specs.Exporting.{IsBetweenLines, line, export_text};
 ghost use Rattle.acct_files.specs.Vouchers.{Fields};
 
 use crate::csv_lines::{ExportError, finish};
-use acct_book::{Book, Unavailable};
-use acct_desk::WALK_LIMIT;
+use acct_book::{Book, Unavailable, WALK_LIMIT};
 use csv::{ByteRecord, Writer};
 use std::alloc::Global;
 use std::io::Write;
 
-/// What an export says of the members of one kind.
+/// How an export writes the members of one kind.
 pub(crate) trait Export {
-    /// By what a member is found.
+    /// The key that finds a member.
     type Key: Drop;
 
     /// What is written.
@@ -32,7 +31,7 @@ pub(crate) trait Export {
     /// The fields of the first line.
     ghost header: { Self → Fields };
 
-    /// What is written of a member.
+    /// The text that is written for a member.
     ghost text_of: { Self → Self.Member → List ℕ };
 
     /// A writer of lines that has written the header.
@@ -50,7 +49,7 @@ pub(crate) trait Export {
             → IfOk result (λ member. is_next (B.content book.old) after.now member) }
         ensures reads { Looks B.Book book.old book.new result };
 
-    /// Writes what is to be written of a member.
+    /// Writes the text for a member.
     fn write<W: Write + Drop>(
         &self,
         alloc: Global,
@@ -68,8 +67,8 @@ pub(crate) trait Export {
         ensures { result ≡ key_of member };
 }
 
-/// Writes the header, and then what is to be written of each member of the book, in the order of
-/// their keys. It holds one member at a time.
+/// Writes the header, and then the text for each member of the book, in the order of their keys. It
+/// holds one member at a time.
 ///
 /// # Errors
 ///
@@ -94,7 +93,7 @@ pub(crate) fn write_members<X: Export, B: Book, W: Write + Drop>(
     finish(lines)
 }
 
-// Writes what is to be written of each member, to a writer that has written the header.
+// Writes the text for each member, to a writer that has written the header.
 fn write_each<X: Export, B: Book, W: Write + Drop>(
     alloc: Global,
     book: &mut B,
@@ -111,7 +110,7 @@ fn write_each<X: Export, B: Book, W: Write + Drop>(
         → Meets (X.is_next (B.content book.old)) X.key_of None members)) }
 {
     let mut after: Option<X::Key> = None;
-    for _turn in 0..WALK_LIMIT {
+    for _ in 0..WALK_LIMIT {
         let Some(member) = X::next(book, &after)? else {
             return Ok(());
         };

@@ -1,7 +1,7 @@
 //! Configurations that are read, and the first faults of others.
-use acct_config::{Config, config_of};
 use acct_desk::{DeskKey, Role};
 use acct_model::{Count, Plan};
+use acct_site_config::{Config, config_of};
 use acct_wire::Client;
 use std::alloc::Global;
 use std::test::Fail;
@@ -13,7 +13,7 @@ static REFUSED: [Refused; 50] = [
     ("client = [", "NotToml in Top 0"),
     // TOML is tested before its names.
     ("nas = 1\nclient = [", "NotToml in Top 0"),
-    // No whole number has more than 64 bits, and no name stands twice.
+    // No whole number has more than 64 bits, and no name occurs twice.
     ("plan = [{block = 9223372036854775808}]", "NotToml in Top 0"),
     ("plan = []\nplan = []", "NotToml in Top 0"),
     ("nas = []", "BadShape in Top 0"),
@@ -65,7 +65,7 @@ static REFUSED: [Refused; 50] = [
         "client = [{name='a', address='1.2.3.4', secret=''}]",
         "BadClient in Client 0",
     ),
-    // A bad client before a table that comes after it and has not its shape, and after one.
+    // A bad client before a table of the wrong shape, and after one.
     (
         "client = [{name='a', address='1.2.3', secret='s'}, 2]",
         "BadClient in Client 0",
@@ -80,7 +80,7 @@ static REFUSED: [Refused; 50] = [
 {name='a', address='1.2.3', secret='s'}]",
         "BadClient in Client 1",
     ),
-    // The same name, and the same address, before a table that has not its shape.
+    // The same name, and the same address, before a table of the wrong shape.
     (
         "client = [{name='a', address='1.2.3.4', secret='s'},
 {name='a', address='1.2.3.5', secret='t'}, 3]",
@@ -111,7 +111,7 @@ static REFUSED: [Refused; 50] = [
         "plan = [{class='a', block=1, unit='1'}]",
         "BadShape in Plan 0",
     ),
-    // What a plan counts is a text, and stands for none of the other names.
+    // What a plan counts is a text, and replaces none of the other names.
     (
         "plan = [{class='a', block=1, unit=1, count=1}]",
         "BadShape in Plan 0",
@@ -163,7 +163,7 @@ static REFUSED: [Refused; 50] = [
         "plan = [{class='a', block=1, unit=0}, {class='a', block=1, unit=1000000001}, 3]",
         "BadPlan in Plan 1",
     ),
-    // An earlier plan before a table that has not its shape, and before that none is `default`.
+    // An earlier plan before a table of the wrong shape, and before that none is `default`.
     (
         "plan = [{class='a', block=1, unit=0}, {class='a', block=2, unit=3}, 3]",
         "TwicePlanned in Plan 1",
@@ -178,7 +178,7 @@ static REFUSED: [Refused; 50] = [
 {class='a', block=1, unit=0, count='out'}]",
         "TwicePlanned in Plan 1",
     ),
-    // That none is `default` is told before any key.
+    // That none is `default` is reported before any key.
     (
         "key = [{token='', account='al'}]\nplan = [{class='Default', block=1, unit=0}]",
         "NoDefault in Top 0",
@@ -224,7 +224,7 @@ static REFUSED_KEYS: [Refused; 17] = [
         "key = [{token='al-key-0000000001', cashier=false}]",
         "BadKey in Key 0",
     ),
-    // A bad key before a table that comes after it and has not its shape.
+    // A bad key before a table of the wrong shape.
     (
         "key = [{token='al-key-0000000001', account='al'}, {token='', account='al'}, 3]",
         "BadKey in Key 1",
@@ -282,8 +282,8 @@ fn first_faults_are_told(rt: HostRuntime) -> Result<(), Fail> {
     expect_faults(rt.alloc(), SITE, &REFUSED_ENDS)
 }
 
-// Arrays of so many numbers, and their first fault: they are refused as a whole where there are too
-// many, and at their first element where there are not.
+// Arrays of so many numbers, and their first fault. Those of too many are refused as a whole, and
+// the others at their first element.
 static ARRAYS: [(&str, usize, &str); 6] = [
     ("client", 1024, "BadShape in Client 0"),
     ("client", 1025, "BadShape in Top 0"),
@@ -393,7 +393,7 @@ pub(crate) fn is_plan(plan: &Plan, class: &[u8], block: u64, unit: u64) -> bool 
         && (plan.block, plan.unit, plan.count) == (block, unit, Count::Both)
 }
 
-// Whether a key has a token and is that of an account, or of the cashier where there is none.
+// Whether a key has a token and is that of an account, or of the cashier if there is none.
 pub(crate) fn is_key(key: &DeskKey, token: &str, account: Option<&[u8]>) -> bool {
     let owner = match &key.role {
         Role::Account(octets) => Some(octets.as_slice()),

@@ -1,12 +1,12 @@
-//! Tests of the four exports: their texts, and what they tell of a writer and a book that fail.
+//! Tests of the four exports: their texts, and their errors if the writer or the book fails.
 use crate::imports::VOUCHERS;
 use acct_book::{Book, MemBook, Row, SessionState};
-use acct_fakes::FailingBook;
+use acct_book_fakes::FailingBook;
 use acct_files::{
     ExportError, export_balances, export_overruns, export_sessions, export_topups, import,
 };
 use acct_model::{Octets, Plans, Text};
-use acct_samples::sample_plans;
+use acct_site::sample_plans;
 use std::alloc::Global;
 use std::io;
 use std::io::{ErrorKind, Write};
@@ -37,8 +37,8 @@ impl Export {
     }
 }
 
-// An export of the sold book: its text, how many writes of 16 octets it takes, and the first call
-// of the book that it doesn't make.
+// An export of the sold book: its text, how many writes of 16 octets it takes, and the first book
+// call that it doesn't make.
 #[derive(Clone, Copy)]
 pub(crate) struct Download {
     pub(crate) export: Export,
@@ -94,8 +94,8 @@ struct Line {
     framed: Option<[u8; 4]>,
 }
 
-// Nothing stands in the fields of the first that may be empty. In each field of the second another
-// value stands, and what can be escaped or quoted is. The last is the balance of the account.
+// In the first, each field that may be empty is. In the second, each field has another value, and
+// what can be escaped or quoted is. The last is the balance of the account.
 static LINES: [(Line, i64); 2] = [
     (
         Line {
@@ -164,7 +164,7 @@ pub(crate) fn sell(alloc: Global, plans: &Plans, book: &mut MemBook) -> Result<(
     put_sessions(alloc, book, &LINES)
 }
 
-// Takes 16 octets a write at most, and fails once it has been written to so often.
+// Accepts 16 octets a write at most, and fails after so many writes.
 #[derive(Drop)]
 struct FailingWriter {
     taken: Vec<u8>,
@@ -189,7 +189,7 @@ impl Write for FailingWriter {
     }
 }
 
-// Whether an export is whole with so many writes. Else it is to tell a fault of the writer.
+// Whether an export is whole with so many writes. Else it must return `WriteFault`.
 fn is_written<B: Book>(
     alloc: Global,
     plans: &Plans,
@@ -236,7 +236,7 @@ fn failed_writes_are_told(rt: HostRuntime) -> Result<(), Fail> {
     expect_writes(rt.alloc(), &DOWNLOADS)
 }
 
-// Whether an export is whole over a book that refuses this call. Else it is to tell the refusal.
+// Whether an export is whole over a book that fails this call. Else it must return `Unavailable`.
 fn is_told(
     alloc: Global,
     plans: &Plans,

@@ -1,16 +1,16 @@
 //! Texts of vouchers that are imported, and readers and books that fail under an import.
 use crate::exports::TOPUPS;
 use acct_book::{Book, MemBook};
-use acct_fakes::FailingBook;
+use acct_book_fakes::FailingBook;
 use acct_files::{Cause, Refused, Stopped, export_balances, export_topups, import};
 use acct_model::Plans;
-use acct_samples::sample_plans;
+use acct_site::sample_plans;
 use std::alloc::Global;
 use std::io;
 use std::io::{ErrorKind, Read};
 use std::test::Fail;
 
-// A text and what its import says: added, repeated, the refused records and why it stopped.
+// A text and what its import reports: added, repeated, the refused records and why it stopped.
 #[derive(Clone, Copy)]
 struct Upload {
     text: &'static [u8],
@@ -50,8 +50,8 @@ static UPLOADS: [Upload; 9] = [
         ],
         stopped: None,
     },
-    // A mark of the order of bytes, a quoted header, line ends of all kinds, blank lines, a quoted
-    // field with a comma, a quote and a line end, and a last record without a line end.
+    // A byte order mark, a quoted header, line ends of all kinds and blank lines. A quoted field
+    // with a comma, a quote and a line end, and a last record without a line end.
     Upload {
         text: b"\xEF\xBB\xBF\"voucher\",account,sum\r\n\r\n\"V-3\",\"a,\"\"b
 c\",7\rV-4,a%2Cb,0000000000008",
@@ -59,7 +59,7 @@ c\",7\rV-4,a%2Cb,0000000000008",
         refused: &[],
         stopped: None,
     },
-    // Fields that are no text: a number and a sum are refused, an account is taken as it stands.
+    // Fields that are no text: a number and a sum are refused, an account is accepted as it is.
     Upload {
         text: b"voucher,account,sum\n\xFF,al,5\nV-5,\xFF,6\nV-6,al,\xFF\nV-7,,1\nV-5,%ff,6\n",
         counts: (1, 1),
@@ -135,7 +135,7 @@ C,al,1000000000001\nD,al,+1\nE,al, 1\n",
     },
 ];
 
-// Whether the import of a text says what it is to say.
+// Whether the import of a text reports what is expected.
 fn says<R: Read + Drop, B: Book>(
     alloc: Global,
     plans: &Plans,
@@ -149,14 +149,14 @@ fn says<R: Read + Drop, B: Book>(
         && report.stopped == upload.stopped
 }
 
-// Whether this upload into an empty book says what it is to say.
+// Whether this upload into an empty book reports what is expected.
 fn is_imported(alloc: Global, upload: &Upload) -> Result<bool, Fail> {
     let plans = sample_plans(alloc)?;
     let mut book = MemBook::new(alloc);
     Ok(says(alloc, &plans, &mut book, upload.text, upload))
 }
 
-// Fails at the first upload that says something else.
+// Fails at the first upload that reports something else.
 fn expect_imports(alloc: Global, uploads: &[Upload]) -> Result<(), Fail> {
     for i in 0..uploads.len() {
         if !is_imported(alloc, &uploads[i])? {
@@ -217,7 +217,7 @@ fn a_second_upload_credits_nothing(rt: HostRuntime) -> Result<(), Fail> {
     Ok(())
 }
 
-// Whether a book that refuses its call of this number stops the import after so many vouchers.
+// Whether a book that fails its call of this number stops the import after so many vouchers.
 fn stops(alloc: Global, call: u64, added: u64) -> Result<bool, Fail> {
     let plans = sample_plans(alloc)?;
     let mut book = FailingBook::new(MemBook::new(alloc), call);
@@ -230,7 +230,7 @@ fn stops(alloc: Global, call: u64, added: u64) -> Result<bool, Fail> {
     Ok(says(alloc, &plans, &mut book, VOUCHERS, &upload))
 }
 
-// Calls of the book that are refused, and how many vouchers were added before.
+// Calls of the book that fail, and how many vouchers were added before.
 static STOPS: [(u64, u64); 7] = [(1, 0), (2, 0), (3, 0), (4, 1), (5, 1), (6, 1), (7, 2)];
 
 // Fails at the first call that stops the import elsewhere.
@@ -248,7 +248,7 @@ fn refused_calls_stop(rt: HostRuntime) -> Result<(), Fail> {
     expect_stops(rt.alloc(), &STOPS)
 }
 
-// Gives its text one octet a read, and fails once it has been read so often.
+// Returns its text one octet a read, and fails after so many reads.
 #[derive(Drop)]
 struct FailingReader {
     text: &'static [u8],
@@ -266,8 +266,8 @@ impl Read for FailingReader {
     }
 }
 
-// What an import tells of the vouchers where its reader fails after so many reads: how many were
-// added, how many refused, and why it stopped.
+// What an import of the vouchers reports if its reader fails after so many reads: how many added,
+// how many refused, and why it stopped.
 fn read_until(alloc: Global, reads_left: u64) -> Result<(u64, usize, Option<Stopped>), Fail> {
     let plans = sample_plans(alloc)?;
     let mut book = MemBook::new(alloc);
@@ -280,7 +280,7 @@ fn read_until(alloc: Global, reads_left: u64) -> Result<(u64, usize, Option<Stop
     Ok((report.added, refused, report.stopped))
 }
 
-// What is told after so many reads. The records end at octets 31, 42 and 53.
+// What is reported after so many reads. The records end at octets 31, 42 and 53.
 fn told_after(reads: u64) -> (u64, usize, Option<Stopped>) {
     let added = u64::from(reads >= 31) + u64::from(reads >= 42);
     let refused = usize::from(reads >= 53);

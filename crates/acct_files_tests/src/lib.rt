@@ -1,4 +1,4 @@
-//! Tests of `acct_files`, of its public calls alone.
+//! Tests of `acct_files`, only of its public calls.
 #![tactic(auto)]
 
 #[cfg(test)]

@@ -2,9 +2,9 @@
 use acct_files::Capped;
 use std::io::Read;
 
-// Limits of octets and of reads, how many octets of six are then handed on, one a read, and whether
-// the end of the text is told. The read that tells the end counts, and the octet past the limit is
-// handed on.
+// Limits of octets and of reads, how many octets of six are then returned, one a read, and whether
+// the end is reached. The read that reaches the end counts, and the octet past the limit is
+// returned.
 const LIMITS: &[(u64, u64, (usize, bool))] = &[
     (6, 7, (6, true)),
     (5, 9, (6, false)),
@@ -27,7 +27,7 @@ fn handed_on(octets: u64, reads: u64) -> (usize, bool) {
     (10, false)
 }
 
-// The first row that isn't as it is to be.
+// The first row that isn't as expected.
 fn failing() -> Option<(u64, u64)> {
     for (octets, reads, told) in LIMITS {
         if handed_on(*octets, *reads) != *told {

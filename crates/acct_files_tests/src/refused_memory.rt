@@ -1,21 +1,21 @@
-//! Calls that may be refused memory, once and at any place.
+//! Calls that may run out of memory, once and at any place.
 //!
-//! Each call gives the answer that it gives with ample memory, or tells the refusal. What it is
-//! asked of stays as it was: the same call, asked again, gives the whole answer.
+//! Each call gives the answer that it gives with ample memory, or reports that memory ran out. What
+//! it was called on stays as it was: the same call, made again, gives the whole answer.
 use crate::config::{SITE, is_sample_site};
 use crate::exports::{DOWNLOADS, Download, sell};
 use crate::imports::VOUCHERS;
 use acct_book::{Book, MemBook};
-use acct_config::{ConfigKind, config_of};
 use acct_files::{ExportError, Stopped, import};
 use acct_model::Plans;
-use acct_samples::sample_plans;
+use acct_site::sample_plans;
+use acct_site_config::{ConfigKind, config_of};
 use std::alloc::Global;
 use std::io;
 use std::io::{ErrorKind, Write};
 use std::test::Fail;
 
-// Whether the sample site is read, or memory for it was refused.
+// Whether the sample site is read, or memory for it ran out.
 fn is_site_or_refused(alloc: Global) -> bool {
     match config_of(alloc, SITE) {
         Ok(config) => is_sample_site(&config),
@@ -29,7 +29,7 @@ fn a_site_is_read_or_refused(rt: HostRuntime) -> Result<(), Fail> {
     Ok(())
 }
 
-// How many vouchers an import tells as added, repeated and refused, and why it stopped.
+// How many vouchers an import reports as added, repeated and refused, and why it stopped.
 type Told = (u64, u64, usize, Option<Stopped>);
 
 fn upload(alloc: Global, plans: &Plans, book: &mut MemBook) -> Told {
@@ -47,7 +47,7 @@ fn balances_after(added: u64) -> (i64, i64) {
     }
 }
 
-// Whether an import is whole, or was refused memory and the one after it does the rest.
+// Whether an import is whole, or ran out of memory and the one after it does the rest.
 fn is_done(first: Told, again: Told) -> bool {
     match first {
         (added, 0, 0, Some(Stopped::Memory | Stopped::Unavailable)) => {
@@ -74,7 +74,7 @@ fn vouchers_are_credited_or_refused(rt: HostRuntime) -> Result<(), Fail> {
     Ok(())
 }
 
-// Takes the octets of a text in their order and no others, without memory of its own.
+// Accepts the octets of a text in their order and no others, and allocates nothing.
 #[derive(Drop)]
 struct Comparing {
     left: &'static [u8],
@@ -96,7 +96,7 @@ impl Write for Comparing {
     }
 }
 
-// Whether an export wrote its whole text, or nothing where memory was refused.
+// Whether an export wrote its whole text, or nothing if memory ran out.
 fn is_whole(answer: Result<Comparing, ExportError>) -> Option<bool> {
     match answer {
         Ok(writer) => Some(writer.left.is_empty()),
@@ -105,7 +105,7 @@ fn is_whole(answer: Result<Comparing, ExportError>) -> Option<bool> {
     }
 }
 
-// Whether of two answers one is whole, and the other is too or was refused memory.
+// Whether of two answers one is whole, and the other is too or ran out of memory.
 fn are_whole(first: Result<Comparing, ExportError>, again: Result<Comparing, ExportError>) -> bool {
     match (is_whole(first), is_whole(again)) {
         (Some(first), Some(again)) => first && again,

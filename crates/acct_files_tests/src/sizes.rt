@@ -1,16 +1,16 @@
 //! A long configuration, and an upload of which many records are refused.
 use crate::config::{is_client, is_key, is_plan};
 use acct_book::MemBook;
-use acct_config::{Config, config_of};
 use acct_desk::DeskKey;
 use acct_files::{Cause, Refused, import};
 use acct_model::Plan;
-use acct_samples::sample_plans;
+use acct_site::sample_plans;
+use acct_site_config::{Config, config_of};
 use acct_wire::Client;
 use std::alloc::Global;
 use std::test::Fail;
 
-// How many tables of each kind stand after the plan `default`, and one of them, with its number for
+// How many tables of each kind follow the plan `default`, and one of them, with its number for
 // each `#`.
 static TABLES: [(u16, &str); 3] = [
     (
@@ -142,7 +142,7 @@ fn are_refused(refused: &[Refused]) -> bool {
     refused.len() == 300
 }
 
-// Whether an import says so of each bad record of a long upload, and of nothing else.
+// Whether an import reports each bad record of a long upload, and nothing else.
 fn tells_all(alloc: Global) -> Result<bool, Fail> {
     let upload = bad_upload(alloc)?;
     let plans = sample_plans(alloc)?;

@@ -1,4 +1,4 @@
--- The first fault of a list, from a place on and where there is none.
+-- The first fault of a list, from a place on and if there is none.
 use Rattle.std.proofs.Common.{◌≡◌, ℕ, ◌+◌, ◌<◌, ◌≤◌, inl, inr, Option, None, Some, List, [], ◌∷◌}
 use Rattle.std.proofs.Common.{◌++◌, length, take, drop, get_or, refl, sym, ◌∙◌, ap, subst}
 use Rattle.std.proofs.lemmas.List.{drop_more, take_more, drop_all, append-nil, append_assoc}

@@ -1,19 +1,27 @@
 -- To carry sessions forward moves no balance.
-use Rattle.std.proofs.Common.{◌≡◌, ℕ, ◌+◌, ◌*◌, ◌<◌, ◌≤◌, ◌⊎◌, inl, inr, Bool, true, false, cond, ◌||◌, List, [], ◌∷◌, refl, sym, ◌∙◌, ap, subst, arith, true≢false}
+use Rattle.std.proofs.Common.{◌≡◌, ℕ, ◌+◌, ◌*◌, ◌<◌, ◌≤◌, ◌⊎◌, inl, inr, Bool, true, false, cond}
+use Rattle.std.proofs.Common.{◌||◌, List, [], ◌∷◌, refl, sym, ◌∙◌, ap, subst, arith, true≢false}
 use Rattle.std.proofs.Math.Nat.{le_of_mul-le-mul_right}
 use Rattle.std.specs.Prelude.{pos, ◌-ℤ◌, bytes_eq, max, Option, Some, None, Contains}
 use Rattle.acct_model.specs.declared.plan.Plan.{Plan}
 use Rattle.acct_model.specs.Report.{ReportFacts}
 use Rattle.acct_model.specs.Plans.{started_blocks, price_under}
-use Rattle.acct_model.specs.History.{Accepted, History, SessionName, session_of, reports, first_of, same_session, is_owner, plan_of, counted_of, greatest_counted, cost_of, charge_of, share, charged, credited, balance_of, is_known, all_topups}
+use Rattle.acct_model.specs.History.{Accepted, History, SessionName, session_of, reports, first_of}
+use Rattle.acct_model.specs.History.{same_session, is_owner, plan_of, counted_of, greatest_counted}
+use Rattle.acct_model.specs.History.{cost_of, charge_of, share, charged, credited, balance_of}
+use Rattle.acct_model.specs.History.{is_known, all_topups}
 use Rattle.acct_model.specs.Laws.{OwnsSession, OwnsVoucher}
-use Rattle.acct_model.specs.Forward.{without, CarriesForward, forwarded, ForwardMovesNothing, without_all, blocks_of, AreOf, RaisesBy}
+use Rattle.acct_model.specs.Forward.{without, CarriesForward, forwarded, ForwardMovesNothing}
+use Rattle.acct_model.specs.Forward.{without_all, blocks_of, AreOf, RaisesBy}
 use Rattle.acct_model.proofs.Same.{Decides-bytes_eq, Decides-same_session}
 use Rattle.acct_model.proofs.Blocks.{IsLeastBlocks-started}
-use Rattle.acct_model.proofs.Balances.{first_of-none, first_of-more, cost_before, cost_after, charged-report, before-none, before-known, charge-own, plan-later}
+use Rattle.acct_model.proofs.Balances.{first_of-none, first_of-more, cost_before, cost_after}
+use Rattle.acct_model.proofs.Balances.{charged-report, before-none, before-known, charge-own}
+use Rattle.acct_model.proofs.Balances.{plan-later}
 use Rattle.acct_model.proofs.Known.{is_known-report}
 use Rattle.acct_model.proofs.Members.{known_own}
-use Rattle.acct_model.proofs.Without.{reports-kept, reports-gone, topups-without, charged-without, credited-without}
+use Rattle.acct_model.proofs.Without.{reports-kept, reports-gone, topups-without, charged-without}
+use Rattle.acct_model.proofs.Without.{credited-without}
 use Rattle.std.proofs.Math.Nat.{le_of_mul-le-mul_right}
 use Rattle.acct_model.specs.declared.plan.Plan.{Plan}
 use Rattle.acct_model.specs.declared.entry.Entry.TheVariants as entry

@@ -1,6 +1,6 @@
 -- the least blocks that cover octets
 pub mod Blocks
--- the first fault of a list from a place on, and what passes where there is none
+-- the first fault of a list from a place on, and what passes if there is none
 pub mod Faults
 -- what plans without a fault keep, and that each class then has a plan
 pub mod PlanFaults

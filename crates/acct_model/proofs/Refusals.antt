@@ -8,10 +8,10 @@ use Rattle.std.proofs.lemmas.List.{drop_more}
 use Rattle.std.specs.Prelude.{is_none, nat_le, option_and_then}
 use Rattle.std.specs.List.{list_any}
 use Rattle.radius_codec.specs.Attributes.{value_of, word}
-use Rattle.acct_model.specs.declared.reading.EntryError.{EntryError}
-use Rattle.acct_model.specs.declared.reading.EntryError.TheVariants.{NoStatus, UnknownStatus}
-use Rattle.acct_model.specs.declared.reading.EntryError.TheVariants.{NoSessionId, BadField}
-use Rattle.acct_model.specs.declared.reading.EntryError.TheVariants.{TotalTooLarge, Memory}
+use Rattle.acct_model.specs.declared.entry_reader.EntryError.{EntryError}
+use Rattle.acct_model.specs.declared.entry_reader.EntryError.TheVariants.{NoStatus, UnknownStatus}
+use Rattle.acct_model.specs.declared.entry_reader.EntryError.TheVariants.{NoSessionId, BadField}
+use Rattle.acct_model.specs.declared.entry_reader.EntryError.TheVariants.{TotalTooLarge, Memory}
 use Rattle.acct_model.specs.declared.report.ReportKind.{ReportKind}
 use Rattle.acct_model.specs.Entries.{Attributes, report_fault, refusal_of, status_fault, is_restart}
 use Rattle.acct_model.specs.Entries.{kind_of, has_bad_number, input_of, output_of, RefusesEntry}

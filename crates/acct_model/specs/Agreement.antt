@@ -18,7 +18,7 @@ abbrev pub BalancesAreEqual : List Plan → History → History → Type 0
 BalancesAreEqual plans these those =
     (account : List ℕ) → balance_of plans these account ≡ balance_of plans those account
 
--- each addition is of plans whose classes no report bears that was accepted before it
+-- each addition is of plans whose classes no report has that was accepted before it
 abbrev pub AddsForNone : History → Type 0
 AddsForNone [] = Unit {0}
 AddsForNone (Accepted next ∷ older) = AddsForNone older
@@ -27,11 +27,11 @@ AddsForNone (PlansAdded added ∷ older) =
     → list_any (has_class report.class) added ≡ false)
     × AddsForNone older
 
--- What a balance depends on: the claims of a history, and of a consistent one not on their order or
--- number, where plans were added only for classes that no report accepted before bears. The plans
--- are those in force at the end of both.
+-- What a balance depends on: the claims of a history. It does not depend on their order or number,
+-- if the history is consistent and plans were added only for classes that no report accepted before
+-- has. The plans are those in force at the end of both.
 pub record BalancesAgree : Type 0 where
-  -- a balance depends on the claims alone: not on moments, delays and all else that an entry says,
+  -- a balance depends only on the claims: not on moments, delays and all else that an entry says,
   -- and not on restarts
   pub by_claims : (plans : List Plan) (these those : History)
       → AddsForNone these → AddsForNone those → claims these ≡ claims those

@@ -1,4 +1,4 @@
--- The course of a history in which sessions are carried forward now and then, beside the one in
+-- The course of a history in which sessions are carried forward now and then, next to the one in
 -- which none were.
 use Rattle.std.specs.Prelude.{◌≡◌, ◌≤◌, Bool, false, None, List, [], ◌∷◌, ◌++◌, Contains}
 use Rattle.std.specs.List.{list_any}
@@ -35,7 +35,7 @@ pub data Move : Type 0 where
   -- a batch of sessions is carried forward
   carries : Batch → Move
 
--- from one moment to the next: no report comes of a session that was set aside
+-- from one moment to the next: no report is received of a session that was set aside
 abbrev pub Moves : Course → Move → Course → Type 0
 Moves old (accepts next) new =
     (is_of_aside (is_among old.aside) next ≡ false)
@@ -67,8 +67,8 @@ abbrev pub begun : List Plan → Course
 begun plans = record { plans = plans; whole = []; kept = []; aside = [] }
 
 -- What was sent counts in the end as if nothing had been lost, repeated or reordered, and as if
--- nothing had been carried forward: where the sent entries are consistent, nothing else was
--- accepted, each top-up was, and each report is covered by an accepted one of its session.
+-- nothing had been carried forward. The sent entries must be consistent, and nothing else accepted.
+-- Each top-up must be accepted, and each report covered by an accepted one of its session.
 abbrev pub ForwardSettles : Type 0
 ForwardSettles = (plans : List Plan) (sent : History) (moves : List Move) (last : Course)
     → Goes (begun plans) moves last

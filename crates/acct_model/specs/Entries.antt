@@ -12,10 +12,10 @@ use Rattle.acct_model.specs.declared.entry.Entry.{Entry}
 use Rattle.acct_model.specs.declared.entry.Entry.TheVariants as entry
 use Rattle.acct_model.specs.declared.report.ReportKind.{ReportKind}
 use Rattle.acct_model.specs.declared.report.ReportKind.TheVariants.{Start, Stop, Interim}
-use Rattle.acct_model.specs.declared.reading.EntryError.{EntryError}
-use Rattle.acct_model.specs.declared.reading.EntryError.TheVariants.{NoStatus, UnknownStatus}
-use Rattle.acct_model.specs.declared.reading.EntryError.TheVariants.{NoSessionId, BadField}
-use Rattle.acct_model.specs.declared.reading.EntryError.TheVariants.{TotalTooLarge, Memory}
+use Rattle.acct_model.specs.declared.entry_reader.EntryError.{EntryError}
+use Rattle.acct_model.specs.declared.entry_reader.EntryError.TheVariants.{NoStatus, UnknownStatus}
+use Rattle.acct_model.specs.declared.entry_reader.EntryError.TheVariants.{NoSessionId, BadField}
+use Rattle.acct_model.specs.declared.entry_reader.EntryError.TheVariants.{TotalTooLarge, Memory}
 
 -- type and value of each attribute, in their order
 abbrev pub Attributes : Type 0
@@ -25,16 +25,16 @@ Attributes = List (ℕ × List ℕ)
 abbrev pub octets_at : ℕ → Attributes → List ℕ
 octets_at kind attributes = unwrap_or (value_of kind attributes) []
 
--- a value read as a number: 0 where it is absent, none where it has not four octets
+-- a value read as a number: 0 if it is absent, none if it has not four octets
 abbrev pub number_in : Option (List ℕ) → Option ℕ
 number_in None = Some 0
 number_in (Some value) = word value
 
--- the first number of a type, 0 where it is absent
+-- the first number of a type, 0 if it is absent
 abbrev pub number_at : ℕ → Attributes → Option ℕ
 number_at kind attributes = number_in (value_of kind attributes)
 
--- the number, where it is one
+-- the number, if it is one
 abbrev pub count_at : ℕ → Attributes → ℕ
 count_at kind attributes = unwrap_or (number_at kind attributes) 0
 
@@ -87,7 +87,7 @@ report_fault attributes =
     else if nat_le (2 ^ 63) (input_of attributes + output_of attributes) then Some TotalTooLarge
     else None
 
--- what is wrong with attributes of this status value; of a restart nothing else is looked at
+-- what is wrong with attributes of this status value; of a restart nothing else is read
 abbrev pub status_fault : Attributes → Option ℕ → Option EntryError
 status_fault attributes None = Some UnknownStatus
 status_fault attributes (Some status) =
@@ -101,7 +101,7 @@ refusal_of attributes =
     if is_none (value_of types.ACCT_STATUS_TYPE attributes) then Some NoStatus
     else status_fault attributes (status_of attributes)
 
--- The report of a kind that the attributes of a client's packet spell, which came at a moment.
+-- The report of a kind that the attributes of a client's packet spell, received at a moment.
 abbrev pub report_of : List ℕ → Attributes → ℕ → ReportKind → ReportFacts
 report_of name attributes moment reported = record {
   client = name;
@@ -128,7 +128,7 @@ IsEntryOf name attributes moment (entry.Restart restart) =
     × (restart.client ≡ name)
 IsEntryOf name attributes moment (entry.TopUp topup) = ⊥
 
--- an error is the first refusal, or memory was refused where none holds
+-- an error is the first refusal, or out of memory if none holds
 abbrev pub RefusesEntry : Option EntryError → EntryError → Type 0
 RefusesEntry refusal NoStatus = refusal ≡ Some NoStatus
 RefusesEntry refusal UnknownStatus = refusal ≡ Some UnknownStatus

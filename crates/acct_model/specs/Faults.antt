@@ -12,7 +12,7 @@ first_fault_after fault earlier (x ∷ later) =
 abbrev pub first_fault : {X E : Type 0} → (List X → X → Option E) → List X → Option E
 first_fault fault list = first_fault_after fault [] list
 
--- What an error is: the fault, or the given one where there is no fault.
+-- What an error is: the fault, or the given one if there is no fault.
 abbrev pub fault_or : {E : Type 0} → E → Option E → E
 fault_or other None = other
 fault_or other (Some fault) = fault

@@ -11,7 +11,8 @@ use Rattle.acct_model.specs.Report.{ReportFacts}
 use Rattle.acct_model.specs.Plans.{started_blocks}
 use Rattle.acct_model.specs.History.{Accepted, PlansAdded, History, SessionName, session_of}
 use Rattle.acct_model.specs.History.{same_session, reports, first_of, opening_of, plan_of}
-use Rattle.acct_model.specs.History.{counted_of, greatest_counted, charge_of, all_topups, balance_of}
+use Rattle.acct_model.specs.History.{counted_of, greatest_counted, charge_of, all_topups}
+use Rattle.acct_model.specs.History.{balance_of}
 use Rattle.acct_model.specs.History.{is_known}
 use Rattle.acct_model.specs.Agreement.{BalancesAreEqual}
 use Rattle.acct_model.specs.declared.entry.Entry.{Entry}
@@ -93,8 +94,8 @@ pub record RaisesBy (plans : List Plan) (history : History) (report : ReportFact
       ≡ blocks * plan.block
   pub raised : counted_of (Some plan) report ≡ (blocks + more) * plan.block
 
--- The report carries these sessions forward, of which there is at least one: it is of another
--- session of their account and plan, and counts the blocks that they had started more than that
+-- The report carries these sessions forward, of which there is at least one. It is of another
+-- session of their account and plan. It counts the blocks that they had started more than that
 -- session had counted.
 pub record CarriesForward (plans : List Plan) (history : History) (name : SessionName)
     (names : List SessionName) (report : ReportFacts) : Type 0 where
@@ -108,7 +109,7 @@ pub record CarriesForward (plans : List Plan) (history : History) (name : Sessio
 abbrev pub forwarded : History → List SessionName → ReportFacts → History
 forwarded history names report = Accepted (entry.Report report) ∷ without_all names history
 
--- To carry sessions forward moves no balance, and the same accounts are known.
+-- Carrying sessions forward moves no balance, and the same accounts are known.
 pub record ForwardMovesNothing : Type 0 where
   pub balances : (plans : List Plan) (history : History) (name : SessionName)
       (names : List SessionName) (report : ReportFacts)
@@ -144,10 +145,10 @@ CarriesBatches plans history (batch ∷ batches) after =
     (mid : History) × CarriesBatch plans history batch mid
     × CarriesBatches plans mid batches after
 
--- ---- what comes after
+-- ---- what is accepted after
 
--- Two histories that go on alike: but for the sessions that were set aside they have the same
--- reports and plans, they have the same top-ups, and every account has one balance in both.
+-- Two histories that go on alike: except for the sessions that were set aside they have the same
+-- reports and plans. They have the same top-ups, and every account has one balance in both.
 pub record GoOnAlike (plans : List Plan) (is_aside : SessionName → Bool)
     (whole kept : History) : Type 0 where
   pub balances : BalancesAreEqual plans whole kept
@@ -163,9 +164,9 @@ is_of_aside is_aside (entry.Report report) = is_aside (session_of report)
 is_of_aside is_aside (entry.Restart restart) = false
 is_of_aside is_aside (entry.TopUp topup) = false
 
--- Where sessions are carried forward and no report of them comes later, the history goes on as the
--- one in which nothing was carried forward: whatever is accepted moves the same balances, whatever
--- plans are added, and whichever sessions are carried forward later.
+-- If sessions are carried forward and no report of them is received later, the history goes on as
+-- the one in which nothing was. Whatever is accepted moves the same balances, whatever plans are
+-- added, and whichever sessions are carried forward later.
 pub record ForwardGoesOn : Type 0 where
   pub begins : (plans : List Plan) (is_aside : SessionName → Bool) (history : History)
       → GoOnAlike plans is_aside history history

@@ -1,9 +1,9 @@
 -- What a history says of sessions, vouchers and balances.
 --
 -- A history is the list of what was accepted and of the plans that were added, **the newest
--- first**: with one more entry e a history H is Accepted e ∷ H, and what was accepted first stands
--- deepest. It holds no totals and no balances: each is computed from its members alone. The plans
--- beside a history are those in force at its end; before an addition they are these without the
+-- first**. With one more entry e a history H is Accepted e ∷ H, and what was accepted first is
+-- deepest. It holds no totals and no balances: each is computed only from its members. The plans
+-- given with a history are those in force at its end. Before an addition they are these without the
 -- added ones.
 use Rattle.std.specs.Prelude.{◌≡◌, ℕ, ◌^◌, max, Bool, false, ◌&&◌, ◌||◌, Option, None, Some, List}
 use Rattle.std.specs.Prelude.{[], ◌∷◌, if◌then◌else◌, map, ℤ, pos, ◌-ℤ◌, ◌≤ℤ◌, ◌==◌, bytes_eq}
@@ -68,7 +68,7 @@ abbrev pub reports : History → SessionName → List ReportFacts
 reports history name =
     filter (λ report. same_session name (session_of report)) (all_reports history)
 
--- each element once: one that stands again deeper in the list is left out
+-- each element once: one that occurs again deeper in the list is left out
 abbrev pub distinct : {X : Type 0} → (X → X → Bool) → List X → List X
 distinct same [] = []
 distinct same (x ∷ xs) = if list_any (same x) xs then distinct same xs else x ∷ distinct same xs
@@ -77,7 +77,7 @@ distinct same (x ∷ xs) = if list_any (same x) xs then distinct same xs else x 
 abbrev pub sessions : History → List SessionName
 sessions history = distinct same_session (map session_of (all_reports history))
 
--- what was accepted first, which stands deepest
+-- what was accepted first, which is deepest
 abbrev pub first_of : {X : Type 0} → List X → Option X
 first_of [] = None
 first_of (x ∷ older) = option_or (first_of older) (Some x)
@@ -160,7 +160,7 @@ owned weight history account =
 abbrev pub charged : List Plan → History → List ℕ → ℕ
 charged plans history account = owned (charge_of plans history) history account
 
--- ---- what vouchers give
+-- ---- what vouchers credit
 
 -- the top-up that an entry is, if it is one
 abbrev pub topup_by : Entry → Option TopUpFacts
@@ -202,14 +202,14 @@ same_voucher a b = bytes_eq a.0 b.0 && a.1 == b.1
 abbrev pub vouchers : History → List ℕ → List Voucher
 vouchers history account = distinct same_voucher (map voucher_of (topups history account))
 
--- what the vouchers of an account give
+-- what the vouchers of an account credit
 abbrev pub credited : History → List ℕ → ℕ
 credited history account = sum_by (λ voucher. voucher.1) (vouchers history account)
 
 -- ---- balances
 
--- the balance of an account: what its distinct vouchers give, less the price of the greatest number
--- that the plan of each of its sessions counts
+-- the balance of an account: what its distinct vouchers credit, less the price of the greatest
+-- number that the plan of each of its sessions counts
 abbrev pub balance_of : List Plan → History → List ℕ → ℤ
 balance_of plans history account =
     pos (credited history account) -ℤ pos (charged plans history account)
@@ -235,8 +235,8 @@ AgreesWithAll history (entry.Report report) = Unit {0}
 AgreesWithAll history (entry.Restart restart) = Unit {0}
 AgreesWithAll history (entry.TopUp topup) = Agrees history topup
 
--- The entry may be accepted: no voucher comes with another account or sum, and every balance stays
--- in range.
+-- The entry may be accepted: no voucher is received with another account or sum, and every balance
+-- stays in range.
 pub record Admissible (plans : List Plan) (history : History) (next : Entry) : Type 0 where
   pub agrees : AgreesWithAll history next
   pub in_range : AreInRange plans (Accepted next ∷ history)

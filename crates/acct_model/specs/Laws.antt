@@ -1,4 +1,4 @@
--- Laws above histories and shown octets, in the subject's own words. Functions of the module `laws`
+-- Laws of histories and shown octets, in the subject's own words. Functions of the module `laws`
 -- have them as their contracts.
 use Rattle.std.specs.Prelude.{◌≡◌, ◌≢◌, ℕ, ◌<◌, ◌≤◌, ◌↔◌, ◌⊎◌, IsTrue, Option, None, Some, List}
 use Rattle.std.specs.Prelude.{[], ◌∷◌, ◌++◌, Contains, All}
@@ -18,7 +18,7 @@ abbrev pub ShownReadsBack : Type 0
 ShownReadsBack = (octets : List ℕ) → All (λ octet. octet < 256) octets
     → percent_decode (shown octets) ≡ octets
 
--- of a session's reports the first is the deepest, whatever came later
+-- of a session's reports the first is the deepest, whatever was accepted later
 abbrev pub FirstIsDeepest : Type 0
 FirstIsDeepest = (later : List ReportFacts) (report : ReportFacts)
     → first_of (later ++ report ∷ []) ≡ Some report
@@ -66,7 +66,7 @@ KnownAccountsOwn = (history : History) (account : List ℕ)
     ↔ (OwnsSession history account ⊎ OwnsVoucher history account)
 
 -- The top-up by a number is one of the history's: no top-up by the number was accepted before it.
--- There is none exactly where the history has no top-up by the number.
+-- There is none exactly if the history has no top-up by the number.
 pub record TopUpIsFirst : Type 0 where
   pub first : (history : History) (number : List ℕ) (topup : TopUpFacts)
       → topup_of history number ≡ Some topup

@@ -24,8 +24,8 @@ SessionIsCharged = (plans : List Plan) (history : History) (name : SessionName)
     × IsLeastBlocks plan.block (greatest_counted (Some plan) (reports history name)) blocks
     × (charge_of plans history name ≡ plan.unit * blocks)
 
--- What reports do to balances: a report moves no balance but that of its session's owner and none
--- at all where the number that the plan counts was reached before, and no report gives money back.
+-- What reports do to balances: a report moves only the balance of its session's owner. It moves
+-- none if the number that the plan counts was reached before. No report gives money back.
 pub record ReportsAreChargedOnce : Type 0 where
   pub once : (plans : List Plan) (history : History) (report one : ReportFacts)
       (account : List ℕ)
@@ -46,9 +46,8 @@ pub record ReportsAreChargedOnce : Type 0 where
       → balance_of plans (Accepted (entry.Report report) ∷ history) account
       ≤ℤ balance_of plans history account
 
--- What top-ups do to balances: a top-up by a new number raises its account's balance by its sum,
--- one whose number, account and sum stand in the history moves none, and none moves another
--- account's.
+-- What top-ups do to balances: a top-up by a new number raises its account's balance by its sum.
+-- One whose number, account and sum are in the history moves none. None moves another account's.
 pub record VouchersAreCreditedOnce : Type 0 where
   pub credited : (plans : List Plan) (history : History) (topup : TopUpFacts)
       → topup_of history topup.voucher ≡ None
@@ -64,7 +63,7 @@ pub record VouchersAreCreditedOnce : Type 0 where
       → balance_of plans (Accepted (entry.TopUp topup) ∷ history) account
       ≡ balance_of plans history account
 
--- A restart moves no balance, and so it is admissible wherever the balances are in range.
+-- A restart moves no balance, so it is admissible if the balances are in range.
 pub record RestartsMoveNothing : Type 0 where
   pub moves : (plans : List Plan) (history : History) (restart : Restart) (account : List ℕ)
       → balance_of plans (Accepted (entry.Restart restart) ∷ history) account

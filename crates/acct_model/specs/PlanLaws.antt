@@ -1,5 +1,5 @@
--- Laws above plans and prices, in the subject's own words. Functions of the module `laws` have them
--- as their contracts.
+-- Laws of plans and prices, in the subject's own words. Functions of the module `laws` have them as
+-- their contracts.
 use Rattle.std.specs.Prelude.{◌≡◌, ◌≢◌, ℕ, ◌<◌, ◌≤◌, ◌^◌, ◌↔◌, ◌⊎◌, IsSome, None, Some, List}
 use Rattle.std.specs.Prelude.{Contains, All}
 use Rattle.std.specs.List.{AllPairs, Any}

@@ -48,7 +48,7 @@ abbrev pub counted_under : Option Plan → ℕ → ℕ → ℕ
 counted_under None input output = input + output
 counted_under (Some plan) input output = counted plan input output
 
--- the class of the plan of a class: that class where a plan has it, else `default`
+-- the class of the plan of a class: that class if a plan has it, else `default`
 abbrev pub plan_class : List Plan → List ℕ → List ℕ
 plan_class plans class = if list_any (has_class class) plans then class else default_class
 
@@ -60,7 +60,7 @@ is_added added class = list_any (has_class class) added && not (bytes_eq class d
 abbrev pub plans_before : List Plan → List Plan → List Plan
 plans_before added plans = filter (λ plan. not (is_added added plan.class)) plans
 
--- each old plan stands unchanged among the new ones
+-- each old plan is unchanged among the new ones
 abbrev pub Extends : List Plan → List Plan → Type 0
 Extends new old = All (λ plan. Contains new plan) old
 

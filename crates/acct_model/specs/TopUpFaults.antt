@@ -13,7 +13,7 @@ topup_fault number account amount =
     else if not (is_voucher_sum amount) then Some BadSum
     else None
 
--- an error is the first fault, or memory was refused where there is none
+-- an error is the first fault, or out of memory if there is none
 abbrev pub IsTopUpError : Option TopUpError → TopUpError → Type 0
 IsTopUpError fault BadVoucher = fault ≡ Some BadVoucher
 IsTopUpError fault BadAccount = fault ≡ Some BadAccount

@@ -11,7 +11,7 @@ use std::net::Ipv4Addr;
 ///
 /// # Errors
 ///
-/// `NoMemory` where the text cannot be grown.
+/// `NoMemory` if the text cannot be grown.
 pub fn show_address(alloc: Global, address: Option<[u8; 4]>) -> Result<String, NoMemory>
     ensures { IfOk result (λ text. string_bytes text ≡ shown_address address) }
 {
@@ -25,7 +25,7 @@ pub fn show_address(alloc: Global, address: Option<[u8; 4]>) -> Result<String, N
 }
 
 /// The address that a text spells as four numbers of 0 to 255 without leading zeros, separated by
-/// dots; none where it spells none.
+/// dots; none if it spells none.
 pub fn address_of(text: &str) -> Option<[u8; 4]>
     ensures { MatchOption result
         ((octets : List ℕ) → IsDotted text.now octets → ⊥)

@@ -30,7 +30,7 @@ impl<'p, 'a> Model for FirstValues<'p, 'a> {
 
 impl<'p, 'a> FirstValues<'p, 'a> {
     /// The first values of these attributes, found in one walk and put at their places in `values`,
-    /// where none stands yet.
+    /// which has none yet.
     pub(crate) fn of(
         attributes: &'p Attributes<'a>,
         values: &'p mut [Option<&'a [u8]>; TYPES],
@@ -47,7 +47,7 @@ impl<'p, 'a> FirstValues<'p, 'a> {
         FirstValues { attributes, values }
     }
 
-    /// The value of the first attribute of a type, in octets; none where no attribute has the type.
+    /// The value of the first attribute of a type, in octets; none if no attribute has the type.
     pub(crate) fn first(&self, kind: u8) -> Option<&'a [u8]>
         requires { kind < 54 }
         ensures { option_map (λ value. value.now) result ≡ value_of kind self.now }

@@ -1,4 +1,4 @@
-//! Laws above the definitions: functions without effect, whose contracts are the laws.
+//! Laws of the definitions: functions without effect, whose contracts are the laws.
 ghost use Rattle.acct_model.specs.Laws.{ShownReadsBack, FirstIsDeepest, GreatestCountIsReached};
 ghost use Rattle.acct_model.specs.Laws.{SessionsAreReported, VouchersAreToppedUp};
 ghost use Rattle.acct_model.specs.Laws.{TopUpIsFirst, KnownAccountsOwn};
@@ -60,7 +60,7 @@ pub fn known_accounts_own()
     ensures { KnownAccountsOwn }
 {}
 
-/// The top-up by a number stands in the history, and none by the number was accepted before it.
+/// The top-up by a number is in the history, and none by the number was accepted before it.
 pub fn topup_is_first()
     ensures { TopUpIsFirst }
 {}
@@ -71,40 +71,41 @@ pub fn session_is_charged()
     ensures { SessionIsCharged }
 {}
 
-/// A report moves a balance only where its plan counts more of it than of each earlier report of
-/// its session, and gives no money back; a voucher is credited once; a restart moves no money and
-/// is always admissible.
+/// A report moves a balance only if its plan counts more of it than of each earlier report of its
+/// session, and gives no money back. A voucher is credited once. A restart moves no money and is
+/// always admissible.
 pub fn money_moves_once()
     ensures { MoneyMovesOnce }
 {}
 
 /// A session keeps the plan that its first report found among the plans in force then, whatever
-/// plans are added later, and an addition of plans moves no money.
+/// plans are added later. An addition of plans moves no money.
 pub fn plans_are_kept()
     ensures { PlansAreKept }
 {}
 
-/// The reports of a session may be taken out of a history: the balance of its owner is then more by
+/// The reports of a session may be taken out of a history. The balance of its owner then rises by
 /// what the session costs, and no other balance, session, plan or top-up changes.
 pub fn sessions_stand_alone()
     ensures { SessionsStandAlone }
 {}
 
-/// To carry sessions of one account and plan forward moves no balance: their reports are taken out,
+/// Carrying sessions of one account and plan forward moves no balance. Their reports are taken out,
 /// and one report of another session counts the blocks that they had started. The same accounts are
 /// known.
 pub fn forward_moves_nothing()
     ensures { ForwardMovesNothing }
 {}
 
-/// A history in which sessions were carried forward goes on as the one in which none were: what is
-/// accepted later, but reports of those sessions, and what plans are added move the same balances.
+/// A history in which sessions were carried forward goes on as the one in which none were. What is
+/// accepted later and what plans are added move the same balances, except for reports of those
+/// sessions.
 pub fn forward_goes_on()
     ensures { ForwardGoesOn }
 {}
 
-/// Disturbed delivery, where sessions are carried forward now and then and no report of them is
-/// accepted later: the balances are those of what was sent.
+/// Disturbed delivery: if sessions are carried forward now and then and no report of them is
+/// accepted later, the balances are those of what was sent.
 pub fn forward_settles()
     ensures { ForwardSettles }
 {}

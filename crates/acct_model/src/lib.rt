@@ -11,20 +11,21 @@
 //! 4. A plan counts the total, the input or the output. Its price is its unit for each block of
 //!    counted octets that was started. A class without a plan is priced by the plan `default`.
 //! 5. A history is the list of what was accepted and of the plans that were added, the newest
-//!    first; `specs/History.antt` says what follows from it: the sessions, their owners, plans and
+//!    first. `specs/History.antt` says what follows from it: the sessions, their owners, plans and
 //!    charges, the vouchers, and each account's balance. The module `laws` says what holds of all
 //!    histories.
 #![tactic(auto)]
 
 mod address;
 mod entry;
+mod entry_reader;
 mod first_values;
+mod kept_limits;
 pub mod laws;
 mod octets;
 mod plan;
 mod plan_list;
 mod plans;
-mod reading;
 mod report;
 mod shown;
 pub mod status_values;
@@ -33,11 +34,12 @@ mod top_up;
 
 pub use address::{address_of, show_address};
 pub use entry::{Entry, Restart};
+pub use entry_reader::{EntryError, entry_of};
+pub use kept_limits::LAST_MOMENT;
 pub use octets::Octets;
 pub use plan::{Count, Plan, counted, price};
 pub use plan_list::PlanList;
 pub use plans::{PlanError, Plans};
-pub use reading::{EntryError, entry_of};
 pub use report::{Report, ReportKind};
 pub use shown::{NoMemory, show, unshow};
 pub use text::Text;

@@ -12,7 +12,6 @@ pub struct Octets {
     pub octets: Vec<u8>,
 }
 
-// It is written out, so that a caller does not prove again how each part is dropped.
 impl Drop for Octets {
     fn drop(self) {
         let Octets { octets: _ } = self;
@@ -43,7 +42,7 @@ impl Octets {
         self.octets.as_slice()
     }
 
-    /// The same octets again.
+    /// A copy of the octets.
     pub fn copy(&self, alloc: Global) -> Result<Octets, AllocError>
         ensures { IfOk result (λ copy. copy ≡ self.now) }
     {

@@ -1,5 +1,5 @@
 //! A plan, what it counts and its prices.
-ghost use Rattle.std.specs.Prelude.{◌≡◌, ◌+◌, ◌-◌, ◌*◌, ◌<◌, ◌≤◌, ◌^◌, ℕ};
+ghost use Rattle.std.specs.Prelude.{◌≡◌, ◌↔◌, ◌+◌, ◌-◌, ◌*◌, ◌<◌, ◌≤◌, ◌^◌, ℕ, Contains, IsTrue};
 ghost use Rattle.acct_model.specs.Plans.{counted, price_of, IsLeastBlocks};
 
 use crate::octets::Octets;
@@ -9,9 +9,9 @@ use crate::octets::Octets;
 pub enum Count {
     /// Input and output together.
     Both,
-    /// The input alone.
+    /// Only the input.
     Input,
-    /// The output alone.
+    /// Only the output.
     Output,
 }
 
@@ -27,7 +27,6 @@ pub struct Plan {
     pub count: Count,
 }
 
-// It is written out, so that a caller does not prove again how each part is dropped.
 impl Drop for Plan {
     fn drop(self) {
         let Plan {
@@ -37,6 +36,29 @@ impl Drop for Plan {
             count: _,
         } = self;
     }
+}
+
+impl Plan {
+    /// Whether it is one of these plans, unchanged. It takes no memory.
+    pub fn is_among(&self, plans: &[Plan]) -> bool
+        ensures { IsTrue result ↔ Contains plans.now self.now }
+    {
+        for other in plans {
+            if is_same(other, self) {
+                return true;
+            }
+        }
+        false
+    }
+}
+
+fn is_same(one: &Plan, other: &Plan) -> bool
+    ensures { IsTrue result ↔ (one.now ≡ other.now) }
+{
+    one.class == other.class
+        && one.block == other.block
+        && one.unit == other.unit
+        && one.count == other.count
 }
 
 /// What a plan counts of an input and an output: both together, the input or the output. It takes

@@ -6,13 +6,12 @@ ghost use Rattle.acct_model.specs.Faults.{first_fault, fault_or};
 ghost use Rattle.acct_model.specs.Plans.{has_class};
 ghost use Rattle.acct_model.specs.PlanFaults.{plan_fault};
 
+use crate::kept_limits::GREATEST_BLOCK;
 use crate::plan::Plan;
 use crate::plans::PlanError;
 use std::alloc::Global;
 use std::marker::Model;
 
-/// The greatest block, in octets.
-const GREATEST_BLOCK: u64 = 1 << 53;
 /// The greatest unit.
 const GREATEST_UNIT: u64 = 1_000_000_000;
 
@@ -22,7 +21,6 @@ pub struct PlanList {
     plans: Vec<Plan>,
 }
 
-// It is written out, so that a caller does not prove again how each part is dropped.
 impl Drop for PlanList {
     fn drop(self) {
         let PlanList { plans: _ } = self;
@@ -71,8 +69,8 @@ impl PlanList {
     ///
     /// # Errors
     ///
-    /// The first of `BadBlock`, `BadUnit` and `TwicePlanned` that holds, and `Memory` only where
-    /// none does. The list is then as before.
+    /// The first of `BadBlock`, `BadUnit` and `TwicePlanned` that holds, and `Memory` only if none
+    /// does. The list is then as before.
     pub fn push(&mut self, plan: Plan) -> Result<(), PlanError>
         ensures pushed { OnOk result (self.new ≡ self.old ++ plan ∷ []) }
         ensures faultless { OnOk result (plan_fault self.old plan ≡ None) }

@@ -1,6 +1,6 @@
 //! The plans of a site.
 ghost use Rattle.std.specs.Prelude.{◌≡◌, ◌↔◌, ◌^◌, ◌<◌, ◌≤◌, Some, None, IfOk, IfErr, OnOk};
-ghost use Rattle.std.specs.Prelude.{Contains, IsTrue};
+ghost use Rattle.std.specs.Prelude.{IsTrue};
 ghost use Rattle.acct_model.specs.Plans.{plan_for, plan_class, Extends};
 
 use crate::plan::Plan;
@@ -17,7 +17,6 @@ pub struct Plans {
     plans: Vec<Plan>,
 }
 
-// It is written out, so that a caller does not prove again how each part is dropped.
 impl Drop for Plans {
     fn drop(self) {
         let Plans { plans: _ } = self;
@@ -52,7 +51,7 @@ pub enum PlanError {
     /// The unit is not 0 to 10^9.
     #[error("the unit is not 0 to 1000000000")]
     BadUnit = 4,
-    /// Memory was refused.
+    /// Out of memory.
     #[error("out of memory")]
     Memory = 5,
 }
@@ -78,7 +77,7 @@ impl Plans {
     ///
     /// # Errors
     ///
-    /// `NoDefault`, where none is.
+    /// `NoDefault`, if none is.
     pub fn from_list(list: PlanList) -> Result<Plans, PlanError>
         ensures kept { IfOk result (λ kept. kept ≡ list) }
         ensures default { OnOk result (default_fault list ≡ None) }
@@ -91,7 +90,7 @@ impl Plans {
         Ok(Plans { plans })
     }
 
-    /// The plan of a class, else the plan `default`: the plans are gone through once for each.
+    /// The plan of a class, else the plan `default`. It goes through the plans once for each.
     pub fn plan_of(&self, class: &[u8]) -> &Plan
         ensures found { plan_for self.now class.now ≡ Some result.now }
         ensures class { result.now.class ≡ plan_class self.now class.now }
@@ -107,12 +106,12 @@ impl Plans {
         }
     }
 
-    /// Whether each of the old plans stands here unchanged. It takes no memory.
+    /// Whether each of the old plans is here unchanged. It takes no memory.
     pub fn extends(&self, old: &Plans) -> bool
         ensures { IsTrue result ↔ Extends self.now old.now }
     {
         for plan in old.plans.iter() {
-            if !has_same(&self.plans, plan) {
+            if !plan.is_among(&self.plans) {
                 return false;
             }
         }
@@ -132,25 +131,4 @@ impl Plans {
     {
         &self.plans
     }
-}
-
-// Whether a plan is one of these.
-fn has_same(plans: &[Plan], plan: &Plan) -> bool
-    ensures { IsTrue result ↔ Contains plans.now plan.now }
-{
-    for other in plans {
-        if is_same(other, plan) {
-            return true;
-        }
-    }
-    false
-}
-
-fn is_same(one: &Plan, other: &Plan) -> bool
-    ensures { IsTrue result ↔ (one.now ≡ other.now) }
-{
-    one.class == other.class
-        && one.block == other.block
-        && one.unit == other.unit
-        && one.count == other.count
 }

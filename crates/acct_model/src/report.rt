@@ -21,11 +21,11 @@ pub struct Report {
     pub client: Text,
     /// Acct-Session-Id (RFC 2866, section 5.5), which may have no octets.
     pub session: Octets,
-    /// User-Name (RFC 2865, section 5.1), empty where absent: the account, if this is the session's
+    /// User-Name (RFC 2865, section 5.1), empty if absent: the account, if this is the session's
     /// first report.
     pub user: Octets,
-    /// Class (RFC 2865, section 5.25), empty where absent: it names the plan, if this is the
-    /// session's first report.
+    /// Class (RFC 2865, section 5.25), empty if absent: it names the plan, if this is the session's
+    /// first report.
     pub class: Octets,
     /// Start, Stop or Interim-Update.
     pub kind: ReportKind,
@@ -35,20 +35,19 @@ pub struct Report {
     /// Octets sent to the user's port, gigawords counted (RFC 2866, section 5.4; RFC 2869, section
     /// 5.2).
     pub output: u64,
-    /// Acct-Session-Time in seconds (RFC 2866, section 5.7), 0 where absent.
+    /// Acct-Session-Time in seconds (RFC 2866, section 5.7), 0 if absent.
     pub seconds: u32,
-    /// When the report was made: the moment it came at less its Acct-Delay-Time (RFC 2866, section
-    /// 5.2), in seconds since 1970, and 0 where the delay is larger.
+    /// When the report was made, in seconds since 1970: the moment of its receipt less its
+    /// Acct-Delay-Time (RFC 2866, section 5.2), 0 if the delay is larger.
     pub when: u64,
-    /// Acct-Terminate-Cause (RFC 2866, section 5.10), 0 where absent.
+    /// Acct-Terminate-Cause (RFC 2866, section 5.10), 0 if absent.
     pub cause: u32,
-    /// Calling-Station-Id (RFC 2865, section 5.31), empty where absent.
+    /// Calling-Station-Id (RFC 2865, section 5.31), empty if absent.
     pub calling: Octets,
     /// Framed-IP-Address (RFC 2865, section 5.8), if there is one.
     pub framed: Option<[u8; 4]>,
 }
 
-// It is written out, so that a caller does not prove again how each part is dropped.
 impl Drop for Report {
     fn drop(self) {
         let Report {

@@ -7,7 +7,7 @@ use percent_encoding::{AsciiSet, CONTROLS, ascii_set, percent_decode, percent_en
 use std::alloc::Global;
 use thiserror::Error;
 
-/// Memory was refused.
+/// Out of memory.
 #[derive(Clone, Copy, PartialEq, Eq, Debug, Error)]
 #[error("out of memory")]
 pub struct NoMemory;
@@ -19,7 +19,7 @@ const ESCAPED: AsciiSet = ascii_set!(CONTROLS.add(b'%'));
 ///
 /// # Errors
 ///
-/// `NoMemory` where the text cannot be grown.
+/// `NoMemory` if the text cannot be grown.
 pub fn show(alloc: Global, octets: &[u8]) -> Result<String, NoMemory>
     ensures { IfOk result (λ text. string_bytes text ≡ shown octets.now) }
 {
@@ -31,11 +31,11 @@ pub fn show(alloc: Global, octets: &[u8]) -> Result<String, NoMemory>
 }
 
 /// The octets that a text shows: each `%` with two hexadecimal digits is the octet that these
-/// spell, all else stands for itself.
+/// spell, all else is itself.
 ///
 /// # Errors
 ///
-/// `NoMemory` where the octets cannot be grown.
+/// `NoMemory` if the octets cannot be grown.
 pub fn unshow(alloc: Global, text: &str) -> Result<Vec<u8>, NoMemory>
     ensures { IfOk result (λ octets. octets.items ≡ decoded text.now) }
 {

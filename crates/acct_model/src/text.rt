@@ -12,7 +12,6 @@ pub struct Text {
     pub text: String,
 }
 
-// It is written out, so that a caller does not prove again how each part is dropped.
 impl Drop for Text {
     fn drop(self) {
         let Text { text: _ } = self;
@@ -43,7 +42,7 @@ impl Text {
         self.text.as_str()
     }
 
-    /// The same text again.
+    /// A copy of the text.
     pub fn copy(&self, alloc: Global) -> Result<Text, AllocError>
         ensures { IfOk result (λ copy. copy ≡ self.now) }
     {

@@ -31,7 +31,6 @@ pub struct TopUp {
     pub when: u64,
 }
 
-// It is written out, so that a caller does not prove again how each part is dropped.
 impl Drop for TopUp {
     fn drop(self) {
         let TopUp {
@@ -70,7 +69,7 @@ pub enum TopUpError {
     /// The sum is not 1 to 10^12.
     #[error("the sum is not 1 to 1000000000000")]
     BadSum = 3,
-    /// Memory was refused.
+    /// Out of memory.
     #[error("out of memory")]
     Memory = 4,
 }
@@ -94,7 +93,7 @@ impl TopUp {
     ///
     /// # Errors
     ///
-    /// The first fault in the order of `TopUpError`; `Memory` only where there is no other.
+    /// The first fault in the order of `TopUpError`; `Memory` only if there is no other.
     pub fn new(
         alloc: Global,
         voucher: &str,
@@ -129,7 +128,7 @@ impl TopUp {
         })
     }
 
-    /// The voucher's number, which takes no memory.
+    /// The voucher's number. It takes no memory.
     pub fn into_voucher(self) -> Text
         ensures { result ≡ self.voucher }
     {

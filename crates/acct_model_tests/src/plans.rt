@@ -1,6 +1,6 @@
 //! Plans, and what they charge.
 use acct_model::{Count, Plan, PlanError, PlanList, Plans, counted, price};
-use acct_samples::{plan, sample_plans};
+use acct_site::{plan, sample_plans};
 use std::alloc::Global;
 use std::test::Fail;
 

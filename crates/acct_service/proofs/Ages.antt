@@ -1,4 +1,4 @@
--- Why no report is taken that is too old.
+-- Why no report is accepted that is too old.
 use Rattle.std.proofs.Common.{◌+◌, ◌≤◌, inl, inr, List, ℕ, sym, subst, arith}
 use Rattle.std.specs.Prelude.{Some}
 use Rattle.std.proofs.lemmas.Bool.{cases_order}

@@ -21,7 +21,7 @@ use Rattle.acct_model.proofs.Lists.{here, deeper, nowhere, front_or_behind, some
 use Rattle.acct_model.proofs.Same.{Decides-same_session}
 use Rattle.acct_model.proofs.SamePlans.{same-balance, same-kept}
 use Rattle.acct_model.proofs.Without.{reports-kept}
-use Rattle.acct_book.specs.Carrying.{SelectionFacts, is_line, CarriesChosen}
+use Rattle.acct_book_forward.specs.Carrying.{SelectionFacts, is_line, CarriesChosen}
 use Rattle.acct_service.specs.Life.{Span, carried, Past, made_with, set_aside, LivesOn, Life}
 use Rattle.acct_service.specs.Life.{PriceAlike}
 use Rattle.acct_service.proofs.AlikePlans.{same_plans}

@@ -1,4 +1,4 @@
--- Which plans are in force in a life: its history tells.
+-- Which plans are in force in a life, as its history shows.
 use Rattle.std.proofs.Common.{◌≡◌, inl, inr, List, [], ◌∷◌, ◌++◌, refl, sym, ◌∙◌, ap, subst}
 use Rattle.std.proofs.Common.{append_assoc}
 use Rattle.std.specs.List.{find}

@@ -16,7 +16,7 @@ use Rattle.acct_model.proofs.Claimed.{claim_of_topup, topup_of_claim}
 use Rattle.acct_model.proofs.Lists.{here, nowhere, front_or_behind}
 use Rattle.acct_book.specs.Effect.{Effect, added, repeated, differs, limited, failed, looked}
 use Rattle.acct_book.specs.Effect.{passed, unasked, after_effect, Holds}
-use Rattle.acct_book.proofs.CarriedOn.{moves_nothing}
+use Rattle.acct_book_forward.proofs.CarriedOn.{moves_nothing}
 use Rattle.acct_files.specs.declared.import_report.Cause.{Cause}
 use Rattle.acct_files.specs.declared.import_report.Outcome.{Outcome}
 use Rattle.acct_files.specs.declared.import_report.Outcome.TheVariants as outcome

@@ -15,7 +15,7 @@ use Rattle.acct_model.specs.Plans.{plans_added}
 use Rattle.acct_model.specs.History.{Accepted, PlansAdded, History, session_of, report_in}
 use Rattle.acct_model.specs.History.{all_reports}
 use Rattle.acct_model.proofs.Lists.{here, deeper, nowhere, front_or_behind, from_map, find-some}
-use Rattle.acct_book.specs.Carrying.{is_line}
+use Rattle.acct_book_forward.specs.Carrying.{is_line}
 use Rattle.acct_book.specs.Effect.{Effect, added, repeated, differs, limited, failed, looked}
 use Rattle.acct_book.specs.Effect.{passed, unasked, after_effect}
 use Rattle.acct_wire.specs.declared.client.Client.{Client}

@@ -1,4 +1,4 @@
--- What was accepted may come again.
+-- What was accepted may be sent again.
 use Rattle.std.proofs.Common.{◌≡◌, inl, inr, ℕ, List, [], ◌∷◌, refl, sym, ◌∙◌, ap}
 use Rattle.std.proofs.Common.{subst, arith, Some, None}
 use Rattle.std.proofs.lemmas.Int.{ints}
@@ -30,8 +30,8 @@ use Rattle.acct_model.proofs.TopUps.{Fits}
 use Rattle.acct_book.specs.Effect.{Effect, added, repeated, differs, limited, failed, looked}
 use Rattle.acct_book.specs.Effect.{passed, unasked, after_effect, Holds}
 use Rattle.acct_book.specs.Outcome.{IsRepeated}
-use Rattle.acct_book.specs.Carrying.{SelectionFacts, CarryingMovesNothing}
-use Rattle.acct_book.proofs.CarriedOn.{moves_nothing}
+use Rattle.acct_book_forward.specs.Carrying.{SelectionFacts, CarryingMovesNothing}
+use Rattle.acct_book_forward.proofs.CarriedOn.{moves_nothing}
 use Rattle.acct_files.specs.declared.import_report.Outcome.{Outcome}
 use Rattle.acct_files.specs.Vouchers.{Fields}
 use Rattle.acct_files.specs.Importing.{Imported}

@@ -8,7 +8,7 @@ use Rattle.std.proofs.lemmas.List.Elements.{Contains-push_cases}
 use Rattle.std.proofs.lemmas.Grind.{flat_map-append}
 use Rattle.acct_model.specs.declared.plan.Plan.{Plan}
 use Rattle.acct_book.specs.declared.book.Book as book
-use Rattle.acct_book.specs.inner.Step.{OnlyLooks}
+use Rattle.acct_book.specs.Step.{OnlyLooks}
 use Rattle.acct_site.specs.declared.config.Config.{Config}
 use Rattle.acct_service.specs.declared.exchange.Call.{Call}
 use Rattle.acct_service.specs.declared.rounds.Rounds as rounds

@@ -1,4 +1,4 @@
--- What a span does to a past: members come to both histories, or sessions are carried forward.
+-- What a span does to a past: members are added to both histories, or sessions are carried forward.
 use Rattle.std.proofs.Common.{◌≡◌, ◌⊎◌, inl, inr, ℕ, List, [], ◌∷◌, ◌++◌, refl, sym, ◌∙◌, ap}
 use Rattle.std.proofs.Common.{subst, append_assoc}
 use Rattle.std.proofs.lemmas.List.{append_cancel_right, map-append}
@@ -8,7 +8,7 @@ use Rattle.acct_model.specs.declared.entry.Entry.{Entry}
 use Rattle.acct_model.specs.Plans.{plans_added}
 use Rattle.acct_model.specs.History.{Accepted, PlansAdded, History}
 use Rattle.acct_model.specs.Forward.{Batch}
-use Rattle.acct_book.specs.Carrying.{SelectionFacts, CarriesChosen}
+use Rattle.acct_book_forward.specs.Carrying.{SelectionFacts, CarriesChosen}
 use Rattle.acct_book.specs.Effect.{Effect, added, repeated, differs, limited, failed, looked}
 use Rattle.acct_book.specs.Effect.{passed, unasked, after_effect}
 use Rattle.acct_files.specs.declared.import_report.Outcome.{Outcome}
@@ -26,7 +26,7 @@ abbrev pub CarriesNothing : Span → Type 0
 CarriesNothing (carried those selection batches) = ⊥
 CarriesNothing span = Unit {0}
 
--- the same members came to both histories
+-- the same members were added to both histories
 pub record Grown (old : Past) (span : Span) (new : Past) : Type 0 where
   pub nothing : CarriesNothing span
   pub end : History
@@ -105,9 +105,9 @@ moved old new (carried those selection batches) (end, (alike, chosen), plans, st
       aside = aside;
     })
 
--- ---- entries that came
+-- ---- entries that were added
 
--- these entries were accepted meanwhile, and no plans were added
+-- these entries were accepted in between, and no plans were added
 abbrev pub Stays : History → History → Type 0
 Stays old new = (entries : List Entry) × (new ≡ history_of entries ++ old)
 
@@ -157,7 +157,7 @@ stop_stays plans span history left may =
       | inr (e, tried, fine, is) ↦ (e ∷ [], is)
     ]
 
--- ---- what came to both histories
+-- ---- what was added to both histories
 
 -- entries were accepted
 pub record Accepts (old new : Past) : Type 0 where

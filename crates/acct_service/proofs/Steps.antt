@@ -1,4 +1,4 @@
--- What `answer` and `handle` say is a step of the machine.
+-- What `answer` and `handle` ensure is a step of the machine.
 use Rattle.std.proofs.Common.{◌≡◌, ℕ, List, take, subst, inl, inr}
 use Rattle.std.specs.Prelude.{Option, Result, Ok, Err, Vec}
 use Rattle.std.specs.Global.{Global}
@@ -14,7 +14,7 @@ use Rattle.acct_wire.specs.Outcomes as wire
 use Rattle.acct_desk.specs.Asks.{Ask, Asks, refused, me, overruns, credit}
 use Rattle.acct_desk.specs.Handling.{Handles, Mutes, IsOfBalance}
 use Rattle.acct_desk.proofs.AskLemmas.{one_ask}
-use Rattle.acct_pages.specs.Responses.{unavailable_response}
+use Rattle.acct_desk_pages.specs.Responses.{unavailable_response}
 use Rattle.acct_site.specs.declared.config.Config.{Config}
 use Rattle.acct_service.specs.declared.event.What.TheVariants.{Datagram, Desk}
 use Rattle.acct_service.specs.Machine.{Answer, replied, dropped, mute, TakesStep}

@@ -12,7 +12,7 @@ use Rattle.acct_book.specs.Content.{Content, keeping}
 use Rattle.acct_book.specs.Stands.{Stands}
 use Rattle.acct_book.specs.Step.{StoodFor}
 use Rattle.acct_book.specs.Addition.{AddsAtMost}
-use Rattle.acct_book.specs.Carrying.{SelectionFacts, IsCarriedOn, CarriesOn}
+use Rattle.acct_book_forward.specs.Carrying.{SelectionFacts, IsCarriedOn, CarriesOn}
 use Rattle.acct_book.proofs.Additions.{additions_stand, same-stands}
 use Rattle.acct_site.specs.declared.config.Config.{Config}
 use Rattle.acct_files.specs.declared.import_report.Stopped.{Stopped}

@@ -1,4 +1,4 @@
--- What is said of the reports that an effect adds or tries. The desk adds none.
+-- What holds of the reports that an effect adds or tries. The desk adds none.
 use Rattle.std.proofs.Common.{inl, inr, List, ℕ, sym, subst, Result, Ok, Err}
 use Rattle.acct_model.specs.declared.entry.Entry.{Entry}
 use Rattle.acct_model.specs.declared.entry.Entry.TheVariants as entry

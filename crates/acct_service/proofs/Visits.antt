@@ -17,9 +17,9 @@ use Rattle.acct_book.specs.declared.book.Book.{Ghosts}
 use Rattle.acct_book.specs.Content.{Content}
 use Rattle.acct_book.specs.Effect.{after_effect, failed}
 use Rattle.acct_book.specs.Stands.{Stands}
-use Rattle.acct_book.specs.inner.Step.{OnlyLooks}
+use Rattle.acct_book.specs.Step.{OnlyLooks}
 use Rattle.acct_book.proofs.Crashes.{Leaves, left_by}
-use Rattle.acct_pages.specs.Responses.{unavailable_response}
+use Rattle.acct_desk_pages.specs.Responses.{unavailable_response}
 use Rattle.acct_site.specs.declared.config.Config.{Config}
 use Rattle.acct_service.specs.declared.event.Event.{Event}
 use Rattle.acct_service.specs.declared.exchange.Call.{Call}
@@ -29,7 +29,8 @@ use Rattle.acct_service.specs.Machine.{AsksBalance}
 use Rattle.acct_service.specs.Told.{Grows}
 use Rattle.acct_service.specs.Serving.{calls_of, is_replied, is_dropped_for, is_mute}
 use Rattle.acct_service.specs.Serving.{Counts, CountsMore, HasFailed, MayLeave, Leads, Attends}
-use Rattle.acct_service.specs.Serving.{TakesTurn, TakesTurns, Serves, Keeps, AtMost, IsUnder, AreUnder}
+use Rattle.acct_service.specs.Serving.{TakesTurn, TakesTurns, Serves, Keeps, AtMost, IsUnder}
+use Rattle.acct_service.specs.Serving.{AreUnder}
 
 -- two runs are one
 run_join : (plans : List Plan) (history mid after : History) (visits more : List Visit)

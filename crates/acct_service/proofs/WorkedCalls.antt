@@ -1,4 +1,4 @@
--- Worked rows of `calls_of`: a reply that comes after the next event is nobody's.
+-- Worked rows of `calls_of`: a reply after the next event belongs to no visit.
 use Rattle.std.proofs.Common.{◌≡◌, ◌≢◌, ℕ, Bool, List, [], ◌∷◌, ◌++◌, ap, sym, ◌∙◌}
 use Rattle.std.specs.List.{flat_map}
 use Rattle.acct_service.specs.declared.event.Event.{Event}

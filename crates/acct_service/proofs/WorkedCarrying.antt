@@ -11,10 +11,10 @@ use Rattle.acct_model.specs.Forward.{Batch, sessions_in, forwarded, CarriesForwa
 use Rattle.acct_model.proofs.Lists.{nowhere, front_or_behind}
 use Rattle.acct_book.specs.declared.key.Key.{Key}
 use Rattle.acct_book.specs.declared.row.SessionState.TheVariants.{Live, Stopped}
-use Rattle.acct_book.specs.declared.selection.Stay.TheVariants.{Kept, Open, Recent}
+use Rattle.acct_book_forward.specs.declared.selection.Stay.TheVariants.{Kept, Open, Recent}
 use Rattle.acct_book.specs.Row.{RowFacts}
 use Rattle.acct_book.specs.Rows.{name_of, row_of}
-use Rattle.acct_book.specs.Carrying.{SelectionFacts, stay_of}
+use Rattle.acct_book_forward.specs.Carrying.{SelectionFacts, stay_of}
 use Rattle.acct_service.specs.Life.{carried, set_aside, LivesOn}
 use Rattle.acct_service.specs.Settling.{uncarried}
 

@@ -13,7 +13,7 @@ use Rattle.acct_model.specs.Report.{ReportFacts}
 use Rattle.acct_model.specs.History.{Accepted, PlansAdded, History, SessionName, session_of}
 use Rattle.acct_model.specs.History.{all_reports, Admissible}
 use Rattle.acct_model.specs.Forward.{Batch, sessions_in}
-use Rattle.acct_book.specs.Carrying.{SelectionFacts, is_line, CarriesChosen}
+use Rattle.acct_book_forward.specs.Carrying.{SelectionFacts, is_line, CarriesChosen}
 use Rattle.acct_book.specs.Effect.{Effect, added, repeated}
 use Rattle.acct_wire.specs.declared.client.Client.{Client}
 use Rattle.acct_site.specs.declared.config.Config.{Config}
@@ -28,16 +28,16 @@ use Rattle.acct_service.specs.Serving.{HasFailed, is_replied}
 -- ---- spans
 
 pub data Span : Type 0 where
-  -- turns of the server under configurations with these plans, as far as they came: each visit with
-  -- what it did
+  -- turns of the server under configurations with these plans, up to the stop: each visit with its
+  -- effect
   served : List Plan → List Visit → Span
-  -- an import under a configuration at this moment, as far as it came: its records, what became of
-  -- each, and the voucher whose call was answered Unavailable, if it stopped for one
+  -- an import under a configuration at this moment, up to the stop: its records, the outcome of
+  -- each, and the voucher whose call returned Unavailable, if it stopped for one
   imported : Config → ℕ → List Fields → List Outcome → Option TopUpFacts → Span
   -- plans were added to those in force, so that these are
   extended : List Plan → Span
-  -- sessions that this selection takes were carried forward under a configuration with these
-  -- plans, batch after batch, as far as it came
+  -- sessions that this selection takes were carried forward under a configuration with these plans,
+  -- batch after batch, up to the stop
   carried : List Plan → SelectionFacts → List Batch → Span
 
 -- The history of a book, and the plans in force at its end. The whole history is the one in which
@@ -53,18 +53,18 @@ pub record Past : Type 0 where
 abbrev pub made_with : List Plan → Past
 made_with plans = record { plans = plans; history = []; whole = []; aside = [] }
 
--- Each class is priced alike: the same plans, in whatever order a configuration has them.
+-- Each class is priced alike: the same plans, in any order.
 abbrev pub PriceAlike : List Plan → List Plan → Type 0
 PriceAlike these those = (class : List ℕ) → plan_for these class ≡ plan_for those class
 
--- New plans may take the place of old ones: neither have a fault, and each of the old ones stands
--- unchanged among the new ones.
+-- New plans may replace old ones: neither have a fault, and each old one is among the new ones,
+-- unchanged.
 pub record MayExtend (old new : List Plan) : Type 0 where
   pub old_are_good : plans_fault old ≡ None
   pub new_are_good : plans_fault new ≡ None
   pub extends : Extends new old
 
--- the plans in force after a span, by those before it
+-- the plans in force after a span, from those before it
 abbrev pub plans_after : List Plan → Span → List Plan
 plans_after plans (served those visits) = plans
 plans_after plans (imported config moment rows outcomes tried) = plans
@@ -81,8 +81,8 @@ Goes plans old (extended more) new =
 Goes plans old (carried those selection batches) new =
     PriceAlike those plans × CarriesChosen selection those old batches new
 
--- The entry's call was answered Unavailable in the span. The call in which the stop falls counts as
--- one that was.
+-- The entry's call returned Unavailable in the span. A call that the stop interrupts counts as one
+-- that did.
 abbrev pub HasTried : Span → Entry → Type 0
 HasTried (served those visits) asked = HasFailed visits asked
 HasTried (imported config moment rows outcomes tried) asked =
@@ -101,7 +101,7 @@ StopLeaves plans span history left =
 abbrev pub set_aside : Batch → List SessionName
 set_aside batch = session_of batch.report ∷ sessions_in batch
 
--- the same members came to the history and to the whole one
+-- the same members were added to the history and to the whole one
 abbrev pub GrowAlike : Past → Past → Type 0
 GrowAlike old new = (newer : History) × (new.history ≡ newer ++ old.history)
     × (new.whole ≡ newer ++ old.whole)
@@ -130,7 +130,7 @@ Life old spans new = Chain LivesOn old spans new
 
 -- ---- in time
 
--- no report of these sessions was accepted meanwhile
+-- no report of these sessions was accepted in between
 abbrev pub NoneIsOf : List SessionName → Past → Past → Type 0
 NoneIsOf names old new = (newer : History) × (new.whole ≡ newer ++ old.whole)
     × ((report : ReportFacts) → Contains (all_reports newer) report
@@ -150,7 +150,7 @@ abbrev pub carried_in : Span → List SessionName
 carried_in (carried those selection batches) = flat_map sessions_in batches
 carried_in span = []
 
--- no client whose events came has the name of a line
+-- no client in the configurations of these visits has the name of a line
 abbrev pub HaveProperNames : Span → Type 0
 HaveProperNames (served those visits) = (visit : Visit) → Contains visits visit
     → (client : Client) → Contains visit.site.clients client → is_line client.name ≡ false
@@ -171,7 +171,7 @@ abbrev pub listed : Option Entry → List Entry
 listed None = []
 listed (Some asked) = asked ∷ []
 
--- the entry that a success was told of: it was added, or was kept already, and the reply was taken
+-- the entry whose success was reported: it was added, or was kept already, and the reply was taken
 abbrev pub acknowledged_by : Effect → Bool → Option Entry
 acknowledged_by (added asked) true = Some asked
 acknowledged_by (repeated asked) true = Some asked

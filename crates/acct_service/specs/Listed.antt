@@ -1,4 +1,4 @@
--- What an exchange over a list tells.
+-- What an exchange over a list records.
 use Rattle.std.specs.Prelude.{Bool, true, false, List, Option, Some, None}
 use Rattle.acct_service.specs.declared.exchange.Call.{Call}
 

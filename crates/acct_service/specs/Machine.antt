@@ -1,6 +1,6 @@
--- The machine: what an event may be answered, and what becomes of the history. A history has the
--- newest first; lists of events and visits have the oldest first. The plans of a configuration are
--- those in force at the end of the history: while events come none are added. Clients and keys may
+-- The machine: how an event may be answered, and what that does to the history. A history has the
+-- newest first; lists of events and visits have the oldest first. A configuration's plans are those
+-- in force at the end of the history: no plans are added while events arrive. Clients and keys may
 -- change between two events, so each visit has the configuration that it was answered under.
 use Rattle.std.specs.Prelude.{◌≡◌, ◌≢◌, ℕ, Bool, List, [], ◌∷◌, Option}
 use Rattle.acct_model.specs.declared.plan.Plan.{Plan}
@@ -11,7 +11,7 @@ use Rattle.acct_book.specs.Step.{StoodFor, Does}
 use Rattle.acct_wire.specs.declared.reason.Reason.{Reason}
 use Rattle.acct_wire.specs.Outcomes.{RepliesWithin, DropsWithin}
 use Rattle.acct_desk.specs.Asks.{Ask, Asks}
-use Rattle.acct_pages.specs.Responses.{unavailable_response}
+use Rattle.acct_desk_pages.specs.Responses.{unavailable_response}
 use Rattle.acct_desk.specs.Handling.{AnswersAsk, Mutes, IsResponseOf, IsOfBalance}
 use Rattle.acct_site.specs.declared.config.Config.{Config}
 use Rattle.acct_service.specs.declared.event.What.{What}
@@ -22,13 +22,13 @@ use Rattle.acct_service.specs.declared.stepping.Turn.TheVariants as turn
 
 -- ---- answers
 
--- what an event is answered
+-- how an event is answered
 pub data Answer : Type 0 where
   -- with these octets
   replied : List ℕ → Answer
   -- with nothing, for this reason
   dropped : Reason → Answer
-  -- with nothing, since there was no memory for a response of the desk
+  -- with nothing, because there was no memory for a response of the desk
   mute : Answer
 
 -- the answer of a turn, whose reply has these octets
@@ -37,8 +37,8 @@ answer_of turn.Reply octets = replied octets
 answer_of (turn.Dropped reason) octets = dropped reason
 answer_of turn.Mute octets = mute
 
--- A datagram is answered as acct_wire has it, and is never mute. A report may be at most so many
--- seconds old when it comes, if that is limited.
+-- A datagram is answered as acct_wire specifies, and is never mute. A report may be at most so many
+-- seconds old when it is received, if that is limited.
 abbrev pub AnswersDatagram : Option ℕ → Config → List ℕ → List ℕ → ℕ → Answer → Effect → Type 0
 AnswersDatagram oldest config source bytes moment (replied octets) effect =
     RepliesWithin oldest config.clients source bytes moment octets effect
@@ -46,7 +46,7 @@ AnswersDatagram oldest config source bytes moment (dropped reason) effect =
     DropsWithin oldest config.clients source bytes moment reason effect
 AnswersDatagram oldest config source bytes moment mute effect = ⊥
 
--- A request at the desk is answered by what it asks, and is never dropped.
+-- A request at the desk is answered according to what it asks, and is never dropped.
 abbrev pub AnswersRequest : Config → List ℕ → ℕ → Answer → Effect → Type 0
 AnswersRequest config bytes moment (replied octets) effect =
     (ask : Ask) × Asks config.keys bytes moment ask × AnswersAsk ask octets effect
@@ -54,20 +54,20 @@ AnswersRequest config bytes moment (dropped reason) effect = ⊥
 AnswersRequest config bytes moment mute effect =
     (ask : Ask) × Asks config.keys bytes moment ask × Mutes ask effect
 
--- what comes at a moment may be answered so, and this is what that does
+-- what is received at a moment may be answered this way, with this effect
 abbrev pub AnswersEvent : Option ℕ → Config → ℕ → What → Answer → Effect → Type 0
 AnswersEvent oldest config moment (Datagram source port bytes) answer effect =
     AnswersDatagram oldest config source bytes moment answer effect
 AnswersEvent oldest config moment (Desk bytes) answer effect =
     AnswersRequest config bytes moment answer effect
 
--- a request at the desk for the balance of the account whose key it bears
+-- a request at the desk for the balance of the account whose key it has
 abbrev pub AsksBalance : Config → ℕ → What → Type 0
 AsksBalance config moment (Datagram source port bytes) = ⊥
 AsksBalance config moment (Desk bytes) =
     (ask : Ask) × Asks config.keys bytes moment ask × IsOfBalance ask
 
--- the response with what the desk is asked to tell, over this history
+-- the response with what the request asks for, over this history
 abbrev pub IsPage : Config → History → ℕ → What → Answer → Type 0
 IsPage config history moment (Desk bytes) (replied octets) =
     (ask : Ask) × Asks config.keys bytes moment ask × IsResponseOf config.plans history ask octets
@@ -75,9 +75,8 @@ IsPage config history moment what answer = ⊥
 
 -- ---- steps
 
--- An event that came, under which configuration it was answered, how many seconds old a report
--- could be, if that was limited, its answer, what that did, and whether the reply was taken, if it
--- has one.
+-- An event, and the configuration under which it was answered. How many seconds old a report could
+-- be, if that was limited. The answer, its effect, and whether the reply was taken, if it has one.
 pub record Visit : Type 0 where
   pub site : Config
   pub oldest : Option ℕ
@@ -86,15 +85,15 @@ pub record Visit : Type 0 where
   pub effect : Effect
   pub is_taken : Bool
 
--- the event is answered so under the configuration that it came under
+-- the event is answered this way under its configuration
 abbrev pub IsAnswered : Visit → Type 0
 IsAnswered visit =
     AnswersEvent visit.oldest visit.site visit.event.moment visit.event.what visit.answer
     visit.effect
 
--- One step, from a history to the next, under a configuration with these plans: the event is
--- answered so, what that does is true of the history, what was looked up is told of it, and the
--- effect says which history comes after.
+-- One step, from a history to the next, under a configuration with these plans. The event is
+-- answered this way. Its effect is true of the history, and determines the history after. If the
+-- effect is a lookup, the answer has what the history has.
 pub record Step (plans : List Plan) (history : History) (visit : Visit) (after : History)
     : Type 0 where
   pub under : visit.site.plans ≡ plans
@@ -112,8 +111,8 @@ Run plans history (visit ∷ visits) after =
 
 -- ---- a step over a book
 
--- What comes at a moment is answered so over a book: a step of the machine from each history for
--- which its content stood.
+-- What is received at a moment is answered this way over a book: a step of the machine from each
+-- history for which its content stood.
 pub record TakesStep {B : Type 0} (b : Ghosts B) (oldest : Option ℕ) (config : Config) (moment : ℕ)
     (what : What) (old new : B) (answer : Answer) : Type 0 where
   pub effect : Effect
@@ -121,6 +120,6 @@ pub record TakesStep {B : Type 0} (b : Ghosts B) (oldest : Option ℕ) (config :
   pub does : Does b config.plans old new effect
   pub tells : b.is_sound new → (history : History) → StoodFor b config.plans old history
       → effect ≡ looked → IsPage config history moment what answer
-  -- over a steady book nobody is told that his balance is unavailable
+  -- over a steady book no response says that a balance is unavailable
   pub steady : b.is_steady old → AsksBalance config moment what
       → answer ≢ replied unavailable_response

@@ -1,7 +1,7 @@
--- What a server does in its turns: a run of the machine, over a book, told by the exchange, and
+-- What a server does in its turns: a run of the machine, over a book, recorded by the exchange, and
 -- counted.
-use Rattle.std.specs.Prelude.{◌≡◌, ◌≢◌, ◌⊎◌, ◌+◌, ◌-◌, ◌≤◌, ℕ, Bool, true, false, ◌==◌, List, []}
-use Rattle.std.specs.Prelude.{◌∷◌, Option, None, map, length, count_by, slice_index, Contains}
+use Rattle.std.specs.Prelude.{◌≡◌, ◌≢◌, ◌⊎◌, ◌+◌, ◌≤◌, ℕ, Bool, true, false, ◌==◌, List, []}
+use Rattle.std.specs.Prelude.{◌∷◌, Option, None, map, length, count_by, Contains}
 use Rattle.std.specs.List.{flat_map}
 use Rattle.acct_model.specs.declared.plan.Plan.{Plan}
 use Rattle.acct_model.specs.declared.entry.Entry.{Entry}
@@ -12,8 +12,8 @@ use Rattle.acct_book.specs.Effect.{failed}
 use Rattle.acct_book.specs.Stands.{Stands}
 use Rattle.acct_book.specs.Step.{MayAdd, StoodFor}
 use Rattle.acct_wire.specs.declared.reason.Reason.{Reason}
-use Rattle.acct_wire.specs.Reasons.{reason_number}
-use Rattle.acct_pages.specs.Responses.{unavailable_response}
+use Rattle.acct_wire.specs.Reasons.{reason_number, count_for}
+use Rattle.acct_desk_pages.specs.Responses.{unavailable_response}
 use Rattle.acct_site.specs.declared.config.Config.{Config}
 use Rattle.acct_service.specs.declared.event.Event.{Event}
 use Rattle.acct_service.specs.declared.exchange.Call.{Call}
@@ -25,14 +25,14 @@ use Rattle.acct_service.specs.Told.{Grows, reply_asked, drop_told}
 
 -- ---- calls
 
--- the call that tells the answer to an event: a reply that is asked for, or the reason of a drop
+-- the call with the answer to an event: a requested reply, or a drop with its reason
 abbrev pub told_answer : Event → Answer → Bool → List Call
 told_answer event (replied octets) is_taken = call.Asked (reply_asked event octets is_taken) ∷ []
 told_answer event (dropped reason) is_taken = drop_told event reason
 told_answer event mute is_taken = []
 
--- The calls of a visit: the exchange gave its event, and was asked to reply to it at once with the
--- octets of its answer, or told why it was dropped, before any other event came.
+-- The calls of a visit. The exchange returned its event. At once, before any other event, it was
+-- asked to send the octets of its answer, or notified why it was dropped.
 abbrev pub calls_of : Visit → List Call
 calls_of visit = call.Gave visit.event ∷ told_answer visit.event visit.answer visit.is_taken
 
@@ -46,11 +46,6 @@ takes_reply mute is_taken = false
 -- it was answered with a reply, and the exchange took it
 abbrev pub is_replied : Visit → Bool
 is_replied visit = takes_reply visit.answer visit.is_taken
-
--- how many drops are counted for a reason: the reasons stand in the order of their numbers, which
--- begin at 1
-abbrev pub drops_of : Served → Reason → ℕ
-drops_of served reason = slice_index served.dropped (reason_number reason - 1)
 
 abbrev pub drops_for : Reason → Answer → Bool
 drops_for reason (replied octets) = false
@@ -75,7 +70,7 @@ pub record Counts (visits : List Visit) (served : Served) : Type 0 where
   pub events : served.events ≡ length visits
   pub replies : served.replies ≡ count_by is_replied visits
   pub dropped : (reason : Reason)
-      → drops_of served reason ≡ count_by (is_dropped_for reason) visits
+      → count_for served.dropped reason ≡ count_by (is_dropped_for reason) visits
   pub mute : served.mute ≡ count_by is_mute visits
 
 -- the counts rose by those of these visits
@@ -83,20 +78,21 @@ pub record CountsMore (visits : List Visit) (old new : Served) : Type 0 where
   pub events : new.events ≡ old.events + length visits
   pub replies : new.replies ≡ old.replies + count_by is_replied visits
   pub dropped : (reason : Reason)
-      → drops_of new reason ≡ drops_of old reason + count_by (is_dropped_for reason) visits
+      → count_for new.dropped reason
+      ≡ count_for old.dropped reason + count_by (is_dropped_for reason) visits
   pub mute : new.mute ≡ old.mute + count_by is_mute visits
 
 -- no count is above n
 pub record AtMost (n : ℕ) (served : Served) : Type 0 where
   pub events : served.events ≤ n
   pub replies : served.replies ≤ n
-  pub dropped : (reason : Reason) → drops_of served reason ≤ n
+  pub dropped : (reason : Reason) → count_for served.dropped reason ≤ n
   pub mute : served.mute ≤ n
   pub faults : served.faults ≤ n
 
 -- ---- the book
 
--- the entry of a visit whose call was answered Unavailable
+-- the entry of a visit whose call returned Unavailable
 abbrev pub HasFailed : List Visit → Entry → Type 0
 HasFailed visits asked = Contains (map (λ visit. visit.effect) visits) (failed asked)
 
@@ -114,21 +110,21 @@ pub record Keeps {B : Type 0} (b : Ghosts B) (old new : B) : Type 0 where
 
 -- ---- the headline
 
--- What the visits made of a history, over a book whose content stood for it by these plans.
+-- What the visits did to a history, over a book whose content stood for it by these plans.
 pub record Leads {B : Type 0} (b : Ghosts B) (plans : List Plan) (visits : List Visit) (old new : B)
     (history : History) : Type 0 where
   pub after : History
   -- they are a run of the machine, from this history to the one after it
   pub run : Run plans history visits after
-  -- the book's content stands for the history after the run, while it tells one
+  -- the book's content stands for the history after the run, while the book is open
   pub stands : StoodFor b plans new after
   -- What a crash leaves now stands for the history after the run, or for that with the entry of a
-  -- visit whose call failed: what was answered stays. While nothing was accepted it may also be
-  -- what a crash could leave before.
+  -- visit whose call failed. What was answered stays. If nothing was accepted, it may also be what
+  -- a crash could leave before.
   pub leaves : (c : Content) → b.left new c
       → MayLeave plans after (HasFailed visits) c ⊎ ((after ≡ history) × b.left old c)
 
--- What these visits are of a server's turns over a book, under configurations with these plans.
+-- The visits of a server's turns over a book, under configurations with these plans.
 pub record Attends {B : Type 0} (b : Ghosts B) (plans : List Plan) (visits : List Visit)
     (old new : B) (old_told new_told : Option (List Call)) : Type 0 where
   -- each event is answered as the machine may answer it, whatever the book held
@@ -137,15 +133,15 @@ pub record Attends {B : Type 0} (b : Ghosts B) (plans : List Plan) (visits : Lis
   pub leads : b.is_sound new → (history : History) → StoodFor b plans old history
       → Leads b plans visits old new history
   pub keeps : Keeps b old new
-  -- over a steady book nobody is told that his balance is unavailable
+  -- over a steady book no response says that a balance is unavailable
   pub steady : b.is_steady old → (visit : Visit) → Contains visits visit
       → AsksBalance visit.site visit.event.moment visit.event.what
       → visit.answer ≢ replied unavailable_response
-  -- the exchange gave these events, was asked for these replies and told of these drops, and of no
-  -- others, each of them between its own event and the next
+  -- the exchange returned only these events, was asked for only these replies and notified of only
+  -- these drops, each between its event and the next
   pub told : Grows old_told (flat_map calls_of visits) new_told
 
--- it was answered under this configuration, and a report could be so old
+-- it was answered under this configuration, with this limit on the age of a report
 abbrev pub IsUnder : Option ℕ → Config → Visit → Type 0
 IsUnder oldest config visit = (visit.site ≡ config) × (visit.oldest ≡ oldest)
 
@@ -154,7 +150,7 @@ abbrev pub AreUnder : Option ℕ → Config → List Visit → Type 0
 AreUnder oldest config visits =
     (visit : Visit) → Contains visits visit → IsUnder oldest config visit
 
--- a turn: one visit, or none where nothing came
+-- a turn: one visit, or none if nothing was received
 pub record TakesTurn {B : Type 0} (b : Ghosts B) (oldest : Option ℕ) (config : Config) (old new : B)
     (old_told new_told : Option (List Call)) (old_served new_served : Served) : Type 0 where
   pub visits : List Visit
@@ -163,7 +159,7 @@ pub record TakesTurn {B : Type 0} (b : Ghosts B) (oldest : Option ℕ) (config :
   pub attends : Attends b config.plans visits old new old_told new_told
   pub counts : CountsMore visits old_served new_served
 
--- turns, and what was counted in them beside what was counted before
+-- turns, whose visits were added to the counts
 pub record TakesTurns {B : Type 0} (b : Ghosts B) (oldest : Option ℕ) (config : Config) (old new : B)
     (old_told new_told : Option (List Call)) (old_served new_served : Served) : Type 0 where
   pub visits : List Visit

@@ -1,8 +1,9 @@
 -- What disturbed delivery leaves of balances: those of the entries that were to be delivered.
 --
--- What was sent is a history too: the one that would have been, had nothing been lost, repeated or
--- reordered. A list of entries is one in which no plans were added. What stays in a life is said of
--- its whole history, in which nothing was carried forward, and balances of the book's.
+-- What was sent is a history too: the one that there would be if nothing were lost, repeated or
+-- reordered. A list of entries is one in which no plans were added. What stays in a life is stated
+-- for its whole history, in which nothing was carried forward. Balances are stated for the book's
+-- history.
 use Rattle.std.specs.Prelude.{◌≡◌, ◌⊎◌, ◌≤◌, ℕ, List, [], ◌∷◌, ◌++◌, map, Contains, Ok, None}
 use Rattle.std.specs.List.{flat_map}
 use Rattle.acct_model.specs.declared.plan.Plan.{Plan}
@@ -35,14 +36,14 @@ IsKept history asked =
     ⊎ ((topup : TopUpFacts) × (asked ≡ entry.TopUp topup)
     × Contains (claims history) (OfTopUp (topup_claim topup)))
 
--- Of a life from the old history to the last: what was accepted stays as it was, whole and in its
--- order, and what was acknowledged is kept.
+-- In a life from the old history to the last, what was accepted stays, whole and in order, and what
+-- was acknowledged is kept.
 pub record HasKept (old : History) (confirmed : List Entry) (last : History) : Type 0 where
   pub accepted : (newer : History) × (last ≡ newer ++ old)
   pub acknowledged : (asked : Entry) → Contains confirmed asked → IsKept last asked
 
--- Of a life from the old past to the last: the plans in force before are those at the end without
--- the ones that the history says were added since.
+-- In a life from the old past to the last, the old plans are the last ones without those that the
+-- history added since.
 abbrev pub PlansAreTold : Past → Past → Type 0
 PlansAreTold old last = (newer : History) × (last.whole ≡ newer ++ old.whole)
     × PriceAlike (plans_then last.plans newer) old.plans
@@ -57,8 +58,8 @@ HasSameTopUps past = all_topups past.whole ≡ all_topups past.history
 abbrev pub history_of : List Entry → History
 history_of entries = map Accepted entries
 
--- among these entries is a report of the report's session of which no less is counted, by the plan
--- of the report's class
+-- among these entries is a report of the same session that counts no less, by the plan of the
+-- report's class
 abbrev pub IsCovered : List Plan → ReportFacts → List Entry → Type 0
 IsCovered plans report these =
     (other : ReportFacts) × Contains (all_reports (history_of these)) other
@@ -75,13 +76,13 @@ pub record IsSettledBy (plans : List Plan) (sent : History) (confirmed : List En
   pub reports : (report : ReportFacts) → Contains (all_reports sent) report
       → IsCovered plans report confirmed
 
--- the same, and nothing but the sent entries was accepted, but for Accounting-On and Accounting-Off
+-- that, and only the sent entries were accepted, except for Accounting-On and Accounting-Off
 abbrev pub IsDelivered : List Plan → History → List Entry → History → Type 0
 IsDelivered plans sent confirmed last =
     ClaimsNoMore last sent × IsSettledBy plans sent confirmed
 
--- What was accepted may come again, its reply being lost: a report whose session was not set aside
--- may be accepted and moves no balance, a top-up is a repeat.
+-- What was accepted may be sent again, because its reply may be lost. A report whose session was
+-- not set aside may be accepted and moves no balance. A top-up is a repeat.
 pub record MayComeAgain (past : Past) : Type 0 where
   pub report : (report : ReportFacts)
       → Contains (claims past.whole) (OfReport (report_claim report))
@@ -98,7 +99,7 @@ abbrev pub uncarried : List Plan → History → Past
 uncarried plans history =
     record { plans = plans; history = history; whole = history; aside = [] }
 
--- some event asks for the entry and is answered by a reply where it is added
+-- some event asks for the entry, and is answered with a reply if that is added
 abbrev pub CanBeServed : Config → Entry → Type 0
 CanBeServed config asked =
     (event : Event) × (octets : List ℕ)
@@ -109,8 +110,8 @@ abbrev pub CanBeImported : Entry → Type 0
 CanBeImported asked = (moment : ℕ) × (fields : Fields) × (topup : TopUpFacts)
     × (asked_by moment fields ≡ Ok topup) × (asked ≡ entry.TopUp topup)
 
--- each entry may be added to those that were accepted before it, and can be served or imported, and
--- plans were added to others that they extend
+-- each entry may be added to those accepted before it, and can be served or imported; plans were
+-- added to others that they extend
 abbrev pub CanBeSent : Config → History → Type 0
 CanBeSent config [] = Unit {0}
 CanBeSent config (Accepted next ∷ older) =
@@ -130,23 +131,23 @@ pub record LifeSettles : Type 0 where
   -- the history says which plans are in force
   pub in_force : (old last : Past) (spans : List Span) → Life old spans last
       → PlansAreTold old last
-  -- What was sent in the end counts as if nothing had been lost, repeated or reordered, as if the
-  -- server had never stopped, and as if nothing had been carried forward, by the plans in force at
-  -- the end. No report was accepted of a session that was set aside before. Each addition was of
-  -- plans for classes that no report accepted before bears.
+  -- What was sent counts in the end, by the plans in force then, as if nothing had been lost,
+  -- repeated or reordered. It counts as if the server had never stopped, and as if nothing had been
+  -- carried forward. No report was accepted of a session that was set aside before. Each addition
+  -- was of plans for classes that no report accepted before has.
   pub settled : (plans : List Plan) (sent : History) (last : Past) (spans : List Span)
       → LifeInTime (made_with plans) spans last → AddsForNone last.whole → AddsForNone sent
       → IsDelivered last.plans sent (acknowledged spans) last.whole
       → BalancesAreEqual last.plans last.history sent
-  -- To carry sessions forward moves no balance, if no report is late.
+  -- Carrying sessions forward moves no balance, if no report is late.
   pub unmoved : (plans : List Plan) (last : Past) (spans : List Span)
       → LifeInTime (made_with plans) spans last
       → BalancesAreEqual last.plans last.history last.whole
   -- what was committed and never answered may be sent again
   pub resent : (plans : List Plan) (last : Past) (spans : List Span)
       → Life (made_with plans) spans last → MayComeAgain last
-  -- Such lives exist: of each consistent history that can be sent, one in which all of it is
-  -- delivered.
+  -- Such lives exist: for each consistent history that can be sent, there is one that delivers all
+  -- of it.
   pub possible : (config : Config) (sent : History) → IsConsistent sent → CanBeSent config sent
       → (plans : List Plan) × (spans : List Span)
       × Life (made_with plans) spans (uncarried config.plans sent)

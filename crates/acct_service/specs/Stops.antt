@@ -8,7 +8,7 @@ use Rattle.acct_book.specs.Content.{Content, keeping}
 use Rattle.acct_book.specs.Stands.{Stands}
 use Rattle.acct_book.specs.Step.{StoodFor}
 use Rattle.acct_book.specs.Addition.{AddsAtMost}
-use Rattle.acct_book.specs.Carrying.{SelectionFacts, CarriesOn}
+use Rattle.acct_book_forward.specs.Carrying.{SelectionFacts, CarriesOn}
 use Rattle.acct_site.specs.declared.config.Config.{Config}
 use Rattle.acct_files.specs.declared.import_report.Stopped.{Stopped}
 use Rattle.acct_files.specs.declared.import_report.ImportReport.{ImportReport}
@@ -37,8 +37,8 @@ module _ {B : Type 0} (b : Ghosts B) where
   abbrev pub LivesOnBy : Past → Span → B → Type 0
   LivesOnBy past span book = (c : Content) → b.left book c → IsLivedOn past span c
 
-  -- If it began so that a crash left only what stood for its history. A call that carries sessions
-  -- forward answers a T or an E.
+  -- The following holds if a crash at the start left only what stood for the history. A call that
+  -- carries sessions forward returns a T or an E.
   pub record StopsAreLived (T E : Type 0) : Type 0 where
     pub served_so_far : (past : Past) (visits : List Visit) (old new : B)
         → LeavesOnly past old → Leads b past.plans visits old new past.history
@@ -48,25 +48,25 @@ module _ {B : Type 0} (b : Ghosts B) where
         → past.plans ≡ config.plans → LeavesOnly past old
         → (run : Imports b config.plans moment text past.history stopped report old new)
         → LivesOnBy past (imported config moment run.rows run.outcomes run.tried) new
-    -- An addition of plans that went through leaves the content of before with the new plans.
+    -- An addition of plans that succeeded leaves the old content with the new plans.
     pub extended_at_once : (past : Past) (more : List Plan) (content : Content)
         → MayExtend past.plans more → Stands past.plans content past.history
         → IsLivedOn past (extended more) (keeping more content)
-    -- An addition that was killed, failed or went through: what a crash leaves then stands for the
-    -- history of before, by the plans of before, or it is lived on by the addition.
+    -- An addition was killed, failed or succeeded. What a crash leaves then stands for the old
+    -- history, by the old plans, or is lived on by the addition.
     pub extended_so_far : (past : Past) (more : List Plan) (old new : B)
         → MayExtend past.plans more → Stands past.plans (b.content old) past.history
         → LeavesOnly past old
         → AddsAtMost b more old new → b.is_sound new
         → (c : Content) → b.left new c
         → Stands past.plans c past.history ⊎ IsLivedOn past (extended more) c
-    -- A call that carries sessions forward and left the book open: its content is lived on by the
-    -- batches that came, if any.
+    -- A call carried sessions forward and left the book open. Its content is lived on by the
+    -- batches that were done, if any.
     pub carried_at_once : (past : Past) (selection : SelectionFacts) (old new : B)
         (result : Result T E) → StoodFor b past.plans old past.history
         → CarriesOn b selection past.plans old new result → b.is_open new
         → IsCarriedAlong past selection (b.content new)
-    -- The same of whatever a crash leaves, if that call was killed, failed or went through.
+    -- So is whatever a crash leaves, if that call was killed, failed or succeeded.
     pub carried_so_far : (past : Past) (selection : SelectionFacts) (old new : B)
         (result : Result T E) → StoodFor b past.plans old past.history → LeavesOnly past old
         → CarriesOn b selection past.plans old new result → b.is_sound new

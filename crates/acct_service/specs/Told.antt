@@ -1,4 +1,4 @@
--- What an exchange tells of its calls.
+-- What an exchange records of its calls.
 use Rattle.std.specs.Prelude.{◌≡◌, ◌+◌, ⊤, ℕ, Bool, List, [], ◌∷◌, ◌++◌, Option, Some, None, Result}
 use Rattle.std.specs.Prelude.{Ok, Err, is_ok}
 use Rattle.acct_wire.specs.declared.reason.Reason.{Reason}
@@ -8,23 +8,24 @@ use Rattle.acct_service.specs.declared.exchange.Asked.{Asked}
 use Rattle.acct_service.specs.declared.exchange.Call.{Call}
 use Rattle.acct_service.specs.declared.exchange.Call.TheVariants as call
 
--- The list of calls grew by these at its end, where it is still told. What told none tells none.
+-- The list of calls grew by these at its end, if it is still recorded. One that was not recorded
+-- stays so.
 abbrev pub Grows : {C : Type 0} → Option (List C) → List C → Option (List C) → Type 0
 Grows old calls None = ⊤
 Grows None calls (Some new) = ⊥
 Grows (Some old) calls (Some new) = new ≡ old ++ calls
 
--- the call that gave an event, if one came
+-- the call that returned an event, if there was one
 abbrev pub given : Result (Option Event) Fault → List Call
 given (Ok (Some event)) = call.Gave event ∷ []
 given (Ok None) = []
 given (Err fault) = []
 
--- a reply that was asked for
+-- a requested reply
 abbrev pub reply_asked : Event → List ℕ → Bool → Asked
 reply_asked event bytes is_taken = record { event = event; bytes = bytes; is_taken = is_taken }
 
--- the call that was told of a drop
+-- the call that was notified of a drop
 abbrev pub drop_told : Event → Reason → List Call
 drop_told event reason = call.Dropped event reason ∷ []
 

@@ -1,10 +1,10 @@
-//! What comes to a server.
+//! The events that a server receives.
 ghost use Rattle.std.specs.Prelude.{◌≡◌, ◌<◌, ◌^◌, IfOk};
 
 use acct_model::Octets;
 use std::alloc::{AllocError, Global};
 
-/// What came, and from where.
+/// What was received, and from where.
 pub enum What {
     /// A datagram.
     Datagram {
@@ -22,7 +22,6 @@ pub enum What {
     },
 }
 
-// It is written out, so that a caller does not prove again how each part is dropped.
 impl Drop for What {
     fn drop(self) {
         match self {
@@ -37,7 +36,7 @@ impl Drop for What {
 }
 
 impl What {
-    // The same again.
+    // A copy, with the address that it came from.
     fn copy(&self, alloc: Global) -> Result<What, AllocError>
         ensures { IfOk result (λ copy. copy ≡ self.now) }
     {
@@ -58,16 +57,15 @@ impl What {
     }
 }
 
-/// Something that came, and when. Its moment is below 2^53.
+/// Something received, and when. Its moment is below 2^53.
 pub struct Event {
-    /// When it came, in seconds since 1970.
+    /// When it was received, in seconds since 1970.
     pub moment: u64,
-    /// What came.
+    /// What was received.
     pub what: What,
     pub ghost moment_fits: { moment < 2 ^ 53 },
 }
 
-// It is written out, so that a caller does not prove again how each part is dropped.
 impl Drop for Event {
     fn drop(self) {
         let Event { moment: _, what: _ } = self;
@@ -75,11 +73,11 @@ impl Drop for Event {
 }
 
 impl Event {
-    /// The same event again.
+    /// A copy of the event, with its source and its moment.
     ///
     /// # Errors
     ///
-    /// Only where memory is refused.
+    /// Only if an allocation fails.
     pub fn copy(&self, alloc: Global) -> Result<Event, AllocError>
         ensures { IfOk result (λ copy. copy ≡ self.now) }
     {

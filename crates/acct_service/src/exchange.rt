@@ -1,4 +1,4 @@
-//! Where events come from and replies go.
+//! Where a server receives events and sends replies.
 ghost use Rattle.std.specs.Prelude.{◌≡◌, ℕ, ◌+◌, ◌-◌, ◌^◌, ◌<◌, Option, List};
 ghost use Rattle.acct_service.specs.declared.exchange.Call.{Call};
 ghost use Rattle.acct_service.specs.Told.{Grows, given, sent, drop_told, CountsFault};
@@ -13,7 +13,7 @@ use thiserror::Error;
 #[error("the exchange failed")]
 pub struct Fault;
 
-/// A reply that was asked for.
+/// A requested reply.
 #[derive(Drop)]
 pub struct Asked {
     /// The event that it answers.
@@ -24,21 +24,21 @@ pub struct Asked {
     pub is_taken: bool,
 }
 
-/// A call of an exchange that had to do with an event.
+/// A call of an exchange that concerns an event.
 #[derive(Drop)]
 pub enum Call {
-    /// It gave this event.
+    /// It returned this event.
     Gave(Event),
     /// It was asked to send this reply.
     Asked(Asked),
-    /// It was told that this event was dropped, and why.
+    /// It was notified that this event was dropped, and why.
     Dropped(Event, Reason),
 }
 
-/// A source of events that takes replies to them, and is told which of them are dropped.
+/// A source of events that takes replies to them, and is notified of those that are dropped.
 ///
-/// It counts its turns and its faults, and may tell the list of its calls: which events it gave,
-/// which replies it was asked for and which drops it was told, in the order in which that was.
+/// It counts its turns and its faults. It may record the list of its calls in order: the events
+/// that it returned, the requested replies, and the drops that it was notified of.
 pub trait Exchange {
     /// How many turns it made.
     ghost turn_count: { Self → ℕ };
@@ -46,15 +46,15 @@ pub trait Exchange {
     /// How many of its calls failed.
     ghost failure_count: { Self → ℕ };
 
-    /// The events that it gave, the replies that it was asked for and the drops that it was told,
-    /// the oldest first, if it tells them.
+    /// The events that it returned, the requested replies, and the drops that it was notified of,
+    /// the oldest first, if it records them.
     ghost told: { Self → Option (List Call) };
 
-    /// One turn: the event that came, or None where nothing came.
+    /// One turn: the event that was received, or None if there was none.
     ///
     /// # Errors
     ///
-    /// A `Fault` is counted, and gives no event.
+    /// A `Fault` is counted, and there is no event.
     fn next(&mut self) -> Result<Option<Event>, Fault>
         requires turns { turn_count self.old < 2 ^ 64 - 1 }
         requires failures { failure_count self.old < 2 ^ 64 - 1 }
@@ -62,18 +62,18 @@ pub trait Exchange {
         ensures failures { CountsFault result (failure_count self.old) (failure_count self.new) }
         ensures told { Grows (told self.old) (given result) (told self.new) };
 
-    /// Sends octets to where an event came from.
+    /// Sends octets to the sender of an event.
     ///
     /// # Errors
     ///
-    /// A `Fault` is counted. The reply was asked for and not taken.
+    /// A `Fault` is counted. The reply was requested and not taken.
     fn reply(&mut self, event: &Event, bytes: &[u8]) -> Result<(), Fault>
         requires failures { failure_count self.old < 2 ^ 64 - 1 }
         ensures turns { turn_count self.new ≡ turn_count self.old }
         ensures failures { CountsFault result (failure_count self.old) (failure_count self.new) }
         ensures told { Grows (told self.old) (sent event.now bytes.now result) (told self.new) };
 
-    /// Is told that an event was dropped: nobody gets a reply to it.
+    /// Notes that an event was dropped: nobody gets a reply to it.
     fn note_drop(&mut self, event: &Event, reason: Reason)
         ensures turns { turn_count self.new ≡ turn_count self.old }
         ensures failures { failure_count self.new ≡ failure_count self.old }

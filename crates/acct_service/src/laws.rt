@@ -10,35 +10,35 @@ ghost use Rattle.acct_service.specs.Ages.{TakesNoneTooOld};
 
 use acct_book::Book;
 
-/// Disturbed delivery. What was accepted or acknowledged is never lost. Where the entries that were
-/// sent are consistent, nothing else was accepted, each top-up was acknowledged and each report is
-/// covered by an acknowledged one, the balances are those of what was sent, however often the
-/// server stopped and the network lost, repeated or reordered. Plans may be added meanwhile, each
-/// for a class that no report accepted before bears. Sessions may be carried forward, if no report
-/// of one is accepted later. What was never answered may come again.
+/// Disturbed delivery. What was accepted or acknowledged is never lost. Suppose the sent entries
+/// are consistent, nothing else was accepted, each top-up was acknowledged, and an acknowledged
+/// report covers each report. Then the balances are those of what was sent, however often the
+/// server stopped and the network lost, repeated or reordered. Plans may be added in between, each
+/// for a class that no report accepted before has. Sessions may be carried forward, if no report of
+/// one is accepted later. What was never answered may be sent again.
 pub fn life_settles()
     ensures { LifeSettles }
 {}
 
-/// What a crash leaves of a book that was served or imported into is a history from which
-/// `life_settles` goes on: this span of a life, and a stop. The same holds of a book to which plans
-/// were added. If the addition was killed or failed, the book may also be as it was, with the plans
-/// that it had. It also holds of a book whose sessions were carried forward, by a call that answers
-/// a `T` or an `E`: as many batches as came. The next start may have the plans in another order.
+/// After serving or an import, a crash leaves a book with a history from which `life_settles` goes
+/// on: this span of a life, and a stop. The same holds if plans were added to the book. If the
+/// addition was killed or failed, the book may also be unchanged, with its old plans. It also holds
+/// if sessions were carried forward, by a call that returns a `T` or an `E`: as many batches as
+/// were done. The next start may have the plans in another order.
 pub fn stops_are_lived<B: Book, T, E>()
     ensures { StopsAreLived B.Book T E }
 {}
 
-/// A server that limits how old a report may be takes no older one: it is not added, and no crash
-/// leaves it. So a report that was accepted before its session was carried forward, and comes again
-/// with its own moment, is not charged again, if the cutoff lies that far back.
+/// A server that limits how old a report may be accepts no older one: it adds none, and no crash
+/// leaves one. A report that was accepted before its session was carried forward may arrive again,
+/// with its own moment. It is not charged again, if the cutoff is that far back.
 pub fn old_reports_are_dropped()
     ensures { TakesNoneTooOld }
 {}
 
-/// Turns after turns are turns: what `serve` says of two runs over one book and exchange holds of
-/// both together, also where clients and keys changed in between, and what `take_turn` says of each
-/// turn holds of all of them.
+/// Turns join. What `serve` ensures for two runs over one book and exchange holds for both
+/// together, even if clients and keys changed in between. What `take_turn` ensures for each turn
+/// holds for all of them.
 pub fn turns_join<B: Book>()
     ensures { (plans : List Plan) (visits more : List Visit) (old mid new : B)
         (told later last : Option (List Call))

@@ -12,7 +12,7 @@ use acct_wire::Reason;
 use std::alloc::{AllocError, Global};
 use std::mem;
 
-/// What a turn of a list brings.
+/// What a turn of a list yields.
 #[derive(Drop)]
 pub enum Planned {
     /// An event, and whether the exchange takes its reply.
@@ -28,10 +28,10 @@ pub enum Planned {
     Fails,
 }
 
-/// An exchange that brings the turns of a list, and nothing after the last of them. It tells the
-/// events that it gave, the replies that it was asked for and the drops that it was told, in their
-/// order. A growth that is refused in it is a fault where the call can say so, and from then on it
-/// tells nothing.
+/// An exchange that yields the turns of a list, and nothing after the last of them. It records in
+/// order the events that it returned, the requested replies, and the drops that it was notified of.
+/// If memory for that runs out, the call returns a fault if it can. From then on it reports no
+/// calls.
 pub struct ListExchange {
     alloc: Global,
     planned: Vec<Planned>,
@@ -43,7 +43,6 @@ pub struct ListExchange {
     calls: Vec<Call>,
 }
 
-// It is written out, so that a caller does not prove again how each part is dropped.
 impl Drop for ListExchange {
     fn drop(self) {
         let ListExchange {
@@ -63,7 +62,7 @@ impl ListExchange {
     ghost use Rattle.std.specs.Prelude.{List, Option};
     ghost use Rattle.acct_service.specs.declared.exchange.Call.{Call};
 
-    /// An exchange that brings these turns in their order, of which it made none.
+    /// An exchange that yields these turns in their order, and has made none of them.
     pub fn new(alloc: Global, planned: Vec<Planned>) -> ListExchange
         ensures turns { ⟦<ListExchange as Exchange>⟧.turn_count result ≡ 0 }
         ensures failures { ⟦<ListExchange as Exchange>⟧.failure_count result ≡ 0 }
@@ -81,8 +80,8 @@ impl ListExchange {
         }
     }
 
-    /// The events that it gave, the replies that it was asked for and the drops that it was told,
-    /// the oldest first, as far as it tells them.
+    /// The events that it returned, the requested replies, and the drops that it was notified of,
+    /// the oldest first, as far as it recorded them.
     pub fn calls(&self) -> &[Call]
         ensures { result.now ≡ self.now.calls.items }
     {
@@ -90,7 +89,7 @@ impl ListExchange {
     }
 }
 
-// Keeps a copy of an event that is given.
+// Records a copy of an event that is returned.
 fn keep_event(alloc: Global, calls: &mut Vec<Call>, event: &Event) -> Result<(), AllocError>
     ensures { OnOk result (calls.new.items ≡ calls.old.items ++ Gave event.now ∷ []) }
 {
@@ -99,7 +98,7 @@ fn keep_event(alloc: Global, calls: &mut Vec<Call>, event: &Event) -> Result<(),
     Ok(())
 }
 
-// Keeps a reply that was asked for.
+// Records a requested reply.
 fn keep_reply(
     alloc: Global,
     calls: &mut Vec<Call>,
@@ -120,7 +119,7 @@ fn keep_reply(
     Ok(())
 }
 
-// Keeps a drop that was told.
+// Records a drop.
 fn keep_drop(
     alloc: Global,
     calls: &mut Vec<Call>,

@@ -1,14 +1,12 @@
 //! The turns of a server.
 ghost use Rattle.std.specs.Prelude.{◌≡◌, ℕ, ◌+◌, ◌-◌, ◌^◌, ◌<◌, ◌≤◌, ◌==◌};
 ghost use Rattle.std.specs.Prelude.{if◌then◌else◌, []};
-ghost use Rattle.acct_wire.specs.Reasons.{reason_number};
+ghost use Rattle.acct_wire.specs.Reasons.{reason_number, count_for};
 ghost use Rattle.acct_wire.specs.declared.reason.Reason.{Reason};
-ghost use Rattle.acct_wire.specs.declared.reason.TheConstants.Reason.{COUNT};
 ghost use Rattle.acct_service.specs.Serving.{Serves, TakesTurn, TakesTurns, Counts, AtMost};
-ghost use Rattle.acct_service.specs.Serving.{drops_of};
 
-use crate::answering::Outbox;
 use crate::exchange::Exchange;
+use crate::outbox::Outbox;
 use crate::stepping::{Turn, step_within};
 use acct_book::Book;
 use acct_site::Config;
@@ -18,7 +16,7 @@ use std::alloc::Global;
 /// What a server did in its turns, counted.
 #[derive(Clone, Copy, PartialEq, Eq, Debug)]
 pub struct Served {
-    /// The events that came.
+    /// The events that were received.
     pub events: u64,
     /// The replies that were taken.
     pub replies: u64,
@@ -28,14 +26,6 @@ pub struct Served {
     pub mute: u64,
     /// The calls of the exchange that failed.
     pub faults: u64,
-}
-
-// Where a reason is counted.
-fn place(reason: Reason) -> usize
-    ensures place { result ≡ reason_number reason - 1 }
-    ensures within { result < COUNT }
-{
-    reason.number() as usize - 1
 }
 
 impl Served {
@@ -55,32 +45,32 @@ impl Served {
 
     /// How many datagrams were dropped for a reason.
     pub fn drops_for(&self, reason: Reason) -> u64
-        ensures { result ≡ drops_of self.now reason }
+        ensures { result ≡ count_for self.now.dropped reason }
     {
-        self.dropped[place(reason)]
+        self.dropped[reason.place()]
     }
 
     // Counts a datagram that was dropped.
     fn count_drop(&mut self, why: Reason)
-        requires { (reason : Reason) → drops_of self.old reason < 2 ^ 64 - 1 }
-        ensures dropped { (reason : Reason) → drops_of self.new reason
-            ≡ drops_of self.old reason
+        requires { (reason : Reason) → count_for self.old.dropped reason < 2 ^ 64 - 1 }
+        ensures dropped { (reason : Reason) → count_for self.new.dropped reason
+            ≡ count_for self.old.dropped reason
             + (if reason_number why == reason_number reason then 1 else 0) }
         ensures others { self.new ≡ record self.old { dropped = self.new.dropped } }
     {
-        self.dropped[place(why)] += 1;
+        self.dropped[why.place()] += 1;
     }
 }
 
-/// Makes one turn: one `next`, and at most one `step_within` and one `reply` or `note_drop`. A report
-/// may be at most `oldest` seconds old when it comes, if that is limited. What comes is answered and
-/// counted. A fault is counted too, and an entry that was recorded stays recorded when
-/// its reply fails.
+/// Makes one turn: one `next`, and at most one `step_within` and one `reply` or `note_drop`. A
+/// report may be at most `oldest` seconds old when it is received, if that is limited. An event is
+/// answered and counted. A fault is counted too. An entry that was recorded stays recorded if its
+/// reply fails.
 ///
-/// Turns join (`laws::turns_join`), so all that `serve` says of its end holds after each of its
-/// turns, where a kill may fall: what a crash then leaves has every entry that was answered. A kill
-/// within a turn leaves what a kill before it could leave, or the history before the turn with the
-/// turn's own entry (`acct_book::Book`, `acct_book::record`).
+/// Turns join (`laws::turns_join`), so all that `serve` ensures at its end holds after each of its
+/// turns. A kill may fall there: what a crash then leaves has every entry that was answered. A kill
+/// within a turn leaves what a kill before it could leave. Or it leaves the history before the turn
+/// with the turn's own entry (`acct_book::Book`, `acct_book::record`).
 ///
 /// It costs what `answer` or `handle` costs.
 pub fn take_turn<B: Book, X: Exchange>(
@@ -123,8 +113,7 @@ pub fn take_turn<B: Book, X: Exchange>(
     }
 }
 
-/// Makes exactly `limit` turns, as `take_turn` makes one, and counts what came in them beside what
-/// was counted before.
+/// Makes exactly `limit` turns, as `take_turn` makes one, and adds to the counts.
 pub fn take_turns<B: Book, X: Exchange>(
     alloc: Global,
     config: &Config,
@@ -153,14 +142,14 @@ pub fn take_turns<B: Book, X: Exchange>(
 
 /// Makes exactly `limit` turns, as `take_turn` makes one.
 ///
-/// Over any book and any exchange there are visits, events with answers, which the exchange gave
-/// and was asked for or told of where it tells its calls: each reply and each drop for its own
-/// event, before another came, and none left out. From each history for which the book's content
-/// stood they are a run of the machine to another, for which the content then stands. So every
-/// account's balance is the sum of its distinct vouchers less the price of each of its sessions'
-/// greatest accepted total, whatever is lost, repeated or reordered, and every reply is the one
-/// that the entries accepted before it determine. What a crash may leave at the end has every entry
-/// that was answered.
+/// Over any book and any exchange there are visits: events with answers. If the exchange records
+/// its calls, it returned these events, was asked for these replies and notified of these drops.
+/// Each is for its own event, before the next one, and none is left out. From each history for
+/// which the book's content stood, they are a run of the machine to another, for which the content
+/// then stands. So every account's balance is the sum of its distinct vouchers less the price of
+/// each of its sessions' greatest accepted total. That holds whatever is lost, repeated or
+/// reordered. The entries accepted before it determine every reply. What a crash may leave at the
+/// end has every entry that was answered.
 ///
 /// The buffers are made once. A turn costs what `answer` or `handle` costs.
 pub fn serve<B: Book, X: Exchange>(
@@ -173,15 +162,15 @@ pub fn serve<B: Book, X: Exchange>(
     requires turns { X.turn_count exchange.old + limit ≤ 2 ^ 64 - 1 }
     requires failures { X.failure_count exchange.old + limit ≤ 2 ^ 64 - 1 }
 
-    // Of the exchange alone: the turns that it made, and the faults that it counted.
+    // Only about the exchange: the turns that it made, and the faults that it counted.
     ensures turns { X.turn_count exchange.new ≡ X.turn_count exchange.old + limit }
     ensures faults { X.failure_count exchange.new
         ≡ X.failure_count exchange.old + result.faults }
 
-    // Of the counts: none is above the turns.
+    // About the counts: none is above the turns.
     ensures within { AtMost limit result }
 
-    // Of the book, of the exchange, and of both together.
+    // About the book, the exchange, and both together.
     ensures serves { Serves B.Book config.now book.old book.new (X.told exchange.old)
         (X.told exchange.new) result }
 {

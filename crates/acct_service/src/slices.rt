@@ -1,12 +1,13 @@
-//! Turns in slices. After each one the server polls what may have changed: its clients and keys, and
-//! whether its book can still be read and written.
+//! Turns in slices. After each slice the server polls what may have changed: its clients and keys,
+//! and whether its book can still be read and written.
 ghost use Rattle.std.specs.Prelude.{◌≡◌, ◌≢◌, ◌+◌, ◌-◌, ◌^◌, ◌<◌, ◌≤◌, false, IsTrue, None, Some};
-ghost use Rattle.acct_book.specs.inner.Step.{OnlyLooks};
-ghost use Rattle.acct_service.specs.Serving.{AtMost, drops_of};
+ghost use Rattle.acct_book.specs.Step.{OnlyLooks};
+ghost use Rattle.acct_wire.specs.Reasons.{count_for};
+ghost use Rattle.acct_service.specs.Serving.{AtMost};
 ghost use Rattle.acct_service.specs.Slices.{MakesTurns, ServesInSlices, GoRounds};
 
-use crate::answering::Outbox;
 use crate::exchange::Exchange;
+use crate::outbox::Outbox;
 use crate::rounds::Rounds;
 use crate::server::{Served, take_turns};
 use acct_book::Book;
@@ -14,35 +15,35 @@ use acct_site::Config;
 use acct_wire::Reason;
 use std::alloc::Global;
 
-/// How many turns are made before the book is looked at again. Where nothing comes they take 5
+/// How many turns are made before the book is checked again. If the server is idle they take 5
 /// seconds over sockets that wait 20 milliseconds for a datagram.
 const SLICE: u64 = 256;
 
-/// Until when a server made turns.
+/// Why a server stopped making turns.
 #[derive(Clone, Copy, PartialEq, Eq, Debug)]
 pub enum Until {
-    /// It made all that it was given.
+    /// It made all turns.
     AllMade,
-    /// Its book refused to tell a balance. A book that a failed write has shut refuses each call
+    /// Its book failed to return a balance. A book that a failed write has shut fails each call
     /// until it is opened again.
     Shut,
-    /// In a slice reports were dropped because the book refused them, and none was recorded: the
-    /// book can be read, and not written.
+    /// In a slice reports were dropped because the book failed, and none was recorded. The book can
+    /// be read, and not written.
     Stuck,
 }
 
-/// Makes `limit` turns, as `serve` does, in slices, after each of which `rounds` looks round. A
-/// report may be at most `oldest` seconds old when it comes, if that is limited. The
-/// turns that follow have the configuration that it gives, if it gives one. It ends early if the
-/// book refuses to tell a balance after a slice, since a book that is shut answers nobody any more;
-/// or if in a slice the book refused every report that it could have recorded, and there was one.
-/// Either book is to be opened again.
+/// Makes `limit` turns, as `serve` does, in slices, and calls `rounds` after each slice. If that
+/// returns a configuration, the turns that follow have it. A report may be at most `oldest` seconds
+/// old when it is received, if that is limited.
 ///
-/// What `serve` says of its turns holds of those that were made, each under the configuration that
-/// its slice had (`ServesInSlices`), and each round went as `rounds` says that its rounds go
-/// (`GoRounds`).
+/// It ends early if the book returns no balance after a slice, because a shut book answers nobody
+/// any more. It also ends early if in a slice the book failed for every report that it could have
+/// recorded, and there was one. Either book must be opened again.
 ///
-/// It costs a round and one search of the book in 256 turns besides what `serve` costs.
+/// What `serve` ensures for its turns holds for those that were made, each under the configuration
+/// of its slice (`ServesInSlices`). Each call of `rounds` goes as it ensures (`GoRounds`).
+///
+/// In 256 turns it costs one call of `rounds` and one search of the book more than `serve`.
 pub fn serve_in_slices<B: Book, X: Exchange, G: Rounds>(
     alloc: Global,
     config: &Config,
@@ -62,11 +63,11 @@ pub fn serve_in_slices<B: Book, X: Exchange, G: Rounds>(
     ensures serves { ServesInSlices B.Book oldest config.now book.old book.new (X.told exchange.old)
         (X.told exchange.new) (λ slices. GoRounds G.Rounds rounds.old slices rounds.new)
         result.0 }
-    // A book that never refuses to tell a balance ends no run so.
+    // A book that always returns a balance never ends a run this way.
     ensures shut { result.1 ≡ Until.Shut → B.is_steady book.old → ⊥ }
-    // Nor does one that refused no report.
-    ensures stuck { result.1 ≡ Until.Stuck → 0 < drops_of result.0 Reason.Unavailable }
-    // One that is shut ends it: after all turns a sound book is open.
+    // Nor does a book that failed for no report.
+    ensures stuck { result.1 ≡ Until.Stuck → 0 < count_for result.0.dropped Reason.Unavailable }
+    // A shut book ends a run: after all turns a sound book is open.
     ensures open { result.1 ≡ Until.AllMade → 0 < limit → B.is_sound book.new → B.is_open book.new }
 {
     let mut out = Outbox::new();
@@ -115,7 +116,7 @@ fn ending<B: Book>(book: &mut B, is_stuck: bool) -> Option<Until>
     }
 }
 
-// Whether the book refuses to tell a balance: any, so that of no account.
+// Whether the book fails to return a balance: any balance, so that of the empty name.
 fn is_shut<B: Book>(book: &mut B) -> bool
     ensures looks { OnlyLooks B.Book book.old book.new }
     ensures steady { IsTrue result → B.is_steady book.old → ⊥ }

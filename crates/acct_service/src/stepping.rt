@@ -2,19 +2,19 @@
 ghost use Rattle.std.specs.Prelude.{None};
 ghost use Rattle.acct_service.specs.Machine.{TakesStep, answer_of};
 
-use crate::answering::Outbox;
 use crate::event::{Event, What};
+use crate::outbox::Outbox;
 use acct_book::Book;
 use acct_site::Config;
 use acct_wire::{Datagram, Reason};
 use std::alloc::Global;
 
-/// What an event was answered.
+/// How an event was answered.
 #[derive(Clone, Copy, PartialEq, Eq, Debug)]
 pub enum Turn {
     /// The octets in the outbox are to be sent.
     Reply,
-    /// The datagram was dropped, and nothing has changed, in a book that goes on answering.
+    /// The datagram was dropped, and nothing has changed, if the book goes on answering.
     Dropped(Reason),
     /// There was no memory for a response of the desk. Nothing was recorded.
     Mute,

@@ -1,8 +1,8 @@
-//! Runs over books that fail, with exchanges that fail, and where memory is refused.
+//! Runs over books that fail, with exchanges that fail, and with allocations that fail.
 use crate::sample_site::{Sent, Site};
 use crate::texts::{BALANCE, GOLD_1, GOLD_MORE, OF_BO, TOP_UP};
 use acct_book::MemBook;
-use acct_fakes::{FailingBook, ShutBook};
+use acct_book_fakes::{FailingBook, ShutBook};
 use std::alloc::Global;
 use std::test::Fail;
 
@@ -15,8 +15,8 @@ static BUSY: [Sent; 6] = [
     Sent::Packet(10, OF_BO),
 ];
 
-// Fails where the balances after a run over a book that refuses this call are not those that its
-// replies tell, or the book did not refuse so many turns.
+// Runs over a book that fails this call. Fails if the balances then are not those that the replies
+// report, or the book did not fail in so many turns.
 fn expect_refused(alloc: Global, call: u64, refused: u64) -> Result<(), Fail> {
     let mut site = Site::over(alloc, FailingBook::new(MemBook::new(alloc), call))?;
     let ran = site.run(&BUSY, &[])?;
@@ -37,7 +37,7 @@ fn a_refused_call_changes_nothing(rt: HostRuntime) -> Result<(), Fail> {
     expect_refused(rt.alloc(), 15, 0)
 }
 
-// The same event, whose reply is not taken.
+// The event, whose reply is not taken.
 fn lost(sent: Sent) -> Sent {
     match sent {
         Sent::Packet(identifier, octets) => Sent::LostPacket(identifier, octets),
@@ -46,7 +46,7 @@ fn lost(sent: Sent) -> Sent {
     }
 }
 
-// Fails where the balances are not those that the replies tell, or not one fault is counted, though
+// Fails if the balances are not those that the replies report, or not one fault is counted, though
 // one turn fails or its reply is lost.
 fn expect_fault(alloc: Global, place: usize, is_lost: bool) -> Result<(), Fail> {
     let mut turns = BUSY;
@@ -75,22 +75,23 @@ fn a_fault_at_any_turn_loses_nothing(rt: HostRuntime) -> Result<(), Fail> {
     Ok(())
 }
 
-// Whether the balances are those that the replies tell, or the exchange counted a fault.
+// Whether the balances are those that the replies report, or the exchange counted a fault.
 fn is_kept(alloc: Global) -> Result<bool, Fail> {
     let mut site = Site::over(alloc, MemBook::new(alloc))?;
     let ran = site.run(&BUSY, &[])?;
     Ok(site.balances() == ran.told || ran.served.faults > 0)
 }
 
-// Memory may be refused at any place of this test. What was told then is kept; an exchange that is
-// refused memory counts a fault, and tells no more.
+// An allocation may fail at any place of this test. What was reported then is kept; an exchange
+// that is out of memory counts a fault, and reports no more.
 #[test]
 fn refused_memory_changes_nothing(rt: HostRuntime) -> Result<(), Fail> {
     assert!(rt; is_kept(rt.alloc())?);
     Ok(())
 }
 
-// How many writes a book takes before it shuts, the balances that are told, and whether it is shut.
+// How many writes a book takes before it shuts, the balances that are reported, and whether it is
+// shut.
 static SHUT: [(u64, (i64, i64), bool); 5] = [
     (0, (0, 0), true),
     (1, (-20, 0), true),

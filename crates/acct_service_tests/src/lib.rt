@@ -1,4 +1,4 @@
-//! Tests of `acct_service`, of its public calls alone.
+//! Tests of `acct_service`, by its public calls only.
 #![tactic(auto)]
 
 #[cfg(test)]

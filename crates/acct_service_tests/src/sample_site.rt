@@ -1,10 +1,9 @@
 //! A site to test with, and runs of it over lists of turns.
 use acct_book::Book;
 use acct_model::Octets;
-use acct_samples::sample_config;
 use acct_service::lists::{ListExchange, Planned};
 use acct_service::{Asked, Call, Event, Exchange, Served, What, serve};
-use acct_site::Config;
+use acct_site::{Config, sample_config};
 use acct_wire::Reason;
 use radius_codec::sign_request;
 use std::alloc::Global;
@@ -21,13 +20,13 @@ const SECRET: &[u8] = b"xyzzy5461";
 pub(crate) enum Sent {
     // A request of `ap1` with this identifier and these attribute octets, signed.
     Packet(u8, &'static [u8]),
-    // The same, whose reply is not taken.
+    // Such a request, whose reply is not taken.
     LostPacket(u8, &'static [u8]),
     // These octets as a datagram from this address.
     Datagram([u8; 4], &'static [u8]),
     // A request at the desk.
     Desk(&'static [u8]),
-    // The same, whose response is not taken.
+    // Such a request, whose response is not taken.
     LostDesk(&'static [u8]),
     Nothing,
     Fails,
@@ -36,19 +35,19 @@ pub(crate) enum Sent {
 // How a reply begins and ends, and whether it is taken.
 pub(crate) type Answer = (&'static [u8], &'static [u8], bool);
 
-// What a run counted and what was told in it.
+// What a run counted and what was reported in it.
 #[derive(Clone, Copy)]
 pub(crate) struct Ran {
     pub(crate) served: Served,
     // The exchange's own counts: turns, failures, events and replies.
     pub(crate) counts: (u64, u64, usize, usize),
-    // How often it was told of a drop for each reason.
+    // How many drops were reported to it, for each reason.
     pub(crate) dropped: [u64; Reason::COUNT],
     // How many replies are as they are to be, before one is not.
     pub(crate) right: usize,
-    // What the accounts come to by the replies.
+    // The balances of the accounts by the replies.
     pub(crate) told: (i64, i64),
-    // How many turns the book refused.
+    // In how many turns the book failed.
     pub(crate) refused: u64,
 }
 
@@ -59,7 +58,6 @@ pub(crate) struct Site<B> {
     config: Config,
 }
 
-// It is written out, so that a caller does not prove again how each part is dropped.
 impl<B: Drop> Drop for Site<B> {
     fn drop(self) {
         let Site {
@@ -80,7 +78,7 @@ impl<B: Book + Drop> Site<B> {
         })
     }
 
-    // Makes as many turns as there are, each at the moment 2000, which are to be answered so.
+    // Runs all turns, each at the moment 2000, which are to be answered so.
     pub(crate) fn run(&mut self, turns: &[Sent], wants: &[Answer]) -> Result<Ran, Fail> {
         let planned = planned_turns(self.alloc, turns)?;
         let limit = planned.len() as u64;
@@ -95,7 +93,7 @@ impl<B: Book + Drop> Site<B> {
         Ok(ran_of(served, &exchange, wants))
     }
 
-    // The balances of `al` and `bo`, each 0 where the book refuses to tell.
+    // The balances of `al` and `bo`, each 0 if the book fails.
     pub(crate) fn balances(&mut self) -> (i64, i64) {
         let al = self.book.balance(b"al").unwrap_or(0);
         (al, self.book.balance(b"bo").unwrap_or(0))
@@ -127,19 +125,19 @@ fn events_in(exchange: &ListExchange) -> usize {
         .count()
 }
 
-// How often it was told of a drop for each reason.
+// How many drops were reported to it, for each reason.
 fn drops_in(exchange: &ListExchange) -> [u64; Reason::COUNT] {
     let mut drops = [0; Reason::COUNT];
     for call in exchange.calls() {
         if let Call::Dropped(_, reason) = call {
-            let place = reason.number() as usize - 1;
+            let place = reason.place();
             drops[place] = u64::saturating_add(drops[place], 1);
         }
     }
     drops
 }
 
-// How many replies it was asked for.
+// How many replies it was to send.
 fn replies_in(exchange: &ListExchange) -> usize {
     exchange
         .calls()
@@ -168,8 +166,8 @@ fn is_wanted(reply: &Asked, want: Answer) -> bool {
     bytes.starts_with(front) && bytes.ends_with(end) && reply.is_taken == is_taken
 }
 
-// What the accounts come to by the replies that were asked for: a voucher was credited where its
-// response says so, a session is charged where a report of it was answered.
+// The balances of the accounts by the replies that it was to send. A voucher was credited if its
+// response says so, a session is charged if a report of it was answered.
 fn told_balances(exchange: &ListExchange) -> (i64, i64) {
     let mut credit: i64 = 0;
     let mut charge = 0;
@@ -186,7 +184,7 @@ fn told_balances(exchange: &ListExchange) -> (i64, i64) {
     (credit.saturating_add(charge), of_bo)
 }
 
-// The octets that a call was asked to send, none where it gave an event or was told of a drop.
+// The octets that a call was to send, none if it gave an event or reported a drop.
 fn octets_of(call: &Call) -> &[u8] {
     match call {
         Call::Asked(reply) => reply.bytes.as_slice(),
@@ -194,7 +192,7 @@ fn octets_of(call: &Call) -> &[u8] {
     }
 }
 
-// How many of these turns the book refused.
+// In how many of these turns the book failed.
 fn refusals(served: &Served, exchange: &ListExchange) -> u64 {
     let refused = exchange
         .calls()

@@ -7,7 +7,7 @@ use acct_wire::Reason;
 use std::alloc::Global;
 use std::test::Fail;
 
-// The turns of a run over an empty book, their replies, what is counted beside the drops, one drop
+// The turns of a run over an empty book, their replies, what is counted except for drops, one drop
 // for each of these reasons, and the balances of `al` and `bo` afterwards.
 struct Script {
     turns: &'static [Sent],
@@ -21,12 +21,13 @@ struct Script {
 fn counted(script: &Script) -> Served {
     let mut served = script.served;
     for reason in script.drops {
-        served.dropped[reason.number() as usize - 1] = 1;
+        served.dropped[reason.place()] = 1;
     }
     served
 }
 
-// Whether a run is as it is to be, and the exchange has counted as much and was told of each drop.
+// Whether a run is as it is to be, the exchange has counted as much, and each drop was reported to
+// it.
 fn is_served(alloc: Global, script: &Script) -> Result<bool, Fail> {
     let mut site = Site::over(alloc, MemBook::new(alloc))?;
     let ran = site.run(script.turns, script.answers)?;

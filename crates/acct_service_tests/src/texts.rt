@@ -16,11 +16,11 @@ pub(crate) const GOLD_BLOCK: &[u8] =
 pub(crate) const GOLD_MORE: &[u8] =
     b"\x28\x06\0\0\0\x03\x2c\x04s2\x01\x04al\x19\x06gold\x2a\x06\0\x10\0\x01";
 
-// The same of the session `s3` of `bo`.
+// An Interim-Update of the session `s3` of `bo`, of the Class `gold`.
 pub(crate) const OF_BO: &[u8] =
     b"\x28\x06\0\0\0\x03\x2c\x04s3\x01\x04bo\x19\x06gold\x2a\x06\0\x10\0\x01";
 
-// The attributes of an Accounting-On, by which the client says that it has restarted.
+// The attributes of an Accounting-On, by which the client reports that it has restarted.
 pub(crate) const RESTART: &[u8] = b"\x28\x06\0\0\0\x07";
 
 pub(crate) const BALANCE: &[u8] =

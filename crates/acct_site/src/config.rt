@@ -13,7 +13,6 @@ pub struct Config {
     pub keys: Keys,
 }
 
-// It is written out, so that a caller does not prove again how each part is dropped.
 impl Drop for Config {
     fn drop(self) {
         let Config {

@@ -3,10 +3,10 @@ use Rattle.std.proofs.Common.{◌≡◌, ◌⊎◌, inl, inr, List, sym, ap, ◌
 use Rattle.sqlite.specs.State.{State, HasCleanDisk, Survives}
 use Rattle.acct_model.specs.declared.plan.Plan.{Plan}
 use Rattle.acct_book.specs.Content.{Content, keeping}
-use Rattle.acct_tables.specs.Book.{Left}
-use Rattle.acct_tables.specs.Content.{content_in_tables}
-use Rattle.acct_tables.proofs.ListedLemmas.{plans_listed}
-use Rattle.acct_upkeep.specs.Add.{HasAdded}
+use Rattle.acct_sql_tables.specs.Book.{Left}
+use Rattle.acct_sql_tables.specs.Content.{content_in_tables}
+use Rattle.acct_sql_tables.proofs.ListedLemmas.{plans_listed}
+use Rattle.acct_sql_upkeep.specs.Add.{HasAdded}
 use Rattle.acct_sql.specs.Kept.{KeptAreInForce}
 
 -- a crash leaves the contents of what it could leave before, or that of the tables with the added

@@ -1,4 +1,4 @@
--- What is told of a table is what its columns are.
+-- What is known of a table is what its columns are.
 use Rattle.std.proofs.Common.{◌≡◌, ℕ, ℤ, zero, suc, pos, negsuc, ◌+◌, ◌<◌, ◌^◌, List, [], ◌∷◌, drop}
 use Rattle.std.proofs.Common.{true, not, Some, find, option_map, refl, sym, ap, subst, ◌∙◌}
 use Rattle.std.proofs.Common.{true≢false, arith, Option, None, length}
@@ -17,21 +17,23 @@ use Rattle.sqlite_rules.proofs.ListLemmas.{all_has}
 use Rattle.acct_model.specs.Vouchers.{TopUpFacts}
 use Rattle.acct_book.specs.Row.{RowFacts}
 use Rattle.acct_book.specs.Content.{key_of}
-use Rattle.acct_tables.specs.Tables.{book_schema, account, session, voucher, session_plan}
-use Rattle.acct_tables.specs.Columns.{session_in_columns, topup_in_columns, columns, count_in, int_in}
-use Rattle.acct_tables.specs.Columns.{state_in, cause_in, code_of, framed_in, framed_octets}
+use Rattle.acct_sql_tables.specs.Tables.{book_schema, account, session, voucher, session_plan}
+use Rattle.acct_sql_tables.specs.Columns.{session_in_columns, topup_in_columns, columns, count_in}
+use Rattle.acct_sql_tables.specs.Columns.{int_in}
+use Rattle.acct_sql_tables.specs.Columns.{state_in, cause_in, code_of, framed_in, framed_octets}
 use Rattle.sqlite_rules.specs.Lists.{Has}
-use Rattle.acct_tables.specs.Columns.{session_plan_columns}
-use Rattle.acct_tables.specs.Content.{content_in_tables, is_session, is_account, is_voucher}
-use Rattle.acct_tables.specs.Content.{content_without_plans, plans_in_tables, with_plan}
+use Rattle.acct_sql_tables.specs.Columns.{session_plan_columns}
+use Rattle.acct_sql_tables.specs.Content.{content_in_tables, is_session, is_account, is_voucher}
+use Rattle.acct_sql_tables.specs.Content.{content_without_plans, plans_in_tables, with_plan}
 use Rattle.acct_sql.specs.Kept.{KeepsSession, KeepsTopUp, KeepsBalance, AreColumns}
-use Rattle.acct_tables.specs.Book.{IsBook}
-use Rattle.acct_tables.proofs.FindLemmas.{find_has}
-use Rattle.acct_tables.proofs.ValueLemmas.{blob_is, text_is}
-use Rattle.acct_tables.proofs.KeyLemmas.{one_session, one_session_plan, one_account, one_voucher}
-use Rattle.acct_tables.proofs.SessionLemmas.{key_here}
-use Rattle.acct_tables.proofs.CloseLemmas.{typed, typed_at, shifted}
-use Rattle.acct_tables.proofs.KeyedLemmas.{voucher_account}
+use Rattle.acct_sql_tables.specs.Book.{IsBook}
+use Rattle.acct_sql_tables.proofs.FindLemmas.{find_has}
+use Rattle.acct_sql_tables.proofs.ValueLemmas.{blob_is, text_is}
+use Rattle.acct_sql_tables.proofs.KeyLemmas.{one_session, one_session_plan, one_account}
+use Rattle.acct_sql_tables.proofs.KeyLemmas.{one_voucher}
+use Rattle.acct_sql_tables.proofs.SessionLemmas.{key_here}
+use Rattle.acct_sql_tables.proofs.CloseLemmas.{typed, typed_at, shifted}
+use Rattle.acct_sql_tables.proofs.KeyedLemmas.{voucher_account}
 
 -- ---- a column by what it counts as
 

@@ -1,4 +1,4 @@
--- The plan of a session that is looked for before it is set.
+-- The plan of a session that is read before it is set.
 use Rattle.std.proofs.Common.{◌≡◌, ℕ, List, [], ◌∷◌, Bool, true, false, cond, Option}
 use Rattle.std.proofs.Common.{Some, None, Ok, IsTrue, find, option_map, refl, sym, ap, subst, ◌∙◌}
 use Rattle.std.specs.Map.{update}
@@ -12,16 +12,18 @@ use Rattle.acct_book.specs.declared.key.Key.{Key}
 use Rattle.acct_book.specs.Row.{RowFacts}
 use Rattle.acct_book.specs.Content.{same_key, key_of}
 use Rattle.acct_book.proofs.Keys.{key_is}
-use Rattle.acct_tables.specs.Tables.{session_plan, meta, price_plan, plan_count}
-use Rattle.acct_tables.specs.Columns.{session_plan_columns}
-use Rattle.acct_tables.specs.Content.{content_without_plans, plans_in_tables, is_session}
-use Rattle.acct_tables.specs.Content.{without_plan}
-use Rattle.acct_tables.specs.Book.{IsBook, HasSamePlans}
-use Rattle.acct_tables.specs.inner.Inside.{HasMade, HasMadeBare, HasPlanOf, HasSetPlan, with_row}
-use Rattle.acct_tables.specs.declared.statements.TheConstants as texts
-use Rattle.acct_tables.proofs.FindLemmas.{find_has, none_has}
-use Rattle.acct_tables.proofs.MadeLemmas.{made_plan, made_new_plan, made_with_plan, same_plans_then}
-use Rattle.acct_tables.proofs.PlanReadLemmas.{plan_found}
+use Rattle.acct_sql_tables.specs.Tables.{session_plan, meta, price_plan, plan_count}
+use Rattle.acct_sql_tables.specs.Columns.{session_plan_columns}
+use Rattle.acct_sql_tables.specs.Content.{content_without_plans, plans_in_tables, is_session}
+use Rattle.acct_sql_tables.specs.Content.{without_plan}
+use Rattle.acct_sql_tables.specs.Book.{IsBook, HasSamePlans}
+use Rattle.acct_sql_tables.specs.inner.Inside.{HasMade, HasMadeBare, HasPlanOf, HasSetPlan}
+use Rattle.acct_sql_tables.specs.inner.Inside.{with_row}
+use Rattle.acct_sql_tables.specs.declared.statements.TheConstants as texts
+use Rattle.acct_sql_tables.proofs.FindLemmas.{find_has, none_has}
+use Rattle.acct_sql_tables.proofs.MadeLemmas.{made_plan, made_new_plan, made_with_plan}
+use Rattle.acct_sql_tables.proofs.MadeLemmas.{same_plans_then}
+use Rattle.acct_sql_tables.proofs.PlanReadLemmas.{plan_found}
 
 -- a plan that is kept already is set
 kept_set : (plans : Key → Option (List ℕ)) (at : Key) (class : List ℕ) → plans at ≡ Some class

@@ -11,15 +11,16 @@ use Rattle.sqlite.specs.State.{State}
 use Rattle.acct_model.specs.Vouchers.{TopUpFacts}
 use Rattle.acct_book.specs.declared.key.Key.{Key}
 use Rattle.acct_book.specs.Row.{RowFacts}
-use Rattle.acct_book.specs.Content.{Content, kept_balance, same_key, key_of, with_session, with_topup}
+use Rattle.acct_book.specs.Content.{Content, kept_balance, same_key, key_of, with_session}
+use Rattle.acct_book.specs.Content.{with_topup}
 use Rattle.acct_book.specs.Content.{with_closed}
 use Rattle.acct_book.proofs.Keys.{Decides-same_key, key_is, key_refl}
 use Rattle.acct_sql.specs.declared.known.Known.{Known}
-use Rattle.acct_tables.specs.Book.{Wrote, content_at, is_open_at, is_sound_at}
-use Rattle.acct_tables.specs.inner.AtRest.{IsAtRest, ReadsAtRest}
-use Rattle.acct_tables.proofs.ReadLemmas.{stays_read, stays_first}
-use Rattle.acct_tables.specs.Content.{content_without_plans, plans_in_tables, with_plan}
-use Rattle.acct_tables.specs.inner.Inside.{HasPlanOf}
+use Rattle.acct_sql_tables.specs.Book.{Wrote, content_at, is_open_at, is_sound_at}
+use Rattle.acct_sql_tables.specs.inner.AtRest.{IsAtRest, ReadsAtRest}
+use Rattle.acct_sql_tables.proofs.ReadLemmas.{stays_read, stays_first}
+use Rattle.acct_sql_tables.specs.Content.{content_without_plans, plans_in_tables, with_plan}
+use Rattle.acct_sql_tables.specs.inner.Inside.{HasPlanOf}
 use Rattle.acct_sql.specs.inner.Known.{known_balance, balance_among, Learns, IsTold, Knows, AllTold}
 use Rattle.acct_sql.specs.inner.Known.{HasKept, HasRow, known_session, session_among, KnowsPlan}
 use Rattle.acct_sql.specs.inner.Remembered.{HasEnded}

@@ -1,5 +1,5 @@
--- Rows that an INSERT puts without a look before it. It is refused if a row has the key, so none
--- had it.
+-- Rows that an INSERT puts without a query before it. It fails if a row has the key, so none had
+-- it.
 use Rattle.std.proofs.Common.{◌≡◌, [], ◌∷◌, Bool, true, false, arith, refl, sym, ap, ◌∙◌, subst}
 use Rattle.std.proofs.Common.{Some, Ok, true≢false, pos}
 use Rattle.std.specs.Map.{update}
@@ -18,23 +18,24 @@ use Rattle.sqlite_rules.specs.Lists.{Has}
 use Rattle.acct_book.specs.Row.{RowFacts}
 use Rattle.acct_book.specs.Content.{same_key, key_of}
 use Rattle.acct_book.proofs.Keys.{key_refl}
-use Rattle.acct_tables.specs.Tables.{book_schema, session, session_plan}
-use Rattle.acct_tables.specs.Columns.{session_columns, session_plan_columns, code_of}
-use Rattle.acct_tables.specs.Columns.{framed_in, framed_octets}
-use Rattle.acct_tables.specs.Content.{is_session, without_plan}
-use Rattle.acct_tables.specs.Book.{IsBook}
-use Rattle.acct_tables.specs.inner.Inside.{HasMadeBare, HasSetPlan, with_row}
-use Rattle.acct_tables.specs.declared.statements.TheConstants as texts
-use Rattle.acct_tables.proofs.FindLemmas.{not_true}
-use Rattle.acct_tables.proofs.KeyLemmas.{one_session, one_session_plan}
-use Rattle.acct_tables.proofs.MadeLemmas.{IsBookIf, after_session, after_plan, rows_changed}
-use Rattle.acct_tables.proofs.MadeLemmas.{same_plans, made_new_plan}
-use Rattle.acct_tables.proofs.StatementLemmas.{inserts}
-use Rattle.acct_tables.proofs.ValueLemmas.{cast_int, cast_null}
-use Rattle.acct_tables.proofs.WriteLemmas.{inserted, insert_adds, insert_keeps, insert_tidy, any_false}
-use Rattle.acct_tables.proofs.SessionLemmas as s
-use Rattle.acct_tables.proofs.SessionPlanLemmas as p
-use Rattle.acct_tables.proofs.TextLemmas as t
+use Rattle.acct_sql_tables.specs.Tables.{book_schema, session, session_plan}
+use Rattle.acct_sql_tables.specs.Columns.{session_columns, session_plan_columns, code_of}
+use Rattle.acct_sql_tables.specs.Columns.{framed_in, framed_octets}
+use Rattle.acct_sql_tables.specs.Content.{is_session, without_plan}
+use Rattle.acct_sql_tables.specs.Book.{IsBook}
+use Rattle.acct_sql_tables.specs.inner.Inside.{HasMadeBare, HasSetPlan, with_row}
+use Rattle.acct_sql_tables.specs.declared.statements.TheConstants as texts
+use Rattle.acct_sql_tables.proofs.FindLemmas.{not_true}
+use Rattle.acct_sql_tables.proofs.KeyLemmas.{one_session, one_session_plan}
+use Rattle.acct_sql_tables.proofs.MadeLemmas.{IsBookIf, after_session, after_plan, rows_changed}
+use Rattle.acct_sql_tables.proofs.MadeLemmas.{same_plans, made_new_plan}
+use Rattle.acct_sql_tables.proofs.StatementLemmas.{inserts}
+use Rattle.acct_sql_tables.proofs.ValueLemmas.{cast_int, cast_null}
+use Rattle.acct_sql_tables.proofs.WriteLemmas.{inserted, insert_adds, insert_keeps, insert_tidy}
+use Rattle.acct_sql_tables.proofs.WriteLemmas.{any_false}
+use Rattle.acct_sql_tables.proofs.SessionLemmas as s
+use Rattle.acct_sql_tables.proofs.SessionPlanLemmas as p
+use Rattle.acct_sql_tables.proofs.TextLemmas as t
 
 -- ---- session
 

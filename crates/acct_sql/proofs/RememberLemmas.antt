@@ -1,5 +1,6 @@
 -- The clients that a book remembers have no live session.
-use Rattle.std.proofs.Common.{◌≡◌, ◌≢◌, ◌⊎◌, inl, inr, ℕ, ℤ, List, [], ◌∷◌, ◌++◌, Bool, true, false, cond}
+use Rattle.std.proofs.Common.{◌≡◌, ◌≢◌, ◌⊎◌, inl, inr, ℕ, ℤ, List, [], ◌∷◌, ◌++◌, Bool, true, false}
+use Rattle.std.proofs.Common.{cond}
 use Rattle.std.proofs.Common.{Option, Some, None, option_map, Ok, Err, Result, OnOk, OnErr}
 use Rattle.std.proofs.Common.{refl, sym, ap, subst, ◌∙◌, true≢false, bytes_eq}
 use Rattle.std.proofs.lemmas.Slice.Eq.{bytes_eq-Decides}
@@ -16,12 +17,13 @@ use Rattle.acct_book.specs.declared.key.Key.{Key}
 use Rattle.acct_book.specs.declared.row.SessionState.{SessionState}
 use Rattle.acct_book.specs.declared.row.SessionState.TheVariants.{Live, Closed, Stopped}
 use Rattle.acct_book.specs.Row.{RowFacts}
-use Rattle.acct_book.specs.Content.{Content, same_key, key_of, with_session, with_topup, with_closed}
+use Rattle.acct_book.specs.Content.{Content, same_key, key_of, with_session, with_topup}
+use Rattle.acct_book.specs.Content.{with_closed}
 use Rattle.acct_book.specs.Content.{closed_by, closed_row, rows_without, with_forward}
 use Rattle.acct_sql.specs.declared.memory.Memory.{Memory}
-use Rattle.acct_tables.specs.Content.{content_in_tables}
-use Rattle.acct_tables.specs.Book.{IsOpenBook, Wrote, content_at, is_open_at}
-use Rattle.acct_tables.specs.inner.AtRest.{ReadsAtRest, WritesAtRest}
+use Rattle.acct_sql_tables.specs.Content.{content_in_tables}
+use Rattle.acct_sql_tables.specs.Book.{IsOpenBook, Wrote, content_at, is_open_at}
+use Rattle.acct_sql_tables.specs.inner.AtRest.{ReadsAtRest, WritesAtRest}
 use Rattle.acct_sql.specs.inner.Remembered.{HasEnded, AreEndedAfter, Remembers}
 
 -- ---- a read

@@ -12,8 +12,8 @@ use Rattle.acct_book.specs.declared.key.Key.{Key}
 use Rattle.acct_book.specs.Charge.{class_of_plan}
 use Rattle.acct_book.specs.Rows.{name_of, is_restarted, row_from}
 use Rattle.acct_book.specs.Stands.{Stands}
-use Rattle.acct_tables.specs.Content.{content_without_plans, without_plan}
-use Rattle.acct_tables.specs.Migrate.{AddsNoPlans, StoodFor, migrated, with_own_plan}
+use Rattle.acct_sql_tables.specs.Content.{content_without_plans, without_plan}
+use Rattle.acct_sql_tables.specs.Migrate.{AddsNoPlans, StoodFor, migrated, with_own_plan}
 
 adds_for_none : (history : History) → AddsNoPlans history → AddsForNone history
 adds_for_none [] none = none

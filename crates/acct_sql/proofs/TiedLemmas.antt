@@ -1,8 +1,8 @@
--- What a book says of itself is what its tables tell.
+-- The tables of a book determine its properties.
 use Rattle.std.proofs.Common.{refl}
 use Rattle.sqlite.specs.Store.{Ghosts}
 use Rattle.sqlite.specs.Held.{Held}
-use Rattle.acct_tables.specs.Book.{content_at, is_sound_at, is_open_at, left_at, IsBookOver}
+use Rattle.acct_sql_tables.specs.Book.{content_at, is_sound_at, is_open_at, left_at, IsBookOver}
 
 pub tied : {S : Type 0} (g : Ghosts S) (book : Held S)
     → IsBookOver g (content_at g) (is_sound_at g) (is_open_at g) (left_at g) book

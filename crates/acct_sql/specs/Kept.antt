@@ -1,4 +1,4 @@
--- What stands in a table, column by column.
+-- What is in a table, column by column.
 use Rattle.std.specs.Prelude.{◌≡◌, ℕ, ℤ, suc, true, List, [], ◌∷◌, None}
 use Rattle.sqlite.specs.declared.types.Value.{Value}
 use Rattle.sqlite.specs.declared.types.Value.TheVariants.{Int, Blob}
@@ -13,11 +13,11 @@ use Rattle.acct_model.specs.History.{History}
 use Rattle.acct_book.specs.Row.{RowFacts}
 use Rattle.acct_book.specs.Content.{key_of}
 use Rattle.acct_book.specs.Stands.{Stands}
-use Rattle.acct_tables.specs.Tables.{account, voucher, session, session_plan}
-use Rattle.acct_tables.specs.Columns.{session_columns, session_plan_columns, topup_columns}
-use Rattle.acct_tables.specs.Columns.{columns}
-use Rattle.acct_tables.specs.Content.{is_session, is_account, is_voucher, content_in_tables}
-use Rattle.acct_tables.specs.Make.{KeepsPlans}
+use Rattle.acct_sql_tables.specs.Tables.{account, voucher, session, session_plan}
+use Rattle.acct_sql_tables.specs.Columns.{session_columns, session_plan_columns, topup_columns}
+use Rattle.acct_sql_tables.specs.Columns.{columns}
+use Rattle.acct_sql_tables.specs.Content.{is_session, is_account, is_voucher, content_in_tables}
+use Rattle.acct_sql_tables.specs.Make.{KeepsPlans}
 
 -- the columns are these values, from the first on
 abbrev pub AreColumns : Row → (ℕ → Value) → Type 0

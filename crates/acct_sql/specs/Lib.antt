@@ -1,12 +1,2 @@
-pub use Rattle.acct_tables.specs.Tables
-pub use Rattle.acct_tables.specs.Tidy
-pub use Rattle.acct_tables.specs.Columns
-pub use Rattle.acct_tables.specs.Content
-pub use Rattle.acct_tables.specs.Book
-pub use Rattle.acct_tables.specs.Make
-pub use Rattle.acct_tables.specs.Migrate
-pub use Rattle.acct_tables.specs.Look
-pub use Rattle.acct_tables.specs.Laws
-pub use Rattle.acct_upkeep.specs.Add
 pub mod Kept
 pub mod inner

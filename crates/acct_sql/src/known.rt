@@ -1,4 +1,4 @@
-//! What an open book knows of its tables, so that it need not ask them again.
+//! What an open book knows of its tables, so that it need not query them again.
 ghost use Rattle.std.specs.Prelude.{◌≡◌, ℕ, List, Some, None, IfOk, IfSome, IsTrue};
 ghost use Rattle.std.specs.Prelude.{MatchBool};
 ghost use Rattle.std.specs.Option.{option_copied};
@@ -13,12 +13,13 @@ use std::alloc::{AllocError, Global};
 use std::hash::Hash;
 use std::num::NonZeroUsize;
 
-/// How many accounts are known at most, those that were set or first read last. An account takes its
-/// name of at most 253 octets and some 150 more: 6.5 MB in the worst case.
+/// How many accounts are known at most: those that were set or first read last. An account takes
+/// its name of at most 253 octets and some 150 more: 6.5 MB in the worst case.
 const MOST_ACCOUNTS: usize = 16_384;
 
-/// The same of sessions. A session takes its names twice, the other octets of its row and some 600
-/// more: 10 MB if these are 20 octets each, 40 MB if they are 253 each, which is the most.
+/// How many sessions are known at most: those that were set or first read last. A session takes its
+/// names twice, the other octets of its row and some 600 more. That is 10 MB if these are 20 octets
+/// each, and 40 MB if they are 253 each, which is the most.
 const MOST_SESSIONS: usize = 16_384;
 
 /// The balances of accounts by their names.
@@ -30,7 +31,7 @@ type Name = (Vec<u8>, Vec<u8>);
 /// The rows of sessions, and of which sessions there is none.
 type Sessions = LruCache<Name, Option<Row>>;
 
-/// What is known, each of it as the tables have it. Where memory for it is refused, it is not known.
+/// What is known, each of it as the tables have it. If memory for it runs out, it is not known.
 #[derive(Drop)]
 pub(crate) struct Known {
     balances: Option<Balances>,
@@ -62,7 +63,7 @@ impl Known {
         self.has_failed = true;
     }
 
-    /// The balance of an account, 0 where the tables have none, if that is known.
+    /// The balance of an account, 0 if the tables have none, if that is known.
     pub(crate) fn balance(&self, account: &[u8]) -> Option<i64>
         ensures { result ≡ known_balance self.now account.now }
     {
@@ -72,7 +73,7 @@ impl Known {
         }
     }
 
-    /// Keeps the balance of an account. The account that was longest kept may go for it.
+    /// Keeps the balance of an account. It may drop the account that was kept longest.
     pub(crate) fn keep_balance(&mut self, alloc: Global, account: &[u8], balance: i64)
         ensures balances { Learns account.now balance (known_balance self.old)
             (known_balance self.new) }
@@ -108,9 +109,9 @@ impl Known {
         }
     }
 
-    /// Whether it is known that the session of a row has none. It is no longer told once a call
-    /// failed: tables that somebody else wrote may have a plan without its session, and an INSERT
-    /// would be refused again and again.
+    /// Whether it is known that the session of a row has none. Always false once a call failed:
+    /// tables that somebody else wrote may have a plan without its session, and an INSERT would
+    /// fail again and again.
     pub(crate) fn is_absent(&self, alloc: Global, row: &Row) -> bool {
         if self.has_failed {
             return false;
@@ -134,8 +135,8 @@ impl Known {
         sessions.peek(&name)
     }
 
-    /// Keeps the row of a session, or that there is none. The session that was longest kept may go
-    /// for it.
+    /// Keeps the row of a session, or that there is none. It may drop the session that was kept
+    /// longest.
     pub(crate) fn keep_session(
         &mut self,
         alloc: Global,
@@ -170,7 +171,7 @@ impl Known {
     }
 }
 
-// The balances with this one, if memory for it is given.
+// The balances with this one, if memory for it can be allocated.
 fn with_balance(
     alloc: Global,
     balances: Option<Balances>,
@@ -187,7 +188,7 @@ fn with_balance(
     Ok(after)
 }
 
-// The sessions with this row, if memory for it is given.
+// The sessions with this row, if memory for it can be allocated.
 fn with_session(
     alloc: Global,
     sessions: Option<Sessions>,

@@ -11,7 +11,7 @@ use std::alloc::Global;
 /// How many clients are remembered at most.
 const MOST_ENDED: usize = 1_024;
 
-/// What is remembered. Where memory for it is refused, it is not remembered.
+/// What is remembered. If memory for it runs out, it is not remembered.
 #[derive(Drop)]
 pub(crate) struct Memory {
     /// Clients that have no live session.
@@ -48,7 +48,7 @@ impl Memory {
         }
     }
 
-    /// Forgets the client of a row that is to be set, where the row is live.
+    /// Forgets the client of a row that is to be set, if the row is live.
     pub(crate) fn forget_ended(&mut self, row: &Row)
         ensures { AreEndedAfter row.now self.old.ended.items self.new.ended.items }
     {

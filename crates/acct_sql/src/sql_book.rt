@@ -3,18 +3,19 @@ ghost use Rattle.sqlite.specs.Held.{state};
 
 use crate::known::Known;
 use crate::memory::Memory;
-use crate::writing::{close_client, write_forward, write_session, write_topup};
+use crate::transactions::{close_client, write_forward, write_session, write_topup};
 use acct_book::{Book, Key, Row, Unavailable};
 use acct_model::{Plans, TopUp};
-use acct_tables::listing::{read_sessions, read_topups};
-use acct_tables::making::{has_nothing, make_book};
-use acct_tables::reading::{
+use acct_sql_tables::idle::connection_is_idle;
+use acct_sql_tables::listing::{read_sessions, read_topups};
+use acct_sql_tables::new_tables::{has_nothing, make_book};
+use acct_sql_tables::queries::{
     read_balance, read_next_account, read_next_session, read_next_topup, read_session, read_voucher,
 };
-use acct_tables::sql_book_error::SqlBookError;
-use acct_upkeep::adding::add_to_book;
-use acct_upkeep::adopting::examine;
-use acct_upkeep::migrating::migrate_book;
+use acct_sql_tables::sql_book_error::SqlBookError;
+use acct_sql_upkeep::adding::add_to_book;
+use acct_sql_upkeep::adopting::examine;
+use acct_sql_upkeep::migrating::migrate_book;
 use sqlite::{Alter, Connection};
 use std::alloc::Global;
 use std::marker::Model;
@@ -27,7 +28,6 @@ pub struct SqlBook<S: Alter> {
     known: Known,
 }
 
-// It is written out, so that a caller does not prove again how each part is dropped.
 impl<S: Alter + Drop> Drop for SqlBook<S> {
     fn drop(self) {
         let SqlBook {
@@ -41,7 +41,7 @@ impl<S: Alter + Drop> Drop for SqlBook<S> {
 
 impl<S: Alter> Model for SqlBook<S> {
     ghost use Rattle.sqlite.specs.Held.{Held, held_code, state};
-    ghost use Rattle.acct_tables.specs.Book.{IsResting};
+    ghost use Rattle.acct_sql_tables.specs.Book.{IsResting};
     ghost use Rattle.acct_sql.specs.inner.Remembered.{Remembers};
     ghost use Rattle.acct_sql.specs.inner.Known.{Knows};
 
@@ -60,29 +60,29 @@ impl<S: Alter> SqlBook<S> {
     ghost use Rattle.std.specs.Prelude.{◌≡◌, ◌↔◌, ◌≢◌, ◌⊎◌, false, IsTrue, IfOk, IfErr};
     ghost use Rattle.std.specs.Prelude.{IsErrAnd, List, ◌∷◌, None, length};
     ghost use Rattle.sqlite.specs.State.{HasCleanDisk, Survives};
-    ghost use Rattle.acct_tables.specs.Tables.{no_schema, own_number};
-    ghost use Rattle.acct_tables.specs.Make.{IsNew, KeepsPlans};
-    ghost use Rattle.acct_tables.specs.Look.{LooksAtTables, HasNumberAlone, IsRefusedAs};
-    ghost use Rattle.acct_tables.specs.declared.older_schema.OlderSchema.{OlderSchema};
-    ghost use Rattle.acct_tables.specs.Migrate.{IsMigrated, IsNotMigratedAs, IsOlder, StoodFor};
-    ghost use Rattle.acct_tables.specs.Content.{content_in_tables, content_without_plans};
-    ghost use Rattle.acct_tables.specs.Book.{IsOpenBook, IsResting, IsBookOver};
+    ghost use Rattle.acct_sql_tables.specs.Tables.{no_schema, own_number};
+    ghost use Rattle.acct_sql_tables.specs.Make.{IsNew, KeepsPlans};
+    ghost use Rattle.acct_sql_tables.specs.Look.{LooksAtTables, HasNumberAlone, IsRefusedAs};
+    ghost use Rattle.acct_sql_tables.specs.declared.older_schema.OlderSchema.{OlderSchema};
+    ghost use Rattle.acct_sql_tables.specs.Migrate.{IsMigrated, IsNotMigratedAs, IsOlder, StoodFor};
+    ghost use Rattle.acct_sql_tables.specs.Content.{content_in_tables, content_without_plans};
+    ghost use Rattle.acct_sql_tables.specs.Book.{IsOpenBook, IsResting, IsBookOver};
     ghost use Rattle.acct_book.specs.Stands.{Stands};
     ghost use Rattle.acct_book.specs.Addition.{AddsAtMost};
     ghost use Rattle.acct_model.specs.declared.plan.Plan.{Plan};
     ghost use Rattle.acct_model.specs.Plans.{Extends, plans_added};
     ghost use Rattle.acct_model.specs.PlanFaults.{plans_fault};
     ghost use Rattle.acct_model.specs.History.{PlansAdded, History};
-    ghost use Rattle.acct_upkeep.specs.Add.{AreExtended, HasAdded, IsNotAddedAs};
+    ghost use Rattle.acct_sql_upkeep.specs.Add.{AreExtended, HasAdded, IsNotAddedAs};
 
-    /// Makes an empty database an empty book that is kept by these plans: the seven tables, their
-    /// two indices, the schema number 3 and a row for each plan, in one transaction. It is handed
-    /// back on an error, as it was.
+    /// Makes an empty database an empty book that is kept by these plans. One transaction makes the
+    /// seven tables, their two indices, the schema number 3 and a row for each plan. On an error it
+    /// returns the database as it was.
     ///
     /// # Errors
     ///
-    /// `NotABook` for each database that has a table, an index or a view. `Unavailable` where the
-    /// store or memory refused.
+    /// `NotABook` for each database that has a table, an index or a view. `Unavailable` if the
+    /// store or an allocation failed.
     pub fn create(
         alloc: Global,
         mut conn: Connection<S>,
@@ -125,16 +125,16 @@ impl<S: Alter> SqlBook<S> {
         }
     }
 
-    /// Takes a database as the book that it is. It changes nothing, and hands the database back on
-    /// an error. It reads each rowid of the accounts, top-ups, sessions and their plans once.
+    /// Opens a database as the book that it is. It changes nothing, and returns the database on an
+    /// error. It reads each rowid of the accounts, top-ups, sessions and their plans once.
     ///
     /// # Errors
     ///
-    /// `WrongSchema` where a schema number is read that is not 3, `NotABook` where none is or the
-    /// tables and indices are not exactly those of a book, in the order in which `create` makes
-    /// them, and `PlansDiffer` where the book was made with other plans, in this order.
-    /// `Unavailable` where the store or memory refused, or where two rows of a book have one rowid
-    /// or both the schema number.
+    /// In this order: `WrongSchema` if a schema number is read that is not 3. `NotABook` if none
+    /// is, or the tables and indices are not exactly those of a book, in the order in which
+    /// `create` makes them. `PlansDiffer` if the book was made with other plans. `Unavailable` if
+    /// the store or an allocation failed, or two rows of a book have one rowid or both the schema
+    /// number.
     pub fn adopt(
         alloc: Global,
         mut conn: Connection<S>,
@@ -157,8 +157,7 @@ impl<S: Alter> SqlBook<S> {
         ensures looks_err { IfErr result (λ e. LooksAtTables (state S.Store conn)
             (state S.Store e.1)) }
     {
-        let is_idle = conn.is_autocommit();
-        prove!(is_idle);
+        connection_is_idle(&conn);
         match examine(&mut conn, plans) {
             Ok(()) => {
                 let memory = Memory::new(alloc);
@@ -174,18 +173,18 @@ impl<S: Alter> SqlBook<S> {
         }
     }
 
-    /// Makes a book of schema number 1 or 2 one of today's, in one transaction: it adds the tables
-    /// that it lacks, where each session has the plan of its class, else `default`. A plan of
-    /// number 1 counts both directions, and one of number 2 what it counted. The database is handed
-    /// back on an error, as it was. It reads each rowid of the older tables once, and holds one
-    /// session at a time.
+    /// Makes a book of schema number 1 or 2 one of today's, in one transaction. It adds the tables
+    /// that it lacks; in these each session has the plan of its class, else `default`. A plan of
+    /// number 1 counts both directions, and one of number 2 what it counted. On an error it returns
+    /// the database as it was. It reads each rowid of the older tables once, and holds one session
+    /// at a time.
     ///
     /// # Errors
     ///
-    /// `WrongSchema` where a schema number is read that is neither 1 nor 2, `NotABook` where none
-    /// is or the tables and indices are not exactly those of a book of this number, and
-    /// `PlansDiffer` where it was made with other plans, in this order. `Unavailable` where the
-    /// store or memory refused, or where two rows have one rowid or both the schema number.
+    /// In this order: `WrongSchema` if a schema number is read that is neither 1 nor 2. `NotABook`
+    /// if none is, or the tables and indices are not exactly those of a book of this number.
+    /// `PlansDiffer` if it was made with other plans. `Unavailable` if the store or an allocation
+    /// failed, or two rows have one rowid or both the schema number.
     pub fn migrate(
         alloc: Global,
         mut conn: Connection<S>,
@@ -215,8 +214,7 @@ impl<S: Alter> SqlBook<S> {
         ensures crash_err { IfErr result (λ e. Survives (state S.Store conn) (state S.Store e.1)
             (IsMigrated plans.now (state S.Store conn).now.trees)) }
     {
-        let is_idle = conn.is_autocommit();
-        prove!(is_idle);
+        connection_is_idle(&conn);
         match migrate_book(&mut conn, plans) {
             Ok(()) => {
                 let memory = Memory::new(alloc);
@@ -232,16 +230,16 @@ impl<S: Alter> SqlBook<S> {
         }
     }
 
-    /// Adds the plans that a book does not keep yet, in one transaction, and tells how many they
-    /// are. The database is handed back on an error, as it was. It reads each rowid of the
-    /// accounts, top-ups, sessions and their plans once.
+    /// Adds the plans that a book does not keep yet, in one transaction, and returns how many they
+    /// are. On an error it returns the database as it was. It reads each rowid of the accounts,
+    /// top-ups, sessions and their plans once.
     ///
     /// # Errors
     ///
-    /// `WrongSchema` where a schema number is read that is not 3, `NotABook` where none is or the
-    /// tables and indices are not exactly those of a book, and `PlansDiffer` where a kept plan is
-    /// not one of these, with what it counts, in this order. `Unavailable` where the store or
-    /// memory refused, or where two rows of a book have one rowid or both the schema number.
+    /// In this order: `WrongSchema` if a schema number is read that is not 3. `NotABook` if none
+    /// is, or the tables and indices are not exactly those of a book. `PlansDiffer` if a kept plan
+    /// is not one of these, with what it counts. `Unavailable` if the store or an allocation
+    /// failed, or two rows of a book have one rowid or both the schema number.
     pub fn add_plans(
         alloc: Global,
         mut conn: Connection<S>,
@@ -279,8 +277,7 @@ impl<S: Alter> SqlBook<S> {
         ensures leaves_err { IfErr result (λ e. AddsAtMost ⟦<SqlBook<S> as Book>⟧ plans.now conn
             e.1) }
     {
-        let is_idle = conn.is_autocommit();
-        prove!(is_idle);
+        connection_is_idle(&conn);
         plans.have_no_fault();
         match add_to_book(&mut conn, plans) {
             Ok(added) => {
@@ -298,7 +295,8 @@ impl<S: Alter> SqlBook<S> {
         }
     }
 
-    /// It is outside a transaction, and while it is open its tables are those of a book.
+    /// For proofs alone: it is outside a transaction, and while it is open its tables are those of
+    /// a book. It reads a field that no other file can.
     pub(crate) fn rests(&self)
         ensures { IsResting (state S.Store self.now) }
     {
@@ -319,7 +317,7 @@ impl<S: Alter> SqlBook<S> {
     }
 }
 
-// Each call does what it does for any book, and leaves the schema number and the plans besides.
+// Each call does what it does for any book, and also leaves the schema number and the plans.
 impl<S: Alter> Book for SqlBook<S> {
     ghost use Rattle.std.specs.Prelude.{◌≡◌, IsOk, IfOk, option_map};
     ghost use Rattle.std.specs.Option.{option_copied};
@@ -327,9 +325,9 @@ impl<S: Alter> Book for SqlBook<S> {
     ghost use Rattle.acct_book.specs.Content.{with_forward};
     ghost use Rattle.acct_book.specs.Walk.{IsNextRow, IsNextBalance, IsNextTopUp, AreRowsOf};
     ghost use Rattle.acct_book.specs.Walk.{AreTopUpsOf};
-    ghost use Rattle.acct_tables.specs.Book.{content_at, is_sound_at, is_open_at, is_steady_at};
-    ghost use Rattle.acct_tables.specs.Book.{left_at, Wrote, HasReadBook, LeavesPlans};
-    ghost use Rattle.acct_tables.specs.Laws.{own_keys, open_settled};
+    ghost use Rattle.acct_sql_tables.specs.Book.{content_at, is_sound_at, is_open_at, is_steady_at};
+    ghost use Rattle.acct_sql_tables.specs.Book.{left_at, Wrote, HasReadBook, LeavesPlans};
+    ghost use Rattle.acct_sql_tables.specs.Laws.{own_keys, open_settled};
 
     ghost content = { content_at S.Store };
 

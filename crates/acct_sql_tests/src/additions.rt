@@ -121,7 +121,7 @@ static FAULTS: [Fault; 6] = [
     ),
 ];
 
-// The number and the tables are looked at before the plans, so these may be wrong as well.
+// The number and the tables are tested before the plans, so these may be wrong as well.
 #[test]
 fn other_databases_get_no_plans(rt: HostRuntime) -> Result<(), Fail> {
     expect_faults(rt.alloc(), Start::Used, &FAULTS, Call::Add, SILVER)?;

@@ -1,4 +1,4 @@
-//! What a book is told and asked, said as data.
+//! What is written to a book and read from it, as data.
 ghost use Rattle.std.specs.Prelude.{IsTrue};
 ghost use Rattle.acct_book.specs.Content.{key_of, IsNone};
 
@@ -8,7 +8,7 @@ use acct_model::TopUp;
 use std::alloc::Global;
 use std::test::Fail;
 
-// What is done with a book, or what it tells then.
+// What is done with a book, or what it then returns.
 #[derive(Clone, Copy)]
 pub(crate) enum Ask {
     // The session `s1` of the account `al` is put with this usage, and the balance -20.
@@ -23,18 +23,18 @@ pub(crate) enum Ask {
     Plan(Name<'static>, &'static [u8]),
     // The session `s1` is refused by its key, in its account's list and in the walk.
     Hidden,
-    // The session `s1` of the usage `STOPPED` is asked for and put, or told nothing of and put by the
-    // next call.
+    // The session `s1` of the usage `STOPPED` is read and put, or not found and put by the next
+    // call.
     PutOnce,
-    // The session `s1`, which has the usage `STOPPED`, is put with the usage `LATER`, or told as
+    // The session `s1`, which has the usage `STOPPED`, is put with the usage `LATER`, or found as
     // before and put by the next call.
     RaiseOnce,
-    // The same as `PutOnce` of the voucher.
+    // The voucher is put, or not found and put by the next call.
     TopUpOnce,
     // The sessions of these names are removed, and the row of this name of the account `al` is put,
     // which is none of them.
     Forward(&'static [Name<'static>], Name<'static>, Usage),
-    // The session `s1` is carried into a row, or told as before and carried by the next call.
+    // The session `s1` is carried into a row, or found as before and carried by the next call.
     ForwardOnce,
     // The walk meets the session `s1` of the usage `STOPPED`, or does so at the next call.
     Walk,
@@ -99,7 +99,7 @@ fn is_hidden<B: Book>(alloc: Global, book: &mut B) -> Result<bool, Fail> {
     Ok(is_refused && book.sessions_of(b"al").is_err() && book.next_session(None).is_err())
 }
 
-// Whether nothing is told of the session, and of a balance of its account.
+// Whether neither the session nor a balance of its account is found.
 fn is_unset<B: Book>(alloc: Global, book: &mut B) -> Result<bool, Fail> {
     let has_none = has_balance(book, 0)?;
     let row = told(alloc, book, &S1)?;
@@ -142,7 +142,7 @@ fn is_raised<B: Book>(alloc: Global, book: &mut B) -> Result<bool, Fail> {
     Ok(has_balance && is_of_plan(&row, LATER.plan) && is_of_input(&row, LATER.octets.0))
 }
 
-// Whether the voucher has this sum, which is 0 where there is none.
+// Whether the voucher has this sum, which is 0 if there is none.
 fn has_sum<B: Book>(book: &mut B, sum: u64) -> Result<bool, Unavailable> {
     Ok(match &book.voucher("V-1")? {
         Some(topup) => topup.sum == sum,
@@ -173,7 +173,7 @@ pub(crate) fn is_apart(gone: &[Key], row: &Row) -> bool
     gone.iter().all(|key| key.client != row.client || key.session != row.session)
 }
 
-// Carries the sessions of these keys into a row, and tells whether the row is none of them.
+// Carries the sessions of these keys into a row, and returns whether the row is none of them.
 pub(crate) fn carry<B: Book>(book: &mut B, gone: &[Key], row: &Row) -> Result<bool, Unavailable> {
     if !is_apart(gone, row) {
         return Ok(false);
@@ -194,7 +194,7 @@ fn forward<B: Book>(
     Ok(carry(book, &gone, &row)?)
 }
 
-// Whether the session `s1` was carried, or stands as before, and was carried by the next call.
+// Whether the session `s1` was carried, or is as before, and was carried by the next call.
 fn forward_once<B: Book>(alloc: Global, book: &mut B) -> Result<bool, Fail> {
     let gone = keys(alloc, &[S1])?;
     let line = row(alloc, &LINE, b"al", &CARRIED)?;
@@ -222,7 +222,7 @@ fn is_met<B: Book>(book: &mut B) -> Result<bool, Unavailable> {
     Ok(is_of_input(&row, STOPPED.octets.0))
 }
 
-// Whether this was done, or is told.
+// Whether this was done, or is returned.
 pub(crate) fn is_so<B: Book>(alloc: Global, book: &mut B, ask: &Ask) -> Result<bool, Fail> {
     match ask {
         Ask::Put(usage) => put(alloc, book, usage),

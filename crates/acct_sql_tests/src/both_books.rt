@@ -1,4 +1,4 @@
-//! All calls of a book on tables beside those of the book in memory.
+//! All calls of a book on tables, next to those of the book in memory.
 use crate::asking::carry;
 use crate::sample_book::{CARRIED, LATER, LINE, Name, S1, STOPPED, Usage, key, keys, made, row};
 use acct_book::{Book, Key, MemBook, Row, SessionState, Unavailable};
@@ -8,13 +8,12 @@ use sqlite::MemStore;
 use std::alloc::Global;
 use std::test::Fail;
 
-// Two books that are to tell the same.
+// Two books that are to return the same.
 struct Books {
     tables: SqlBook<MemStore>,
     memory: MemBook,
 }
 
-// It is written out, so that a caller does not prove again how each part is dropped.
 impl Drop for Books {
     fn drop(self) {
         let Books {
@@ -24,7 +23,8 @@ impl Drop for Books {
     }
 }
 
-// What both books are told or asked. What is asked of rows and top-ups has one at least.
+// What is written to both books or read from them. What is read of rows and top-ups has one at
+// least.
 #[derive(Clone, Copy)]
 enum Turn {
     // A row is put as (name, account, usage), and the balance of the account.
@@ -79,12 +79,12 @@ fn is_row(row: &Row, other: &Row) -> bool {
     names(row) == names(other) && numbers(row) == numbers(other)
 }
 
-// A row that a book tells, if there is one.
+// A row that a book returns, if there is one.
 type ToldRow = Result<Option<Row>, Unavailable>;
 
 type ToldTopUp = Result<Option<TopUp>, Unavailable>;
 
-// Whether both tell the same row, or that there is none.
+// Whether both return the same row, or that there is none.
 fn is_same_row(told: &ToldRow, want: &ToldRow) -> bool {
     match (told, want) {
         (Ok(Some(row)), Ok(Some(other))) => is_row(row, other),
@@ -93,7 +93,7 @@ fn is_same_row(told: &ToldRow, want: &ToldRow) -> bool {
     }
 }
 
-// Whether a row in this state is told, or that there is none.
+// Whether a row in this state is returned, or that there is none.
 fn is_in_state(told: &ToldRow, state: Option<SessionState>) -> bool {
     match (told, state) {
         (Ok(Some(row)), Some(state)) => row.state == state,
@@ -117,7 +117,7 @@ fn is_topup(topup: &TopUp, other: &TopUp) -> bool {
         && (topup.sum, topup.when) == (other.sum, other.when)
 }
 
-// Whether both tell the same top-up.
+// Whether both return the same top-up.
 fn is_same_topup(told: &ToldTopUp, want: &ToldTopUp) -> bool {
     match (told, want) {
         (Ok(Some(topup)), Ok(Some(other))) => is_topup(topup, other),
@@ -134,7 +134,7 @@ fn are_same_topups(topups: &[TopUp], others: &[TopUp]) -> bool {
     !topups.is_empty() && topups.len() == others.len()
 }
 
-// Each call tells whether both books did it, or told the same.
+// Each call returns whether both books did it, or returned the same.
 impl Books {
     fn put_row(&mut self, row: &Row, balance: i64) -> bool {
         self.tables.put_session(row, balance).is_ok()
@@ -293,8 +293,8 @@ static SCRIPTS: [Script; 7] = [
             Turn::Session(S1, Some(SessionState::Live)),
         ],
     ),
-    // Two clients have a live session each. A restart of the first is told twice, then a live
-    // session of it comes, and then there is another restart.
+    // Two clients have a live session each. A restart of the first is recorded twice, then a live
+    // session of it, and then another restart.
     (
         "restarts",
         &[
@@ -313,7 +313,7 @@ static SCRIPTS: [Script; 7] = [
         ],
     ),
     // Two sessions of an account are carried into a row, then another and one that is not there
-    // into the same row. A session of another account stays, and one that went comes again.
+    // into the same row. A session of another account stays, and one that was carried is put again.
     (
         "carryings",
         &[
@@ -336,7 +336,7 @@ static SCRIPTS: [Script; 7] = [
             Turn::SessionsOf(b"al"),
         ],
     ),
-    // The live session of a client that was closed is carried, the row that is put is live and of
+    // The live session of a client that was closed is carried. The row that is put is live and of
     // that client, and then it is closed.
     (
         "carryings and restarts",
@@ -350,7 +350,7 @@ static SCRIPTS: [Script; 7] = [
             Turn::SessionsOf(b"al"),
         ],
     ),
-    // What was read or set is set again by another call, and asked for before and after.
+    // What was read or set is set again by another call, and read before and after.
     (
         "answers after a change",
         &[

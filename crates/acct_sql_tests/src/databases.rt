@@ -18,8 +18,8 @@ const OF_NUMBER_2: Step = Step::Call(Call::Adopt, SAMPLE, Err(SqlBookError::Wron
 
 const OF_NUMBER_9: Step = Step::Call(Call::Adopt, SAMPLE, Err(SqlBookError::WrongSchema(9)));
 
-// A database that is made a book twice, adoptions after statements, and what a book tells after an
-// adoption.
+// A database that is made a book twice, adoptions after statements, and what a book returns after
+// an adoption.
 static CASES: [Case; 22] = [
     (
         "a database is made a book twice",
@@ -138,7 +138,7 @@ static CASES: [Case; 22] = [
     ),
     ("an empty database is no book", Start::Empty, &[NO_BOOK]),
     // The session is refused by its key, in its account's list and in the walk; the balance is
-    // told.
+    // returned.
     (
         "a session has lost its plan",
         Start::Used,
@@ -149,7 +149,7 @@ static CASES: [Case; 22] = [
             Step::Book(Ask::Balance(-20)),
         ],
     ),
-    // The book asks for the session, which has no row, and so inserts one: that is refused.
+    // The book reads the session, which has no row, and so inserts one: that is refused.
     (
         "a plan has no session",
         Start::Made,
@@ -162,8 +162,8 @@ static CASES: [Case; 22] = [
             Step::Book(Ask::PutOnce),
         ],
     ),
-    // The row of the table that a session's plan stands in gets another class. The plan is told as
-    // its table has it: `default` was set, of a session of the Class `gold`.
+    // The row of the table that a session's plan is in gets another class. The book returns the
+    // plan as its table has it: `default` was set, of a session of the Class `gold`.
     (
         "a session has the plan that is kept",
         Start::Used,

@@ -1,4 +1,4 @@
-//! Tests of `acct_sql`, of its public calls alone.
+//! Tests of `acct_sql`, by its public calls only.
 #![tactic(auto)]
 
 #[cfg(test)]

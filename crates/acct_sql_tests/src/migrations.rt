@@ -105,7 +105,7 @@ static MIGRATIONS: [(Start, Step); 2] = [
     (Start::Second, MIGRATED_INWARD),
 ];
 
-// Fails at the first older book that then shows something else than this start does.
+// Fails at the first older book that then shows something other than this start does.
 fn expect_shown(alloc: Global, start: Start, queries: &[&str]) -> Result<(), Fail> {
     let want = shown_after(alloc, start, &[], queries)?;
     for i in 0..MIGRATIONS.len() {

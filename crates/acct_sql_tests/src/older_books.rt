@@ -39,7 +39,7 @@ pub(crate) static ROWS: [&str; 6] = [
      (8, 'ap0', x'7332', x'616c', x'676f6c64', 2, 0, 0, 4, 4, 0, 0, x'', x'')",
 ];
 
-// What a book of schema number 2 has besides, and its number. The plan `gold` counts the input.
+// What a book of schema number 2 adds, and its number. The plan `gold` counts the input.
 pub(crate) static SECOND_SCHEMA: [&str; 3] = [
     "CREATE TABLE plan_count (class BLOB NOT NULL PRIMARY KEY, mode INTEGER NOT NULL) STRICT",
     "INSERT INTO plan_count VALUES (x'676f6c64', 1), (x'64656661756c74', 0)",

@@ -1,8 +1,8 @@
-//! A book on tables that may be refused memory, once and at any place:
+//! A book on tables with an allocation that fails once, at any place:
 //! `rt try --test --fail-alloc N`.
 //!
-//! Each call does all that it does with ample memory, or tells the refusal and does nothing: the
-//! same call, asked again, does it.
+//! Each call does all that it does with ample memory, or reports the failure and does nothing. The
+//! same call, made again, does it.
 use crate::asking::Ask;
 use crate::sites::{SAMPLE, SILVER};
 use crate::trial::{Call, Case, Start, Step, expect};

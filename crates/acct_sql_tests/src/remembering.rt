@@ -1,4 +1,4 @@
-//! A book that is asked for more sessions and accounts than it remembers.
+//! A book that is queried for more sessions and accounts than it remembers.
 use crate::sample_book::{LATER, S1, STOPPED, key, made, row};
 use acct_book::{Book, Key, SessionState};
 use acct_model::{Octets, Text};
@@ -12,7 +12,7 @@ fn name(number: u32) -> [u8; 4] {
     number.to_be_bytes()
 }
 
-// Whether each of so many sessions is told to be none.
+// Whether the book returns none for each of so many sessions.
 fn are_no_sessions<B: Book>(alloc: Global, book: &mut B) -> Result<bool, Fail> {
     for number in 0..NAMES {
         let key = Key {
@@ -26,7 +26,7 @@ fn are_no_sessions<B: Book>(alloc: Global, book: &mut B) -> Result<bool, Fail> {
     Ok(true)
 }
 
-// Whether each of so many accounts is told to have no balance.
+// Whether the book returns no balance for each of so many accounts.
 fn are_no_balances<B: Book>(book: &mut B) -> Result<bool, Fail> {
     for number in 0..NAMES {
         if book.balance(&name(number))? != 0 {

@@ -1,7 +1,7 @@
 //! Books on tables to test with, and the rows that go into them.
 use acct_book::{Key, Row, SessionState};
 use acct_model::{Octets, Text};
-use acct_samples::sample_plans;
+use acct_site::sample_plans;
 use acct_sql::SqlBook;
 use sqlite::{Connection, MemStore};
 use std::alloc::Global;
@@ -13,7 +13,8 @@ pub(crate) type Name<'t> = (&'t str, &'t [u8]);
 // The name of most rows.
 pub(crate) const S1: Name<'static> = ("ap1", b"s1");
 
-// What a row says beside its names: octets as (input, output), times as (seconds, first, last).
+// What a row says in addition to its names: octets as (input, output), times as (seconds, first,
+// last).
 #[derive(Clone, Copy)]
 pub(crate) struct Usage {
     pub(crate) plan: &'static [u8],

@@ -1,4 +1,4 @@
-//! The plans that a database is opened with, said as data.
+//! The plans that a database is opened with, as data.
 use acct_model::{Count, Octets, Plan, Plans};
 use std::alloc::{AllocError, Global};
 use std::test::Fail;
@@ -25,13 +25,13 @@ pub(crate) const DEAR: Site = Site {
     has_silver: false,
 };
 
-// The sample site where gold counts the input alone.
+// The sample site, in which gold counts only the input.
 pub(crate) const INWARD: Site = Site {
     gold: Some((1_048_576, 10, Count::Input)),
     has_silver: false,
 };
 
-// The sample site where gold counts the output alone.
+// The sample site, in which gold counts only the output.
 pub(crate) const OUTWARD: Site = Site {
     gold: Some((1_048_576, 10, Count::Output)),
     has_silver: false,

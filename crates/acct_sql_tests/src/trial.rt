@@ -1,4 +1,4 @@
-//! Steps that are taken with a database, one after the other, said as data.
+//! Steps that are taken with a database, one after the other, as data.
 use crate::asking::{Ask, is_so};
 use crate::older_books::{FIRST_SCHEMA, OLDER_TABLES, ROWS, SECOND_SCHEMA, TABLES};
 use crate::sample_book::STOPPED;
@@ -38,9 +38,9 @@ pub(crate) enum Start {
     Second,
     // An empty book, kept by the sample site's plans.
     Made,
-    // The same with a top-up.
+    // An empty book with a top-up.
     Credited,
-    // The same with one session, by the plan `default`.
+    // An empty book with one session, by the plan `default`.
     Used,
 }
 
@@ -49,15 +49,15 @@ pub(crate) enum Start {
 pub(crate) enum Step {
     // A statement is run.
     Run(&'static str),
-    // The call with these plans tells this.
+    // The call with these plans returns this.
     Call(Call, Site, Told),
-    // The same or, where memory was refused, at the next call.
+    // The call with these plans returns this or, if an allocation failed, the next call does.
     Again(Call, Site, Told),
     // The call with these plans is refused, and the tables are then as they were.
     Refused(Call, Site, SqlBookError),
     // The query shows this, each row on a line.
     Shows(&'static str, &'static str),
-    // The book that the last call made does this, or tells it.
+    // The book that the last call made does this, or returns it.
     Book(Ask),
 }
 
@@ -68,7 +68,6 @@ struct Trial {
     book: Option<SqlBook<MemStore>>,
 }
 
-// It is written out, so that a caller does not prove again how each part is dropped.
 impl Drop for Trial {
     fn drop(self) {
         let Trial {
@@ -79,8 +78,8 @@ impl Drop for Trial {
     }
 }
 
-// What a call makes of a database. `Unavailable` is also told of one in a transaction: no step of a
-// test ends so.
+// What a call makes of a database. It also returns `Unavailable` of one in a transaction: no step
+// of a test ends so.
 fn opened(alloc: Global, conn: Database, call: Call, plans: &Plans) -> Opened {
     if !conn.is_autocommit() {
         return Err((SqlBookError::Unavailable, conn));
@@ -142,7 +141,7 @@ impl Trial {
         })
     }
 
-    // Takes the database, and that of the book where there is one.
+    // Takes the database, and that of the book if there is one.
     fn take(&mut self) -> Option<Database> {
         match self.book.take() {
             Some(book) => Some(book.into_connection()),
@@ -175,7 +174,7 @@ impl Trial {
         Ok(self.told_by(call, &plans))
     }
 
-    // The same or, where memory was refused, by the next call.
+    // What the call returns or, if an allocation failed, the next call does.
     fn told_again(&mut self, call: Call, site: Site) -> Result<Told, Fail> {
         let plans = plans_of(self.alloc, site)?;
         Ok(match self.told_by(call, &plans) {
@@ -227,7 +226,7 @@ impl Trial {
         }
     }
 
-    // Takes a step, and tells whether it ended as it says.
+    // Takes a step, and returns whether it ended as it says.
     fn takes(&mut self, step: &Step) -> Result<bool, Fail> {
         match step {
             Step::Run(sql) => self.run(&[*sql]),

@@ -43,7 +43,7 @@ fn put_all<B: Book>(alloc: Global, book: &mut B, names: &[Name<'_>]) -> Result<(
     Ok(())
 }
 
-// Whether a walk met the row of this name, or none where there is no name.
+// Whether a walk met the row of this name, or none if there is no name.
 fn is_named(row: Option<&Row>, name: Option<Name<'_>>) -> bool {
     match (row, name) {
         (Some(row), Some(name)) => {

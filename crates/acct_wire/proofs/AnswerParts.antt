@@ -10,8 +10,8 @@ use Rattle.radius_codec.proofs.Sealing.{length-sealed}
 use Rattle.acct_model.specs.declared.plan.Plan.{Plan}
 use Rattle.acct_model.specs.declared.entry.Entry.{Entry}
 use Rattle.acct_model.specs.declared.entry.Entry.TheVariants as entries
-use Rattle.acct_model.specs.declared.reading.EntryError.{EntryError}
-use Rattle.acct_model.specs.declared.reading.EntryError.TheVariants as entry
+use Rattle.acct_model.specs.declared.entry_reader.EntryError.{EntryError}
+use Rattle.acct_model.specs.declared.entry_reader.EntryError.TheVariants as entry
 use Rattle.acct_model.specs.Entries.{Attributes, refusal_of, RefusesEntry, IsEntryOf}
 use Rattle.acct_model.specs.Vouchers.{TopUpFacts}
 use Rattle.acct_book.specs.declared.book.Book.{Ghosts}

@@ -1,4 +1,4 @@
--- Why a datagram asks for one entry.
+-- Why a datagram requests one entry.
 use Rattle.std.proofs.Common.{◌≡◌, ℕ, List, drop, sym}
 use Rattle.std.proofs.Common.{◌∙◌, ap, subst, arith}
 use Rattle.std.specs.Prelude.{Option, Some, IsTrue, slice_index}

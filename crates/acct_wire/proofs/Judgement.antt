@@ -7,8 +7,8 @@ use Rattle.std.specs.Prelude.{Some, None, slice_index}
 use Rattle.radius_codec.specs.Attributes.{Spells}
 use Rattle.radius_codec.specs.Packet.{front_of}
 use Rattle.radius_codec.proofs.Spelling.{Spells_one, Spells-framed}
-use Rattle.acct_model.specs.declared.reading.EntryError.{EntryError}
-use Rattle.acct_model.specs.declared.reading.EntryError.TheVariants as entry
+use Rattle.acct_model.specs.declared.entry_reader.EntryError.{EntryError}
+use Rattle.acct_model.specs.declared.entry_reader.EntryError.TheVariants as entry
 use Rattle.acct_model.specs.Entries.{Attributes, refusal_of}
 use Rattle.acct_wire.specs.declared.client.Client.{Client}
 use Rattle.acct_wire.specs.declared.reason.Reason.{Reason}

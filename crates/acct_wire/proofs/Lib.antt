@@ -2,9 +2,11 @@
 pub mod AnswerParts
 -- why a datagram has one judgement
 pub mod Judgement
--- why it asks for one entry
+-- why it requests one entry
 pub mod Asked
 -- why no two clients share a name or an address
 pub mod ClientLaws
--- why a request that is faultless asks for one at all
+-- why a request that is faultless requests one at all
 pub mod Spelled
+-- the lines of reasons, one more
+pub mod EachReason

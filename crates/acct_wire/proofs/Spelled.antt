@@ -4,8 +4,8 @@ use Rattle.std.specs.Prelude.{Option, Some, None, is_none}
 use Rattle.radius_codec.specs.Attributes.{value_of}
 use Rattle.acct_model.specs.declared.entry.Entry.{Entry}
 use Rattle.acct_model.specs.declared.entry.Entry.TheVariants as entry
-use Rattle.acct_model.specs.declared.reading.EntryError.{EntryError}
-use Rattle.acct_model.specs.declared.reading.EntryError.TheVariants.{NoStatus, UnknownStatus}
+use Rattle.acct_model.specs.declared.entry_reader.EntryError.{EntryError}
+use Rattle.acct_model.specs.declared.entry_reader.EntryError.TheVariants.{NoStatus, UnknownStatus}
 use Rattle.acct_model.specs.Entries.{Attributes, status_of, kind_of, is_restart, status_fault}
 use Rattle.acct_model.specs.Entries.{report_fault, refusal_of, report_of, IsEntryOf}
 use Rattle.acct_wire.specs.declared.client.Client.{Client}

@@ -1,5 +1,4 @@
--- How a datagram is judged: the first rule that it breaks, or the entry that it asks to be
--- recorded.
+-- How a datagram is judged: the first rule that it breaks, or the entry that it requests.
 use Rattle.std.specs.Prelude.{◌≡◌, ◌≢◌, ◌⊎◌, ◌+◌, ℕ, ◌≤◌, ◌<◌, List, length, drop, slice_index}
 use Rattle.std.specs.Prelude.{Option, Some, None}
 use Rattle.radius_codec.specs.Attributes.{Spells}
@@ -7,8 +6,8 @@ use Rattle.radius_codec.specs.Packet.{HasFront, front_of, Framed, IsFrontFault, 
 use Rattle.radius_codec.specs.declared.packet.CodecError.TheVariants as codec
 use Rattle.acct_model.specs.declared.entry.Entry.{Entry}
 use Rattle.acct_model.specs.declared.entry.Entry.TheVariants as entries
-use Rattle.acct_model.specs.declared.reading.EntryError.{EntryError}
-use Rattle.acct_model.specs.declared.reading.EntryError.TheVariants as entry
+use Rattle.acct_model.specs.declared.entry_reader.EntryError.{EntryError}
+use Rattle.acct_model.specs.declared.entry_reader.EntryError.TheVariants as entry
 use Rattle.acct_model.specs.Entries.{Attributes, refusal_of, IsEntryOf}
 use Rattle.acct_wire.specs.declared.client.Client.{Client}
 use Rattle.acct_wire.specs.declared.reason.Reason.{Reason}
@@ -37,7 +36,7 @@ pub record BeginsRequest (bytes : List ℕ) : Type 0 where
   pub front : BeginsFront bytes
   pub code : slice_index (front_of bytes) 0 ≡ 4
 
--- the same, and it carries the right digest
+-- there is a front, it is an Accounting-Request's, and it carries the right digest
 pub record BeginsSigned (secret bytes : List ℕ) : Type 0 where
   pub request : BeginsRequest bytes
   pub signed : IsSigned (front_of bytes) secret
@@ -98,7 +97,7 @@ pub record RequestAsks (clients : List Client) (source bytes : List ℕ) (moment
   pub faultless : refusal_of attributes ≡ None
   pub spelled : IsEntryOf client.name attributes moment asked
 
--- The datagram asks for this entry: it is some client's signed request that spells it.
+-- The datagram requests this entry: it is some client's signed request that spells it.
 pub record RequestAsksFor (clients : List Client) (source bytes : List ℕ) (moment : ℕ)
     (asked : Entry) : Type 0 where
   pub client : Client
@@ -108,14 +107,14 @@ pub record RequestAsksFor (clients : List Client) (source bytes : List ℕ) (mom
   pub asks : RequestAsks clients source bytes moment client identifier authenticator attributes
       asked
 
--- The datagram is a client's signed request that spells some entry, whenever it comes.
+-- The datagram is a client's signed request that spells some entry, whenever it is received.
 abbrev pub IsAsking : List Client → List ℕ → List ℕ → Type 0
 IsAsking clients source bytes =
     (client : Client) × (client_at source clients ≡ Some client) × IsSpelled client.secret bytes
 
 -- ---- how old a report may be
 
--- The entry is a report that is too old at the moment at which it came: its own moment (RFC 2866,
+-- The entry is a report that is too old at the moment of its receipt. Its own moment (RFC 2866,
 -- section 5.2) lies more seconds back than a report may be old, if that is limited.
 abbrev pub IsTooOld : Option ℕ → ℕ → Entry → Type 0
 IsTooOld (Some oldest) moment (entries.Report report) = report.when + oldest < moment

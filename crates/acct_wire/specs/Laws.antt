@@ -13,12 +13,12 @@ abbrev pub OneRuleIsBrokenFirst : Type 0
 OneRuleIsBrokenFirst = (clients : List Client) (source bytes : List ℕ) (one other : Reason)
     → Breaks clients source bytes one → Breaks clients source bytes other → one ≡ other
 
--- none that asks for an entry breaks a rule
+-- none that requests an entry breaks a rule
 abbrev pub AskingBreaksNone : Type 0
 AskingBreaksNone = (clients : List Client) (source bytes : List ℕ) (reason : Reason)
     → IsAsking clients source bytes → Breaks clients source bytes reason → ⊥
 
--- a datagram asks for one entry, by one request of one client
+-- a datagram requests one entry, by one request of one client
 abbrev pub OneEntryIsAsked : Type 0
 OneEntryIsAsked = (clients : List Client) (source bytes : List ℕ) (moment : ℕ)
     (c d : Client) (i j : ℕ) (a b : List ℕ) (ps qs : Attributes) (one other : Entry)

@@ -1,4 +1,4 @@
--- What a datagram is answered, what that does, and what the array then holds.
+-- How a datagram is answered, what that does, and what the array then holds.
 use Rattle.std.specs.Prelude.{◌≡◌, ◌⊎◌, ℕ, ℤ, ◌≤◌, List, take, drop, Option, None}
 use Rattle.radius_codec.specs.Packet.{reply_octets}
 use Rattle.acct_model.specs.declared.entry.Entry.{Entry}
@@ -25,22 +25,22 @@ pub record IsReplyFor (clients : List Client) (source bytes : List ℕ) (moment 
       asked
   pub reply : octets ≡ reply_octets identifier authenticator attributes client.secret
 
--- A reply says that the entry which the datagram asks for was added. It is not too old.
+-- A reply says that the entry that the datagram requests was added. It is not too old.
 abbrev pub RepliesWithin : Option ℕ → List Client → List ℕ → List ℕ → ℕ → List ℕ → Effect
     → Type 0
 RepliesWithin oldest clients source bytes moment octets effect =
     (asked : Entry) × IsReplyFor clients source bytes moment asked octets
     × (¬ IsTooOld oldest moment asked) × (effect ≡ added asked)
 
--- The store or memory refused an entry. If it is too old, the book was not asked.
+-- The store or an allocation failed for an entry. If it is too old, the book was not called.
 abbrev pub Fails : Option ℕ → ℕ → Entry → Effect → Type 0
 Fails oldest moment asked effect =
     (IsTooOld oldest moment asked × (effect ≡ unasked))
     ⊎ ((¬ IsTooOld oldest moment asked) × (effect ≡ failed asked))
 
--- A drop for the balance says that the entry was refused; a drop for the book, that the store or
--- memory refused; a drop for its age, that it is too old. Any other names the first rule that is
--- broken. For the age or a rule the book was not asked.
+-- A drop for the balance says that the entry was refused. One for the book says that the store or
+-- an allocation failed, one for its age that it is too old. Any other names the first rule that is
+-- broken. For the age or a rule the book was not called.
 abbrev pub DropsWithin : Option ℕ → List Client → List ℕ → List ℕ → ℕ → Reason → Effect → Type 0
 DropsWithin oldest clients source bytes moment BalanceLimit effect =
     (asked : Entry) × RequestAsksFor clients source bytes moment asked
@@ -53,8 +53,8 @@ DropsWithin oldest clients source bytes moment TooOld effect =
 DropsWithin oldest clients source bytes moment reason effect =
     Breaks clients source bytes reason × (effect ≡ unasked)
 
--- A datagram may be answered so, where the array then holds these octets, and has this effect. A
--- report may be at most so many seconds old when it comes, if that is limited.
+-- A datagram may be answered so, and has this effect. The array then holds these octets. A report
+-- may be at most so many seconds old on receipt, if that is limited.
 abbrev pub AnswersWithin : Option ℕ → List Client → List ℕ → List ℕ → ℕ → List ℕ → Outcome → Effect
     → Type 0
 AnswersWithin oldest clients source bytes moment array (Reply size) effect =
@@ -62,7 +62,7 @@ AnswersWithin oldest clients source bytes moment array (Reply size) effect =
 AnswersWithin oldest clients source bytes moment array (Drop reason) effect =
     DropsWithin oldest clients source bytes moment reason effect
 
--- the same of reports of any age
+-- a datagram may be answered so, whatever the age of a report
 abbrev pub Answers : List Client → List ℕ → List ℕ → ℕ → List ℕ → Outcome → Effect → Type 0
 Answers = AnswersWithin None
 

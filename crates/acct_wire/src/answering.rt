@@ -17,33 +17,36 @@ use radius_codec::codes::ACCOUNTING_REQUEST;
 use radius_codec::{CodecError, Front, Packet, request_matches, write_response};
 use std::alloc::Global;
 
+/// The most octets of a packet (RFC 2865, section 3; RFC 2866, section 3, gives one less).
+pub const LONGEST_PACKET: usize = 4096;
+
 /// What became of a datagram.
 #[derive(Clone, Copy, PartialEq, Eq, Debug)]
 pub enum Outcome {
-    /// Its entry was recorded, and the reply stands in this many octets of the array.
+    /// Its entry was recorded, and the reply is in this many octets of the array.
     Reply(usize),
     /// Nothing is sent, for this reason, and the content of a book that is still open is as before.
-    /// After `Unavailable` a crash may leave the whole entry, where the write of it shut the book.
+    /// After `Unavailable` a crash may leave the whole entry, if the write of it shut the book.
     Drop(Reason),
 }
 
-/// Answers a datagram over a book whose content stands for a history under these plans: judges it,
-/// records its entry and writes the reply to the front of `out` (RFC 2866, sections 3 and 4). A
-/// reply comes only after the entry was recorded; after a drop `out` is as before, and so is the
+/// Answers a datagram over a book whose content stands for a history under these plans. It judges
+/// it, records its entry and writes the reply to the front of `out` (RFC 2866, sections 3 and 4).
+/// It replies only after the entry was recorded. After a drop `out` is as before, and so is the
 /// content of a book that is still open.
 ///
-/// For a report it asks the book for one row and one balance and writes both by one call, for a
-/// restart it closes the client's sessions by one call; beyond that its cost is that of reading the
-/// datagram, and of going through the clients once.
+/// For a report it reads one row and one balance from the book and writes both by one call. For a
+/// restart it closes the client's sessions by one call. Beyond that it costs reading the datagram,
+/// and going through the clients once.
 pub fn answer<B: Book>(
     alloc: Global,
     clients: &Clients,
     plans: &Plans,
     book: &mut B,
     datagram: &Datagram<'_>,
-    out: &mut [u8; 4096],
+    out: &mut [u8; LONGEST_PACKET],
 ) -> Outcome
-    // What is answered and what that does, over any book, and what the array then holds.
+    // What it returns and what that does, over any book, and what the array then holds.
     ensures answers { (effect : Effect)
         × Answers clients.now datagram.now.source datagram.now.bytes.now datagram.now.moment
         out.new result effect
@@ -53,9 +56,9 @@ pub fn answer<B: Book>(
     answer_within(alloc, clients, plans, None, book, datagram, out)
 }
 
-/// Answers a datagram as `answer` does, but drops a report that is too old: its own moment lies more
-/// than `oldest` seconds before the datagram's. That is tested before the book is asked. Without
-/// `oldest` no report is too old.
+/// Answers a datagram as `answer` does, but drops a report that is too old: its own moment lies
+/// more than `oldest` seconds before the datagram's. It tests that before it calls the book.
+/// Without `oldest` no report is too old.
 pub fn answer_within<B: Book>(
     alloc: Global,
     clients: &Clients,
@@ -63,9 +66,9 @@ pub fn answer_within<B: Book>(
     oldest: Option<u64>,
     book: &mut B,
     datagram: &Datagram<'_>,
-    out: &mut [u8; 4096],
+    out: &mut [u8; LONGEST_PACKET],
 ) -> Outcome
-    // What is answered and what that does, over any book, and what the array then holds.
+    // What it returns and what that does, over any book, and what the array then holds.
     ensures answers { (effect : Effect)
         × AnswersWithin oldest clients.now datagram.now.source datagram.now.bytes.now
         datagram.now.moment out.new result effect
@@ -95,7 +98,7 @@ struct Request<'c, 'b> {
     entry: Entry,
 }
 
-// What a datagram asks for, judged without the book.
+// What a datagram requests, judged without the book.
 fn requested<'c, 'b>(
     alloc: Global,
     clients: &'c Clients,

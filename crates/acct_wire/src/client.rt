@@ -21,7 +21,6 @@ pub struct Client {
     pub secret: Octets,
 }
 
-// It is written out, so that a caller does not prove again how each part is dropped.
 impl Drop for Client {
     fn drop(self) {
         let Client {
@@ -37,7 +36,6 @@ pub struct Clients {
     clients: Vec<Client>,
 }
 
-// It is written out, so that a caller does not prove again how each part is dropped.
 impl Drop for Clients {
     fn drop(self) {
         let Clients { clients: _ } = self;
@@ -66,7 +64,7 @@ pub enum ClientError {
     /// An earlier client has the same address.
     #[error("an earlier client has the same address")]
     TwiceAddressed = 2,
-    /// Memory was refused.
+    /// Out of memory.
     #[error("out of memory")]
     Memory = 3,
 }
@@ -106,7 +104,7 @@ impl Clients {
     ///
     /// # Errors
     ///
-    /// The first of `TwiceNamed` and `TwiceAddressed` that holds, and `Memory` only where neither
+    /// The first of `TwiceNamed` and `TwiceAddressed` that holds, and `Memory` only if neither
     /// does. The clients are then as before.
     pub fn push(&mut self, client: Client) -> Result<(), ClientError>
         ensures pushed { OnOk result (self.new ≡ self.old ++ client ∷ []) }

@@ -1,9 +1,9 @@
-//! Laws above the definitions: functions without effect, whose contracts are the laws.
+//! Laws of the definitions: functions without effect, whose contracts are the laws.
 ghost use Rattle.acct_wire.specs.Laws.{OneRuleIsBrokenFirst, AskingBreaksNone, OneEntryIsAsked};
 ghost use Rattle.acct_wire.specs.Laws.{ClientsDiffer};
 
-/// A datagram has one judgement: no two rules are the first that it breaks, one that asks for an
-/// entry breaks none, and it asks for one entry, by one request of one client.
+/// A datagram has one judgement: no two rules are the first that it breaks. One that requests an
+/// entry breaks none, and it requests one entry, by one request of one client.
 pub fn one_judgement()
     ensures once { OneRuleIsBrokenFirst }
     ensures asking { AskingBreaksNone }

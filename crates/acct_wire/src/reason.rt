@@ -1,16 +1,16 @@
 //! Why a datagram is dropped.
-ghost use Rattle.std.specs.Prelude.{◌≡◌, ◌≤◌};
-ghost use Rattle.acct_wire.specs.Reasons.{reason_number, reason_name};
+ghost use Rattle.std.specs.Prelude.{◌≡◌, ◌≤◌, ◌<◌};
+ghost use Rattle.acct_wire.specs.Reasons.{reason_number, reason_name, reason_place};
 ghost use Rattle.acct_wire.specs.declared.reason.TheConstants.Reason.{COUNT};
 
 use std::error::Error;
 use std::fmt;
 
-/// Why a datagram is dropped. It is tested in the order of the numbers, but for 14, which stands
+/// Why a datagram is dropped. It is tested in the order of the numbers, except that 14 is tested
 /// between 11 and 12. The number of a reason is the one that operators see.
 #[derive(Clone, Copy, PartialEq, Eq, Debug)]
 pub enum Reason {
-    /// No client has the address that it came from (RFC 2866, section 3).
+    /// No client has the address that sent it (RFC 2866, section 3).
     UnknownClient = 1,
     /// It has fewer than 20 octets.
     TooShort = 2,
@@ -34,15 +34,33 @@ pub enum Reason {
     TotalTooLarge = 11,
     /// The account's balance would leave its range.
     BalanceLimit = 12,
-    /// The book or memory refused.
+    /// The book or an allocation failed.
     Unavailable = 13,
-    /// A report is older than the server takes it.
+    /// A report is older than the server accepts.
     TooOld = 14,
 }
 
 impl Reason {
     /// How many reasons there are. They are numbered from 1 on, and no number is left out.
     pub const COUNT: usize = 14;
+
+    /// All reasons, in the order of their numbers.
+    pub const ALL: [Reason; Reason::COUNT] = [
+        Reason::UnknownClient,
+        Reason::TooShort,
+        Reason::BadLength,
+        Reason::WrongCode,
+        Reason::BadAuthenticator,
+        Reason::BadAttribute,
+        Reason::NoStatus,
+        Reason::UnknownStatus,
+        Reason::NoSessionId,
+        Reason::BadField,
+        Reason::TotalTooLarge,
+        Reason::BalanceLimit,
+        Reason::Unavailable,
+        Reason::TooOld,
+    ];
 
     /// The number that operators see, 1 to `COUNT`.
     pub fn number(self) -> u8
@@ -53,7 +71,16 @@ impl Reason {
         self as u8
     }
 
-    /// The name that operators see beside the number: that of the variant.
+    /// The place of its count in an array of counts, of which there is one for each reason in the
+    /// order of the numbers.
+    pub fn place(self) -> usize
+        ensures place { result ≡ reason_place self }
+        ensures within { result < COUNT }
+    {
+        self.number() as usize - 1
+    }
+
+    /// The name that operators see next to the number: that of the variant.
     pub fn name(self) -> &'static str
         ensures { result.now ≡ reason_name self }
     {

@@ -4,25 +4,8 @@ use std::alloc::Global;
 use std::fmt::Display;
 use std::test::Fail;
 
-// The reasons in the order of their numbers.
-static REASONS: [Reason; Reason::COUNT] = [
-    Reason::UnknownClient,
-    Reason::TooShort,
-    Reason::BadLength,
-    Reason::WrongCode,
-    Reason::BadAuthenticator,
-    Reason::BadAttribute,
-    Reason::NoStatus,
-    Reason::UnknownStatus,
-    Reason::NoSessionId,
-    Reason::BadField,
-    Reason::TotalTooLarge,
-    Reason::BalanceLimit,
-    Reason::Unavailable,
-    Reason::TooOld,
-];
-
-// Their names in the same order, as the table of drops has them for operators.
+// The names of the reasons in the order of their numbers, as the table of drops has them for
+// operators.
 const NAMES: [&str; Reason::COUNT] = [
     "UnknownClient",
     "TooShort",
@@ -48,7 +31,7 @@ const CLIENT_ERRORS: [u8; 3] = [
 
 #[test]
 fn reasons_and_client_errors_are_numbered(rt: HostRuntime) {
-    for (place, reason) in REASONS.iter().enumerate() {
+    for (place, reason) in Reason::ALL.iter().enumerate() {
         assert!(rt; reason.number() as usize == place + 1);
     }
     assert!(rt; CLIENT_ERRORS == [1, 2, 3]);
@@ -56,7 +39,7 @@ fn reasons_and_client_errors_are_numbered(rt: HostRuntime) {
 
 #[test]
 fn reasons_have_names(rt: HostRuntime) {
-    for (reason, name) in REASONS.iter().zip(NAMES) {
+    for (reason, name) in Reason::ALL.iter().zip(NAMES) {
         assert!(rt; reason.name() == name);
     }
 }

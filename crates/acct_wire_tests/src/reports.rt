@@ -4,7 +4,7 @@
 use crate::site::{SHORT_REPLY, Site};
 use acct_book::SessionState::{self, Closed, Live, Stopped};
 use acct_model::Plans;
-use acct_samples::plan;
+use acct_site::plan;
 use acct_wire::{Outcome, Reason};
 use std::alloc::Global;
 use std::test::Fail;

@@ -1,8 +1,8 @@
 //! The sample site over a book in memory, and requests of its client.
 use acct_book::{Book, Key, MemBook, Row};
-use acct_fakes::FailingBook;
+use acct_book_fakes::FailingBook;
 use acct_model::{Octets, Plans, Text};
-use acct_samples::{sample_clients, sample_plans};
+use acct_site::{sample_clients, sample_plans};
 use acct_wire::{Clients, Datagram, Outcome, answer, answer_within};
 use foreign_packets::SECRET;
 use radius_codec::{sign_request, write_request};
@@ -29,7 +29,6 @@ pub(crate) struct Site {
     clients: Clients,
 }
 
-// It is written out, so that a test does not prove again how each part is dropped.
 impl Drop for Site {
     fn drop(self) {
         let Site {

@@ -3,7 +3,7 @@ use crate::refusals::{Trial, tried};
 use crate::scripts::printed;
 use crate::site::{Site, Step, plans};
 use acct_book::{Book, MemBook};
-use acct_fakes::FailingBook;
+use acct_book_fakes::FailingBook;
 use acct_model::Plans;
 use acct_sql::SqlBook;
 use sqlite::{Connection, MemStore};
@@ -14,13 +14,13 @@ use std::test::Fail;
 #[derive(Clone, Copy)]
 pub(crate) enum Work {
     Steps(&'static [Step]),
-    // The lines of `feed`, and which call of the book is refused. At 0 none is.
+    // The lines of `feed`, and which call of the book fails. At 0 none does.
     Feed(&'static str, u64),
-    // A call of the program, and which call of the book it is refused.
+    // A call of the program, and which of its calls of the book fails.
     Trial(&'static Trial, u64),
 }
 
-// What is told of it.
+// What is printed of it.
 fn done<B: Book + Drop>(alloc: Global, book: B, work: &Work) -> Result<Vec<u8>, Fail> {
     let mut book = FailingBook::new(book, 0);
     match *work {
@@ -47,7 +47,7 @@ fn in_tables(alloc: Global, work: &Work) -> Result<Vec<u8>, Fail> {
     done(alloc, made(alloc, &plans)?, work)
 }
 
-// What both books tell, which is the same.
+// What both books return, which is the same.
 pub(crate) fn told(alloc: Global, work: &Work) -> Result<Vec<u8>, Fail> {
     let told = done(alloc, MemBook::new(alloc), work)?;
     if in_tables(alloc, work)?.as_slice() != told.as_slice() {

@@ -1,15 +1,16 @@
 //! Sessions that are carried forward: the same rows, counts and balances from both books.
 use crate::books::made;
 use crate::reports::word_of;
-use acct_book::{Book, MemBook, Selection, carry_account, record};
+use acct_book::{Book, MemBook, record};
+use acct_book_forward::{Selection, carry_account};
 use acct_files::{export_balances, export_sessions};
 use acct_model::{Count, Entry, Octets, Plan, Plans, Report, ReportKind, Restart, Text, TopUp};
 use std::alloc::Global;
 use std::io::Write;
 use std::test::Fail;
 
-// A report of a session of 60 seconds, from `00-11` at 10.0.0.9, which ended for the cause 1: its
-// client, session, user and class, its input, output and moment.
+// A report of a session of 60 seconds, from `00-11` at 10.0.0.9, which ended for the cause 1. It
+// has its client, session, user and class, its input, output and moment.
 #[derive(Clone, Copy)]
 struct Said {
     client: &'static str,
@@ -108,7 +109,8 @@ static SAID: [Said; 11] = [
     },
 ];
 
-// What comes after the first carrying: more of a session that is kept, and a carried one again.
+// What is reported after the first carrying: more of a session that is kept, and a carried one
+// again.
 static LATER: [Said; 2] = [
     Said {
         client: "books",
@@ -251,7 +253,7 @@ fn selection(alloc: Global) -> Result<Selection, Fail> {
     })
 }
 
-// Carries an account's sessions forward at a moment, and tells the counts.
+// Carries an account's sessions forward at a moment, and returns the counts.
 fn carry<B: Book>(
     alloc: Global,
     plans: &Plans,
@@ -297,7 +299,7 @@ fn export<B: Book>(
     Ok(())
 }
 
-// What is told if sessions are carried once, once more, and after later reports.
+// What is printed if sessions are carried once, once more, and after later reports.
 fn story<B: Book>(alloc: Global, plans: &Plans, book: &mut B) -> Result<Vec<u8>, Fail> {
     let mut told = Vec::new(alloc);
     if !fill(alloc, plans, book)? {

@@ -1,7 +1,8 @@
-//! A report that comes again after its session was carried forward, with and without a guard.
+//! A report that is received again after its session was carried forward, with and without a guard.
 use crate::books::made;
 use crate::site::{AP1, config};
-use acct_book::{Book, MemBook, Selection, carry_account};
+use acct_book::{Book, MemBook};
+use acct_book_forward::{Selection, carry_account};
 use acct_site::Config;
 use acct_wire::{Datagram, Outcome, Reason, answer_within};
 use foreign_packets::SECRET;
@@ -12,11 +13,11 @@ use std::test::Fail;
 // A Stop of the session `s1` of `al` with 1,048,577 octets of `gold`, which costs 20.
 const STOP: &[u8] = b"\x28\x06\0\0\0\x02\x2c\x04s1\x01\x04al\x19\x06gold\x2a\x06\0\x10\0\x01";
 
-// The same, 8,000 seconds after its moment.
+// This Stop, 8,000 seconds after its moment.
 const AGAIN: &[u8] = b"\x28\x06\0\0\0\x02\x2c\x04s1\x01\x04al\x19\x06gold\x2a\x06\0\x10\0\x01\
     \x29\x06\0\0\x1f\x40";
 
-// When the Stop comes, when it is carried forward, and when it comes again.
+// When the Stop is received, when it is carried forward, and when it is received again.
 const FIRST: u32 = 1_000;
 
 const CARRIED: u32 = 8_500;

@@ -1,5 +1,5 @@
-//! Tests that a book in tables gives what one in memory gives, by all that operators use, and that
-//! neither ends at a size.
+//! Tests that a book in tables returns what one in memory returns, by all that operators use, and
+//! that neither ends at a size.
 #![tactic(auto)]
 
 #[cfg(test)]

@@ -1,13 +1,13 @@
-//! Each call of a book refused in turn, under each call of the program.
+//! Each call of a book fails in turn, under each call of the program.
 use crate::books::{Work, told};
 use crate::rows::{POST, START};
 use crate::site::{AP1, Export, Site, Step};
 use acct_book::Book;
-use acct_fakes::FailingBook;
+use acct_book_fakes::FailingBook;
 use std::alloc::Global;
 use std::test::Fail;
 
-// What is done before, the call, what it tells where the book refuses, and what it tells whole.
+// What is done before, the call, what it returns if the book fails, and what it returns whole.
 pub(crate) type Trial = (
     &'static [Step],
     &'static [Step; 1],
@@ -25,7 +25,7 @@ const REFUSED: &[u8] = b"refused";
 
 const WHOLE: &[u8] = b"whole";
 
-// What a call tells, and whether the book refused its call of this number.
+// What a call returns, and whether the book failed its call of this number.
 fn told_by<B: Book>(
     site: &mut Site,
     book: &mut FailingBook<B>,
@@ -39,8 +39,8 @@ fn told_by<B: Book>(
     Ok((told, was_refused))
 }
 
-// Tells that the call of the book was refused, or that the call doesn't make it. Where it was, the
-// content is as it was before, and the same call then tells the whole.
+// Writes that the call of the book failed, or that the call doesn't make it. If it failed, the
+// content is as it was before, and the same call then returns the whole.
 pub(crate) fn tried<B: Book>(
     alloc: Global,
     book: &mut FailingBook<B>,

@@ -10,7 +10,7 @@ fn no_octets(alloc: Global) -> Octets {
     }
 }
 
-// Gives a report its texts. They are put into it one by one, so that none is owned beside it.
+// Gives a report its texts. They are put into it one by one, so that none is owned outside it.
 fn name(report: &mut Report, session: &[u8], user: &[u8]) -> Result<(), Fail> {
     report.client.text.push_str("ap1")?;
     report.session.octets.extend_from_slice(session)?;

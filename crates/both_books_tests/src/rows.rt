@@ -16,7 +16,7 @@ const STRANGER: [u8; 4] = [10, 0, 0, 2];
 pub(crate) const START: &[u8] = b"\x04\x07\0\x22\xa0\x21\x9d\xa7\x81\xbf\x21\x71\x05\xbb\xdd\x1d\
     \x2b\x3a\x0e\x94\x28\x06\0\0\0\x01\x2c\x04s1\x01\x04al";
 
-// The same with five octets after it, with another last octet, and with another code.
+// This Start with five octets after it, with another last octet, and with another code.
 const PADDED: &[u8] = b"\x04\x07\0\x22\xa0\x21\x9d\xa7\x81\xbf\x21\x71\x05\xbb\xdd\x1d\
     \x2b\x3a\x0e\x94\x28\x06\0\0\0\x01\x2c\x04s1\x01\x04al\xee\xee\xee\xee\xee";
 
@@ -64,7 +64,7 @@ const PROXIED: &[u8] = b"\x28\x06\0\0\0\x01\x2c\x04s1\x01\x04al\x21\x03p\x21\xff
     ZZZZZZZZZZZZZZZZZZZZZZZZZZZZZZZZZZZZZZZZZZZZZZZZZZZZZZZZZZZZZZZZZZZZZZZZZZZZZZZZZZZZ\
     ZZZZZZZZZZZZZZZZZZZZZZZZZZZZZZZZZZZZZZZZZZZZZZZZZZZZZZZZZZZZZZZZZZZZZZZZZZZZZZZZZZZZZ";
 
-// What is done with an empty book, and with what the telling of it ends.
+// What is done with an empty book, and how its output ends.
 type Row = (&'static str, &'static [Step], &'static [u8]);
 
 static ROWS: [Row; 24] = [
@@ -481,7 +481,7 @@ static ROWS: [Row; 24] = [
     ),
 ];
 
-// Fails at the first row that is told otherwise.
+// Fails at the first row whose result is another.
 fn expect_told(alloc: Global, rows: &[Row]) -> Result<(), Fail> {
     for i in 0..rows.len() {
         let (name, steps, end) = rows[i];

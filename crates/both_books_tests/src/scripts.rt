@@ -2,7 +2,7 @@
 use crate::books::{Work, told};
 use crate::site::config;
 use acct_book::Book;
-use acct_feed::answer_reader;
+use acct_program_feed::answer_reader;
 use std::alloc::Global;
 use std::test::Fail;
 
@@ -19,7 +19,7 @@ pub(crate) fn printed<B: Book + Drop>(
     Ok(output)
 }
 
-// Lines, which call of the book is refused, and what is printed, with the status at its end.
+// Lines, which call of the book fails, and what is printed, with the status at its end.
 type Script = (&'static str, u64, &'static str);
 
 // What is printed is worked by hand.

@@ -7,8 +7,7 @@ use acct_files::{
     export_topups, import,
 };
 use acct_model::{Entry, Plans, TopUp};
-use acct_samples::{plan, sample_clients, sample_keys};
-use acct_site::Config;
+use acct_site::{Config, plan, sample_clients, sample_keys};
 use acct_wire::{Datagram, Outcome, answer};
 use foreign_packets::SECRET;
 use radius_codec::sign_request;
@@ -27,7 +26,7 @@ pub(crate) enum Export {
     Overruns,
 }
 
-// What is done with a book. Requests come at the moment 1000, files and vouchers at 3000.
+// What is done with a book. Requests are received at the moment 1000, files and vouchers at 3000.
 #[derive(Clone, Copy)]
 pub(crate) enum Step {
     // A datagram, from an address at a moment.
@@ -45,7 +44,7 @@ pub(crate) enum Step {
     Report(&'static [u8], &'static [u8], u32),
     // A voucher is recorded: the number, the account and the sum.
     TopUp(&'static str, &'static [u8], u64),
-    // An account's balance is asked for.
+    // An account's balance is read.
     Balance(&'static [u8]),
 }
 
@@ -56,7 +55,6 @@ pub(crate) struct Site {
     out: [u8; 4096],
 }
 
-// It is written out, so that a caller does not prove again how each part is dropped.
 impl Drop for Site {
     fn drop(self) {
         let Site {
@@ -101,7 +99,7 @@ fn write_report(report: &ImportReport, told: &mut Vec<u8>) -> Result<(), Fail> {
     write_refused(report.refused.as_slice(), told)
 }
 
-// Each step writes what it tells at the end of `told`.
+// Each step writes what it returns at the end of `told`.
 impl Site {
     pub(crate) fn new(alloc: Global) -> Result<Site, Fail> {
         let config = config(alloc)?;
@@ -184,7 +182,8 @@ impl Site {
         Ok(())
     }
 
-    // What a file of vouchers says of itself: the counts, why it stopped, and what it refused.
+    // What the import of a file of vouchers returns: the counts, why it stopped, and what it
+    // refused.
     pub(crate) fn import<B: Book>(
         &self,
         book: &mut B,
@@ -280,7 +279,7 @@ impl Site {
         }
     }
 
-    // What all these steps tell, one after the other.
+    // What all these steps return, one after the other.
     pub(crate) fn take_all<B: Book>(
         &mut self,
         book: &mut B,

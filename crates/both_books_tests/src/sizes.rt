@@ -1,4 +1,4 @@
-//! Books of more members than a call could give up at.
+//! Books of more members than a call could stop at.
 use crate::books::made;
 use crate::reports::report;
 use crate::site::Export::{Balances, Overruns, Sessions, TopUps};
@@ -162,7 +162,7 @@ static LISTS: [Step; 7] = [
     Step::Request(b"GET /overruns HTTP/1.1\r\nDesk-Key: cash-key-00000001\r\n\r\n"),
 ];
 
-// All that a book lists, and what the file says.
+// All that a book lists, and what the import prints.
 fn listed<B: Book>(site: &mut Site, book: &mut B) -> Result<Vec<u8>, Fail> {
     let mut told = site.take_all(book, &LISTS)?;
     import_refused(site, book, &mut told)?;

@@ -1,8 +1,8 @@
 -- What holds of a job by how often its book is synced.
 use Rattle.std.specs.Prelude.{◌≡◌}
-use Rattle.acct_command_line.specs.declared.job.Job.{Job}
-use Rattle.acct_command_line.specs.declared.job.Job.TheVariants as job
-use Rattle.acct_command_line.specs.declared.job.Syncs.TheVariants as syncs
+use Rattle.acct_program_args.specs.declared.job.Job.{Job}
+use Rattle.acct_program_args.specs.declared.job.Job.TheVariants as job
+use Rattle.acct_program_args.specs.declared.job.Syncs.TheVariants as syncs
 use Rattle.radacctd.specs.declared.by_syncs.BySyncs.{BySyncs}
 use Rattle.radacctd.specs.declared.by_syncs.BySyncs.TheVariants.{Once, Twice}
 

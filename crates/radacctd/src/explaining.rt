@@ -1,11 +1,13 @@
 //! What `--explain` adds to a fault.
 use crate::by_syncs::BySyncs;
 use crate::order::{Ran, ended_of};
-use acct_command_line::{Job, Order, Paths};
-use acct_commands::{Fault, StoreFault, read_config};
-use acct_explain::{Explained, Wanted, explain, explain_plans, explain_sockets, explain_tables};
-use acct_jobs::{Left, Outcome};
 use acct_model::Text;
+use acct_program_args::{Job, Order, Paths};
+use acct_program_commands::{Fault, StoreFault, read_config};
+use acct_program_explain::{
+    Explained, Wanted, explain, explain_plans, explain_sockets, explain_tables,
+};
+use acct_program_jobs::{Left, Outcome};
 use sqlite_disk::Disk;
 use std::io::Write;
 
@@ -14,7 +16,7 @@ const OVERWRITTEN: &str =
     "explained: a file of --status or --balances, or the same name with .new, \
     is the book, its log, the configuration or the other file, or radacctd did not write it";
 
-/// Prints what is known of the fault that ended a job, if that is more than its text says.
+/// Prints what is known about the fault that ended a job, if that is more than its text says.
 pub(crate) fn explain_fault<E: Write>(
     runtime: &HostRuntime,
     job: &Job,
@@ -34,7 +36,7 @@ pub(crate) fn explain_fault<E: Write>(
         (Fault::WouldOverwrite, _) => {
             let _ = writeln!(errors, "{OVERWRITTEN}");
         }
-        // Once its files are let go: `explain_book`.
+        // `explain_book` does, once its files are closed.
         (Fault::CannotOpen, _) => {}
         _ => {
             if let Some(what) = explained(job, fault) {
@@ -44,9 +46,9 @@ pub(crate) fn explain_fault<E: Write>(
     }
 }
 
-/// Prints why a book was refused, if the order asks for that: which plan differs, what its database
-/// has, or why it cannot be opened. Its files are let go before the last is looked for: else the
-/// program's own lock would be found.
+/// Prints why a book was rejected, if the order asks for that: which plan differs, what its
+/// database has, or why it cannot be opened. Before the last, it closes the book's files, because
+/// it would else find the program's own lock.
 pub(crate) fn explain_book<W: Write + Drop>(runtime: &HostRuntime, order: &Order, ran: Ran<W>) {
     let ended = ended_of(&ran);
     match ran {
@@ -67,7 +69,7 @@ pub(crate) fn explain_book<W: Write + Drop>(runtime: &HostRuntime, order: &Order
     }
 }
 
-// Prints why the book of an outcome was refused, which is open still.
+// Prints why the book of an outcome was rejected. The book is still open.
 fn explain_outcome<W: Write + Drop, D: Disk + Drop>(
     runtime: &HostRuntime,
     order: &Order,
@@ -101,7 +103,7 @@ fn explain_outcome<W: Write + Drop, D: Disk + Drop>(
     }
 }
 
-// What there is to explain of a fault.
+// What there is to explain about a fault.
 fn explained<'a>(job: &'a Job, fault: Fault) -> Option<Explained<'a>> {
     match fault {
         Fault::Config(error) => {

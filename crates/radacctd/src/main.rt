@@ -1,9 +1,9 @@
 //! radacctd: a RADIUS accounting server (RFC 2866) with prepaid data allowances.
 //!
-//! `radacctd serve` answers access servers and callers of the desk over a book in a file, which
-//! `init` makes and `migrate` makes of an older one; `plans` adds plans to it; `import` credits
-//! vouchers and `export` writes the book as CSV; `check` reads a configuration; `feed` answers a
-//! script.
+//! `radacctd serve` answers access servers and callers of the desk over a book in a file. `init`
+//! makes the book, `migrate` makes it from an older one, and `plans` adds plans to it. `import`
+//! credits vouchers, and `export` writes the book as CSV. `check` reads a configuration. `feed`
+//! answers a script.
 #![tactic(auto)]
 
 mod by_syncs;
@@ -12,10 +12,10 @@ mod order;
 
 use crate::explaining::explain_book;
 use crate::order::carry_out;
-use acct_command_line::{job_of, tell};
-use acct_explain::explain_words;
-use acct_feed::Status;
-use acct_serving::Errors;
+use acct_program::Status;
+use acct_program_args::{job_of, tell};
+use acct_program_explain::explain_words;
+use acct_program_serving::Errors;
 use std::io::BufWriter;
 use std::process::ExitCode;
 use std::{env, io};
@@ -25,14 +25,14 @@ fn main(rt: HostRuntime) -> ExitCode {
         Ok(words) => words,
         Err(error) => {
             let _ = eprintln!(rt; "error: {error}");
-            return ExitCode::from(Status::WrongWords);
+            return ExitCode::from(Status::BadCommandLine);
         }
     };
     let order = match job_of(rt.alloc(), words) {
         Ok(order) => order,
         Err(error) => {
             let status = tell(&rt, &error);
-            if status == Status::WrongWords {
+            if status == Status::BadCommandLine {
                 explain_wrong_words(&rt);
             }
             return ExitCode::from(status);
@@ -52,14 +52,14 @@ fn main(rt: HostRuntime) -> ExitCode {
     ExitCode::from(status)
 }
 
-// Tells more of words that are wrong, where they ask for that.
+// Explains a bad command line, if it asks for that.
 fn explain_wrong_words(rt: &HostRuntime) {
     if let Ok(words) = words_of(rt) {
         explain_words(&words, &mut rt.stderr());
     }
 }
 
-// The words of the command line, the program's name first.
+// The arguments of the command line, the program's name first.
 fn words_of(rt: &HostRuntime) -> io::Result<Vec<String>> {
     let mut words = Vec::new(rt.alloc());
     for word in env::args(rt)? {

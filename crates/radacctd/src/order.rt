@@ -1,31 +1,30 @@
 //! How an order of the command line is carried out.
 ghost use Rattle.std.specs.Prelude.{◌≡◌, ◌≢◌, IfOk};
 ghost use Rattle.sqlite_wal.specs.Files.{image_at};
-ghost use Rattle.acct_command_line.specs.Orders.{HasBounds};
-ghost use Rattle.acct_commands.specs.Endings.{ended_status};
-ghost use Rattle.acct_jobs.specs.Jobs.{DoesJob, text_of};
+ghost use Rattle.acct_program_args.specs.Orders.{HasBounds};
+ghost use Rattle.acct_program_commands.specs.Endings.{ended_status};
+ghost use Rattle.acct_program_jobs.specs.Jobs.{DoesJob, text_of};
 ghost use Rattle.radacctd.specs.Syncs.{EitherWay, SyncsOnce};
 
 use crate::by_syncs::BySyncs;
 use crate::explaining::explain_fault;
 use acct_book::Book;
-use acct_command_line::{Job, Order, Syncs};
-use acct_commands::{Fault, end};
-use acct_feed::Status;
-use acct_jobs::{Outcome, run, run_server};
+use acct_net::Sockets;
+use acct_program::Status;
+use acct_program_args::{Job, Order, Syncs};
+use acct_program_commands::{Fault, end};
+use acct_program_jobs::{Outcome, run, run_server};
+use acct_program_serving::Errors;
 use acct_service::Exchange;
-use acct_serving::Errors;
-use acct_sockets::Sockets;
 use acct_sql::SqlBook;
 use sqlite::{FileFrom, FileStore, MemStore, Start, Unknown, Wary};
 use std::io::{Read, Write};
 
-/// What a job came to over the files of a book.
+/// The outcome of a job over the files of a book.
 pub(crate) type Ran<W> = BySyncs<Outcome<W, FileFrom<Unknown>>, Outcome<W, FileFrom<Wary>>>;
 
-/// Does the job of an order over these streams, and gives the exit status, with what the job came
-/// to. A fault that ended it is printed on `faults`, with what is known of it if the order asks for
-/// that.
+/// Does the job of an order over these streams. Returns the exit status, and the outcome of the
+/// job. A fault that ended it is printed on `faults`, and explained if the order asks for that.
 pub(crate) fn carry_out<I: Read + Drop, W: Write + Drop, E: Write + Drop, F: Write>(
     runtime: &HostRuntime,
     order: &Order,
@@ -63,8 +62,8 @@ pub(crate) fn carry_out<I: Read + Drop, W: Write + Drop, E: Write + Drop, F: Wri
     (status, ran)
 }
 
-// Does a job over files of which is assumed what its syncs allow: of all but a server that syncs
-// once the least. So no other job is in the program twice.
+// Does a job. What it assumes of its files is what its syncs allow: the least for all but a server
+// that syncs once. So no other job is in the program twice.
 fn run_as_it_syncs<I: Read + Drop, W: Write + Drop, E: Write + Drop>(
     runtime: &HostRuntime,
     job: &Job,
@@ -75,8 +74,8 @@ fn run_as_it_syncs<I: Read + Drop, W: Write + Drop, E: Write + Drop>(
 ) -> Ran<W>
     requires { HasBounds job.now }
     ensures other { EitherWay result
-        (λ once. IfOk once.ended (λ status. status ≢ Status.WrongWords))
-        (λ twice. IfOk twice.ended (λ status. status ≢ Status.WrongWords)) }
+        (λ once. IfOk once.ended (λ status. status ≢ Status.BadCommandLine))
+        (λ twice. IfOk twice.ended (λ status. status ≢ Status.BadCommandLine)) }
     ensures syncs { EitherWay result (λ once. SyncsOnce job.now)
         (λ twice. SyncsOnce job.now → ⊥) }
     ensures does { EitherWay result

@@ -1,4 +1,4 @@
--- What the calls of a book say of an entry, whatever history the content stands for.
+-- What the calls of a book do with an entry, whatever history the content stands for.
 use Rattle.std.specs.Prelude.{List, ◌∷◌, Err}
 use Rattle.acct_model.specs.declared.plan.Plan.{Plan}
 use Rattle.acct_model.specs.declared.entry.Entry.{Entry}

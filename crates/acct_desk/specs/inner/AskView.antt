@@ -1,4 +1,4 @@
--- What a request asks, as contracts see it.
+-- What a request asks for, as contracts see it.
 use Rattle.acct_desk.specs.declared.asking.Ask as code
 use Rattle.acct_desk.specs.declared.asking.Ask.TheVariants.{Refused, Me, Overruns, Credit}
 use Rattle.acct_desk.specs.Asks.{Ask, refused, me, overruns, credit}

@@ -7,15 +7,15 @@ use Rattle.acct_model.specs.declared.plan.Plan.{Plan}
 use Rattle.acct_model.specs.History.{History}
 use Rattle.acct_book.specs.declared.book.Book.{Ghosts}
 use Rattle.acct_book.specs.Stands.{Stands}
-use Rattle.acct_book.specs.inner.Step.{OnlyLooks}
-use Rattle.acct_pages.specs.declared.bodies.PageError.{PageError}
-use Rattle.acct_pages.specs.declared.bodies.PageError.TheVariants.{Unavailable, Memory}
+use Rattle.acct_book.specs.Step.{OnlyLooks}
+use Rattle.acct_desk_pages.specs.declared.bodies.PageError.{PageError}
+use Rattle.acct_desk_pages.specs.declared.bodies.PageError.TheVariants.{Unavailable, Memory}
 use Rattle.acct_desk.specs.Asks.{Ask}
 use Rattle.acct_desk.specs.Handling.{IsBody}
-use Rattle.acct_pages.specs.Responses.{response_of, unavailable_response}
+use Rattle.acct_desk_pages.specs.Responses.{response_of, unavailable_response}
 
--- A page that was read: the book is only read, a page that is there says that it is open, and its
--- body is told by the history.
+-- A page that was read. The book is only read. If there is a page, the book is open. The history
+-- gives the page's body.
 pub record Shows {B : Type 0} (plans : List Plan) (ask : Ask) (b : Ghosts B) (old new : B)
     (result : Result Value PageError) : Type 0 where
   pub reads : OnlyLooks b old new

@@ -6,10 +6,10 @@ use Rattle.std.specs.Io.KnownBytes.{Consumes}
 use Rattle.httparse.specs.Grammar.{LineEnd, print_end}
 use Rattle.httparse.specs.Pieces.{is_newline}
 use Rattle.acct_desk.specs.declared.framing.Reach.TheVariants.{More}
-use Rattle.acct_desk.specs.declared.reading.Watch.{Watch}
+use Rattle.acct_desk.specs.declared.request_reader.Watch.{Watch}
 use Rattle.acct_desk.specs.Request.{IsExtent}
 
--- some octets of the reader, at most 1,024, come at the end of those that are there
+-- some octets of the reader, at most 1,024, are added at the end of those that are there
 abbrev pub ReadsOn : Option (List ℕ) → Option (List ℕ) → List ℕ → List ℕ → Type 0
 ReadsOn left left' bytes bytes' = (given : List ℕ) × Consumes left left' given
     × (bytes' ≡ bytes ++ given) × (length given ≤ 1024)
@@ -24,12 +24,12 @@ pub record EndsInEmptyLine (bytes : List ℕ) : Type 0 where
   pub written : is_newline last ≡ false
   pub is : bytes ≡ (before ++ last ∷ print_end line_end) ++ print_end empty
 
--- no head ends in the octets past the first ones
+-- no head ends after the first so many octets
 abbrev pub NoHeadEnds : ℕ → List ℕ → Type 0
 NoHeadEnds first bytes = (k : ℕ) → first < k → k ≤ length bytes → ¬ (EndsInEmptyLine (take k bytes))
 
--- the request is open, and stays so while it is as short as the watch says and, where that is
--- watched for, no head ends
+-- the request is open, and stays so while it is shorter than `watch.next` and, if `watch.ends`, no
+-- head ends
 pub record StaysOpen (watch : Watch) (bytes : List ℕ) : Type 0 where
   pub open_yet : IsExtent bytes More
   pub stays : (more : List ℕ) → length (bytes ++ more) < watch.next

@@ -2,8 +2,8 @@
 use Rattle.std.specs.Prelude.{◌≡◌, [], codes}
 use Rattle.acct_desk.specs.declared.handling.TopUpAnswers.{TopUpAnswers}
 use Rattle.acct_desk.specs.Responses.{added_response}
-use Rattle.acct_pages.specs.Responses.{error_response, result_response}
-use Rattle.acct_pages.specs.Responses.{unavailable_response}
+use Rattle.acct_desk_pages.specs.Responses.{error_response, result_response}
+use Rattle.acct_desk_pages.specs.Responses.{unavailable_response}
 
 -- each is the response for its result
 pub record AreAnswers (answers : TopUpAnswers) : Type 0 where

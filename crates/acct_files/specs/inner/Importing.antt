@@ -30,12 +30,12 @@ Did moment fields (Err stop.BadHeader) effect = ⊥
 Did moment fields (Err stop.Unreadable) effect = ⊥
 Did moment fields (Err stop.TooMany) effect = ⊥
 
--- what a fault says, as the outcome of a record or as a stop at it
+-- a fault, as the outcome of a record or as a stop at it
 abbrev pub refused_by : Fault → Result Outcome Stopped
 refused_by (fault.Refused cause) = Ok (outcome.Refused cause)
 refused_by fault.Memory = Err stop.Memory
 
--- what `record` answers, as the outcome of a record or as a stop at it
+-- what `record` returns, as the outcome of a record or as a stop at it
 abbrev pub told_by : Result Recorded RecordError → Result Outcome Stopped
 told_by (Ok New) = Ok outcome.Added
 told_by (Ok Repeat) = Ok outcome.Repeated

@@ -13,8 +13,8 @@ use Rattle.acct_files.specs.Importing.{has_header}
 use Rattle.acct_files.specs.Vouchers.{Fields, is_header}
 
 module _ {R : Type 0} where
-  -- A read within the limits, which gave so many octets: neither limit was passed before it, and it
-  -- is counted.
+  -- A read within the limits, which returned so many octets. Neither limit was passed before it,
+  -- and it is counted.
   pub record IsWithinLimits (old new : Capped R) (count : ℕ) : Type 0 where
     pub octets_within : 0 < old.octets_left
     pub reads_within : 0 < old.reads_left
@@ -32,13 +32,13 @@ module _ {R : Type 0} where
     pub trim : reader_trim rows ≡ trim.None
     pub ready : Ready rows
 
-  -- these records were read from the start of a text, if it is told
+  -- these records were read from the start of a text, if it is known
   abbrev pub HasRead : (R → Option (List ℕ)) → Option (List ℕ) → List Fields → Reader R → Type 0
   HasRead remaining text rows reader = IfSome text (λ t. (rest : List ℕ)
       × (source_of remaining reader ≡ Some rest)
       × Reached default_config st.StartRecord t rows (reader_state reader) rest)
 
-  -- the header was read from the start of a text, if it is told
+  -- the header was read from the start of a text, if it is known
   abbrev pub HasReadHeader : (R → Option (List ℕ)) → Option (List ℕ) → Reader R → Type 0
   HasReadHeader remaining text reader = (header : Fields) × (is_header header ≡ true)
       × HasRead remaining text (header ∷ []) reader
@@ -47,7 +47,7 @@ module _ {R : Type 0} where
 abbrev pub IsReadStop : Stopped → Type 0
 IsReadStop stopped = (stopped ≡ stop.Unreadable) ⊎ (stopped ≡ stop.Memory)
 
--- why a text is given up before the record after the header
+-- why an import stops before the record after the header
 abbrev pub IsHeaderStop : Option (List ℕ) → Stopped → Type 0
 IsHeaderStop text stopped = IsReadStop stopped
     ⊎ ((stopped ≡ stop.BadHeader) × IfSome text (λ t. has_header t ≡ false))

@@ -1,5 +1,6 @@
 -- What an open book knows of its tables.
-use Rattle.std.specs.Prelude.{◌≡◌, ◌≢◌, ◌^◌, ◌<◌, Bool, List, [], ℕ, ℤ, Option, Some, None, IfSome, Vec}
+use Rattle.std.specs.Prelude.{◌≡◌, ◌≢◌, ◌^◌, ◌<◌, Bool, List, [], ℕ, ℤ, Option, Some, None, IfSome}
+use Rattle.std.specs.Prelude.{Vec}
 use Rattle.std.specs.Prelude.{bytes_eq}
 use Rattle.std.specs.Global.{Global}
 use Rattle.std.specs.Map.{lookup}
@@ -9,8 +10,8 @@ use Rattle.acct_book.specs.declared.key.Key.{Key}
 use Rattle.acct_book.specs.Row.{RowFacts}
 use Rattle.acct_book.specs.Content.{Content, kept_balance, key_of, same_key}
 use Rattle.acct_sql.specs.declared.known.Known.{Known}
-use Rattle.acct_tables.specs.Content.{content_in_tables}
-use Rattle.acct_tables.specs.Book.{IsOpenBook}
+use Rattle.acct_sql_tables.specs.Content.{content_in_tables}
+use Rattle.acct_sql_tables.specs.Book.{IsOpenBook}
 
 -- ---- what the caches hold
 
@@ -59,7 +60,7 @@ pub record Learns {K V : Type 0} (key : K) (value : V) (old new : K → Option V
 abbrev pub IsTold : State → (Content → Type 0) → Type 0
 IsTold s P = HasCleanDisk s → IsOpenBook s × P (content_in_tables s.now.trees)
 
--- each of what is known is told
+-- each of what is known holds
 abbrev pub AllTold : {N V : Type 0} → State → (N → V → Content → Type 0) → (N → Option V) → Type 0
 AllTold {N} s P known = (n : N) → IfSome (known n) (λ v. IsTold s (P n v))
 

@@ -7,8 +7,8 @@ use Rattle.acct_book.specs.declared.row.SessionState.TheVariants.{Live}
 use Rattle.acct_book.specs.Row.{RowFacts}
 use Rattle.acct_book.specs.Content.{Content}
 use Rattle.acct_sql.specs.declared.memory.Memory.{Memory}
-use Rattle.acct_tables.specs.Content.{content_in_tables}
-use Rattle.acct_tables.specs.Book.{IsOpenBook}
+use Rattle.acct_sql_tables.specs.Content.{content_in_tables}
+use Rattle.acct_sql_tables.specs.Book.{IsOpenBook}
 
 -- no session of the client is live
 abbrev pub HasEnded : Content → List ℕ → Type 0

@@ -1,8 +1,8 @@
 -- How a refusal of attributes is a reason for a drop.
 use Rattle.std.specs.Prelude.{◌≡◌, ◌⊎◌, ℕ, List, Option, None}
 use Rattle.acct_model.specs.declared.entry.Entry.{Entry}
-use Rattle.acct_model.specs.declared.reading.EntryError.{EntryError}
-use Rattle.acct_model.specs.declared.reading.EntryError.TheVariants as entry
+use Rattle.acct_model.specs.declared.entry_reader.EntryError.{EntryError}
+use Rattle.acct_model.specs.declared.entry_reader.EntryError.TheVariants as entry
 use Rattle.acct_model.specs.Entries.{Attributes, refusal_of, RefusesEntry, IsEntryOf}
 use Rattle.acct_wire.specs.declared.client.Client.{Client}
 use Rattle.acct_wire.specs.declared.reason.Reason.{Reason}
@@ -31,8 +31,8 @@ abbrev pub RefusesAs : Attributes → Reason → Type 0
 RefusesAs attributes reason =
     (error : EntryError) × RefusesEntry (refusal_of attributes) error × (reason ≡ reason_of error)
 
--- Why a datagram is dropped before the book is asked: it breaks a rule, or it asks for an entry that
--- is too old, or for which there was no memory.
+-- Why a datagram is dropped before the book is called. It breaks a rule, or it requests an entry
+-- that is too old, or for which there was no memory.
 abbrev pub IsDropped : Option ℕ → List Client → List ℕ → List ℕ → ℕ → Reason → Type 0
 IsDropped oldest clients source bytes moment reason =
     Breaks clients source bytes reason

@@ -1,6 +1,6 @@
 use Rattle.std.proofs.Common.{rules}
 use Rattle.acct_desk.proofs.asking.ask_of_spans.Goals as goal
 
--- The search is kept short: it finds this, and gives up soon on a body that breaks it.
+-- The search is kept short: it finds this, and fails soon on a body that breaks it.
 pub returns-in-Whole : goal.returns-in-Whole
 returns-in-Whole c = search rules fits 100

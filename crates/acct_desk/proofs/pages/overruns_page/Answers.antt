@@ -9,10 +9,10 @@ use Rattle.serde_json.specs.View.{view, items_of}
 use Rattle.acct_book.specs.Maps.{octets_cmp}
 use Rattle.acct_book.specs.Walk.{IsNext}
 use Rattle.acct_book.proofs.Looking.{looks_none, looks_then}
+use Rattle.acct_book.proofs.Walking.{walked_more, walked_all, entries_walk}
 use Rattle.acct_desk.specs.Asks.{overruns}
-use Rattle.acct_pages.specs.Bodies.{overrun_in, overruns_body}
+use Rattle.acct_desk_pages.specs.Bodies.{overrun_in, overruns_body}
 use Rattle.acct_desk.proofs.PageLemmas.{shows_body, overruns_plain, accounts_told, next_from}
-use Rattle.acct_desk.proofs.Walking.{walked_more, walked_all, entries_walk}
 use Rattle.acct_desk.proofs.pages.overruns_page.Goals as goal
 
 abbrev entry_of : Vec ℕ Global × ℤ → List ℕ × ℤ

@@ -2,11 +2,11 @@ use Rattle.std.proofs.Common.{◌≡◌, ℕ, ℤ, List, map}
 use Rattle.std.specs.Prelude.{None, option_map}
 use Rattle.std.specs.List.{filter_map}
 use Rattle.serde_json.specs.View.{view}
-use Rattle.acct_pages.specs.Bodies.{overrun_in}
-use Rattle.acct_book.specs.inner.Step.{OnlyLooks}
+use Rattle.acct_desk_pages.specs.Bodies.{overrun_in}
+use Rattle.acct_book.specs.Step.{OnlyLooks}
 use Rattle.acct_book.specs.Maps.{octets_cmp}
 use Rattle.acct_book.specs.Walk.{IsNext}
-use Rattle.acct_desk.proofs.Walking.{Walked}
+use Rattle.acct_book.proofs.Walking.{Walked}
 use Rattle.acct_desk.proofs.pages.overruns_page.Given as goal
 
 abbrev pub invariant-loop : goal.invariant-loop

@@ -2,7 +2,7 @@ use Rattle.std.proofs.Common.{refl}
 use Rattle.acct_book.proofs.Looking.{looks_once}
 use Rattle.acct_desk.specs.declared.asking.Page.TheVariants as page
 use Rattle.acct_desk.specs.Asks.{me}
-use Rattle.acct_pages.specs.Bodies.{topups_body}
+use Rattle.acct_desk_pages.specs.Bodies.{topups_body}
 use Rattle.acct_desk.proofs.PageLemmas.{shows_body, topups_plain, topups_told}
 use Rattle.acct_desk.proofs.pages.topups_page.Goals as goal
 

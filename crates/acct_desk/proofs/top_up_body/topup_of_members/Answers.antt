@@ -1,7 +1,7 @@
 use Rattle.std.proofs.Common.{rules}
 use Rattle.acct_desk.proofs.top_up_body.topup_of_members.Goals as goal
 
--- Each search is kept short: it finds these, and gives up soon on a body that breaks one.
+-- Each search is kept short: it finds these, and fails soon on a body that breaks one.
 pub returns-clause-ok : goal.returns-clause-ok
 returns-clause-ok c = search rules fits 100
 

@@ -1,32 +1,32 @@
 use Rattle.std.proofs.Common.{◌++◌, ◌∷◌, [], refl, Some, None}
 use Rattle.acct_book.proofs.Looking.{looks_none, looks_then}
-use Rattle.acct_files.proofs.Walking.{appends_nothing, grown, next_here}
-use Rattle.acct_desk.proofs.Walking.{walked_all, walked_more}
+use Rattle.acct_book.proofs.Walking.{next_here, walked_all, walked_more}
+use Rattle.acct_files.proofs.Walking.{appends_nothing, grown}
 use Rattle.acct_files.proofs.walk.write_each.Goals as goal
 
-pub loop-turn-init : goal.loop-turn-init
-loop-turn-init g c = record {
+pub loop-init : goal.loop-init
+loop-init g c = record {
   between = c.requires;
   quiet = looks_none g.B.Book c.args.book.now;
   walk = ([], appends_nothing _, λ o. refl);
 }
 
-pub loop-turn-preserved : goal.loop-turn-preserved
-loop-turn-preserved g c =
+pub loop-preserved : goal.loop-preserved
+loop-preserved g c =
     let x = g.X.Export in
     let export = c.args.export.now in
-    let inv = c.loop-turn.invariant in
+    let inv = c.loop.invariant in
     let (members, written, walked) = inv.walk in
     let member = c.in-Some.member in
     let reads = c.next.ensures.reads in
     let found = λ (opens : g.B.Book.is_open c.next.new.book). rw c.in-Some.is at
     (c.in_ok-member.ensures.found opens) in
     let here = next_here g.B.Book.content g.B.Book.is_open
-    (λ content. x.is_next content c.loop-turn.after (Some member)) c.args.book.now
-    c.loop-turn.book c.next.new.book inv.quiet.same reads.was_open found in
+    (λ content. x.is_next content c.loop.after (Some member)) c.args.book.now
+    c.loop.book c.next.new.book inv.quiet.same reads.was_open found in
     record {
       between = c.in_ok-write.ensures.between;
-      quiet = looks_then g.B.Book c.args.book.now c.loop-turn.book c.next.new.book c.next.result
+      quiet = looks_then g.B.Book c.args.book.now c.loop.book c.next.new.book c.next.result
           inv.quiet reads;
       walk = (
         members ++ member ∷ [],
@@ -40,13 +40,13 @@ loop-turn-preserved g c =
 pub returns-in_default-clause-text : goal.returns-in_default-clause-text
 returns-in_default-clause-text g c =
     let x = g.X.Export in
-    let inv = c.loop-turn.invariant in
+    let inv = c.loop.invariant in
     let (members, written, walked) = inv.walk in
     let step = c.in_ok-member.ensures in
     let found = λ (opens : g.B.Book.is_open c.next.new.book). rw c.in_default.is at
     (step.found opens) in
     let here = next_here g.B.Book.content g.B.Book.is_open
-    (λ content. x.is_next content c.loop-turn.after None) c.args.book.now c.loop-turn.book
+    (λ content. x.is_next content c.loop.after None) c.args.book.now c.loop.book
     c.next.new.book inv.quiet.same step.reads.was_open found in (
       members,
       written,
@@ -58,13 +58,13 @@ returns-in_default-clause-text g c =
 pub returns-clause-text : goal.returns-clause-text
 returns-clause-text g c =
     let x = g.X.Export in
-    let inv = c.loop-turn.invariant in
+    let inv = c.loop.invariant in
     let (members, written, walked) = inv.walk in
     let step = c.in_ok-next.ensures in
     let found = λ (opens : g.B.Book.is_open c.next-2.new.book). rw c.in-None.is at
     (step.found opens) in
     let here = next_here g.B.Book.content g.B.Book.is_open
-    (λ content. x.is_next content c.loop-turn.after None) c.args.book.now c.loop-turn.book
+    (λ content. x.is_next content c.loop.after None) c.args.book.now c.loop.book
     c.next-2.new.book inv.quiet.same step.reads.was_open found in (
       members,
       written,

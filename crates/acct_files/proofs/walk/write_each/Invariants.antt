@@ -2,13 +2,13 @@ use Rattle.std.proofs.Common.{List, None}
 use Rattle.std.specs.Prelude.{flat_map}
 use Rattle.std.specs.Io.KnownBytes.{Appends}
 use Rattle.csv.specs.Writing.{text_written}
-use Rattle.acct_book.specs.inner.Step.{OnlyLooks}
+use Rattle.acct_book.specs.Step.{OnlyLooks}
+use Rattle.acct_book.proofs.Walking.{Walked}
 use Rattle.acct_files.specs.Exporting.{IsBetweenLines}
-use Rattle.acct_desk.proofs.Walking.{Walked}
 use Rattle.acct_files.proofs.walk.write_each.Given as goal
 
-abbrev pub invariant-loop-turn : goal.invariant-loop-turn
-invariant-loop-turn g l = record {
+abbrev pub invariant-loop : goal.invariant-loop
+invariant-loop g l = record {
   between : IsBetweenLines l.lines;
   quiet : OnlyLooks g.B.Book l.fn.book l.book;
   walk : (members : List _)

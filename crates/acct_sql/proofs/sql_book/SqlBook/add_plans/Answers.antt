@@ -4,8 +4,8 @@ use Rattle.acct_model.specs.Plans.{plans_added}
 use Rattle.acct_model.specs.History.{PlansAdded}
 use Rattle.acct_book.specs.Stands.{Stands}
 use Rattle.acct_book.proofs.Additions.{additions_stand}
-use Rattle.acct_tables.specs.Content.{content_in_tables}
-use Rattle.acct_upkeep.specs.inner.Adding.{IsBookAddedTo}
+use Rattle.acct_sql_tables.specs.Content.{content_in_tables}
+use Rattle.acct_sql_upkeep.specs.inner.Adding.{IsBookAddedTo}
 use Rattle.acct_sql.proofs.AdditionLemmas.{left_by_addition}
 use Rattle.acct_sql.proofs.TiedLemmas.{tied}
 use Rattle.acct_sql.proofs.KnownLemmas.{knows_nothing}

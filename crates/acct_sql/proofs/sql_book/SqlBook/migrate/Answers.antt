@@ -1,7 +1,7 @@
 use Rattle.std.proofs.Common.{rules, sym, subst}
 use Rattle.sqlite.specs.Held.{state}
 use Rattle.acct_book.specs.Stands.{Stands}
-use Rattle.acct_tables.specs.inner.Migrating.{IsMigratedBook}
+use Rattle.acct_sql_tables.specs.inner.Migrating.{IsMigratedBook}
 use Rattle.acct_sql.proofs.StoodLemmas.{migrated_stands}
 use Rattle.acct_sql.proofs.TiedLemmas.{tied}
 use Rattle.acct_sql.proofs.KnownLemmas.{knows_nothing}

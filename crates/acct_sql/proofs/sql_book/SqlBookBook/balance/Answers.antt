@@ -2,8 +2,8 @@ use Rattle.std.proofs.Common.{◌≡◌, refl, sym, rules, w64, SFits}
 use Rattle.std.proofs.lemmas.Int.{to_z-of_z}
 use Rattle.sqlite.specs.Held.{state}
 use Rattle.acct_book.specs.Content.{kept_balance}
-use Rattle.acct_tables.specs.Book.{content_at}
-use Rattle.acct_tables.proofs.ReadLemmas.{read_told, read_done, found_told, leaves_told}
+use Rattle.acct_sql_tables.specs.Book.{content_at}
+use Rattle.acct_sql_tables.proofs.ReadLemmas.{read_told, read_done, found_told, leaves_told}
 use Rattle.acct_sql.proofs.RememberLemmas.{remembers_read}
 use Rattle.acct_sql.proofs.KnownLemmas.{knows_nothing, knows_balance}
 use Rattle.acct_sql.proofs.sql_book.SqlBookBook.balance.Goals as goal

@@ -1,10 +1,10 @@
 use Rattle.std.proofs.Common.{refl, sym, ◌∙◌}
 use Rattle.sqlite.specs.Held.{state}
 use Rattle.acct_book.specs.Content.{with_closed}
-use Rattle.acct_tables.specs.Book.{Wrote}
-use Rattle.acct_tables.proofs.CommitLemmas.{wrote_told, wrote_done}
+use Rattle.acct_sql_tables.specs.Book.{Wrote}
+use Rattle.acct_sql_tables.proofs.CommitLemmas.{wrote_told, wrote_done}
 use Rattle.acct_sql.proofs.RememberLemmas.{has_ended, remembers_close, remembers_more, closed_now}
-use Rattle.acct_tables.proofs.ReadLemmas.{leaves_told}
+use Rattle.acct_sql_tables.proofs.ReadLemmas.{leaves_told}
 use Rattle.acct_sql.proofs.KnownLemmas.{knows_nothing, knows_closed}
 use Rattle.acct_sql.proofs.sql_book.SqlBookBook.close_client.Goals as goal
 

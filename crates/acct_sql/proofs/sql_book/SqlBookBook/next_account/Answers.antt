@@ -2,8 +2,8 @@ use Rattle.sqlite.specs.Held.{state}
 use Rattle.std.proofs.Common.{option_map}
 use Rattle.std.specs.Option.{option_copied}
 use Rattle.acct_book.specs.Walk.{IsNextBalance}
-use Rattle.acct_tables.specs.Book.{content_at}
-use Rattle.acct_tables.proofs.ReadLemmas.{read_told, read_done, found_told, leaves_told}
+use Rattle.acct_sql_tables.specs.Book.{content_at}
+use Rattle.acct_sql_tables.proofs.ReadLemmas.{read_told, read_done, found_told, leaves_told}
 use Rattle.acct_sql.proofs.RememberLemmas.{remembers_read}
 use Rattle.acct_sql.proofs.KnownLemmas.{knows_nothing, knows_read}
 use Rattle.acct_sql.proofs.sql_book.SqlBookBook.next_account.Goals as goal

@@ -1,8 +1,8 @@
 use Rattle.sqlite.specs.Held.{state}
 use Rattle.std.specs.Option.{option_copied}
 use Rattle.acct_book.specs.Walk.{IsNextRow}
-use Rattle.acct_tables.specs.Book.{content_at}
-use Rattle.acct_tables.proofs.ReadLemmas.{read_told, read_done, found_told, leaves_told}
+use Rattle.acct_sql_tables.specs.Book.{content_at}
+use Rattle.acct_sql_tables.proofs.ReadLemmas.{read_told, read_done, found_told, leaves_told}
 use Rattle.acct_sql.proofs.RememberLemmas.{remembers_read}
 use Rattle.acct_sql.proofs.KnownLemmas.{knows_nothing, knows_read}
 use Rattle.acct_sql.proofs.sql_book.SqlBookBook.next_session.Goals as goal

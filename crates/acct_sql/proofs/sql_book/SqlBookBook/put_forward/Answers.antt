@@ -1,9 +1,9 @@
 use Rattle.sqlite.specs.Held.{state}
 use Rattle.std.proofs.Common.{refl}
 use Rattle.acct_book.specs.Content.{with_forward}
-use Rattle.acct_tables.proofs.CommitLemmas.{wrote_told, wrote_done}
+use Rattle.acct_sql_tables.proofs.CommitLemmas.{wrote_told, wrote_done}
 use Rattle.acct_sql.proofs.RememberLemmas.{remembers_forward}
-use Rattle.acct_tables.proofs.ReadLemmas.{leaves_told}
+use Rattle.acct_sql_tables.proofs.ReadLemmas.{leaves_told}
 use Rattle.acct_sql.proofs.KnownLemmas.{knows_nothing, knows_no_row}
 use Rattle.acct_sql.proofs.sql_book.SqlBookBook.put_forward.Goals as goal
 

@@ -4,10 +4,10 @@ use Rattle.sqlite.specs.Held.{state}
 use Rattle.acct_book.specs.Row.{RowFacts}
 use Rattle.acct_book.specs.Content.{with_session, key_of}
 use Rattle.acct_sql.specs.inner.Known.{Learns, known_balance, known_session}
-use Rattle.acct_tables.specs.Book.{Wrote}
-use Rattle.acct_tables.proofs.CommitLemmas.{wrote_told, wrote_done}
+use Rattle.acct_sql_tables.specs.Book.{Wrote}
+use Rattle.acct_sql_tables.proofs.CommitLemmas.{wrote_told, wrote_done}
 use Rattle.acct_sql.proofs.RememberLemmas.{remembers_set}
-use Rattle.acct_tables.proofs.ReadLemmas.{leaves_told}
+use Rattle.acct_sql_tables.proofs.ReadLemmas.{leaves_told}
 use Rattle.acct_sql.proofs.KnownLemmas.{knows_nothing, knows_set, planned}
 use Rattle.acct_sql.proofs.sql_book.SqlBookBook.put_session.Goals as goal
 

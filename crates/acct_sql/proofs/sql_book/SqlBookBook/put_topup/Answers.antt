@@ -4,10 +4,10 @@ use Rattle.std.proofs.lemmas.Int.{to_z-of_z}
 use Rattle.acct_model.specs.Vouchers.{TopUpFacts}
 use Rattle.acct_book.specs.Content.{with_topup}
 use Rattle.acct_sql.specs.inner.Known.{Learns, known_balance}
-use Rattle.acct_tables.specs.Book.{Wrote}
-use Rattle.acct_tables.proofs.CommitLemmas.{wrote_told, wrote_done}
+use Rattle.acct_sql_tables.specs.Book.{Wrote}
+use Rattle.acct_sql_tables.proofs.CommitLemmas.{wrote_told, wrote_done}
 use Rattle.acct_sql.proofs.RememberLemmas.{remembers_credit}
-use Rattle.acct_tables.proofs.ReadLemmas.{leaves_told}
+use Rattle.acct_sql_tables.proofs.ReadLemmas.{leaves_told}
 use Rattle.acct_sql.proofs.KnownLemmas.{knows_nothing, knows_credit}
 use Rattle.acct_sql.proofs.sql_book.SqlBookBook.put_topup.Goals as goal
 

@@ -1,7 +1,7 @@
 use Rattle.std.proofs.Common.{◌≡◌, refl, sym}
-use Rattle.acct_tables.specs.Book.{content_at}
+use Rattle.acct_sql_tables.specs.Book.{content_at}
 use Rattle.sqlite.specs.Held.{state}
-use Rattle.acct_tables.proofs.ReadLemmas.{read_told, read_done, found_told, leaves_told}
+use Rattle.acct_sql_tables.proofs.ReadLemmas.{read_told, read_done, found_told, leaves_told}
 use Rattle.acct_sql.proofs.RememberLemmas.{remembers_read}
 use Rattle.acct_sql.proofs.KnownLemmas.{knows_nothing, knows_row}
 use Rattle.acct_sql.proofs.sql_book.SqlBookBook.session.Goals as goal

@@ -1,6 +1,0 @@
-use Rattle.acct_book.proofs.Carrying.{lines_apart}
-use Rattle.acct_book.proofs.forwarding.line_for.Goals as goal
-
-pub carried_row-requires-clause-apart : goal.carried_row-requires-clause-apart
-carried_row-requires-clause-apart g c =
-    lines_apart c.args.rows.now c.in_ok-into.into c.requires.apart c.in_ok-into.ensures

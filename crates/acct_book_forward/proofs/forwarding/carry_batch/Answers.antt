@@ -1,0 +1,82 @@
+use Rattle.std.proofs.Common.{sym, ◌∙◌, subst}
+use Rattle.acct_book.specs.Content.{Content}
+use Rattle.acct_book_forward.specs.inner.Forwarding.{AreIn, AreAllOf}
+use Rattle.acct_book_forward.proofs.Carrying.{not_ok}
+use Rattle.acct_book_forward.proofs.CarriedParts.{IsBatch, batch_taken, batch_apart, batch_there}
+use Rattle.acct_book_forward.proofs.CarriedParts.{batch_stands}
+use Rattle.acct_book_forward.proofs.CarriedOn.{looked_on, joined_on, batch_on, AreThere}
+use Rattle.acct_book_forward.proofs.forwarding.carry_batch.Goals as goal
+
+pub carry_rows-requires-clause-stand : goal.carry_rows-requires-clause-stand
+carry_rows-requires-clause-stand g c = λ still.
+    let old = g.B.Book.content c.args.book.now in
+    let are = batch_stands c.args.selection.now c.as_slice.result.now c.in_ok-rows.rows.items
+    c.batch_of-batch.result.items old c.args.account.now c.batch_of-batch.ensures
+    (c.in_ok-rows.ensures.found still) in
+    subst (λ (x : Content). AreIn x.rows c.deref-then-count-gt0.result.now)
+    (sym (c.sessions_of.ensures.reads.same still))
+    (subst (AreIn old.rows) (sym c.deref-then-count-gt0.ensures.value) are.0)
+
+pub carry_rows-requires-clause-alike : goal.carry_rows-requires-clause-alike
+carry_rows-requires-clause-alike g c = λ still.
+    let are = batch_stands c.args.selection.now c.as_slice.result.now c.in_ok-rows.rows.items
+    c.batch_of-batch.result.items (g.B.Book.content c.args.book.now) c.args.account.now
+    c.batch_of-batch.ensures (c.in_ok-rows.ensures.found still) in
+    subst (λ class. AreAllOf c.args.account.now class c.deref-then-count-gt0.result.now)
+    (c.as_slice.ensures ∙ sym c.as_slice-then-count-gt0.ensures)
+    (subst (AreAllOf c.args.account.now c.as_slice.result.now)
+    (sym c.deref-then-count-gt0.ensures.value) are.1)
+
+pub carry_rows-requires-clause-apart : goal.carry_rows-requires-clause-apart
+carry_rows-requires-clause-apart g c =
+    batch_apart c.args.selection.now c.as_slice.result.now c.in_ok-rows.rows.items
+    c.deref-then-count-gt0.result.now
+    (c.batch_of-batch.ensures.0, c.deref-then-count-gt0.ensures.value ∙ c.batch_of-batch.ensures.1)
+
+pub returns-in_err-carry_rows-clause-carries : goal.returns-in_err-carry_rows-clause-carries
+returns-in_err-carry_rows-clause-carries g c =
+    let b = g.B.Book in
+    let mid = c.sessions_of.new.self in
+    let reads = c.sessions_of.ensures.reads in
+    let rows = c.deref-then-count-gt0.result.now in
+    let is : IsBatch c.args.selection.now c.as_slice.result.now c.in_ok-rows.rows.items rows = (
+      c.batch_of-batch.ensures.0,
+      c.deref-then-count-gt0.ensures.value ∙ c.batch_of-batch.ensures.1,
+    ) in
+    let there : b.is_open mid → AreThere (b.content mid) rows = λ still.
+    subst (λ x. AreThere x rows) (sym (reads.same still))
+    (batch_there c.args.selection.now c.as_slice.result.now c.in_ok-rows.rows.items rows
+    (b.content c.args.book.now) c.args.account.now is (c.in_ok-rows.ensures.found still)) in
+    joined_on b c.args.selection.now c.args.plans.now c.args.book.now mid c.carry_rows.new.book
+    c.sessions_of.result c.from_residual-in_err-carry_rows.result
+    (looked_on b c.args.selection.now c.args.plans.now c.args.book.now mid c.sessions_of.result
+    c.sessions_of.result reads reads.answers)
+    (batch_on b c.args.selection.now c.args.plans.now rows mid c.carry_rows.new.book
+    c.carry_rows.result c.from_residual-in_err-carry_rows.result there
+    (batch_taken c.args.selection.now c.as_slice.result.now c.in_ok-rows.rows.items rows is)
+    c.carry_rows.ensures
+    (λ sound. not_ok c.from_residual-in_err-carry_rows.result _
+    (b.is_open c.carry_rows.new.book) c.from_residual-in_err-carry_rows.ensures.1))
+
+pub returns-then-branch-clause-carries : goal.returns-then-branch-clause-carries
+returns-then-branch-clause-carries g c =
+    let b = g.B.Book in
+    let mid = c.sessions_of.new.self in
+    let reads = c.sessions_of.ensures.reads in
+    let rows = c.deref-then-count-gt0.result.now in
+    let is : IsBatch c.args.selection.now c.as_slice.result.now c.in_ok-rows.rows.items rows = (
+      c.batch_of-batch.ensures.0,
+      c.deref-then-count-gt0.ensures.value ∙ c.batch_of-batch.ensures.1,
+    ) in
+    let there : b.is_open mid → AreThere (b.content mid) rows = λ still.
+    subst (λ x. AreThere x rows) (sym (reads.same still))
+    (batch_there c.args.selection.now c.as_slice.result.now c.in_ok-rows.rows.items rows
+    (b.content c.args.book.now) c.args.account.now is (c.in_ok-rows.ensures.found still)) in
+    joined_on b c.args.selection.now c.args.plans.now c.args.book.now mid c.carry_rows.new.book
+    c.sessions_of.result _
+    (looked_on b c.args.selection.now c.args.plans.now c.args.book.now mid c.sessions_of.result
+    c.sessions_of.result reads reads.answers)
+    (batch_on b c.args.selection.now c.args.plans.now rows mid c.carry_rows.new.book
+    c.carry_rows.result _ there
+    (batch_taken c.args.selection.now c.as_slice.result.now c.in_ok-rows.rows.items rows is)
+    c.carry_rows.ensures c.in_ok-carry_rows.ensures.answers)

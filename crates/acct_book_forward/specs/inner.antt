@@ -1,0 +1,2 @@
+-- What private functions and proofs need, and no public contract reaches.
+pub mod Forwarding

@@ -1,4 +1,0 @@
-use Rattle.acct_command_line.proofs.commands.export_command.Goals as goal
-
-pub returns : goal.returns
-returns c = c.with_option.ensures _ _ c.opening_command.ensures c.what_option.ensures.rule

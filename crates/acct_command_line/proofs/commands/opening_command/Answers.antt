@@ -1,4 +1,0 @@
-use Rattle.acct_command_line.proofs.commands.opening_command.Goals as goal
-
-pub returns : goal.returns
-returns c = c.with_option.ensures _ _ c.book_command.ensures c.lose_flag.ensures.rule

@@ -1,8 +1,0 @@
-use Rattle.acct_book.specs.inner.Step.{OnlyLooks}
-use Rattle.acct_commands.specs.Forwarding.{IsNewest}
-use Rattle.acct_commands.proofs.forwarding.survey.Given as goal
-
--- the calls so far only read, and the newest moment so far is a session's
-abbrev pub invariant-accounts : goal.invariant-accounts
-invariant-accounts g l = OnlyLooks g.B.Book l.fn.book l.book
-    × (g.B.Book.is_open l.book → IsNewest (g.B.Book.content l.fn.book) l.totals.newest)

@@ -1,0 +1,5 @@
+//! What the desk returns, as JSON, and the whole HTTP responses that carry it.
+#![tactic(auto)]
+
+pub mod bodies;
+pub mod json_response;

@@ -1,4 +1,0 @@
-use Rattle.acct_jobs.proofs.auditing.audited.Goals as goal
-
-pub returns-clause-audits : goal.returns-clause-audits
-returns-clause-audits g c = rw c.into_connection.ensures c.run_audit-ended.ensures.audits

@@ -1,5 +1,0 @@
-use Rattle.std.proofs.Common.{inl, refl}
-use Rattle.acct_jobs.proofs.checking.check_book.Goals as goal
-
-pub returns-in-Ok-clause-does : goal.returns-in-Ok-clause-does
-returns-in-Ok-clause-does g c = inl (c.in-Ok.connection, refl, refl, c.in-Ok.ensures.checked)

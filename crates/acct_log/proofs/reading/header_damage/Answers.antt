@@ -1,6 +1,0 @@
-use Rattle.acct_log.proofs.ReadingLemmas.{unsealed_is_sound}
-use Rattle.acct_log.proofs.reading.header_damage.Goals as goal
-
-pub returns-else-head-eq-FIRST : goal.returns-else-head-eq-FIRST
-returns-else-head-eq-FIRST c octets whole is = unsealed_is_sound octets c.args.head.now is
-    c.requires.broken c.if-head-eq-FIRST.false

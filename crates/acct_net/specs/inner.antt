@@ -1,0 +1,3 @@
+-- What private functions and proofs need, and no public contract reaches.
+pub mod Places
+pub mod RadiusSockets

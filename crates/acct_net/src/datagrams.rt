@@ -1,0 +1,236 @@
+//! The sockets for datagrams, one at each address.
+//!
+//! 1. They take turns: one that gave a datagram is tried last in the next search. So none waits for
+//!    more than one datagram of each other one.
+//! 2. A reply leaves from the socket that gave the last datagram, and so from the address that was
+//!    asked.
+//! 3. A receive that would block found nothing. Each other one that gives no datagram is a fault,
+//!    also if a signal interrupted it.
+ghost use Rattle.std.specs.Prelude.{◌≡◌, ◌<◌, true, false, length, slice_get, slice_set};
+ghost use Rattle.std.specs.Prelude.{MatchOption};
+ghost use Rattle.std.specs.Prelude.{◌↔◌, IfOk, IfSome, IsErrAnd, IsOkAnd};
+ghost use Rattle.std.specs.List.{All, list_any, position};
+ghost use Rattle.acct_net.specs.inner.RadiusSockets.{MayReceiveAt};
+ghost use Rattle.std.specs.IoError.{error_kind};
+
+use crate::readiness::Readiness;
+use acct_service::Fault;
+use std::alloc::Global;
+use std::io;
+use std::io::ErrorKind;
+use std::net::{Ipv4Addr, Net, SocketAddr, SocketAddrV4, UdpSocket};
+
+/// The sockets for datagrams.
+pub struct Datagrams {
+    sockets: Vec<RadiusSocket>,
+    last: usize,
+}
+
+impl Drop for Datagrams {
+    fn drop(self) {
+        let Datagrams {
+            sockets: _,
+            last: _,
+        } = self;
+    }
+}
+
+// A socket for datagrams, and whether one may wait there.
+#[derive(Drop)]
+struct RadiusSocket {
+    udp: UdpSocket,
+    may_receive: bool,
+}
+
+impl Datagrams {
+    /// Binds a socket at each address. At port 0 the system chooses one for each.
+    ///
+    /// # Errors
+    ///
+    /// Those of the system, and `OutOfMemory`.
+    pub fn bind<R: Net>(
+        runtime: &R,
+        alloc: Global,
+        addresses: &[[u8; 4]],
+        port: u16,
+    ) -> io::Result<Datagrams> {
+        let mut sockets = Vec::with_capacity(alloc, addresses.len())?;
+        for address in addresses {
+            sockets.push(RadiusSocket::bind(runtime, *address, port)?)?;
+        }
+        Ok(Datagrams { sockets, last: 0 })
+    }
+
+    /// How many sockets there are.
+    pub fn count(&self) -> usize
+        ensures { result ≡ length self.now.sockets.items }
+    {
+        self.sockets.len()
+    }
+
+    /// Watches the sockets under numbers from this one on, in the order of their addresses.
+    ///
+    /// # Errors
+    ///
+    /// Those of the system.
+    pub fn watch(&self, readiness: &Readiness, first: usize) -> io::Result<()> {
+        for (place, socket) in self.sockets.iter().enumerate() {
+            readiness.watch(&socket.udp, first.wrapping_add(place))?;
+        }
+        Ok(())
+    }
+
+    /// The port of the socket at the address with this place among the others, from 0 on.
+    ///
+    /// # Errors
+    ///
+    /// Those of the system, and `NotFound` if there is no such address.
+    pub fn port(&self, place: usize) -> io::Result<u16> {
+        match self.sockets.get(place) {
+            Some(socket) => Ok(socket.udp.local_addr()?.port()),
+            None => Err(io::Error::from(ErrorKind::NotFound)),
+        }
+    }
+
+    /// Whether a datagram may wait, as far as is known.
+    pub fn may_receive(&self) -> bool
+        ensures { result ≡ list_any (λ socket. socket.may_receive) self.now.sockets.items }
+    {
+        self.sockets.iter().any(|socket| socket.may_receive)
+    }
+
+    /// Notes that a datagram may wait at the socket with this place.
+    pub fn wake(&mut self, place: usize)
+        ensures sockets { MatchOption (slice_get self.old.sockets.items place)
+            (self.new.sockets.items ≡ self.old.sockets.items)
+            (λ socket. self.new.sockets.items ≡ slice_set self.old.sockets.items place
+            (record socket { may_receive = true })) }
+        ensures last { self.new.last ≡ self.old.last }
+    {
+        if let Some(socket) = self.sockets.get_mut(place) {
+            socket.may_receive = true;
+        }
+    }
+
+    /// Notes that a datagram may wait at each socket.
+    pub fn wake_all(&mut self)
+        ensures woken { All (λ socket. socket.may_receive ≡ true) self.new.sockets.items }
+        ensures last { self.new.last ≡ self.old.last }
+    {
+        for socket in self.sockets.iter_mut() {
+            socket.may_receive = true;
+        }
+    }
+
+    /// Receives a datagram into the buffer, if one waits. It gives its size and its source. If it
+    /// gives none, no socket may have one, as far as is known.
+    ///
+    /// # Errors
+    ///
+    /// If the system fails.
+    pub fn receive(&mut self, buffer: &mut [u8]) -> Result<Option<(usize, SocketAddrV4)>, Fault>
+        ensures { IfOk result (λ received. received ≡ None
+            → list_any (λ socket. socket.may_receive) self.new.sockets.items ≡ false) }
+    {
+        while let Some(place) = self.next_place() {
+            self.last = place;
+            let socket = self.sockets.get_mut(place).ok_or(Fault)?;
+            match socket.receive(buffer)? {
+                Some(received) => return Ok(Some(received)),
+                None => {}
+            }
+        }
+        Ok(None)
+    }
+
+    // The place of the next socket at which a datagram may wait, so that each has its turn.
+    fn next_place(&self) -> Option<usize>
+        ensures none { result ≡ None
+            → list_any (λ socket. socket.may_receive) self.now.sockets.items ≡ false }
+        ensures some { IfSome result (MayReceiveAt self.now.sockets.items) }
+    {
+        let sockets = self.sockets.as_slice();
+        if self.last < sockets.len() {
+            let next = self.last + 1;
+            if let Some(place) = first_place(&sockets[next..]) {
+                return Some(next + place);
+            }
+        }
+        first_place(sockets)
+    }
+
+    /// Sends a reply to the last datagram.
+    ///
+    /// # Errors
+    ///
+    /// If the system fails, or does not take the whole reply.
+    pub fn reply(&self, bytes: &[u8], to: SocketAddrV4) -> Result<(), Fault> {
+        let socket = self.sockets.get(self.last).ok_or(Fault)?;
+        match socket.send(bytes, to) {
+            Ok(count) if count == bytes.len() => Ok(()),
+            _ => Err(Fault),
+        }
+    }
+}
+
+impl RadiusSocket {
+    fn bind<R: Net>(runtime: &R, address: [u8; 4], port: u16) -> io::Result<RadiusSocket> {
+        let udp = UdpSocket::bind(runtime, (Ipv4Addr::from(address), port))?;
+        udp.set_nonblocking(true)?;
+        Ok(RadiusSocket {
+            udp,
+            may_receive: true,
+        })
+    }
+
+    // The datagram that waits here, if one does.
+    fn receive(&mut self, buffer: &mut [u8]) -> Result<Option<(usize, SocketAddrV4)>, Fault>
+        ensures same { self.new ≡ record self.old { may_receive = self.new.may_receive } }
+        ensures none { IfOk result (λ received. received ≡ None → self.new.may_receive ≡ false) }
+    {
+        if !self.may_receive {
+            return Ok(None);
+        }
+        let received = outcome_of(self.udp.recv_from(buffer))?;
+        self.may_receive = received.is_some();
+        Ok(received)
+    }
+
+    // Sends a datagram. If the system has no space for it now, this waits until it has.
+    fn send(&self, bytes: &[u8], to: SocketAddrV4) -> io::Result<usize> {
+        match self.udp.send_to(bytes, to) {
+            Err(error) if error.kind() == ErrorKind::WouldBlock => {
+                self.udp.set_nonblocking(false)?;
+                let sent = self.udp.send_to(bytes, to);
+                self.udp.set_nonblocking(true)?;
+                sent
+            }
+            sent => sent,
+        }
+    }
+}
+
+// The place of the first socket at which a datagram may wait.
+fn first_place(sockets: &[RadiusSocket]) -> Option<usize>
+    ensures first { result ≡ position (λ socket. socket.may_receive) sockets.now }
+    ensures within { IfSome result (λ place. place < length sockets.now) }
+{
+    sockets.iter().position(|socket| socket.may_receive)
+}
+
+// The outcome of a receive.
+fn outcome_of(
+    received: io::Result<(usize, SocketAddr)>,
+) -> Result<Option<(usize, SocketAddrV4)>, Fault>
+    ensures none { (result ≡ Ok None) ↔ IsErrAnd received (λ error.
+        error_kind error ≡ ErrorKind.WouldBlock) }
+    ensures some { IfOk result (λ outcome. IfSome outcome (λ datagram. IsOkAnd received (λ pair.
+        (datagram.0 ≡ pair.0) × (pair.1 ≡ SocketAddr.V4 datagram.1)))) }
+{
+    match received {
+        Ok((size, SocketAddr::V4(source))) => Ok(Some((size, source))),
+        Ok((_, SocketAddr::V6(_))) => Err(Fault),
+        Err(error) if error.kind() == ErrorKind::WouldBlock => Ok(None),
+        Err(_) => Err(Fault),
+    }
+}

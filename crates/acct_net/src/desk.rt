@@ -1,0 +1,357 @@
+//! The callers of the desk.
+//!
+//! 1. Up to 64 callers have a place each. A turn drops one whose time is up, accepts those that
+//!    wait for a place, and serves those that are ready until the request of one is there.
+//! 2. If no place is free, the silent caller that connected first is dropped for one that waits. So
+//!    strangers who hold every place keep nobody out.
+//! 3. What a turn does for callers is bounded, so that no datagram waits for all of them.
+ghost use Rattle.std.specs.Prelude.{◌≡◌, ◌⊎◌, None, Some, true, false, IfOk, IfSome, IsTrue, OnErr};
+ghost use Rattle.std.specs.Prelude.{OnOk};
+ghost use Rattle.std.specs.Prelude.{◌↔◌, slice_get, slice_set, IsOk, MatchOption};
+ghost use Rattle.std.specs.IoError.{error_kind};
+ghost use Rattle.acct_net.specs.inner.Places.{IsWaiting, Answers, IsReadyAt, HasReady, IsWoken};
+ghost use Rattle.acct_net.specs.inner.Places.{HasReceived};
+
+use crate::readiness::Readiness;
+use acct_model::Octets;
+use acct_net_callers::{Caller, Step};
+use acct_service::Fault;
+use std::alloc::Global;
+use std::io;
+use std::io::ErrorKind;
+use std::net::{Net, OpenListener};
+use std::time::Instant;
+
+/// How many callers have a place.
+pub const PLACES: usize = 64;
+/// The most callers that a turn accepts.
+const ACCEPTS_OF_A_TURN: u32 = 8;
+/// The most reads and writes of callers in a turn.
+const STEPS_OF_A_TURN: u32 = 8;
+
+/// The desk's listener, and the callers at their places.
+pub struct Desk<R: Net> {
+    alloc: Global,
+    listener: R::Listener,
+    may_accept: bool,
+    is_full: bool,
+    places: Vec<Option<Caller<R::Stream>>>,
+    next: usize,
+    unanswered: Option<usize>,
+}
+
+impl<R: Net> Drop for Desk<R> {
+    fn drop(self) {
+        let Desk {
+            alloc: _,
+            listener: _,
+            may_accept: _,
+            is_full: _,
+            places: _,
+            next: _,
+            unanswered: _,
+        } = self;
+    }
+}
+
+impl<R: Net> Desk<R> {
+    /// A desk with no callers.
+    ///
+    /// # Errors
+    ///
+    /// Those of the system, and `OutOfMemory` if there is no memory for the places.
+    pub fn new(alloc: Global, listener: R::Listener) -> io::Result<Desk<R>>
+        ensures accepts { IfOk result (λ desk. desk.may_accept ≡ true) }
+        ensures idle { IfOk result (λ desk. desk.unanswered ≡ None) }
+    {
+        listener.set_nonblocking(true)?;
+        let mut places = Vec::with_capacity(alloc, PLACES)?;
+        for _ in 0..PLACES {
+            places.push(None)?;
+        }
+        Ok(Desk {
+            alloc,
+            listener,
+            may_accept: true,
+            is_full: false,
+            places,
+            next: 0,
+            unanswered: None,
+        })
+    }
+
+    /// The listener.
+    pub fn listener(&self) -> &R::Listener
+        ensures { result.now ≡ self.now.listener }
+    {
+        &self.listener
+    }
+
+    /// Notes that callers may wait for a place.
+    pub fn wake_listener(&mut self)
+        ensures { self.new ≡ record self.old { may_accept = true } }
+    {
+        self.may_accept = true;
+    }
+
+    /// Notes that the caller at a place may be ready.
+    pub fn wake_caller(&mut self, place: usize)
+        ensures woken { IsWoken (slice_get self.old.places.items place) place
+            self.old.places.items self.new.places.items }
+        ensures other { self.new ≡ record self.old { places = self.new.places } }
+    {
+        let Some(slot) = self.places.get_mut(place) else {
+            return;
+        };
+        if let Some(mut caller) = slot.take() {
+            caller.wake();
+            *slot = Some(caller);
+        }
+    }
+
+    /// Whether something can be done for callers without waiting, as far as is known.
+    pub fn is_busy(&self) -> bool
+        ensures busy { self.now.may_accept ≡ true → self.now.is_full ≡ false → IsTrue result }
+        ensures idle { (self.now.may_accept ≡ false) ⊎ (self.now.is_full ≡ true) → IsTrue result
+            → HasReady self.now.places.items }
+    {
+        (self.may_accept && !self.is_full) || self.ready_place().is_some()
+    }
+
+    /// Serves the callers until the request of one is there, and gives it. That caller then awaits
+    /// its response.
+    ///
+    /// # Errors
+    ///
+    /// If a caller is dropped before its response is written, since its time is up, another one
+    /// needs its place, its connection fails or memory is refused; and if none can be accepted.
+    pub fn serve(
+        &mut self,
+        readiness: &Readiness,
+        buffer: &mut [u8],
+        now: Instant,
+    ) -> Result<Option<Octets>, Fault>
+        ensures { IfOk result (λ request. IfSome request (λ _.
+            IsWaiting self.new.unanswered self.new.places.items)) }
+    {
+        if let Some(place) = self.timed_out_place(now) {
+            self.close_at(place)?;
+        }
+        self.accept(readiness, now)?;
+        self.serve_ready(buffer, now)
+    }
+
+    /// Sends its response to the caller whose request was given last.
+    ///
+    /// # Errors
+    ///
+    /// If no caller awaits a response, its connection fails, or memory is refused. The caller is
+    /// then dropped.
+    pub fn answer(&mut self, response: &[u8], now: Instant) -> Result<(), Fault>
+        ensures answered { OnOk result (Answers R.Stream.contents self.old.unanswered
+            self.old.places.items self.new.places.items response.now) }
+        ensures failed { OnErr result (MatchOption self.old.unanswered
+            (self.new.places.items ≡ self.old.places.items)
+            (λ place. self.new.places.items ≡ slice_set self.old.places.items place None)) }
+        ensures other { self.new ≡ record self.old {
+          unanswered = None;
+          is_full = self.new.is_full;
+          places = self.new.places;
+        } }
+    {
+        let place = self.unanswered.take().ok_or(Fault)?;
+        self.is_full = false;
+        let slot = self.places.get_mut(place).ok_or(Fault)?;
+        let mut caller = slot.take().ok_or(Fault)?;
+        caller.answer(self.alloc, response, now)?;
+        *slot = Some(caller);
+        Ok(())
+    }
+
+    /// Closes the connection of a caller whose request was given and not answered, if there is one.
+    pub fn close_unanswered(&mut self)
+        ensures places { MatchOption self.old.unanswered
+            (self.new.places.items ≡ self.old.places.items)
+            (λ place. self.new.places.items ≡ slice_set self.old.places.items place None) }
+        ensures other { self.new ≡ record self.old {
+          unanswered = None;
+          is_full = self.new.is_full;
+          places = self.new.places;
+        } }
+    {
+        if let Some(place) = self.unanswered.take() {
+            self.clear(place);
+        }
+    }
+
+    // Accepts callers that wait, while there are places for them.
+    fn accept(&mut self, readiness: &Readiness, now: Instant) -> Result<(), Fault> {
+        for _ in 0..ACCEPTS_OF_A_TURN {
+            if !self.may_accept {
+                return Ok(());
+            }
+            let Some(place) = self.place_for_another(now) else {
+                self.is_full = true;
+                return Ok(());
+            };
+            self.is_full = false;
+            self.accept_at(place, readiness, now)?;
+        }
+        Ok(())
+    }
+
+    // Accepts a caller that waits, if there is one, in the place of whoever is there.
+    fn accept_at(
+        &mut self,
+        place: usize,
+        readiness: &Readiness,
+        now: Instant,
+    ) -> Result<(), Fault> {
+        let stream = match self.listener.accept() {
+            Ok((stream, _)) => stream,
+            Err(error) => return self.accept_failed(&error),
+        };
+        let closed = self.close_at(place);
+        readiness.watch_both(&stream, place).map_err(|_| Fault)?;
+        let caller = Caller::new(self.alloc, stream, now).map_err(|_| Fault)?;
+        if let Some(free) = self.places.get_mut(place) {
+            *free = Some(caller);
+        }
+        closed
+    }
+
+    // What follows from a failed accept: a fault, unless nobody waited. If nobody did, or the
+    // system has no means for one more now, none is tried again before somebody else connects or a
+    // turn had nothing to do. If it was interrupted, or its caller has disconnected, others may
+    // still wait.
+    fn accept_failed(&mut self, error: &io::Error) -> Result<(), Fault>
+        ensures none { IsOk result ↔ (error_kind error.now ≡ ErrorKind.WouldBlock) }
+        ensures other { self.new ≡ record self.old { may_accept = self.new.may_accept } }
+        ensures again { IsTrue self.new.may_accept ↔ (IsTrue self.old.may_accept
+            × ((error_kind error.now ≡ ErrorKind.Interrupted)
+            ⊎ (error_kind error.now ≡ ErrorKind.ConnectionAborted))) }
+    {
+        match error.kind() {
+            ErrorKind::WouldBlock => {
+                self.may_accept = false;
+                Ok(())
+            }
+            ErrorKind::Interrupted | ErrorKind::ConnectionAborted => Err(Fault),
+            _ => {
+                self.may_accept = false;
+                Err(Fault)
+            }
+        }
+    }
+
+    // Serves callers that are ready, until the request of one is there.
+    fn serve_ready(&mut self, buffer: &mut [u8], now: Instant) -> Result<Option<Octets>, Fault>
+        ensures { IfOk result (λ request. IfSome request (λ _.
+            IsWaiting self.new.unanswered self.new.places.items)) }
+    {
+        for _ in 0..STEPS_OF_A_TURN {
+            let Some(place) = self.ready_place() else {
+                return Ok(None);
+            };
+            self.next = place.wrapping_add(1);
+            if let Some(request) = self.serve_at(place, buffer, now)? {
+                return Ok(Some(request));
+            }
+        }
+        Ok(None)
+    }
+
+    // Makes one step of the caller at a place, and gives its request if that is there now.
+    fn serve_at(
+        &mut self,
+        place: usize,
+        buffer: &mut [u8],
+        now: Instant,
+    ) -> Result<Option<Octets>, Fault>
+        ensures waiting { IfOk result (λ request. IfSome request (λ _.
+            IsWaiting self.new.unanswered self.new.places.items)) }
+        ensures received { IfOk result (λ request. IfSome request (HasReceived
+            R.Stream.remaining R.Stream.contents self.new.unanswered
+            self.old.places.items self.new.places.items)) }
+    {
+        let slot = self.places.get_mut(place).ok_or(Fault)?;
+        let mut caller = slot.take().ok_or(Fault)?;
+        self.is_full = false;
+        let step = caller.proceed(self.alloc, buffer, now)?;
+        if let Step::Closed = &step {
+            return Ok(None);
+        }
+        *slot = Some(caller);
+        match step {
+            Step::Received(request) => {
+                self.unanswered = Some(place);
+                Ok(Some(request))
+            }
+            Step::Pending | Step::Closed => Ok(None),
+        }
+    }
+
+    // Closes the connection of the caller at a place, if there is one. That is a fault if its
+    // response is not written.
+    fn close_at(&mut self, place: usize) -> Result<(), Fault> {
+        let is_owed = match self.places.get(place) {
+            Some(Some(caller)) => !caller.is_closing(),
+            _ => false,
+        };
+        self.clear(place);
+        if is_owed { Err(Fault) } else { Ok(()) }
+    }
+
+    // Closes the connection of the caller at a place, if there is one.
+    fn clear(&mut self, place: usize)
+        ensures places { self.new.places.items ≡ slice_set self.old.places.items place None }
+        ensures other { self.new ≡ record self.old { is_full = false; places = self.new.places } }
+    {
+        self.is_full = false;
+        if let Some(caller) = self.places.get_mut(place) {
+            *caller = None;
+        }
+    }
+
+    // The place of a caller whose time is up.
+    fn timed_out_place(&self, now: Instant) -> Option<usize> {
+        for (place, caller) in self.places.iter().enumerate() {
+            if let Some(caller) = caller
+                && caller.has_timed_out(now)
+            {
+                return Some(place);
+            }
+        }
+        None
+    }
+
+    // The next place whose caller is ready, so that each has its turn.
+    fn ready_place(&self) -> Option<usize>
+        ensures { IfSome result (IsReadyAt self.now.places.items) }
+    {
+        for step in 0..PLACES {
+            let place = self.next.wrapping_add(step) % PLACES;
+            if let Some(Some(caller)) = self.places.get(place)
+                && caller.is_ready()
+            {
+                return Some(place);
+            }
+        }
+        None
+    }
+
+    // A free place, or else that of the caller that connected first of those that may be dropped.
+    fn place_for_another(&self, now: Instant) -> Option<usize> {
+        let mut first: Option<(usize, Instant)> = None;
+        for (place, caller) in self.places.iter().enumerate() {
+            let Some(caller) = caller else {
+                return Some(place);
+            };
+            let accepted = caller.accepted();
+            if caller.may_be_dropped(now) && first.is_none_or(|(_, before)| accepted < before) {
+                first = Some((place, accepted));
+            }
+        }
+        first.map(|(place, _)| place)
+    }
+}

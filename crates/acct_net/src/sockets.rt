@@ -1,0 +1,301 @@
+//! The sockets of a server: datagrams of access servers, and callers of the desk.
+//!
+//! 1. A turn waits up to 20 milliseconds until a datagram arrived or something can be done for a
+//!    caller, and not at all if that is known already. No read waits, and no write to a caller. A
+//!    reply to a datagram waits if the system has no space for it.
+//! 2. Datagrams and callers take turns: after a datagram callers are served first, and after a
+//!    request or a fault of a caller a datagram is received first.
+//! 3. A wait in which nothing arrived is a turn without an event: then no socket for datagrams may
+//!    have one, as far as is known. Every fault is counted.
+//! 4. A reply to a datagram leaves from the address that was asked, and the sockets at several
+//!    addresses take turns.
+//! 5. The buffer for a datagram is allocated once, and not for each turn.
+ghost use Rattle.std.specs.Prelude.{◌≡◌, ◌+◌, ◌-◌, ◌<◌, ◌^◌, false, None, IfOk};
+ghost use Rattle.std.specs.List.{list_any};
+
+use crate::clock::moment_of;
+use crate::datagrams::Datagrams;
+use crate::desk::{Desk, PLACES};
+use crate::readiness::Readiness;
+use acct_model::Octets;
+use acct_service::{Event, Exchange, Fault, What};
+use acct_wire::Reason;
+use std::alloc::Global;
+use std::io;
+use std::io::ErrorKind;
+use std::net::{Ipv4Addr, Net, OpenListener, SocketAddrV4, TcpListener};
+use std::time::{Clock, Duration, Instant};
+
+/// The most octets of a datagram.
+const LONGEST_DATAGRAM: usize = 65_535;
+/// The most milliseconds that a turn waits.
+const MOST_WAIT: u64 = 20;
+/// The number under which the desk's listener is watched. Those below are the places of callers.
+const LISTENER: usize = PLACES;
+/// The number under which the first socket for datagrams is watched. Those above are of the others.
+const DATAGRAMS: usize = PLACES + 1;
+
+/// The sockets of a server, with the callers that are connected. Each turn waits once.
+pub struct Sockets<'r, R: Net> {
+    event_loop: EventLoop<'r, R>,
+    turns: u64,
+    failures: u64,
+    ghost waited: { event_loop.readiness.waits ≡ turns },
+}
+
+impl<'r, R: Net> Drop for Sockets<'r, R> {
+    fn drop(self) {
+        let Sockets {
+            event_loop: _,
+            turns: _,
+            failures: _,
+        } = self;
+    }
+}
+
+impl<'r, R: Net + Clock> Sockets<'r, R> {
+    /// Binds a socket for datagrams at each of these IPv4 addresses, and one for callers at the
+    /// desk's. At port 0 the system chooses one for each.
+    ///
+    /// # Errors
+    ///
+    /// Those of the system: a port is taken or needs a right that the program hasn't, or the
+    /// machine hasn't the address. `InvalidInput` if there is no address for datagrams, and
+    /// `OutOfMemory` if there is no memory for the sockets, for a datagram and for callers.
+    pub fn bind(
+        runtime: &'r R,
+        alloc: Global,
+        addresses: &[[u8; 4]],
+        desk_address: [u8; 4],
+        radius_port: u16,
+        desk_port: u16,
+    ) -> io::Result<Sockets<'r, R>>
+        ensures fresh { IfOk result (λ s. (s.turns ≡ 0) × (s.failures ≡ 0)) }
+    {
+        if addresses.is_empty() {
+            return Err(io::Error::from(ErrorKind::InvalidInput));
+        }
+        let datagrams = Datagrams::bind(runtime, alloc, addresses, radius_port)?;
+        let listener = TcpListener::bind(runtime, (Ipv4Addr::from(desk_address), desk_port))?;
+        Ok(Sockets {
+            event_loop: EventLoop::new(runtime, alloc, datagrams, Desk::new(alloc, listener)?)?,
+            turns: 0,
+            failures: 0,
+        })
+    }
+
+    /// The ports of datagrams, at the first address, and of callers.
+    ///
+    /// # Errors
+    ///
+    /// Those of the system.
+    pub fn ports(&self) -> io::Result<(u16, u16)> {
+        Ok((
+            self.radius_port(0)?,
+            self.event_loop.desk.listener().local_addr()?.port(),
+        ))
+    }
+
+    /// The port of datagrams at the address with this place among those that were bound, from 0 on.
+    ///
+    /// # Errors
+    ///
+    /// Those of the system, and `NotFound` if there is no such address.
+    pub fn radius_port(&self, place: usize) -> io::Result<u16> {
+        self.event_loop.datagrams.port(place)
+    }
+}
+
+impl<'r, R: Net + Clock> Exchange for Sockets<'r, R> {
+    ghost turn_count = { λ s. s.turns };
+
+    ghost failure_count = { λ s. s.failures };
+
+    ghost told = { λ _. None };
+
+    fn next(&mut self) -> Result<Option<Event>, Fault> {
+        self.turns += 1;
+        let event = self.event_loop.next_event();
+        if event.is_err() {
+            self.failures += 1;
+        }
+        event
+    }
+
+    /// Sends octets to the source of an event. What a caller does not take of them at once is
+    /// written in later turns, and if that fails, that turn is a fault.
+    fn reply(&mut self, event: &Event, bytes: &[u8]) -> Result<(), Fault> {
+        let sent = self.event_loop.send(&event.what, bytes);
+        if sent.is_err() {
+            self.failures += 1;
+        }
+        sent
+    }
+
+    fn note_drop(&mut self, _event: &Event, _reason: Reason) {}
+
+    fn turns(&self) -> u64 {
+        self.turns
+    }
+
+    fn failures(&self) -> u64 {
+        self.failures
+    }
+}
+
+// What a turn works on: all sockets, with the callers that are connected.
+struct EventLoop<'r, R: Net> {
+    runtime: &'r R,
+    alloc: Global,
+    readiness: Readiness,
+    datagrams: Datagrams,
+    desk: Desk<R>,
+    are_callers_first: bool,
+    buffer: Vec<u8>,
+}
+
+impl<'r, R: Net> Drop for EventLoop<'r, R> {
+    fn drop(self) {
+        let EventLoop {
+            runtime: _,
+            alloc: _,
+            readiness: _,
+            datagrams: _,
+            desk: _,
+            are_callers_first: _,
+            buffer: _,
+        } = self;
+    }
+}
+
+impl<'r, R: Net + Clock> EventLoop<'r, R> {
+    // Watches the sockets.
+    fn new(
+        runtime: &'r R,
+        alloc: Global,
+        datagrams: Datagrams,
+        desk: Desk<R>,
+    ) -> io::Result<EventLoop<'r, R>>
+        ensures { IfOk result (λ event_loop. event_loop.readiness.waits ≡ 0) }
+    {
+        let watched = DATAGRAMS.saturating_add(datagrams.count());
+        let readiness = Readiness::new(runtime, alloc, watched)?;
+        datagrams.watch(&readiness, DATAGRAMS)?;
+        readiness.watch(desk.listener(), LISTENER)?;
+        Ok(EventLoop {
+            runtime,
+            alloc,
+            readiness,
+            datagrams,
+            desk,
+            are_callers_first: true,
+            buffer: vec![in alloc; 0; LONGEST_DATAGRAM]?,
+        })
+    }
+
+    // The event of a turn, if there is one. A caller that was not answered in the last turn is
+    // dropped.
+    fn next_event(&mut self) -> Result<Option<Event>, Fault>
+        requires { self.old.readiness.waits < 2 ^ 64 - 1 }
+        ensures waits { self.new.readiness.waits ≡ self.old.readiness.waits + 1 }
+        ensures idle { IfOk result (λ event. event ≡ None → list_any (λ socket. socket.may_receive)
+            self.new.datagrams.sockets.items ≡ false) }
+    {
+        self.desk.close_unanswered();
+        self.poll()?;
+        let (event, is_callers) = if self.are_callers_first {
+            match self.next_request() {
+                Ok(None) => (self.next_datagram(), false),
+                request => (request, true),
+            }
+        } else {
+            match self.next_datagram() {
+                Ok(None) => (self.next_request(), true),
+                datagram => (datagram, false),
+            }
+        };
+        self.are_callers_first = !is_callers;
+        event
+    }
+
+    // Finds which sockets are ready, and waits for one if none was left. After a wait in which none
+    // was ready each is tried again: so nobody waits for long whom the system did not report.
+    fn poll(&mut self) -> Result<(), Fault>
+        requires { self.old.readiness.waits < 2 ^ 64 - 1 }
+        ensures { self.new.readiness.waits ≡ self.old.readiness.waits + 1 }
+    {
+        let is_busy = self.datagrams.may_receive() || self.desk.is_busy();
+        let timeout = if is_busy { 0 } else { MOST_WAIT };
+        let waited = self.readiness.wait(Duration::from_millis(timeout));
+        waited.map_err(|_| Fault)?;
+        if !is_busy && self.readiness.events().is_empty() {
+            self.datagrams.wake_all();
+            self.desk.wake_listener();
+        }
+        for event in self.readiness.events() {
+            match event.token().0 {
+                LISTENER => self.desk.wake_listener(),
+                place if place < LISTENER => self.desk.wake_caller(place),
+                number => self.datagrams.wake(number - DATAGRAMS),
+            }
+        }
+        Ok(())
+    }
+
+    // The request of a caller, if one is there now.
+    fn next_request(&mut self) -> Result<Option<Event>, Fault>
+        ensures waits { self.new.readiness.waits ≡ self.old.readiness.waits }
+        ensures datagrams { self.new.datagrams ≡ self.old.datagrams }
+    {
+        let now = Instant::now(self.runtime).map_err(|_| Fault)?;
+        let request = self
+            .desk
+            .serve(&self.readiness, self.buffer.as_mut_slice(), now)?;
+        Ok(request.map(|bytes| self.event(What::Desk { bytes })))
+    }
+
+    // The datagram that waits, if one does.
+    fn next_datagram(&mut self) -> Result<Option<Event>, Fault>
+        ensures waits { self.new.readiness.waits ≡ self.old.readiness.waits }
+        ensures idle { IfOk result (λ event. event ≡ None → list_any (λ socket. socket.may_receive)
+            self.new.datagrams.sockets.items ≡ false) }
+    {
+        let Some((size, source)) = self.datagrams.receive(self.buffer.as_mut_slice())? else {
+            return Ok(None);
+        };
+        let what = What::Datagram {
+            source: source.ip().octets(),
+            port: source.port(),
+            bytes: self.copy(size)?,
+        };
+        Ok(Some(self.event(what)))
+    }
+
+    // The octets of the last datagram, which are at the front of the buffer.
+    fn copy(&self, size: usize) -> Result<Octets, Fault> {
+        let octets = self.buffer.get(..size).ok_or(Fault)?;
+        Octets::from_slice(self.alloc, octets).map_err(|_| Fault)
+    }
+
+    // This as an event at the clock's moment.
+    fn event(&self, what: What) -> Event {
+        let moment = moment_of(self.runtime);
+        Event { moment, what }
+    }
+
+    // Sends octets to the source of an event.
+    fn send(&mut self, what: &What, bytes: &[u8]) -> Result<(), Fault>
+        ensures { self.new.readiness.waits ≡ self.old.readiness.waits }
+    {
+        match what {
+            What::Datagram { source, port, .. } => {
+                let to = SocketAddrV4::new(Ipv4Addr::from(*source), *port);
+                self.datagrams.reply(bytes, to)
+            }
+            What::Desk { .. } => {
+                let now = Instant::now(self.runtime).map_err(|_| Fault)?;
+                self.desk.answer(bytes, now)
+            }
+        }
+    }
+}

@@ -1,0 +1,147 @@
+//! Several addresses on loopback: who is asked where, and from where each reply leaves.
+use crate::callers::{REQUEST, echoes, gets, next};
+use crate::turns::reply;
+use acct_net::Sockets;
+use acct_service::{Exchange, What};
+use std::io::Write;
+use std::net::{Ipv4Addr, SocketAddr, TcpStream, UdpSocket};
+use std::test::Fail;
+use std::time::Duration;
+
+// The loopback address with this number.
+fn local(number: u8) -> [u8; 4] {
+    [127, 0, 0, number]
+}
+
+// Sockets at the loopback addresses from 127.0.0.1 on, with a desk at another one.
+fn bound<'r>(rt: &'r HostRuntime, count: u8) -> Result<Sockets<'r, HostRuntime>, Fail> {
+    let mut addresses = Vec::new(rt.alloc());
+    for place in 0..count {
+        addresses.push(local(place.wrapping_add(1)))?;
+    }
+    match Sockets::bind(rt, rt.alloc(), addresses.as_slice(), local(99), 0, 0) {
+        Ok(sockets) => Ok(sockets),
+        Err(_) => Err("no sockets".into()),
+    }
+}
+
+fn client(rt: &HostRuntime) -> Result<UdpSocket, Fail> {
+    let client = UdpSocket::bind(rt, "127.0.0.1:0")?;
+    client.set_read_timeout(Some(Duration::from_secs(5)))?;
+    Ok(client)
+}
+
+// Sends a datagram, of one octet that names the place, to the address with this place.
+fn ask(sockets: &Sockets<'_, HostRuntime>, client: &UdpSocket, place: u8) -> Result<(), Fail> {
+    let port = sockets.radius_port(usize::from(place))?;
+    let address = Ipv4Addr::from(local(place.wrapping_add(1)));
+    client.send_to(&[place], (address, port))?;
+    Ok(())
+}
+
+// Answers the next datagram by its own octets, and gives the place that it names.
+fn answer(sockets: &mut Sockets<'_, HostRuntime>) -> Result<u8, Fail> {
+    let Ok(Some(event)) = next(sockets, 4) else {
+        return Err("no event".into());
+    };
+    let What::Datagram { bytes, .. } = &event.what else {
+        return Err("no datagram".into());
+    };
+    if reply(sockets, &event, bytes.as_slice()).is_err() {
+        return Err("no reply".into());
+    }
+    match bytes.as_slice() {
+        [place] => Ok(*place),
+        _ => Err("other octets".into()),
+    }
+}
+
+// Whether the next reply comes from the address that its octet names.
+fn comes_from_there(sockets: &Sockets<'_, HostRuntime>, client: &UdpSocket) -> Result<bool, Fail> {
+    let mut buffer = [0; 8];
+    let (size, SocketAddr::V4(source)) = client.recv_from(&mut buffer)? else {
+        return Ok(false);
+    };
+    let place = buffer[0];
+    let is_there = source.ip().octets() == local(place.wrapping_add(1))
+        && source.port() == sockets.radius_port(usize::from(place))?;
+    Ok(size == 1 && is_there)
+}
+
+// How many addresses there are, and the places of those that are asked, in this order.
+static ASKED: [(u8, &[u8]); 4] = [
+    (1, &[0, 0]),
+    (2, &[1, 0]),
+    (2, &[0, 1, 1, 1, 0]),
+    (
+        16,
+        &[0, 5, 10, 15, 4, 9, 14, 3, 8, 13, 2, 7, 12, 1, 6, 11, 11, 6],
+    ),
+];
+
+#[test]
+fn replies_from_the_address_that_was_asked(rt: HostRuntime) -> Result<(), Fail> {
+    for (count, asked) in &ASKED {
+        assert!(rt; each_replies(&rt, *count, asked)?);
+    }
+    Ok(())
+}
+
+// Whether each of so many addresses replies for itself.
+fn each_replies(rt: &HostRuntime, count: u8, asked: &[u8]) -> Result<bool, Fail> {
+    let mut sockets = bound(rt, count)?;
+    let client = client(rt)?;
+    for place in asked {
+        ask(&sockets, &client, *place)?;
+    }
+    for _ in asked {
+        let _ = answer(&mut sockets)?;
+        if !comes_from_there(&sockets, &client)? {
+            return Ok(false);
+        }
+    }
+    Ok(sockets.failures() == 0)
+}
+
+// Whether each of ten datagrams that wait was sent to another address than the one before it.
+fn alternate(sockets: &mut Sockets<'_, HostRuntime>) -> Result<bool, Fail> {
+    let mut before = answer(sockets)?;
+    for _ in 1..10 {
+        let now = answer(sockets)?;
+        if now == before {
+            return Ok(false);
+        }
+        before = now;
+    }
+    Ok(true)
+}
+
+// Of two addresses neither waits for more than one datagram of the other one.
+#[test]
+fn addresses_take_turns(rt: HostRuntime) -> Result<(), Fail> {
+    let mut sockets = bound(&rt, 2)?;
+    let client = client(&rt)?;
+    for place in [0, 0, 0, 0, 0, 1, 1, 1, 1, 1] {
+        ask(&sockets, &client, place)?;
+    }
+    assert!(rt; alternate(&mut sockets)?);
+    Ok(())
+}
+
+// The desk is at an address of its own.
+#[test]
+fn serves_callers_at_the_desks_address(rt: HostRuntime) -> Result<(), Fail> {
+    let mut sockets = bound(&rt, 2)?;
+    let (_, desk) = sockets.ports()?;
+    let mut desk_caller = TcpStream::connect(&rt, ("127.0.0.99", desk))?;
+    desk_caller.write_all(REQUEST)?;
+    assert!(rt; echoes(&mut sockets, 8, REQUEST) && gets(rt.alloc(), &mut desk_caller, REQUEST));
+    Ok(())
+}
+
+// There is no server without an address for reports.
+#[test]
+fn binds_one_address_at_least(rt: HostRuntime) {
+    let sockets = Sockets::bind(&rt, rt.alloc(), &[], local(1), 0, 0);
+    assert!(rt; sockets.is_err());
+}

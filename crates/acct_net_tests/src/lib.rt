@@ -1,0 +1,15 @@
+//! Tests of `acct_net` and `acct_net_callers`, of their public calls alone.
+#![tactic(auto)]
+
+#[cfg(test)]
+mod addresses;
+#[cfg(test)]
+mod callers;
+#[cfg(test)]
+mod clock;
+#[cfg(test)]
+mod faults;
+#[cfg(test)]
+mod sizes;
+#[cfg(test)]
+mod turns;

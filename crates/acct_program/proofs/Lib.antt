@@ -1,0 +1,2 @@
+-- what a word of digits spells
+pub mod Numbers

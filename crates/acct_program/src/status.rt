@@ -1,0 +1,23 @@
+//! How the program ends.
+use std::process::ExitCode;
+
+/// How the program ends, by its exit status.
+#[derive(Clone, Copy, PartialEq, Eq, Debug)]
+pub enum Status {
+    /// All was good, or help or the version was asked for.
+    Done = 0,
+    /// A line was bad, the input could not be read, or an answer could not be written.
+    Refused = 1,
+    /// The command line is bad.
+    BadCommandLine = 2,
+    /// The book cannot be opened, read or written, or there is no memory.
+    Unavailable = 3,
+    /// A socket could not be bound.
+    Socket = 4,
+}
+
+impl From<Status> for ExitCode {
+    fn from(status: Status) -> ExitCode {
+        ExitCode::from(status as u8)
+    }
+}

@@ -1,0 +1,10 @@
+-- what was read from a text
+pub mod Readings
+-- the places of a log of drops
+pub mod Places
+-- what holds of the elements of a list up to a place
+pub mod Elements
+-- what a run of `forward` did to its book
+pub mod Forwarded
+-- what the end of an audit means
+pub mod Audited

@@ -1,0 +1,75 @@
+-- What `forward` does.
+use Rattle.std.specs.Prelude.{◌≡◌, ◌⊎◌, ◌≤◌, ℕ, ◌+◌, ◌-◌, ◌*◌, true, false, List, Option, Some}
+use Rattle.std.specs.Prelude.{None}
+use Rattle.std.specs.Prelude.{IfSome, Result, Contains}
+use Rattle.acct_model.specs.declared.plan.Plan.{Plan}
+use Rattle.acct_book.specs.declared.book.Book.{Ghosts}
+use Rattle.acct_book_forward.specs.Carrying.{SelectionFacts, CarriesOn, is_line}
+use Rattle.acct_book.specs.Content.{Content, key_of}
+use Rattle.acct_book.specs.Row.{RowFacts}
+use Rattle.acct_book.specs.Step.{OnlyLooks}
+use Rattle.acct_program_args.specs.declared.job.Carrying.{Carrying}
+use Rattle.acct_program_args.specs.declared.job.Cutoff.{Cutoff}
+use Rattle.acct_program_args.specs.declared.job.Cutoff.TheVariants.{Before, At}
+use Rattle.acct_program_args.specs.Orders.{seconds_of}
+
+-- the moment from which ended sessions stay: so many days of 86,400 seconds before now
+abbrev pub cutoff_at : ℕ → Cutoff → ℕ
+cutoff_at now (Before days) = now - days * 86400
+cutoff_at now (At moment) = moment
+
+-- the moment from which open sessions stay: all of them do if there are no days
+abbrev pub silence_at : ℕ → Option ℕ → ℕ
+silence_at now None = 0
+silence_at now (Some days) = now - days * 86400
+
+-- what is carried at a moment
+abbrev pub selected : Carrying → ℕ → SelectionFacts
+selected carrying now = record {
+  ended_before = cutoff_at now carrying.cutoff;
+  silent_before = silence_at now carrying.silent;
+  kept = carrying.kept.items;
+}
+
+-- both moments are so many seconds before now, or more
+abbrev pub LieBack : SelectionFacts → ℕ → ℕ → Type 0
+LieBack selection seconds now =
+    (selection.ended_before + seconds ≤ now) × (selection.silent_before + seconds ≤ now)
+
+-- Both are 30 days back, and as far back as the oldest report that a server of the book accepts.
+abbrev pub LieFarBack : SelectionFacts → Option ℕ → ℕ → Type 0
+LieFarBack selection oldest now =
+    LieBack selection (30 * 86400) now × IfSome (seconds_of oldest) (λ s. LieBack selection s now)
+
+abbrev pub LiesFarBack : Carrying → ℕ → Type 0
+LiesFarBack carrying now = LieFarBack (selected carrying now) carrying.oldest_report now
+
+-- a session in the account's rows, not a line, has this last moment
+abbrev pub IsToldIn : List RowFacts → ℕ → Type 0
+IsToldIn rows moment = (row : RowFacts) × Contains rows row × (is_line row.client ≡ false)
+    × (row.last ≡ moment)
+
+-- a session of the book has this last moment
+abbrev pub IsToldBy : Content → ℕ → Type 0
+IsToldBy content moment = (row : RowFacts) × (content.rows (key_of row) ≡ Some row)
+    × (is_line row.client ≡ false) × (row.last ≡ moment)
+
+-- the last moment of a session, or 0
+abbrev pub IsNewest : Content → ℕ → Type 0
+IsNewest content newest = (newest ≡ 0) ⊎ IsToldBy content newest
+
+-- a moment is at most 7 days after the newest one of a book
+abbrev pub IsTimely : Content → ℕ → Type 0
+IsTimely content moment =
+    (newest : ℕ) × IsNewest content newest × (moment ≤ newest + 7 * 86400)
+
+-- A run of `forward` at a moment. The requested sessions were carried, as far as the run got. None
+-- were if this was a dry run, if late reports of them may still arrive, or if the clock may be
+-- wrong. It may be wrong if it is more than 7 days past the last report and nobody confirmed it.
+pub record Forwards {B T E : Type 0} (b : Ghosts B) (plans : List Plan) (carrying : Carrying)
+    (moment : ℕ) (old new : B) (ended : Result T E) : Type 0 where
+  pub carries : CarriesOn b (selected carrying moment) plans old new ended
+  pub dry : carrying.is_dry ≡ true → OnlyLooks b old new
+  pub far : OnlyLooks b old new ⊎ LiesFarBack carrying moment
+  pub timely : OnlyLooks b old new
+      ⊎ ((carrying.is_sure ≡ true) ⊎ (b.is_sound new → IsTimely (b.content old) moment))

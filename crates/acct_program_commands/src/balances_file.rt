@@ -1,0 +1,88 @@
+//! The file of all balances, for a RADIUS server that reads them before a login. It has the lines
+//! of `export balances`.
+//!
+//! It is written after a slice of turns, at most once in so many seconds. A failed write changes
+//! nothing else. It is printed once, until a write succeeds again.
+ghost use Rattle.acct_book.specs.Step.{OnlyLooks};
+
+use crate::counted_lines::CountedLines;
+use crate::exporting::run_export;
+use crate::fault::Fault;
+use crate::fresh_file::FreshFile;
+use crate::gauges::{BalancesWritten, Gauges};
+use acct_book::Book;
+use acct_model::Plans;
+use acct_program_args::{BalancesFile, Export};
+use std::alloc::{AllocError, Global};
+use std::fs::Files;
+use std::io::Write;
+
+/// The file shows who owes what: its owner may write it, its group may read it, nobody else may.
+const MODE: u32 = 0o640;
+
+/// The file of all balances of a book, rewritten at an interval.
+#[derive(Drop)]
+pub struct KeptBalances<'r, R> {
+    runtime: &'r R,
+    file: FreshFile,
+}
+
+impl<'r, R: Files> KeptBalances<'r, R> {
+    /// A file that was not written yet.
+    pub fn new(
+        runtime: &'r R,
+        alloc: Global,
+        balances: &BalancesFile,
+    ) -> Result<KeptBalances<'r, R>, AllocError> {
+        let file = FreshFile::new(alloc, &balances.file, MODE, balances.seconds)?;
+        Ok(KeptBalances { runtime, file })
+    }
+
+    /// Writes all balances if that is due at a moment, in seconds since 1970. Notes in `gauges`
+    /// what was written, or prints on `errors` why the write failed.
+    pub fn keep<B: Book, E: Write>(
+        &mut self,
+        alloc: Global,
+        plans: &Plans,
+        book: &mut B,
+        moment: u64,
+        gauges: &Gauges,
+        errors: &mut E,
+    )
+        ensures { OnlyLooks B.Book book.old book.new }
+    {
+        if !self.file.is_due(moment) {
+            return;
+        }
+        let written = write_file(self.runtime, alloc, &self.file, plans, book);
+        let noted = match written {
+            Ok((accounts, overdrawn)) => {
+                gauges.note_balances(BalancesWritten {
+                    at: moment,
+                    accounts,
+                    overdrawn,
+                });
+                Ok(())
+            }
+            Err(fault) => Err(fault),
+        };
+        let _ = self.file.note("balances", noted, errors);
+    }
+}
+
+// Writes all balances into a file, as `export balances` does. Returns the number of accounts and of
+// overdrawn ones.
+fn write_file<R: Files, B: Book>(
+    runtime: &R,
+    alloc: Global,
+    file: &FreshFile,
+    plans: &Plans,
+    book: &mut B,
+) -> Result<(u64, u64), Fault>
+    ensures { OnlyLooks B.Book book.old book.new }
+{
+    let writer = CountedLines::new(file.begin(runtime)?);
+    let written = run_export(alloc, Export::Balances, plans, book, writer)?;
+    file.finish(runtime)?;
+    Ok((written.accounts(), written.overdrawn()))
+}

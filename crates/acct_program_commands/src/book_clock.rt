@@ -1,0 +1,89 @@
+//! Checks the clock against the book: it must not be before the book's last change.
+ghost use Rattle.std.specs.Prelude.{◌<◌, Some, OnOk};
+ghost use Rattle.std.specs.Io.KnownBytes.{Appends};
+ghost use Rattle.acct_program_commands.specs.BookClock.{late_text, late_line};
+
+use acct_model::Text;
+use acct_net::moment_of;
+use std::alloc::AllocError;
+use std::fs::Files;
+use std::io::Write;
+use std::time::{Clock, UNIX_EPOCH};
+use std::{fmt, fs, io};
+
+// A clock that is before the last change of a book.
+#[derive(Clone, Copy)]
+struct LateClock {
+    // What the clock says, in seconds since 1970.
+    moment: u64,
+    // When the book was last written, in seconds since 1970.
+    written_at: u64,
+}
+
+impl fmt::Display for LateClock {
+    ghost output = { λ late. Some (late_text late.moment late.written_at) };
+
+    fn fmt<W: fmt::Write>(&self, f: &mut fmt::Formatter<W>) -> fmt::Result {
+        let (moment, written_at) = (self.moment, self.written_at);
+        write!(
+            f,
+            "clock: {moment} is before {written_at}, when the book was last written"
+        )
+    }
+}
+
+/// Prints a line on `errors` if the clock is before the last write of a book's file or of its log,
+/// `FILE-wal`. Prints nothing if these moments are not known.
+pub fn note_clock<R: Files + Clock + AllocGlobal, E: Write>(
+    runtime: &R,
+    file: &Text,
+    errors: &mut E,
+) {
+    let moment = moment_of(runtime);
+    let written_at = written_at(runtime, file);
+    let _ = write_late(errors, moment, written_at);
+}
+
+// Prints a line if a clock is before the last change of a book.
+fn write_late<E: Write>(errors: &mut E, moment: u64, written_at: u64) -> io::Result<()>
+    ensures { OnOk result (Appends (E.contents errors.old) (E.contents errors.new)
+        (late_line moment written_at)) }
+{
+    if moment >= written_at {
+        return Ok(());
+    }
+    let late = LateClock { moment, written_at };
+    writeln!(errors, "{late}")?;
+    errors.flush()
+}
+
+// When the file of a book or its log was last written, in seconds since 1970: 0 if that is not
+// known.
+fn written_at<R: Files + AllocGlobal>(runtime: &R, file: &Text) -> u64 {
+    let written = changed_at(runtime, file);
+    match log_of(runtime, file) {
+        Ok(log) => written.max(changed_at(runtime, &log)),
+        Err(_) => written,
+    }
+}
+
+// The log of a book's file.
+fn log_of<R: AllocGlobal>(runtime: &R, file: &Text) -> Result<Text, AllocError> {
+    let name = file.as_str();
+    let text = format!(in runtime.alloc(); "{name}-wal")?;
+    Ok(Text { text })
+}
+
+// When a file was last written, in seconds since 1970: 0 if that is not known.
+fn changed_at<R: Files>(runtime: &R, file: &Text) -> u64 {
+    let Ok(metadata) = fs::metadata(runtime, file.as_str()) else {
+        return 0;
+    };
+    let Ok(changed) = metadata.modified() else {
+        return 0;
+    };
+    match changed.duration_since(UNIX_EPOCH) {
+        Ok(since) => since.as_secs(),
+        Err(_) => 0,
+    }
+}

@@ -1,0 +1,84 @@
+//! `check`: reads a configuration, and prints its sizes.
+ghost use Rattle.std.specs.Prelude.{◌≡◌, IfOk, IfErr, OnOk, None};
+ghost use Rattle.std.specs.Io.KnownBytes.{Appends};
+ghost use Rattle.acct_program_commands.specs.Checks.{TellsSizes, IsUnchecked, sizes_line};
+
+use crate::config_file::{config_from, is_waited_for};
+use crate::fault::Fault;
+use acct_model::Text;
+use acct_program::Status;
+use acct_site::Config;
+use std::alloc::Global;
+use std::fs::{File, Files};
+use std::io;
+use std::io::{Read, Write};
+
+/// Prints how many clients, plans and keys the configuration in a file has, as `check_from` does.
+///
+/// # Errors
+///
+/// `CannotRead` if the file cannot be opened, or if opening it could block; and those of
+/// `check_from`.
+pub fn run_check<R: Files, W: Write>(
+    runtime: &R,
+    alloc: Global,
+    file: &Text,
+    output: &mut W,
+) -> Result<Status, Fault>
+    ensures done { IfOk result (λ status. status ≡ Status.Done) }
+    ensures sizes { OnOk result (TellsSizes None (W.contents output.old) (W.contents output.new)) }
+    ensures refused { IfErr result (IsUnchecked None) }
+{
+    if is_waited_for(runtime, file.as_str()) {
+        return Err(Fault::CannotRead);
+    }
+    match File::open(runtime, file.as_str()) {
+        Ok(mut reader) => check_from(alloc, &mut reader, output),
+        Err(_) => Err(Fault::CannotRead),
+    }
+}
+
+/// Prints how many clients, plans and keys the configuration of a reader has.
+///
+/// # Errors
+///
+/// Those of `config_from`, and `CannotWrite`.
+pub fn check_from<R: Read, W: Write>(
+    alloc: Global,
+    reader: &mut R,
+    output: &mut W,
+) -> Result<Status, Fault>
+    ensures done { IfOk result (λ status. status ≡ Status.Done) }
+    ensures sizes { OnOk result (TellsSizes (R.remaining reader.old) (W.contents output.old)
+        (W.contents output.new)) }
+    ensures refused { IfErr result (IsUnchecked (R.remaining reader.old)) }
+{
+    let config = config_from(alloc, reader)?;
+    write_sizes(output, &config)
+}
+
+/// Prints how many clients, plans and keys a configuration has.
+///
+/// # Errors
+///
+/// `CannotWrite`.
+pub fn write_sizes<W: Write>(output: &mut W, config: &Config) -> Result<Status, Fault>
+    ensures done { IfOk result (λ status. status ≡ Status.Done) }
+    ensures sizes { OnOk result (Appends (W.contents output.old) (W.contents output.new)
+        (sizes_line config.now)) }
+    ensures why { IfErr result (λ told. told ≡ Fault.CannotWrite) }
+{
+    write_line(output, config)?;
+    output.flush()?;
+    Ok(Status::Done)
+}
+
+fn write_line<W: Write>(output: &mut W, config: &Config) -> io::Result<()>
+    ensures { OnOk result (Appends (W.contents output.old) (W.contents output.new)
+        (sizes_line config.now)) }
+{
+    let clients = config.clients.list().len();
+    let plans = config.plans.list().len();
+    let keys = config.keys.list().len();
+    writeln!(output, "ok: {clients} clients, {plans} plans, {keys} keys")
+}

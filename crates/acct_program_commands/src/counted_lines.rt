@@ -1,0 +1,63 @@
+//! A writer of balances that counts the accounts.
+use std::io;
+use std::io::Write;
+
+// How the line of an account ends that is not overdrawn.
+const NO_OVERRUN: [u8; 2] = *b",0";
+
+/// A writer that passes all octets on. It counts the lines of `export balances` in them: all of
+/// them, and those of overdrawn accounts.
+#[derive(Drop)]
+pub(crate) struct CountedLines<W> {
+    writer: W,
+    lines: u64,
+    overdrawn: u64,
+    last: [u8; 2],
+}
+
+impl<W: Write> CountedLines<W> {
+    /// A writer to which nothing was written yet.
+    pub(crate) fn new(writer: W) -> CountedLines<W> {
+        CountedLines {
+            writer,
+            lines: 0,
+            overdrawn: 0,
+            last: [0; 2],
+        }
+    }
+
+    /// How many accounts were written. The first line has the column names.
+    pub(crate) fn accounts(&self) -> u64 {
+        self.lines.saturating_sub(1)
+    }
+
+    /// How many overdrawn accounts were written.
+    pub(crate) fn overdrawn(&self) -> u64 {
+        self.overdrawn.saturating_sub(1)
+    }
+
+    // Counts a line, if it ends here.
+    fn note(&mut self, octet: u8) {
+        if octet == b'\n' {
+            self.lines = self.lines.saturating_add(1);
+            if self.last != NO_OVERRUN {
+                self.overdrawn = self.overdrawn.saturating_add(1);
+            }
+        }
+        self.last = [self.last[1], octet];
+    }
+}
+
+impl<W: Write> Write for CountedLines<W> {
+    fn write(&mut self, octets: &[u8]) -> io::Result<usize> {
+        let written = self.writer.write(octets)?;
+        for octet in octets.iter().take(written) {
+            self.note(*octet);
+        }
+        Ok(written)
+    }
+
+    fn flush(&mut self) -> io::Result<()> {
+        self.writer.flush()
+    }
+}

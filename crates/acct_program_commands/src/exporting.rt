@@ -1,0 +1,47 @@
+//! `export`: the book as CSV.
+ghost use Rattle.std.specs.Prelude.{IfOk, IfErr};
+ghost use Rattle.acct_book.specs.Step.{Looks};
+ghost use Rattle.acct_program_commands.specs.Exports.{Exports, IsExportFault};
+
+use crate::fault::{Fault, StoreFault};
+use acct_book::Book;
+use acct_files::{ExportError, export_balances, export_overruns, export_sessions, export_topups};
+use acct_model::Plans;
+use acct_program_args::Export;
+use std::alloc::Global;
+use std::io::Write;
+
+/// Writes one of the exports, and returns the writer, flushed.
+///
+/// # Errors
+///
+/// `Store` if the book fails, `StoreMemory` if an allocation fails, `CannotWrite`.
+pub fn run_export<B: Book, W: Write + Drop>(
+    alloc: Global,
+    what: Export,
+    plans: &Plans,
+    book: &mut B,
+    output: W,
+) -> Result<W, Fault>
+    ensures reads { Looks B.Book
+        book.old book.new result }
+    ensures exports { IfOk result (λ writer. Exports plans.now (B.content book.old)
+        (B.is_open book.new) (W.contents output) (W.contents writer) what) }
+    ensures why { IfErr result IsExportFault }
+{
+    let written = match what {
+        Export::Sessions => export_sessions(alloc, book, plans, output),
+        Export::Balances => export_balances(alloc, book, output),
+        Export::TopUps => export_topups(alloc, book, output),
+        Export::Overruns => export_overruns(alloc, book, output),
+    };
+    match written {
+        Ok(mut writer) => {
+            writer.flush()?;
+            Ok(writer)
+        }
+        Err(ExportError::Unavailable) => Err(Fault::Store(StoreFault::Unavailable)),
+        Err(ExportError::WriteFault) => Err(Fault::CannotWrite),
+        Err(ExportError::Memory) => Err(Fault::StoreMemory),
+    }
+}

@@ -1,0 +1,84 @@
+//! What the program's server does between slices of turns. It writes the file of balances, if that
+//! is due, and takes another configuration, if its text changed.
+ghost use Rattle.std.specs.Prelude.{◌≡◌};
+ghost use Rattle.acct_book.specs.Step.{OnlyLooks};
+ghost use Rattle.acct_program_commands.specs.NewSite.{LooksAndTakes};
+
+use crate::balances_file::KeptBalances;
+use crate::gauges::Gauges;
+use crate::new_site::take_site;
+use crate::site_source::SiteSource;
+use acct_book::Book;
+use acct_net::moment_of;
+use acct_service::Rounds;
+use acct_site::Config;
+use std::alloc::Global;
+use std::fs::Files;
+use std::io::Write;
+use std::time::Clock;
+
+/// Polls the text of a server's configuration, and writes the file of all balances, if it has one.
+/// Prints to a writer, and notes in gauges what it finds. Reads the clock once in each call.
+pub struct FileRounds<'r, R, S: Drop, E: Drop> {
+    runtime: &'r R,
+    source: S,
+    balances: Option<KeptBalances<'r, R>>,
+    gauges: &'r Gauges,
+    errors: E,
+}
+
+impl<'r, R, S: Drop, E: Drop> Drop for FileRounds<'r, R, S, E> {
+    fn drop(self) {
+        let FileRounds {
+            runtime: _,
+            source: _,
+            balances: _,
+            gauges: _,
+            errors: _,
+        } = self;
+    }
+}
+
+impl<'r, R: Files + Clock, S: SiteSource + Drop, E: Write + Drop> FileRounds<'r, R, S, E> {
+    /// Nothing was polled yet.
+    pub fn new(
+        runtime: &'r R,
+        source: S,
+        balances: Option<KeptBalances<'r, R>>,
+        gauges: &'r Gauges,
+        errors: E,
+    ) -> FileRounds<'r, R, S, E>
+        ensures { result.source ≡ source }
+    {
+        FileRounds {
+            runtime,
+            source,
+            balances,
+            gauges,
+            errors,
+        }
+    }
+}
+
+impl<'r, R: Files + Clock, S: SiteSource + Drop, E: Write + Drop> Rounds
+    for FileRounds<'r, R, S, E> {
+    ghost goes = { λ old config gave new.
+        LooksAndTakes config.plans (S.sights old.source) gave (S.sights new.source) };
+
+    fn go_round<B: Book>(
+        &mut self,
+        alloc: Global,
+        config: &Config,
+        book: &mut B,
+    ) -> Option<Config> {
+        let moment = moment_of(self.runtime);
+        if let Some(balances) = &mut self.balances {
+            let errors = &mut self.errors;
+            balances.keep(alloc, &config.plans, book, moment, self.gauges, errors);
+        }
+        let read = self.source.look(alloc, moment)?;
+        let taken = take_site(alloc, read, &config.plans, &mut self.errors);
+        self.gauges.note_config(taken.is_current);
+        taken.site
+    }
+}

@@ -1,0 +1,127 @@
+//! A file that is rewritten from time to time.
+ghost use Rattle.std.specs.Prelude.{◌≡◌, ◌↔◌, ◌++◌, IsTrue, IfOk, OnOk, Some, false, codes, is_err};
+ghost use Rattle.acct_program_commands.specs.Fresh.{IsDue, TellsTrouble};
+
+use crate::fault::Fault;
+use acct_model::Text;
+use std::alloc::{AllocError, Global};
+use std::fs::{File, Files, OpenFile, Permissions};
+use std::io::Write;
+use std::os::unix::fs::{OpenOptionsExt, PermissionsExt};
+use std::{fs, io};
+
+/// A file that is rewritten from time to time, each time as a whole. It is written under its name
+/// with `.new` appended, and then renamed, so that every reader finds a whole file.
+pub(crate) struct FreshFile {
+    name: Text,
+    new_name: Text,
+    mode: u32,
+    pause: u64,
+    begun_at: Option<u64>,
+    is_failing: bool,
+}
+
+impl Drop for FreshFile {
+    fn drop(self) {
+        let FreshFile {
+            name: _,
+            new_name: _,
+            mode: _,
+            pause: _,
+            begun_at: _,
+            is_failing: _,
+        } = self;
+    }
+}
+
+impl FreshFile {
+    /// A file that was not written yet, with its mode and the least seconds between two writes.
+    pub(crate) fn new(
+        alloc: Global,
+        name: &Text,
+        mode: u32,
+        pause: u64,
+    ) -> Result<FreshFile, AllocError>
+        ensures name { IfOk result (λ f. f.name ≡ name.now) }
+        ensures new_name { IfOk result (λ f. f.new_name ≡ name.now ++ codes ".new") }
+    {
+        let old = name.as_str();
+        let text = format!(in alloc; "{old}.new")?;
+        Ok(FreshFile {
+            name: name.copy(alloc)?,
+            new_name: Text { text },
+            mode,
+            pause,
+            begun_at: None,
+            is_failing: false,
+        })
+    }
+
+    /// Whether the file is due at a moment, in seconds since 1970, which is then kept. It is due if
+    /// it was never written, or if the last write began at least `pause` seconds away, whichever
+    /// way the clock went.
+    pub(crate) fn is_due(&mut self, moment: u64) -> bool
+        ensures due { IsTrue result ↔ IsDue self.old.pause self.old.begun_at moment }
+        ensures kept { IsTrue result → self.new ≡ record self.old { begun_at = Some moment } }
+        ensures same { result ≡ false → self.new ≡ self.old }
+    {
+        let is_due = match self.begun_at {
+            None => true,
+            Some(last) => moment.abs_diff(last) >= self.pause,
+        };
+        if is_due {
+            self.begun_at = Some(moment);
+        }
+        is_due
+    }
+
+    /// Begins a write: opens the file that will replace it. That file gets its mode, whatever the
+    /// program's umask is.
+    ///
+    /// # Errors
+    ///
+    /// Those of the system.
+    pub(crate) fn begin<R: Files>(&self, runtime: &R) -> io::Result<R::File> {
+        let mut options = File::options();
+        options
+            .write(true)
+            .create(true)
+            .truncate(true)
+            .mode(self.mode);
+        let file = options.open(runtime, self.new_name.as_str())?;
+        let _ = file.set_permissions(Permissions::from_mode(self.mode));
+        Ok(file)
+    }
+
+    /// Ends a write: renames the new file over the old one.
+    ///
+    /// # Errors
+    ///
+    /// Those of the system.
+    pub(crate) fn finish<R: Files>(&self, runtime: &R) -> io::Result<()> {
+        fs::rename(runtime, self.new_name.as_str(), self.name.as_str())
+    }
+
+    /// Notes whether a write succeeded. The first failure is printed, and no further one until a
+    /// write succeeds.
+    pub(crate) fn note<E: Write>(
+        &mut self,
+        what: &'static str,
+        written: Result<(), Fault>,
+        errors: &mut E,
+    ) -> io::Result<()>
+        ensures failing { self.new.is_failing ≡ is_err written }
+        ensures tells { OnOk result (TellsTrouble self.old.is_failing what.now written
+            (E.contents errors.old) (E.contents errors.new)) }
+    {
+        let was_failing = self.is_failing;
+        self.is_failing = written.is_err();
+        match written {
+            Err(fault) if !was_failing => {
+                writeln!(errors, "{what}: {fault}")?;
+                errors.flush()
+            }
+            _ => Ok(()),
+        }
+    }
+}

@@ -1,0 +1,75 @@
+//! The file of the configuration, which the server polls while it runs.
+ghost use Rattle.std.specs.Prelude.{None};
+
+use crate::config_file::read_file;
+use crate::site_source::SiteSource;
+use acct_model::{Octets, Text};
+use acct_program::InputFault;
+use std::alloc::Global;
+use std::fs;
+use std::fs::Files;
+use std::time::SystemTime;
+
+/// The file of a configuration. It counts as changed if its modification time or its length
+/// differs. It is polled at most once in a second.
+#[derive(Drop)]
+pub struct SiteFile<'a, R> {
+    runtime: &'a R,
+    name: &'a Text,
+    seen: Option<Seen>,
+    looked_at: Option<u64>,
+}
+
+// What the metadata of a file show.
+#[derive(Clone, Copy, PartialEq, Eq)]
+struct Seen {
+    changed: Option<SystemTime>,
+    length: u64,
+}
+
+impl<'a, R: Files> SiteFile<'a, R> {
+    /// The file of this name, with its metadata of now. Call it before the file is first read, so
+    /// that no change is missed.
+    pub fn new(runtime: &'a R, name: &'a Text) -> SiteFile<'a, R> {
+        SiteFile {
+            runtime,
+            name,
+            seen: see(runtime, name),
+            looked_at: None,
+        }
+    }
+
+    // Whether the file's metadata differ from those of the last poll.
+    fn is_changed(&mut self, moment: u64) -> bool {
+        if self.looked_at == Some(moment) {
+            return false;
+        }
+        self.looked_at = Some(moment);
+        let seen = see(self.runtime, self.name);
+        let is_changed = seen != self.seen;
+        self.seen = seen;
+        is_changed
+    }
+}
+
+impl<'a, R: Files> SiteSource for SiteFile<'a, R> {
+    ghost sights = { λ _. None };
+
+    fn look(&mut self, alloc: Global, moment: u64) -> Option<Result<Octets, InputFault>> {
+        if !self.is_changed(moment) {
+            return None;
+        }
+        Some(read_file(self.runtime, alloc, self.name))
+    }
+}
+
+// The metadata of a file, if there is one.
+fn see<R: Files>(runtime: &R, name: &Text) -> Option<Seen> {
+    match fs::metadata(runtime, name.as_str()) {
+        Ok(metadata) => Some(Seen {
+            changed: metadata.modified().ok(),
+            length: metadata.len(),
+        }),
+        Err(_) => None,
+    }
+}

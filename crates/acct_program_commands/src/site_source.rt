@@ -1,0 +1,19 @@
+//! Polls a server's configuration while it runs.
+ghost use Rattle.std.specs.Prelude.{◌∷◌, [], List, Option};
+ghost use Rattle.acct_service.specs.Told.{Grows};
+ghost use Rattle.acct_program_commands.specs.Sights.{Sight};
+
+use acct_model::Octets;
+use acct_program::InputFault;
+use std::alloc::Global;
+
+/// A text that is polled again and again.
+pub trait SiteSource {
+    /// What each poll returned, the oldest first, if that is known.
+    ghost sights: { Self → Option (List Sight) };
+
+    /// Polls the text at a moment, in seconds since 1970. If it changed since the last poll,
+    /// returns all its octets, or why they cannot be read.
+    fn look(&mut self, alloc: Global, moment: u64) -> Option<Result<Octets, InputFault>>
+        ensures { Grows (sights self.old) (result ∷ []) (sights self.new) };
+}

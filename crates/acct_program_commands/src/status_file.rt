@@ -1,0 +1,263 @@
+//! The file of a server's counts since its start, for a metrics collector, in the text format of
+//! Prometheus.
+//!
+//! It is written before the first turn's event is counted, then at the next turn after ten seconds
+//! or more, and at the end. A failed write changes nothing else. It is printed once, until a write
+//! succeeds again.
+ghost use Rattle.std.specs.Prelude.{◌≡◌, ◌^◌, ◌<◌, false, IfOk, replicate};
+ghost use Rattle.acct_program_commands.specs.Tally.{no_tally, with_mute, with_came, with_reply};
+ghost use Rattle.acct_program_commands.specs.Tally.{with_drop};
+ghost use Rattle.acct_program_commands.specs.Tally.{is_event, with_drop_for, last_event};
+ghost use Rattle.acct_program_commands.specs.Tally.{with_arrival};
+ghost use Rattle.acct_program_commands.specs.Tally.{is_report, is_request};
+
+use crate::fault::Fault as Trouble;
+use crate::figures::{Figures, State, write_figures};
+use crate::fresh_file::FreshFile;
+use crate::gauges::Gauges;
+use crate::tally::{Arrivals, Meter};
+use acct_model::Text;
+use acct_service::{Event, Fault, What};
+use acct_wire::Reason;
+use std::alloc::{AllocError, Global};
+use std::fs;
+use std::fs::Files;
+use std::io::{BufWriter, Write};
+
+/// For how many seconds the file stays unchanged after a write.
+const PAUSE: u64 = 10;
+/// Everyone may read it.
+const MODE: u32 = 0o644;
+
+/// The file of a server's counts. A failed write is printed on a writer.
+pub struct StatusFile<'r, R, E> {
+    runtime: &'r R,
+    alloc: Global,
+    file: FreshFile,
+    meter: Meter,
+    dropped: [u64; Reason::COUNT],
+    started_at: u64,
+    last_event_at: u64,
+    reports: Arrivals,
+    requests: Arrivals,
+    state: StateSource<'r, R>,
+    errors: E,
+}
+
+impl<'r, R, E: Drop> Drop for StatusFile<'r, R, E> {
+    fn drop(self) {
+        let StatusFile {
+            runtime: _,
+            alloc: _,
+            file: _,
+            meter: _,
+            dropped: _,
+            started_at: _,
+            last_event_at: _,
+            reports: _,
+            requests: _,
+            state: _,
+            errors: _,
+        } = self;
+    }
+}
+
+/// Where the state of a server is read: its gauges, and the files of its book.
+pub struct StateSource<'r, R> {
+    runtime: &'r R,
+    gauges: &'r Gauges,
+    book: Text,
+    log: Text,
+}
+
+impl<'r, R> Drop for StateSource<'r, R> {
+    fn drop(self) {
+        let StateSource {
+            runtime: _,
+            gauges: _,
+            book: _,
+            log: _,
+        } = self;
+    }
+}
+
+impl<'r, R: Files> StateSource<'r, R> {
+    /// The state of a server that has these gauges and the book in this file.
+    pub fn new(
+        runtime: &'r R,
+        alloc: Global,
+        gauges: &'r Gauges,
+        book: &Text,
+    ) -> Result<StateSource<'r, R>, AllocError> {
+        let name = book.as_str();
+        let log = format!(in alloc; "{name}-wal")?;
+        Ok(StateSource {
+            runtime,
+            gauges,
+            book: book.copy(alloc)?,
+            log: Text { text: log },
+        })
+    }
+
+    // The state as it is now.
+    fn read(&self) -> State {
+        State {
+            is_current: self.gauges.is_current(),
+            balances: self.gauges.balances(),
+            book_octets: octets_of(self.runtime, &self.book),
+            log_octets: octets_of(self.runtime, &self.log),
+        }
+    }
+}
+
+// How many octets a file has, if that is known.
+fn octets_of<R: Files>(runtime: &R, file: &Text) -> Option<u64> {
+    match fs::metadata(runtime, file.as_str()) {
+        Ok(found) => Some(found.len()),
+        Err(_) => None,
+    }
+}
+
+impl<'r, R: Files, E: Write> StatusFile<'r, R, E> {
+    /// A file that is not written yet, of a server that starts at this moment, in seconds since
+    /// 1970.
+    pub fn new(
+        runtime: &'r R,
+        alloc: Global,
+        name: &Text,
+        started_at: u64,
+        state: StateSource<'r, R>,
+        errors: E,
+    ) -> Result<StatusFile<'r, R, E>, AllocError>
+    where
+        E: Drop,
+    {
+        Ok(StatusFile {
+            runtime,
+            alloc,
+            file: FreshFile::new(alloc, name, MODE, PAUSE)?,
+            meter: Meter::new(),
+            dropped: [0; Reason::COUNT],
+            started_at,
+            last_event_at: 0,
+            reports: Arrivals::none(),
+            requests: Arrivals::none(),
+            state,
+            errors,
+        })
+    }
+
+    /// The counts so far.
+    pub fn figures(&self) -> Figures
+        ensures tally { result.tally ≡ self.now.meter.tally }
+        ensures dropped { result.dropped ≡ self.now.dropped }
+        ensures started { result.started_at ≡ self.now.started_at }
+        ensures last { result.last_event_at ≡ self.now.last_event_at }
+        ensures reports { result.reports ≡ self.now.reports }
+        ensures requests { result.requests ≡ self.now.requests }
+    {
+        Figures {
+            tally: self.meter.tally,
+            dropped: self.dropped,
+            started_at: self.started_at,
+            last_event_at: self.last_event_at,
+            reports: self.reports,
+            requests: self.requests,
+            state: self.state.read(),
+        }
+    }
+
+    // Writes the counts before a turn if the file is due at this moment, and then counts the turn.
+    pub(crate) fn note_turn(&mut self, came: &Result<Option<Event>, Fault>, moment: u64)
+        ensures counts { self.new.meter.tally
+            ≡ with_came came.now (with_mute self.old.meter.is_unanswered self.old.meter.tally) }
+        ensures waits { self.new.meter.is_unanswered ≡ is_event came.now }
+        ensures dropped { self.new.dropped ≡ self.old.dropped }
+        ensures last { self.new.last_event_at ≡ last_event came.now self.old.last_event_at }
+        ensures started { self.new.started_at ≡ self.old.started_at }
+        ensures reports { self.new.reports
+            ≡ with_arrival (is_report came.now) came.now self.old.reports }
+        ensures requests { self.new.requests
+            ≡ with_arrival (is_request came.now) came.now self.old.requests }
+    {
+        self.meter.note_mute();
+        if self.file.is_due(moment) {
+            self.write();
+        }
+        self.meter.note_came(came);
+        if let Ok(Some(event)) = came {
+            self.last_event_at = event.moment;
+            match &event.what {
+                What::Datagram { .. } => self.reports = self.reports.and_at(event.moment),
+                What::Desk { .. } => self.requests = self.requests.and_at(event.moment),
+            }
+        }
+    }
+
+    // Counts a reply, which was taken or not.
+    pub(crate) fn note_reply(&mut self, is_taken: bool)
+        ensures counts { self.new.meter.tally ≡ with_reply is_taken self.old.meter.tally }
+        ensures answered { self.new.meter.is_unanswered ≡ false }
+        ensures dropped { self.new.dropped ≡ self.old.dropped }
+    {
+        self.meter.note_reply(is_taken);
+    }
+
+    // Counts a drop.
+    pub(crate) fn note_drop(&mut self, reason: Reason)
+        ensures counts { self.new.meter.tally ≡ with_drop self.old.meter.tally }
+        ensures answered { self.new.meter.is_unanswered ≡ false }
+        ensures dropped { self.new.dropped ≡ with_drop_for reason self.old.dropped }
+    {
+        self.meter.note_drop();
+        let place = reason.place();
+        self.dropped[place] = self.dropped[place].saturating_add(1);
+    }
+
+    // Writes the counts, or prints why it cannot.
+    fn write(&mut self)
+        ensures counts { self.new.meter ≡ self.old.meter }
+        ensures dropped { self.new.dropped ≡ self.old.dropped }
+        ensures last { self.new.last_event_at ≡ self.old.last_event_at }
+        ensures started { self.new.started_at ≡ self.old.started_at }
+        ensures reports { self.new.reports ≡ self.old.reports }
+        ensures requests { self.new.requests ≡ self.old.requests }
+    {
+        let figures = self.figures();
+        let written = write_file(self.runtime, self.alloc, &self.file, &figures);
+        let _ = self.file.note("status", written, &mut self.errors);
+    }
+
+    // Writes the counts at the end, and returns the writer.
+    pub(crate) fn finish(mut self) -> E {
+        self.meter.note_mute();
+        self.write();
+        let StatusFile {
+            runtime: _,
+            alloc: _,
+            file: _,
+            meter: _,
+            dropped: _,
+            started_at: _,
+            last_event_at: _,
+            reports: _,
+            requests: _,
+            state: _,
+            errors,
+        } = self;
+        errors
+    }
+}
+
+// Writes the counts into a file.
+fn write_file<R: Files>(
+    runtime: &R,
+    alloc: Global,
+    file: &FreshFile,
+    figures: &Figures,
+) -> Result<(), Trouble> {
+    let mut writer = BufWriter::new(alloc, file.begin(runtime)?)?;
+    write_figures(&mut writer, figures)?;
+    file.finish(runtime)?;
+    Ok(())
+}

@@ -1,0 +1,293 @@
+//! A server's exchange that logs, while the server runs, what it drops and how much it receives. It
+//! also writes a file of its counts.
+//!
+//! 1. The first drop of a source and a reason is logged at once, and the next ones as `DropLog`
+//!    says.
+//! 2. Events are counted. The counts are printed at the first turn that is a minute or more after
+//!    the first of them.
+//! 3. The moment of a turn is that of its event, or the clock's if it has none. The clock is not
+//!    read if nothing is logged or written.
+//! 4. A line that cannot be written is lost, and changes nothing else.
+ghost use Rattle.std.specs.Prelude.{◌≡◌, ◌++◌, ◌∷◌, [], ℕ, Option, OnOk, replicate, None, false};
+ghost use Rattle.std.specs.Prelude.{◌<◌, ◌^◌};
+ghost use Rattle.std.specs.Io.KnownBytes.{Appends};
+ghost use Rattle.acct_program_commands.specs.Told.{WritesDrop, minute_text};
+ghost use Rattle.acct_program_commands.specs.Tally.{with_reply, with_drop};
+ghost use Rattle.acct_program_commands.specs.inner.ToldDrops.{TellsOf};
+
+use crate::drop_log::DropLog;
+use crate::status_file::StatusFile;
+use crate::tally::{Meter, Tally};
+use crate::told::{Minute, ToldDrop};
+use acct_net::moment_of;
+use acct_service::{Event, Exchange, Fault, What};
+use acct_wire::Reason;
+use std::fs::Files;
+use std::io;
+use std::io::Write;
+use std::time::Clock;
+
+/// For how many seconds events are counted before the counts are printed.
+const MINUTE: u64 = 60;
+
+/// What is logged to a writer while a server runs.
+pub struct Watch<W: Write> {
+    writer: W,
+    log: DropLog,
+    meter: Meter,
+    began_at: u64,
+}
+
+impl<W: Write + Drop> Drop for Watch<W> {
+    fn drop(self) {
+        let Watch {
+            writer: _,
+            log: _,
+            meter: _,
+            began_at: _,
+        } = self;
+    }
+}
+
+impl<W: Write> Watch<W> {
+    /// A watch that has logged nothing. It allocates no memory.
+    pub fn new(writer: W) -> Watch<W>
+        ensures drops { result.log ≡ replicate 256 None }
+        ensures writer { result.writer ≡ writer }
+    {
+        Watch {
+            writer,
+            log: DropLog::new(),
+            meter: Meter::new(),
+            began_at: 0,
+        }
+    }
+
+    // Counts a turn at a moment. First prints the counts before it, if their minute is over.
+    fn note_turn(&mut self, came: &Result<Option<Event>, Fault>, moment: u64) {
+        self.meter.note_mute();
+        if self.meter.tally != Tally::none() && moment.abs_diff(self.began_at) >= MINUTE {
+            self.tell_minute();
+        }
+        if self.meter.tally == Tally::none() {
+            self.began_at = moment;
+        }
+        self.meter.note_came(came);
+    }
+
+    // Counts a reply, which was taken or not.
+    fn note_reply(&mut self, is_taken: bool)
+        ensures counts { self.new.meter.tally ≡ with_reply is_taken self.old.meter.tally }
+        ensures answered { self.new.meter.is_unanswered ≡ false }
+        ensures log { self.new.log ≡ self.old.log }
+    {
+        self.meter.note_reply(is_taken);
+    }
+
+    // Counts a drop, and logs it if it is due.
+    fn note_drop(&mut self, event: &Event, reason: Reason) -> io::Result<()>
+        ensures counts { self.new.meter.tally ≡ with_drop self.old.meter.tally }
+        ensures answered { self.new.meter.is_unanswered ≡ false }
+        ensures tells { OnOk result (TellsOf event.now.what reason event.now.moment self.old.log
+            self.new.log (W.contents self.old.writer) (W.contents self.new.writer)) }
+    {
+        self.meter.note_drop();
+        match &event.what {
+            What::Datagram { source, port, .. } => write_drop(
+                &mut self.writer,
+                &mut self.log,
+                *source,
+                *port,
+                reason,
+                event.moment,
+            ),
+            What::Desk { .. } => Ok(()),
+        }
+    }
+
+    // Prints what was counted since it was last printed.
+    fn tell_minute(&mut self) {
+        let tally = self.meter.tally;
+        let _ = write_minute(&mut self.writer, &Minute { tally });
+        self.meter.tally = Tally::none();
+    }
+
+    // Prints the remaining counts at the end.
+    fn finish(mut self) -> W {
+        self.meter.note_mute();
+        if self.meter.tally != Tally::none() {
+            self.tell_minute();
+        }
+        let Watch {
+            writer,
+            log: _,
+            meter: _,
+            began_at: _,
+        } = self;
+        writer
+    }
+}
+
+// Logs a drop at a moment, if it is due.
+fn write_drop<W: Write>(
+    writer: &mut W,
+    log: &mut DropLog,
+    source: [u8; 4],
+    port: u16,
+    reason: Reason,
+    moment: u64,
+) -> io::Result<()>
+    ensures { OnOk result ((more : Option ℕ) × WritesDrop log.old log.new source port reason moment
+        (W.contents writer.old) (W.contents writer.new) more) }
+{
+    let Some(more) = log.note(source, reason, moment) else {
+        return Ok(());
+    };
+    let drop = ToldDrop {
+        reason,
+        source,
+        port,
+        more,
+    };
+    writeln!(writer, "{drop}")?;
+    writer.flush()
+}
+
+// Prints what was counted.
+fn write_minute<W: Write>(writer: &mut W, minute: &Minute) -> io::Result<()>
+    ensures { OnOk result (Appends (W.contents writer.old) (W.contents writer.new)
+        (minute_text minute.now.tally ++ 10 ∷ [])) }
+{
+    writeln!(writer, "{minute}")?;
+    writer.flush()
+}
+
+// The moment of a turn: that of its event, or the clock's if there is none.
+fn moment_of_turn<R: Clock>(clock: &R, came: &Result<Option<Event>, Fault>) -> u64
+    ensures { result < 2 ^ 53 }
+{
+    match came {
+        Ok(Some(event)) => event.moment,
+        _ => moment_of(clock),
+    }
+}
+
+/// An exchange that passes each call on to another one. It logs what is dropped and how much is
+/// received, if it has a writer. It writes a file of its counts, if it has one. Its turns, its
+/// faults and the list of its calls are those of the other one.
+pub struct Watched<'r, R, X: Exchange, W: Write, E: Drop> {
+    clock: &'r R,
+    exchange: X,
+    watch: Option<Watch<W>>,
+    status: Option<StatusFile<'r, R, E>>,
+}
+
+impl<'r, R, X: Exchange + Drop, W: Write + Drop, E: Drop> Drop for Watched<'r, R, X, W, E> {
+    fn drop(self) {
+        let Watched {
+            clock: _,
+            exchange: _,
+            watch: _,
+            status: _,
+        } = self;
+    }
+}
+
+impl<'r, R: Clock + Files, X: Exchange, W: Write, E: Write + Drop> Watched<'r, R, X, W, E> {
+    /// A watched exchange. If it has neither a watch nor a file, it only passes calls on.
+    pub fn new(
+        clock: &'r R,
+        exchange: X,
+        watch: Option<Watch<W>>,
+        status: Option<StatusFile<'r, R, E>>,
+    ) -> Watched<'r, R, X, W, E>
+        ensures turns { ⟦<Watched<'r, R, X, W, E> as Exchange>⟧.turn_count result
+            ≡ X.turn_count exchange }
+        ensures failures { ⟦<Watched<'r, R, X, W, E> as Exchange>⟧.failure_count result
+            ≡ X.failure_count exchange }
+        ensures told { ⟦<Watched<'r, R, X, W, E> as Exchange>⟧.told result ≡ X.told exchange }
+    {
+        Watched {
+            clock,
+            exchange,
+            watch,
+            status,
+        }
+    }
+
+    /// Prints and writes the remaining counts, and returns the exchange and the writer.
+    pub fn finish(self) -> (X, Option<W>)
+        ensures turns { X.turn_count result.0
+            ≡ ⟦<Watched<'r, R, X, W, E> as Exchange>⟧.turn_count self.entry }
+        ensures failures { X.failure_count result.0
+            ≡ ⟦<Watched<'r, R, X, W, E> as Exchange>⟧.failure_count self.entry }
+        ensures told { X.told result.0 ≡ ⟦<Watched<'r, R, X, W, E> as Exchange>⟧.told self.entry }
+    {
+        let Watched {
+            clock: _,
+            exchange,
+            watch,
+            status,
+        } = self;
+        if let Some(status) = status {
+            status.finish();
+        }
+        match watch {
+            Some(watch) => (exchange, Some(watch.finish())),
+            None => (exchange, None),
+        }
+    }
+}
+
+impl<'r, R: Clock + Files, X: Exchange, W: Write, E: Write + Drop> Exchange
+    for Watched<'r, R, X, W, E> {
+    ghost turn_count = { λ w. X.turn_count w.exchange };
+
+    ghost failure_count = { λ w. X.failure_count w.exchange };
+
+    ghost told = { λ w. X.told w.exchange };
+
+    fn next(&mut self) -> Result<Option<Event>, Fault> {
+        let came = self.exchange.next();
+        if self.watch.is_none() && self.status.is_none() {
+            return came;
+        }
+        let moment = moment_of_turn(self.clock, &came);
+        if let Some(watch) = &mut self.watch {
+            watch.note_turn(&came, moment);
+        }
+        if let Some(status) = &mut self.status {
+            status.note_turn(&came, moment);
+        }
+        came
+    }
+
+    fn reply(&mut self, event: &Event, bytes: &[u8]) -> Result<(), Fault> {
+        let sent = self.exchange.reply(event, bytes);
+        if let Some(watch) = &mut self.watch {
+            watch.note_reply(sent.is_ok());
+        }
+        if let Some(status) = &mut self.status {
+            status.note_reply(sent.is_ok());
+        }
+        sent
+    }
+
+    fn note_drop(&mut self, event: &Event, reason: Reason) {
+        self.exchange.note_drop(event, reason);
+        if let Some(watch) = &mut self.watch {
+            let _ = watch.note_drop(event, reason);
+        }
+        if let Some(status) = &mut self.status {
+            status.note_drop(reason);
+        }
+    }
+
+    fn turns(&self) -> u64 {
+        self.exchange.turns()
+    }
+
+    fn failures(&self) -> u64 {
+        self.exchange.failures()
+    }
+}

@@ -1,0 +1,14 @@
+//! Tests of `acct_program_args` and `acct_program_commands`, of their public calls only: command lines, and
+//! what a command reads and writes. `acct_program_server_tests` has what a server does turn after turn.
+#![tactic(auto)]
+
+#[cfg(test)]
+mod balances;
+#[cfg(test)]
+mod checking;
+#[cfg(test)]
+mod site;
+#[cfg(test)]
+mod uploads;
+#[cfg(test)]
+mod words;

@@ -1,0 +1,33 @@
+//! What is known about a log that is damaged.
+use acct_sql_log::{Damage, damage_beside};
+use std::alloc::Global;
+use std::fs::Files;
+use std::io::Write;
+
+/// What is left to do about a book whose log is damaged.
+pub(crate) const TO_DO: &str = ": restore a copy, or give --lose-damaged-commits, which loses them";
+
+// If the log of a book is damaged, writes one line that says where, how many commits are lost by
+// that, and what to do.
+pub(crate) fn tell_damage<R: Files, E: Write>(
+    runtime: &R,
+    alloc: Global,
+    file: &str,
+    to_do: &str,
+    errors: &mut E,
+) -> bool {
+    let _ = match damage_beside(runtime, alloc, file) {
+        None => return false,
+        Some(Damage::Header) => writeln!(
+            errors,
+            "explained: {file}: the header of its log is damaged, and each commit in it is \
+             lost{to_do}"
+        ),
+        Some(Damage::Frame { frame, commits }) => writeln!(
+            errors,
+            "explained: {file}: frame {frame} of its log is damaged, and {commits} commits end \
+             there or behind it{to_do}"
+        ),
+    };
+    true
+}

@@ -1,0 +1,218 @@
+//! What is printed for files that cannot be read or opened, and for bad command lines.
+use acct_model::Text;
+use acct_program_explain::{Explained, explain, explain_words};
+use acct_site_config::{ConfigError, ConfigKind, ConfigTable};
+use std::alloc::Global;
+use std::fs;
+use std::test::Fail;
+
+const FOLDER: &str = "acct_explain_test";
+
+// What is done with a file.
+#[derive(Clone, Copy)]
+enum Asked {
+    Config,
+    Unread,
+    Unopened,
+    Opened,
+    // With `--lose-damaged-commits`.
+    Lossy,
+    Unmade,
+}
+
+// What is done with which file, and what is printed.
+type Row = (Asked, &'static str, &'static str);
+
+static ROWS: [Row; 15] = [
+    (
+        Asked::Config,
+        "acct_explain_test/site",
+        "explained: acct_explain_test/site line 2: unit of this [[plan]] is a whole number from 0 \
+         to 1000000000, without quotes\n",
+    ),
+    (
+        Asked::Unread,
+        "acct_explain_test/none",
+        "explained: acct_explain_test/none: there is no such file\n",
+    ),
+    (
+        Asked::Unread,
+        "acct_explain_test",
+        "explained: acct_explain_test: it is no regular file\n",
+    ),
+    (
+        Asked::Unopened,
+        "acct_explain_test/none",
+        "explained: acct_explain_test/none: there is no such file, and init makes one\n",
+    ),
+    (
+        Asked::Unopened,
+        "acct_explain_test/site",
+        "explained: acct_explain_test/site: it has fewer than 100 octets, so it is no book, and \
+         init makes one\n",
+    ),
+    (
+        Asked::Unopened,
+        "acct_explain_test/text",
+        "explained: acct_explain_test/text: it is no SQLite database\n",
+    ),
+    (
+        Asked::Unopened,
+        "acct_explain_test/two",
+        "explained: acct_explain_test/two: it has a second name (a hard link)\n",
+    ),
+    (
+        Asked::Unopened,
+        "acct_explain_test/hurt",
+        "explained: acct_explain_test/hurt: the header of its log is damaged, and each commit in it is \
+         lost: restore a copy, or give --lose-damaged-commits, which loses them\n",
+    ),
+    (
+        Asked::Unopened,
+        "acct_explain_test/torn",
+        "explained: acct_explain_test/torn: frame 1 of its log is damaged, and 2 commits end there or \
+         behind it: restore a copy, or give --lose-damaged-commits, which loses them\n",
+    ),
+    (
+        Asked::Unmade,
+        "acct_explain_test/hurt",
+        "explained: acct_explain_test/hurt: the header of its log is damaged, and each commit in it is \
+         lost\n",
+    ),
+    (
+        Asked::Lossy,
+        "acct_explain_test/hurt",
+        "explained: acct_explain_test/hurt: it is no SQLite database\n",
+    ),
+    (
+        Asked::Opened,
+        "acct_explain_test/sums",
+        "explained: acct_explain_test/sums: each page ends in a sum\n",
+    ),
+    (Asked::Opened, "acct_explain_test/hurt", ""),
+    (
+        Asked::Unmade,
+        "acct_explain_test/none/book",
+        "explained: acct_explain_test/none/book: its folder is missing\n",
+    ),
+    (
+        Asked::Unmade,
+        "acct_explain_test",
+        "explained: acct_explain_test: it is no regular file\n",
+    ),
+];
+
+#[test]
+fn says_why_a_file_is_refused(rt: HostRuntime) -> Result<(), Fail> {
+    let _ = fs::remove_dir_all(&rt, FOLDER);
+    fs::create_dir(&rt, FOLDER)?;
+    fs::write(
+        &rt,
+        "acct_explain_test/site",
+        "# plans\n[[plan]]\nclass = 'a'\nblock = 1\nunit = -1\n",
+    )?;
+    fs::write(&rt, "acct_explain_test/text", [b'-'; 200].as_slice())?;
+    fs::write(&rt, "acct_explain_test/two", [b'-'; 200].as_slice())?;
+    fs::write(&rt, "acct_explain_test/hurt", [b'-'; 200].as_slice())?;
+    fs::write(
+        &rt,
+        "acct_explain_test/hurt-wal",
+        damaged_log(rt.alloc(), [0; 8])?.as_slice(),
+    )?;
+    fs::write(
+        &rt,
+        "acct_explain_test/torn-wal",
+        damaged_log(rt.alloc(), SUM)?.as_slice(),
+    )?;
+    fs::write(
+        &rt,
+        "acct_explain_test/sums",
+        b"SQLite format 3\0\x10\0\x02\x02\x08",
+    )?;
+    fs::hard_link(&rt, "acct_explain_test/two", "acct_explain_test/three")?;
+    for (asked, file, wanted) in &ROWS {
+        assert!(rt; is_said_of(&rt, *asked, file, wanted)?, "{wanted}");
+    }
+    fs::remove_dir_all(&rt, FOLDER)?;
+    Ok(())
+}
+
+// Whether this is printed for a file.
+fn is_said_of(rt: &HostRuntime, asked: Asked, file: &str, wanted: &str) -> Result<bool, Fail> {
+    let file = Text::from_str(rt.alloc(), file)?;
+    let mut written = Vec::new(rt.alloc());
+    explain(rt, rt.alloc(), explained(asked, &file), &mut written);
+    Ok(written.as_slice() == wanted.as_bytes())
+}
+
+// The sum of the log's header, as Python computed it by SQLite's description of the format.
+const SUM: [u8; 8] = [213, 203, 3, 19, 143, 164, 218, 184];
+
+// A log of two commits of one page each, with this sum of its header. Both frames break theirs.
+fn damaged_log(alloc: Global, sum: [u8; 8]) -> Result<Vec<u8>, Fail> {
+    let mut log = Vec::new(alloc);
+    // The version 3007000, pages of 512 octets, and the salts 1 and 2.
+    log.extend_from_slice(&[0x37, 0x7f, 6, 0x82, 0, 45, 226, 24, 0, 0, 2, 0, 0, 0, 0, 0])?;
+    log.extend_from_slice(&[0, 0, 0, 1, 0, 0, 0, 2])?;
+    log.extend_from_slice(&sum)?;
+    for _ in 0..2 {
+        log.extend_from_slice(&[0, 0, 0, 1, 0, 0, 0, 1, 0, 0, 0, 1, 0, 0, 0, 2])?;
+        log.extend_from_slice(&[7; 520])?;
+    }
+    Ok(log)
+}
+
+// What is to be explained of a file.
+fn explained(asked: Asked, file: &Text) -> Explained<'_> {
+    match asked {
+        Asked::Config => Explained::Config {
+            file,
+            error: ConfigError {
+                kind: ConfigKind::BadPlan,
+                table: ConfigTable::Plan,
+                index: 0,
+            },
+        },
+        Asked::Unread => Explained::Unread { file },
+        Asked::Unopened => Explained::Unopened {
+            file,
+            loses_commits: false,
+        },
+        Asked::Opened => Explained::Opened { file },
+        Asked::Lossy => Explained::Unopened {
+            file,
+            loses_commits: true,
+        },
+        Asked::Unmade => Explained::Unmade { file },
+    }
+}
+
+// The arguments of a command line, and what is printed for them.
+static WORDS: [([&str; 4], &str); 4] = [
+    (
+        ["radacctd", "export", "--explain", "money"],
+        "explained: WHAT is sessions, balances, topups or overruns\n",
+    ),
+    (["radacctd", "export", "--explain", "topups"], ""),
+    (["radacctd", "export", "--db", "money"], ""),
+    (["radacctd", "import", "--explain", "money"], ""),
+];
+
+#[test]
+fn says_which_words_an_export_takes(rt: HostRuntime) -> Result<(), Fail> {
+    for (words, wanted) in &WORDS {
+        assert!(rt; is_said_of_words(rt.alloc(), words, wanted)?, "{wanted}");
+    }
+    Ok(())
+}
+
+// Whether this is printed for a command line.
+fn is_said_of_words(alloc: Global, words: &[&str], wanted: &str) -> Result<bool, Fail> {
+    let mut owned = Vec::new(alloc);
+    for word in words {
+        owned.push(String::from_str(alloc, word)?)?;
+    }
+    let mut written = Vec::new(alloc);
+    explain_words(&owned, &mut written);
+    Ok(written.as_slice() == wanted.as_bytes())
+}

@@ -1,0 +1,10 @@
+use Rattle.std.proofs.Common.{inl, refl}
+use Rattle.acct_program_jobs.proofs.audit_job.audit_book.Goals as goal
+
+pub returns-in-Ok-clause-does : goal.returns-in-Ok-clause-does
+returns-in-Ok-clause-does g c = inl (record {
+  config = c.in-Ok.ensures.audited.0;
+  last = c.in-Ok.connection;
+  open_is = refl;
+  worked = c.in-Ok.ensures.audited.1;
+})

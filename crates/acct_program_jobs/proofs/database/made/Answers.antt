@@ -1,0 +1,7 @@
+use Rattle.acct_program_jobs.proofs.database.made.Goals as goal
+
+pub returns-clause-made : goal.returns-clause-made
+returns-clause-made g c = c.made_of.ensures.made _ c.in_ok-connection.ensures.found
+
+pub returns-clause-refused : goal.returns-clause-refused
+returns-clause-refused g c = c.made_of.ensures.refused _ c.in_ok-connection.ensures.found

@@ -1,0 +1,313 @@
+-- What each job does: how it ends, what it has printed if it ends well, and what it leaves of the
+-- book's files, with some configuration. No contract can name the file that it was read from.
+use Rattle.std.specs.Prelude.{◌≡◌, ◌⊎◌, ⊤, ◌<◌, ◌^◌, ℕ, List, [], ◌∷◌, ◌++◌, Option, Some, None}
+use Rattle.std.specs.Prelude.{Result, Ok, Err, IfErr, IfSome, OnOk, Bool, true, codes, decimal}
+use Rattle.std.specs.Io.KnownBytes.{Appends}
+use Rattle.sqlite_disk.specs.declared.Disk as disk
+use Rattle.sqlite_disk.specs.declared.Files.{Files}
+use Rattle.sqlite_wal.specs.Recovery.{Image}
+use Rattle.sqlite_store.specs.declared.store.FileStore.{FileStore}
+use Rattle.sqlite.specs.Held.{Held}
+use Rattle.sqlite.specs.State.{HasCleanDisk}
+use Rattle.sqlite.specs.Files.{file_state}
+use Rattle.acct_model.specs.declared.plan.Plan.{Plan}
+use Rattle.acct_book.specs.declared.book.Book as book
+use Rattle.acct_site.specs.declared.config.Config.{Config}
+use Rattle.acct_site.specs.SampleSite.{sample_clients, sample_plans}
+use Rattle.acct_service.specs.declared.exchange.Exchange as exchange
+use Rattle.acct_program_feed.specs.Feed.{RanAfresh}
+use Rattle.acct_program.specs.declared.status.Status.{Status}
+use Rattle.acct_program.specs.declared.status.Status.TheVariants as status
+use Rattle.acct_program_args.specs.declared.job.Job.{Job}
+use Rattle.acct_program_args.specs.declared.job.Job.TheVariants as job
+use Rattle.acct_program_args.specs.declared.job.Export.{Export}
+use Rattle.acct_program_args.specs.declared.job.Carrying.{Carrying}
+use Rattle.acct_program_args.specs.declared.job.Serving.{Serving}
+use Rattle.acct_program_args.specs.Orders.{seconds_of}
+use Rattle.acct_program_commands.specs.Auditing.{Audits}
+use Rattle.acct_program_commands.specs.Checks.{IsNoConfig, TellsSizes, sizes_line}
+use Rattle.acct_program_commands.specs.Checks as check
+use Rattle.acct_program_commands.specs.KeptNames.{NamesSome}
+use Rattle.acct_program_commands.specs.Imports.{Runs}
+use Rattle.acct_program_commands.specs.Forwarding.{Forwards}
+use Rattle.acct_program_serving.specs.Serving.{RunsServer}
+use Rattle.acct_program_commands.specs.declared.fault.Fault.{Fault}
+use Rattle.acct_program_commands.specs.declared.fault.Fault.TheVariants as fault
+use Rattle.acct_program_jobs.specs.declared.left.Left.{Left}
+use Rattle.acct_program_jobs.specs.declared.left.Left.TheVariants as left
+use Rattle.acct_program_jobs.specs.declared.making.Making.{Making}
+use Rattle.acct_program_jobs.specs.declared.making.Making.TheVariants as how
+use Rattle.acct_program_jobs.specs.Files.{IsMade, HasNotMade, IsBookOf, IsOther, IsUnread}
+use Rattle.acct_program_jobs.specs.Files.{IsUnclosed}
+use Rattle.acct_program_jobs.specs.Files.{Copies, IsRefused}
+use Rattle.acct_program_jobs.specs.Commands.{Worked, Closes, Fails, WritesOut, FailsToExport}
+
+-- what a command printed, if its output was not lost
+abbrev pub text_of : {W : Type 0} → (W → Option (List ℕ)) → Option W → Option (List ℕ)
+text_of contents None = None
+text_of contents (Some output) = contents output
+
+-- `book made`
+abbrev pub made_line : List ℕ
+made_line = codes "book made" ++ 10 ∷ []
+
+-- `schema 3`: the number of the schema that a migrated book has
+abbrev pub schema_line : List ℕ
+schema_line = codes "schema 3" ++ 10 ∷ []
+
+-- `added N`: how many plans were added
+abbrev pub added_line : ℕ → List ℕ
+added_line count = codes "added " ++ decimal count ++ 10 ∷ []
+
+-- the line for a book that was made this way, with so many plans added
+abbrev pub line_of : Making → ℕ → List ℕ
+line_of (how.New has_sums) count = made_line
+line_of how.Migrated count = schema_line
+line_of how.Extended count = added_line count
+
+-- ---- commands without a book
+
+-- `check`: the sizes of a configuration, or why none were printed
+pub record ChecksConfig (before after : Option (List ℕ)) (ended : Result Status Fault)
+    : Type 0 where
+  pub sizes : OnOk ended (TellsSizes None before after)
+  pub refused : IfErr ended (check.IsUnchecked None)
+
+-- the site of `feed`: that of a file, or the sample's clients and plans
+abbrev pub IsSiteOf : Option (List ℕ) → Config → Type 0
+IsSiteOf None config = (config.clients ≡ sample_clients) × (config.plans ≡ sample_plans)
+IsSiteOf (Some file) config = ⊤
+
+-- a script whose lines were all good was answered over an empty book with this configuration
+pub record FeedsScript {B : Type 0} (b : book.Ghosts B) (config : Config) (text : Option (List ℕ))
+    (before after : Option (List ℕ)) : Type 0 where
+  pub input : List ℕ
+  pub read : IfSome text (λ all. input ≡ all)
+  pub ran : RanAfresh b config.clients config.plans input before after
+
+-- A file that a command names for a server to write would overwrite another one, or there was no
+-- memory to find out. Nothing was done.
+module _ {D : Type 0} {g : disk.Ghosts D} {A B : Type 0} where
+  pub record KeepsOthers (status : Option A) (balances : Option B) (before after : Option (List ℕ))
+      (ended : Result Status Fault) (rest : Left D g) : Type 0 where
+    pub named : NamesSome status balances
+    pub told : Fault
+    pub ended_is : ended ≡ Err told
+    pub why : (told ≡ fault.WouldOverwrite) ⊎ (told ≡ fault.NoMemory)
+    pub unprinted : after ≡ before
+    pub nothing : rest ≡ left.Nothing
+
+-- ---- commands that keep a book
+
+module _ {D : Type 0} {g : disk.Ghosts D} where
+  -- a fault ended a command before any file of the book was opened
+  pub record HasNoConfig (told : Fault) (rest : Left D g) : Type 0 where
+    pub why : IsNoConfig None told
+    pub nothing : rest ≡ left.Nothing
+
+  -- how a command ended: well, with its book closed this way; or by a fault, which left this
+  abbrev pub ClosesOrFails : (Status → Files D → Type 0) → (Fault → Left D g → Type 0)
+      → Result Status Fault → Left D g → Type 0
+  ClosesOrFails Closed Failed ended rest =
+      ((status : Status) × (files : Files D) × (ended ≡ Ok status) × (rest ≡ left.Closed files)
+      × Closed status files)
+      ⊎ ((told : Fault) × (ended ≡ Err told) × Failed told rest)
+
+  -- `init`, `migrate` and `plans`: a book is made of the files for a configuration's plans
+  module _ (image : Image) (making : Making) where
+    -- the book was made, and was closed into these files
+    pub record IsMadeAndClosed (plans : List Plan) (count : ℕ) (book : Held (FileStore D g))
+        (files : Files D) : Type 0 where
+      pub made : HasCleanDisk (file_state book) → IsMade making image plans count book
+      pub copied : Copies book files
+
+    -- it was made, and could not be closed
+    pub record IsMadeUnclosed (plans : List Plan) (told : Fault) (rest : Left D g) : Type 0 where
+      pub book : Held (FileStore D g)
+      pub count : ℕ
+      pub made : HasCleanDisk (file_state book) → IsMade making image plans count book
+      pub unclosed : IsUnclosed book told rest
+
+    -- it was closed, and the line about that could not be written
+    pub record IsMadeUntold (plans : List Plan) (told : Fault) (rest : Left D g) : Type 0 where
+      pub untold : told ≡ fault.CannotWrite
+      pub files : Files D
+      pub closed : rest ≡ left.Closed files
+      pub book : Held (FileStore D g)
+      pub count : ℕ
+      pub is_made : IsMadeAndClosed plans count book files
+
+    -- why the command did not end well
+    abbrev pub FailsToMake : Fault → Left D g → Type 0
+    FailsToMake told rest = HasNoConfig told rest
+        ⊎ ((config : Config) × (HasNotMade making image config.plans told rest
+        ⊎ IsMadeUnclosed config.plans told rest
+        ⊎ IsMadeUntold config.plans told rest))
+
+  module _ (image : Image) where
+    -- why `init`, `migrate` and `plans` did not end well
+    abbrev pub FailsToMakeNew : Bool → Fault → Left D g → Type 0
+    FailsToMakeNew has_sums told rest = FailsToMake image (how.New has_sums) told rest
+
+    abbrev pub FailsToMigrate : Fault → Left D g → Type 0
+    FailsToMigrate told rest = FailsToMake image how.Migrated told rest
+
+    abbrev pub FailsToAdd : Fault → Left D g → Type 0
+    FailsToAdd told rest = FailsToMake image how.Extended told rest
+
+    -- `serve` and `import`: what was done with a configuration, from the book that the files held
+    module _ (Did : Config → Result Status Fault → Held (FileStore D g) → Held (FileStore D g)
+        → Type 0) where
+      abbrev pub WorksAndCloses : Status → Files D → Type 0
+      WorksAndCloses ended files =
+          (config : Config) × Closes image config.plans (Did config) ended files
+
+      abbrev pub FailsAtWork : Fault → Left D g → Type 0
+      FailsAtWork told rest = HasNoConfig told rest
+          ⊎ ((config : Config) × Fails image config.plans (Did config) told rest)
+
+    -- the book in the files keeps the plans of a configuration, whose sizes were printed
+    pub record IsChecked (before after : Option (List ℕ)) (last : Held (FileStore D g)) : Type 0
+      where
+        pub config : Config
+        pub adopted : HasCleanDisk (file_state last) → IsBookOf image config.plans last
+        pub told : Appends before after (sizes_line config)
+
+    -- why they were not: there is no such book in the files, or their line could not be written
+    abbrev pub IsUnchecked : List Plan → Fault → Left D g → Type 0
+    IsUnchecked plans told (left.Open last) =
+        IsOther image plans told last
+        ⊎ ((told ≡ fault.CannotWrite)
+        × (HasCleanDisk (file_state last) → IsBookOf image plans last))
+    IsUnchecked plans told rest = IsUnread image told rest
+
+    abbrev pub FailsToCheck : Fault → Left D g → Type 0
+    FailsToCheck told rest =
+        HasNoConfig told rest ⊎ ((config : Config) × IsUnchecked config.plans told rest)
+
+    -- `check` with a book
+    abbrev pub ChecksBook : Option (List ℕ) → Option (List ℕ) → Result Status Fault → Left D g
+        → Type 0
+    ChecksBook before after ended rest =
+        ((last : Held (FileStore D g)) × (ended ≡ Ok status.Done) × (rest ≡ left.Open last)
+        × IsChecked before after last)
+        ⊎ ((told : Fault) × (ended ≡ Err told) × FailsToCheck told rest)
+
+    -- `check`: only of a configuration, or of one and the book of a file
+    abbrev pub DoesCheck : Option (List ℕ) → Option (List ℕ) → Option (List ℕ)
+        → Result Status Fault → Left D g → Type 0
+    DoesCheck None before after ended rest =
+        ChecksConfig before after ended × (rest ≡ left.Nothing)
+    DoesCheck (Some file) before after ended rest = ChecksBook before after ended rest
+
+    module _ (b : book.Ghosts (Held (FileStore D g))) where
+      -- it ended well: the book, and a line about it
+      pub record Makes (making : Making) (before after : Option (List ℕ)) (ended : Status)
+          (files : Files D) : Type 0 where
+        pub config : Config
+        pub done : ended ≡ status.Done
+        pub book : Held (FileStore D g)
+        pub count : ℕ
+        pub is_made : IsMadeAndClosed image making config.plans count book files
+        pub told : Appends before after (line_of making count)
+
+      -- `init`, `migrate` and `plans` ended well
+      abbrev pub MakesNew : Bool → Option (List ℕ) → Option (List ℕ) → Status → Files D
+          → Type 0
+      MakesNew has_sums before after ended files =
+          Makes (how.New has_sums) before after ended files
+
+      abbrev pub Migrates : Option (List ℕ) → Option (List ℕ) → Status → Files D → Type 0
+      Migrates before after ended files = Makes how.Migrated before after ended files
+
+      abbrev pub AddsPlans : Option (List ℕ) → Option (List ℕ) → Status → Files D → Type 0
+      AddsPlans before after ended files = Makes how.Extended before after ended files
+
+      -- `export`: what was written of the content that the files held
+      pub record ExportsBook (what : Export) (before after : Option (List ℕ))
+          (ended : Result Status Fault) (rest : Left D g) : Type 0 where
+        pub config : Config
+        pub done : ended ≡ Ok status.Done
+        pub last : Held (FileStore D g)
+        pub open_is : rest ≡ left.Open last
+        pub worked : Worked image config.plans (WritesOut b config.plans what before after) last
+
+      -- why it was not written
+      pub record ExportsNothing (ended : Result Status Fault) (rest : Left D g) : Type 0 where
+        pub told : Fault
+        pub ended_is : ended ≡ Err told
+        pub why : HasNoConfig told rest
+            ⊎ ((config : Config) × FailsToExport b image config.plans told rest)
+
+      -- `check --audit`: the book that the files held was audited, and is still open
+      pub record AuditsBook (ended : Result Status Fault) (rest : Left D g) : Type 0 where
+        pub config : Config
+        pub last : Held (FileStore D g)
+        pub open_is : rest ≡ left.Open last
+        pub worked : Worked image config.plans
+            (λ first last. Audits b config.plans first last ended) last
+
+      -- why none was
+      pub record AuditsNothing (ended : Result Status Fault) (rest : Left D g) : Type 0 where
+        pub told : Fault
+        pub ended_is : ended ≡ Err told
+        pub why : HasNoConfig told rest
+            ⊎ ((config : Config) × IsRefused image config.plans told rest)
+
+      -- `check`, with or without an audit
+      abbrev pub ChecksOrAudits : Option (List ℕ) → Option (List ℕ) → Bool → Option (List ℕ)
+          → Result Status Fault → Left D g → Type 0
+      ChecksOrAudits before after true (Some file) ended rest =
+          AuditsBook ended rest ⊎ AuditsNothing ended rest
+      ChecksOrAudits before after audits database ended rest =
+          DoesCheck database before after ended rest
+
+    -- ---- all of them
+
+    -- What a job does over the files that held the image: how it ends, and what it leaves of them.
+    -- `text` is what standard input has, `before` and `after` what standard output had and has.
+    module _ {X M : Type 0} (b : book.Ghosts (Held (FileStore D g))) (x : exchange.Ghosts X)
+        (m : book.Ghosts M) (text before after : Option (List ℕ)) where
+      -- turns of a server, and an import at a moment, with a configuration
+      abbrev pub HasServed : Serving → Config → Result Status Fault → Held (FileStore D g)
+          → Held (FileStore D g) → Type 0
+      HasServed serving config =
+          RunsServer b x (seconds_of serving.oldest_report) config serving.turns before after
+
+      abbrev pub HasImported : ℕ → Config → Result Status Fault → Held (FileStore D g)
+          → Held (FileStore D g) → Type 0
+      HasImported moment config ended first last =
+          Runs b config.plans moment text first last before after ended
+
+      -- sessions that were carried forward at a moment, with a configuration
+      abbrev pub HasForwarded : Carrying → ℕ → Config → Result Status Fault
+          → Held (FileStore D g) → Held (FileStore D g) → Type 0
+      HasForwarded carrying moment config ended first last =
+          Forwards b config.plans carrying moment first last ended
+
+      abbrev pub DoesJob : Job → Result Status Fault → Left D g → Type 0
+      DoesJob (job.Feed file) ended rest =
+          (ended ≡ Ok status.Done
+          → (config : Config) × IsSiteOf file config × FeedsScript m config text before after)
+          × IfErr ended (check.IsUnchecked None) × (rest ≡ left.Nothing)
+      DoesJob (job.Check file database kept audits) ended rest =
+          KeepsOthers kept.status kept.balances before after ended rest
+          ⊎ ChecksOrAudits b before after audits database ended rest
+      DoesJob (job.Init paths has_sums) ended rest =
+          ClosesOrFails (MakesNew b has_sums before after) (FailsToMakeNew has_sums) ended rest
+      DoesJob (job.Serve paths serving) ended rest =
+          KeepsOthers serving.telling.status serving.telling.balances before after ended rest
+          ⊎ ClosesOrFails (WorksAndCloses (HasServed serving)) (FailsAtWork (HasServed serving))
+          ended rest
+      DoesJob (job.Import paths) ended rest = (moment : ℕ) × (moment < 2 ^ 53)
+          × ClosesOrFails (WorksAndCloses (HasImported moment)) (FailsAtWork (HasImported moment))
+          ended rest
+      DoesJob (job.Forward paths carrying) ended rest = (moment : ℕ) × (moment < 2 ^ 53)
+          × ClosesOrFails (WorksAndCloses (HasForwarded carrying moment))
+          (FailsAtWork (HasForwarded carrying moment)) ended rest
+      DoesJob (job.Export paths what) ended rest =
+          ExportsBook b what before after ended rest ⊎ ExportsNothing b ended rest
+      DoesJob (job.Migrate paths) ended rest =
+          ClosesOrFails (Migrates b before after) FailsToMigrate ended rest
+      DoesJob (job.AddPlans paths) ended rest =
+          ClosesOrFails (AddsPlans b before after) FailsToAdd ended rest

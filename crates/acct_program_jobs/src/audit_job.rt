@@ -1,0 +1,98 @@
+//! `check --audit` of the book in a file.
+ghost use Rattle.std.specs.Prelude.{◌≡◌, ◌≢◌, ◌⊎◌, IfOk, IfErr};
+ghost use Rattle.sqlite_wal.specs.Files.{image_at};
+ghost use Rattle.acct_site.specs.declared.config.Config.{Config};
+ghost use Rattle.acct_program_commands.specs.Auditing.{Audits};
+ghost use Rattle.acct_program_jobs.specs.Commands.{Worked};
+ghost use Rattle.acct_program_jobs.specs.Files.{IsRefused};
+ghost use Rattle.acct_program_jobs.specs.Jobs.{AuditsBook, AuditsNothing, HasNoConfig};
+
+use crate::command::{Outcome, config_of};
+use crate::database::{FileConnection, adopted};
+use crate::left::Left;
+use acct_book::Book;
+use acct_model::Text;
+use acct_program::Status;
+use acct_program_commands::{Fault, run_audit};
+use acct_site::Config;
+use acct_sql::SqlBook;
+use sqlite::{Alter, Connection, FileFrom, FileStore, Start};
+use std::alloc::Global;
+use std::io::Write;
+
+/// Audits the book in a file by the plans of the configuration in another one. The book is only
+/// read.
+pub(crate) fn audit_book<S: Start, W: Write + Drop, E: Write + Drop>(
+    runtime: &HostRuntime,
+    config: &Text,
+    file: &Text,
+    loses_commits: bool,
+    mut output: W,
+    mut progress: E,
+    start: S,
+) -> Outcome<W, FileFrom<S>>
+    ensures other { IfOk result.ended (λ status. status ≢ Status.BadCommandLine) }
+    ensures does { AuditsBook (image_at S.Start) ⟦<SqlBook<FileStore<FileFrom<S>>> as Book>⟧
+        result.ended result.left
+        ⊎ AuditsNothing (image_at S.Start) ⟦<SqlBook<FileStore<FileFrom<S>>> as Book>⟧
+        result.ended result.left }
+{
+    match audited_from(
+        runtime,
+        config,
+        file,
+        loses_commits,
+        &mut output,
+        &mut progress,
+        start,
+    ) {
+        Ok((ended, connection)) => Outcome {
+            ended,
+            output: Some(output),
+            left: Left::Open(connection),
+        },
+        Err((fault, left)) => Outcome {
+            ended: Err(fault),
+            output: Some(output),
+            left,
+        },
+    }
+}
+
+// Audits the book in a file, which keeps the plans of the configuration in another one. Returns how
+// that ended, and the connection to the book.
+fn audited_from<S: Start, W: Write, E: Write>(
+    runtime: &HostRuntime,
+    config: &Text,
+    file: &Text,
+    loses_commits: bool,
+    output: &mut W,
+    progress: &mut E,
+    start: S,
+) -> Result<(Result<Status, Fault>, FileConnection<S>), (Fault, Left<FileFrom<S>>)>
+    ensures done { IfOk result (λ done. IfOk done.0 (λ status. status ≡ Status.Done)) }
+    ensures audited { IfOk result (λ done. (config : Config)
+        × Worked (image_at S.Start) config.plans (λ first last.
+        Audits ⟦<SqlBook<FileStore<FileFrom<S>>> as Book>⟧ config.plans first last done.0) done.1) }
+    ensures refused { IfErr result (λ e. HasNoConfig e.0 e.1
+        ⊎ ((config : Config) × IsRefused (image_at S.Start) config.plans e.0 e.1)) }
+{
+    let config = config_of(runtime, config)?;
+    let book = adopted(runtime, file, loses_commits, &config.plans, start)?;
+    Ok(audited(runtime.alloc(), &config, book, output, progress))
+}
+
+// Audits a book in any store, and returns its connection.
+fn audited<T: Alter + Drop, W: Write, E: Write>(
+    alloc: Global,
+    config: &Config,
+    mut book: SqlBook<T>,
+    output: &mut W,
+    progress: &mut E,
+) -> (Result<Status, Fault>, Connection<T>)
+    ensures done { IfOk result.0 (λ status. status ≡ Status.Done) }
+    ensures audits { Audits ⟦<SqlBook<T> as Book>⟧ config.now.plans book result.1 result.0 }
+{
+    let ended = run_audit(alloc, config, &mut book, output, progress);
+    (ended, book.into_connection())
+}

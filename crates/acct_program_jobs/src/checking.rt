@@ -1,0 +1,178 @@
+//! `check` of a configuration and, if one is given, of the book of a file, which may be audited.
+ghost use Rattle.std.specs.Prelude.{◌≢◌, ◌≡◌, ◌⊎◌, IfOk, IfErr};
+ghost use Rattle.std.specs.Option.{option_copied};
+ghost use Rattle.sqlite_wal.specs.Files.{image_at};
+ghost use Rattle.acct_program_commands.specs.KeptNames.{NamesSome};
+ghost use Rattle.acct_program_jobs.specs.Jobs.{DoesCheck, ChecksBook, IsChecked, FailsToCheck};
+ghost use Rattle.acct_program_jobs.specs.Jobs.{text_of, KeepsOthers, ChecksOrAudits};
+
+use crate::audit_job::audit_book;
+use crate::command::{Outcome, config_of, without_book};
+use crate::database::{FileConnection, adopted};
+use crate::left::Left;
+use acct_book::Book;
+use acct_model::Text;
+use acct_program::Status;
+use acct_program_args::KeptNames;
+use acct_program_commands::{Fault, ServerFiles, keep_others, run_check, write_sizes};
+use acct_sql::SqlBook;
+use sqlite::{FileFrom, FileStore, Start};
+use std::io::Write;
+
+/// `check` of the configuration in a file, and of the files that a server will write. If a book in
+/// another file is given, it must keep the plans of the configuration. If it is audited, its
+/// balances must be right. It does not change.
+pub(crate) fn check<S: Start, W: Write + Drop, E: Write + Drop>(
+    runtime: &HostRuntime,
+    config: &Text,
+    database: Option<&Text>,
+    kept: &KeptNames,
+    audits: bool,
+    loses_commits: bool,
+    output: W,
+    progress: E,
+    start: S,
+) -> Outcome<W, FileFrom<S>>
+    ensures other { IfOk result.ended (λ status. status ≢ Status.BadCommandLine) }
+    ensures does { KeepsOthers kept.now.status kept.now.balances (W.contents output)
+        (text_of W.contents result.output) result.ended result.left
+        ⊎ ChecksOrAudits (image_at S.Start) ⟦<SqlBook<FileStore<FileFrom<S>>> as Book>⟧
+        (W.contents output) (text_of W.contents result.output) audits
+        (option_copied database.entry) result.ended result.left }
+{
+    match keep_others(runtime, files_of(config, database, kept)) {
+        Ok(()) => check_or_audit(
+            runtime,
+            config,
+            database,
+            audits,
+            loses_commits,
+            output,
+            progress,
+            start,
+        ),
+        Err(fault) => without_book(Err(fault), output),
+    }
+}
+
+// `check` of files that a server would not overwrite, with an audit, if that is requested.
+fn check_or_audit<S: Start, W: Write + Drop, E: Write + Drop>(
+    runtime: &HostRuntime,
+    config: &Text,
+    database: Option<&Text>,
+    audits: bool,
+    loses_commits: bool,
+    output: W,
+    progress: E,
+    start: S,
+) -> Outcome<W, FileFrom<S>>
+    ensures other { IfOk result.ended (λ status. status ≢ Status.BadCommandLine) }
+    ensures does { ChecksOrAudits (image_at S.Start) ⟦<SqlBook<FileStore<FileFrom<S>>> as Book>⟧
+        (W.contents output) (text_of W.contents result.output) audits
+        (option_copied database.entry) result.ended result.left }
+{
+    if !audits {
+        return check_files(runtime, config, database, loses_commits, output, start);
+    }
+    match database {
+        Some(file) => audit_book(
+            runtime,
+            config,
+            file,
+            loses_commits,
+            output,
+            progress,
+            start,
+        ),
+        None => check_files(runtime, config, None, loses_commits, output, start),
+    }
+}
+
+// The files of a server, by name, as `check` gets them.
+fn files_of<'a>(
+    config: &'a Text,
+    database: Option<&'a Text>,
+    kept: &'a KeptNames,
+) -> ServerFiles<'a>
+    ensures { NamesSome result.status result.balances
+        → NamesSome kept.now.status kept.now.balances }
+{
+    ServerFiles {
+        config,
+        database,
+        status: kept.status.as_ref(),
+        balances: kept.balances.as_ref(),
+    }
+}
+
+// `check` of a configuration, and of a book, if one is given.
+fn check_files<S: Start, W: Write + Drop>(
+    runtime: &HostRuntime,
+    config: &Text,
+    database: Option<&Text>,
+    loses_commits: bool,
+    mut output: W,
+    start: S,
+) -> Outcome<W, FileFrom<S>>
+    ensures other { IfOk result.ended (λ status. status ≢ Status.BadCommandLine) }
+    ensures does { DoesCheck (image_at S.Start) (option_copied database.entry)
+        (W.contents output) (text_of W.contents result.output) result.ended result.left }
+{
+    match database {
+        None => {
+            let ended = run_check(runtime, runtime.alloc(), config, &mut output);
+            without_book(ended, output)
+        }
+        Some(file) => check_book(runtime, config, file, loses_commits, output, start),
+    }
+}
+
+// `check` of a configuration and a book.
+fn check_book<S: Start, W: Write + Drop>(
+    runtime: &HostRuntime,
+    config: &Text,
+    file: &Text,
+    loses_commits: bool,
+    mut output: W,
+    start: S,
+) -> Outcome<W, FileFrom<S>>
+    ensures other { IfOk result.ended (λ status. status ≢ Status.BadCommandLine) }
+    ensures does { ChecksBook (image_at S.Start) (W.contents output)
+        (text_of W.contents result.output) result.ended result.left }
+{
+    match checked_from(runtime, config, file, loses_commits, &mut output, start) {
+        Ok(connection) => Outcome {
+            ended: Ok(Status::Done),
+            output: Some(output),
+            left: Left::Open(connection),
+        },
+        Err((fault, left)) => Outcome {
+            ended: Err(fault),
+            output: Some(output),
+            left,
+        },
+    }
+}
+
+// The book in a file, which keeps the plans of the configuration in another one. Prints the sizes
+// of that configuration.
+fn checked_from<S: Start, W: Write>(
+    runtime: &HostRuntime,
+    config: &Text,
+    file: &Text,
+    loses_commits: bool,
+    output: &mut W,
+    start: S,
+) -> Result<FileConnection<S>, (Fault, Left<FileFrom<S>>)>
+    ensures checked { IfOk result (IsChecked (image_at S.Start) (W.contents output.old)
+        (W.contents output.new)) }
+    ensures failed { IfErr result (λ e. FailsToCheck (image_at S.Start) e.0 e.1) }
+{
+    let config = config_of(runtime, config)?;
+    let book = adopted(runtime, file, loses_commits, &config.plans, start)?;
+    let connection = book.into_connection();
+    match write_sizes(output, &config) {
+        Ok(_) => Ok(connection),
+        Err(fault) => Err((fault, Left::Open(connection))),
+    }
+}

@@ -1,0 +1,362 @@
+//! Each job over the files of a book.
+//!
+//! `export` only reads the book, and leaves its files as they are. The other jobs that keep a book
+//! close it at their end.
+ghost use Rattle.std.specs.Prelude.{◌≢◌, ◌≡◌, ◌⊎◌, ℕ, Ok, Err, IfOk, IfErr};
+ghost use Rattle.std.specs.Prelude.{true, false, None, Some, List, Option};
+ghost use Rattle.sqlite_wal.specs.Files.{image_at};
+ghost use Rattle.acct_site.specs.declared.config.Config.{Config};
+ghost use Rattle.acct_program_args.specs.Orders.{HasBounds, IsBounded};
+ghost use Rattle.acct_program_jobs.specs.Commands.{Worked, WritesOut, FailsToExport, refused};
+ghost use Rattle.acct_book.specs.Step.{Looks};
+ghost use Rattle.acct_program_commands.specs.Exports.{IsExportFault};
+ghost use Rattle.acct_program_jobs.specs.Jobs.{DoesJob, HasNoConfig};
+ghost use Rattle.acct_program_jobs.specs.Jobs.{ExportsBook, ExportsNothing, FeedsScript};
+ghost use Rattle.acct_program_jobs.specs.Jobs.{text_of, IsSiteOf};
+ghost use Rattle.acct_program_commands.specs.Checks.{IsUnchecked};
+ghost use Rattle.acct_program_commands.specs.KeptNames.{NamesSome};
+ghost use Rattle.std.specs.Option.{option_copied};
+
+use crate::checking::check;
+use crate::database::{FileConnection, adopted};
+use crate::feed_job::run_feed;
+use crate::left::Left;
+use crate::making::{Making, make};
+use crate::serving::server_of;
+use crate::work::{Forward, Import, work_on};
+use acct_book::Book;
+use acct_model::{Plans, Text};
+use acct_net::{Sockets, moment_of};
+use acct_program::Status;
+use acct_program_args::{Export, Job, Paths, Serving, Telling};
+use acct_program_commands::{Fault, ServerFiles, keep_others, read_config, run_export};
+use acct_program_serving::Errors;
+use acct_service::Exchange;
+use acct_site::{Config, sample_config};
+use acct_sql::SqlBook;
+use sqlite::{Alter, Connection, FileFrom, FileStore, Files, MemStore, Start};
+use sqlite_disk::Disk;
+use std::alloc::Global;
+use std::io::{Read, Write};
+
+/// How a command ended, its output if that was not lost, and what it left of its files.
+#[derive(Drop)]
+pub struct Outcome<W, D: Disk> {
+    /// Its status, or the fault that ended it.
+    pub ended: Result<Status, Fault>,
+    /// Its output.
+    pub output: Option<W>,
+    /// What it left of the book's files.
+    pub left: Left<D>,
+}
+
+/// The end of a command that closes its book, or what a fault left.
+pub(crate) type Ending<S> = Result<(Status, Files<FileFrom<S>>), (Fault, Left<FileFrom<S>>)>;
+
+/// Does a job over these streams. The book's files held what `S` says. A book whose log is damaged
+/// is rejected, unless the commits from the damage on may be lost. What a server prints while it
+/// runs goes to `errors`: its drops and counts only if it is not quiet.
+pub fn run<S: Start, I: Read + Drop, W: Write + Drop, E: Write + Drop>(
+    runtime: &HostRuntime,
+    job: &Job,
+    loses_commits: bool,
+    input: I,
+    mut output: W,
+    errors: Errors<E>,
+    start: S,
+) -> Outcome<W, FileFrom<S>>
+    requires { HasBounds job.now }
+    ensures other { IfOk result.ended (λ status. status ≢ Status.BadCommandLine) }
+    ensures does { DoesJob (image_at S.Start) ⟦<SqlBook<FileStore<FileFrom<S>>> as Book>⟧
+        ⟦<Sockets<'static, HostRuntime> as Exchange>⟧ ⟦<SqlBook<MemStore> as Book>⟧
+        (I.remaining input) (W.contents output) (text_of W.contents result.output) job.now
+        result.ended result.left }
+{
+    match job {
+        Job::Feed { config } => {
+            let ended = feed(runtime, config.as_ref(), input, &mut output);
+            without_book(ended, output)
+        }
+        Job::Check {
+            config,
+            database,
+            kept,
+            audits,
+        } => {
+            let Errors { notices, .. } = errors;
+            let database = database.as_ref();
+            check(
+                runtime,
+                config,
+                database,
+                kept,
+                *audits,
+                loses_commits,
+                output,
+                notices,
+                start,
+            )
+        }
+        Job::Init { paths, has_sums } => {
+            let making = Making::New {
+                has_sums: *has_sums,
+            };
+            make(runtime, making, paths, loses_commits, output, start)
+        }
+        Job::Serve { paths, serving } => {
+            run_server(
+                runtime,
+                paths,
+                serving,
+                loses_commits,
+                output,
+                errors,
+                start,
+            )
+        }
+        Job::Import { paths } => {
+            let moment = moment_of(runtime);
+            let import = Import { moment, input };
+            work_on(runtime, paths, loses_commits, import, output, start)
+        }
+        Job::Export { paths, what } => {
+            export(runtime, paths, loses_commits, *what, output, start)
+        }
+        Job::Migrate { paths } => {
+            make(
+                runtime,
+                Making::Migrated,
+                paths,
+                loses_commits,
+                output,
+                start,
+            )
+        }
+        Job::Forward { paths, carrying } => {
+            let moment = moment_of(runtime);
+            let Errors { notices, .. } = errors;
+            let forward = Forward {
+                carrying,
+                moment,
+                progress: notices,
+            };
+            work_on(runtime, paths, loses_commits, forward, output, start)
+        }
+        Job::AddPlans { paths } => {
+            make(
+                runtime,
+                Making::Extended,
+                paths,
+                loses_commits,
+                output,
+                start,
+            )
+        }
+    }
+}
+
+/// Does the job `serve`, as `run` does. A program that assumes something else about a torn write
+/// while it serves calls this, so that its other jobs are compiled only once.
+pub fn run_server<S: Start, W: Write + Drop, E: Write + Drop>(
+    runtime: &HostRuntime,
+    paths: &Paths,
+    serving: &Serving,
+    loses_commits: bool,
+    output: W,
+    errors: Errors<E>,
+    start: S,
+) -> Outcome<W, FileFrom<S>>
+    requires { IsBounded serving.now }
+    ensures other { IfOk result.ended (λ status. status ≢ Status.BadCommandLine) }
+    ensures does { (text : Option (List ℕ)) → DoesJob (image_at S.Start)
+        ⟦<SqlBook<FileStore<FileFrom<S>>> as Book>⟧
+        ⟦<Sockets<'static, HostRuntime> as Exchange>⟧ ⟦<SqlBook<MemStore> as Book>⟧
+        text (W.contents output) (text_of W.contents result.output) (Job.Serve paths.now serving.now)
+        result.ended result.left }
+{
+    match keep_others(runtime, files_of_server(paths, &serving.telling)) {
+        Ok(()) => {
+            let server = server_of(runtime, paths, serving, errors);
+            work_on(runtime, paths, loses_commits, server, output, start)
+        }
+        Err(fault) => without_book(Err(fault), output),
+    }
+}
+
+// The files of a server, by name.
+fn files_of_server<'a>(paths: &'a Paths, telling: &'a Telling) -> ServerFiles<'a>
+    ensures { NamesSome result.status result.balances
+        → NamesSome telling.now.status telling.now.balances }
+{
+    ServerFiles {
+        config: &paths.config,
+        database: Some(&paths.database),
+        status: telling.status.as_ref(),
+        balances: match &telling.balances {
+            Some(balances) => Some(&balances.file),
+            None => None,
+        },
+    }
+}
+
+/// The outcome of a command that has no book.
+pub(crate) fn without_book<W: Write, D: Disk>(
+    ended: Result<Status, Fault>,
+    output: W,
+) -> Outcome<W, D>
+    requires { IfOk ended (λ status. status ≢ Status.BadCommandLine) }
+    ensures same { result.ended ≡ ended }
+    ensures output { text_of W.contents result.output ≡ W.contents output }
+    ensures left { result.left ≡ Left.Nothing }
+    ensures other { IfOk result.ended (λ status. status ≢ Status.BadCommandLine) }
+{
+    Outcome {
+        ended,
+        output: Some(output),
+        left: Left::Nothing,
+    }
+}
+
+/// The outcome of a command that closes its book.
+pub(crate) fn with_book<W: Write, D: Disk>(
+    ending: Result<(Status, Files<D>), (Fault, Left<D>)>,
+    output: W,
+) -> Outcome<W, D>
+    requires { IfOk ending (λ done. done.0 ≢ Status.BadCommandLine) }
+    ensures ok { IfOk ending (λ done. (result.ended ≡ Ok done.0)
+        × (result.left ≡ Left.Closed done.1)) }
+    ensures err { IfErr ending (λ e. (result.ended ≡ Err e.0) × (result.left ≡ e.1)) }
+    ensures output { text_of W.contents result.output ≡ W.contents output }
+    ensures other { IfOk result.ended (λ status. status ≢ Status.BadCommandLine) }
+{
+    match ending {
+        Ok((status, files)) => Outcome {
+            ended: Ok(status),
+            output: Some(output),
+            left: Left::Closed(files),
+        },
+        Err((fault, left)) => Outcome {
+            ended: Err(fault),
+            output: Some(output),
+            left,
+        },
+    }
+}
+
+// `feed` with the configuration of a file, or that of the sample site.
+fn feed<I: Read + Drop, W: Write + Drop>(
+    runtime: &HostRuntime,
+    file: Option<&Text>,
+    input: I,
+    output: &mut W,
+) -> Result<Status, Fault>
+    ensures other { IfOk result (λ status. status ≢ Status.BadCommandLine) }
+    ensures refused { IfErr result (IsUnchecked None) }
+    ensures done { result ≡ Ok Status.Done → (config : Config)
+        × IsSiteOf (option_copied file.entry) config
+        × FeedsScript ⟦<SqlBook<MemStore> as Book>⟧ config (I.remaining input)
+        (W.contents output.old) (W.contents output.new) }
+{
+    let alloc = runtime.alloc();
+    let config = match file {
+        Some(file) => read_config(runtime, alloc, file)?,
+        None => match sample_config(alloc) {
+            Ok(config) => config,
+            Err(_) => {
+                writeln!(output, "unavailable")?;
+                output.flush()?;
+                return Ok(Status::Unavailable);
+            }
+        },
+    };
+    Ok(run_feed(alloc, config, input, output))
+}
+
+/// The configuration of a command that keeps a book, before any file of the book is opened.
+pub(crate) fn config_of<D: Disk>(
+    runtime: &HostRuntime,
+    file: &Text,
+) -> Result<Config, (Fault, Left<D>)>
+    ensures { IfErr result (λ e. HasNoConfig e.0 e.1) }
+{
+    match read_config(runtime, runtime.alloc(), file) {
+        Ok(config) => Ok(config),
+        Err(fault) => Err((fault, Left::Nothing)),
+    }
+}
+
+// `export` of the book of a file.
+fn export<S: Start, W: Write + Drop>(
+    runtime: &HostRuntime,
+    paths: &Paths,
+    loses_commits: bool,
+    what: Export,
+    output: W,
+    start: S,
+) -> Outcome<W, FileFrom<S>>
+    ensures other { IfOk result.ended (λ status. status ≢ Status.BadCommandLine) }
+    ensures does { ExportsBook (image_at S.Start) ⟦<SqlBook<FileStore<FileFrom<S>>> as Book>⟧ what
+        (W.contents output) (text_of W.contents result.output) result.ended result.left
+        ⊎ ExportsNothing (image_at S.Start) ⟦<SqlBook<FileStore<FileFrom<S>>> as Book>⟧
+        result.ended result.left }
+{
+    let config = match read_config(runtime, runtime.alloc(), &paths.config) {
+        Ok(config) => config,
+        Err(fault) => return without_book(Err(fault), output),
+    };
+    let file = &paths.database;
+    match exported(runtime, &config, file, loses_commits, what, output, start) {
+        Ok((output, connection)) => Outcome {
+            ended: Ok(Status::Done),
+            output: Some(output),
+            left: Left::Open(connection),
+        },
+        Err((fault, left)) => Outcome {
+            ended: Err(fault),
+            output: None,
+            left,
+        },
+    }
+}
+
+// `export` with a configuration that was read. The files stay as they are: it needs no close.
+fn exported<S: Start, W: Write + Drop>(
+    runtime: &HostRuntime,
+    config: &Config,
+    file: &Text,
+    loses_commits: bool,
+    what: Export,
+    output: W,
+    start: S,
+) -> Result<(W, FileConnection<S>), (Fault, Left<FileFrom<S>>)>
+    ensures exported { IfOk result (λ done. Worked (image_at S.Start) config.now.plans
+        (WritesOut ⟦<SqlBook<FileStore<FileFrom<S>>> as Book>⟧ config.now.plans what
+        (W.contents output) (W.contents done.0)) done.1) }
+    ensures failed { IfErr result (λ e. FailsToExport
+        ⟦<SqlBook<FileStore<FileFrom<S>>> as Book>⟧ (image_at S.Start) config.now.plans e.0 e.1) }
+{
+    let book = adopted(runtime, file, loses_commits, &config.plans, start)?;
+    match written_out(runtime.alloc(), what, &config.plans, book, output) {
+        Ok(done) => Ok(done),
+        Err((fault, connection)) => Err((fault, Left::Open(connection))),
+    }
+}
+
+// Writes out a book in any store, and returns its connection.
+fn written_out<T: Alter + Drop, W: Write + Drop>(
+    alloc: Global,
+    what: Export,
+    plans: &Plans,
+    mut book: SqlBook<T>,
+    output: W,
+) -> Result<(W, Connection<T>), (Fault, Connection<T>)>
+    ensures exported { IfOk result (λ done. WritesOut ⟦<SqlBook<T> as Book>⟧ plans.now what
+        (W.contents output) (W.contents done.0) book done.1) }
+    ensures failed { IfErr result (λ e. Looks ⟦<SqlBook<T> as Book>⟧ book e.1 (refused e.0)
+        × IsExportFault e.0) }
+{
+    match run_export(alloc, what, plans, &mut book, output) {
+        Ok(writer) => Ok((writer, book.into_connection())),
+        Err(fault) => Err((fault, book.into_connection())),
+    }
+}

@@ -1,0 +1,268 @@
+//! The book in a file.
+//!
+//! What the files held is a parameter of each call, `S: Start`, which no code can read. An error
+//! returns what it left of them.
+ghost use Rattle.std.specs.Prelude.{◌≡◌, true, false, IfOk, IfErr};
+ghost use Rattle.std.specs.Fs.{asks_create, asks_create_new, asks_truncate};
+ghost use Rattle.sqlite_wal.specs.Files.{image_at};
+ghost use Rattle.sqlite_wal.specs.Recovery.{Image};
+ghost use Rattle.sqlite.specs.State.{HasCleanDisk};
+ghost use Rattle.sqlite.specs.Files.{file_state, IsBlankAs};
+ghost use Rattle.sqlite_store.specs.FileStore.{view};
+ghost use Rattle.acct_program_jobs.specs.Faults.{store_fault_of};
+ghost use Rattle.acct_program_jobs.specs.Files.{IsBookOf, IsMade, IsRefused, HasNotMade, IsUnread};
+ghost use Rattle.acct_program_jobs.specs.Files.{Copies, IsUnclosed};
+ghost use Rattle.acct_program_jobs.specs.inner.Files.{IsOpenedOn};
+
+use crate::left::Left;
+use crate::making::Making;
+use acct_model::{Plans, Text};
+use acct_program_commands::{Fault, StoreFault};
+use acct_sql::{SqlBook, SqlBookError};
+use acct_sql_log::{DATABASE_HEADER_OCTETS, LOG_HEADER_OCTETS, damage_beside};
+use sqlite::{Connection, FileFrom, FileStore, Files, Start};
+use sqlite_disk::Disk;
+use std::alloc::Global;
+use std::fs::{OpenOptions, metadata};
+use std::os::unix::fs::OpenOptionsExt;
+
+/// A book in a file that held what `S` says.
+pub type FileBook<S> = SqlBook<FileStore<FileFrom<S>>>;
+
+/// The connection of such a book.
+pub type FileConnection<S> = Connection<FileStore<FileFrom<S>>>;
+
+/// Makes a book of a file and its log, for these plans. Returns the connection to the book, and how
+/// many plans it added to an existing one. A new book's file is made too, if it does not exist:
+/// only its owner can then read and write it and its log.
+///
+/// # Errors
+///
+/// `CannotOpen` if the file cannot be opened, or if its log is damaged, unless the commits from the
+/// damage on may be lost. `CannotOpen` too if an existing book's file is no regular one, has 1 to
+/// 99 octets, or is empty next to a log with frames. Else the error of `SqlBook::create`, `migrate`
+/// or `add_plans`. Each has what is left of the files. They hold what they held, except that a
+/// crash may leave the book that was to be made.
+pub fn made<S: Start>(
+    runtime: &HostRuntime,
+    making: Making,
+    file: &Text,
+    loses_commits: bool,
+    plans: &Plans,
+    start: S,
+) -> Result<(FileConnection<S>, u64), (Fault, Left<FileFrom<S>>)>
+    ensures made { IfOk result (λ done. HasCleanDisk (file_state done.0)
+        → IsMade making (image_at S.Start) plans.now done.1 done.0) }
+    ensures refused { IfErr result (λ e.
+        HasNotMade making (image_at S.Start) plans.now e.0 e.1) }
+{
+    let sums = making.sums();
+    if sums.is_none() && !may_be_database(runtime, file) {
+        return Err((Fault::CannotOpen, Left::Nothing));
+    }
+    if !is_readable(runtime, file, loses_commits) {
+        return Err((Fault::CannotOpen, Left::Nothing));
+    }
+    if sums.is_some() {
+        keep_private(runtime, file);
+    }
+    let connection = opened(runtime, file, sums == Some(true), start)?;
+    made_of(runtime.alloc(), making, connection, plans)
+}
+
+/// The book in an existing file, with what the tables in the file held.
+///
+/// # Errors
+///
+/// `CannotOpen` if no regular file exists, if it has 1 to 99 octets, or if it is empty next to a
+/// log that has frames. `CannotOpen` too if it cannot be opened, or if its log is damaged, unless
+/// the commits from the damage on may be lost. Else the error of `SqlBook::adopt`, with what is
+/// left of the files, which hold what they held.
+pub fn adopted<S: Start>(
+    runtime: &HostRuntime,
+    file: &Text,
+    loses_commits: bool,
+    plans: &Plans,
+    start: S,
+) -> Result<FileBook<S>, (Fault, Left<FileFrom<S>>)>
+    ensures adopted { IfOk result (λ book. HasCleanDisk (file_state book)
+        → IsBookOf (image_at S.Start) plans.now book) }
+    ensures refused { IfErr result (λ e. IsRefused (image_at S.Start) plans.now e.0 e.1) }
+{
+    // An open makes a file that does not exist, and a database of a text shorter than a header, and
+    // it blocks on a pipe. A mistyped name must do none of this. An open also stops reading a
+    // damaged log at the damage, and writes behind it.
+    if !may_be_database(runtime, file) || !is_readable(runtime, file, loses_commits) {
+        return Err((Fault::CannotOpen, Left::Nothing));
+    }
+    let connection = opened(runtime, file, false, start)?;
+    taken(runtime.alloc(), connection, plans)
+}
+
+/// Closes a book: copies what its log holds into its file. Returns the two files, which then hold
+/// the last commit. So does the book's file without its log.
+///
+/// # Errors
+///
+/// `Unavailable` if that fails. File and log together still hold all that was accepted.
+pub fn close<S: Start>(
+    connection: FileConnection<S>,
+) -> Result<Files<FileFrom<S>>, (Fault, Left<FileFrom<S>>)>
+    ensures copied { IfOk result (λ files. Copies connection files) }
+    ensures kept { IfErr result (λ e. IsUnclosed connection e.0 e.1) }
+{
+    match connection.close_files() {
+        Ok(files) => Ok(files),
+        Err((_, rest)) => { Err((Fault::Store(StoreFault::Unavailable), Left::Unclosed(rest))) }
+    }
+}
+
+// Makes the files of a new book so that no other user can read them: an open would leave that to
+// the umask. Existing files stay as they are. If one cannot be made, the open reports it.
+fn keep_private(runtime: &HostRuntime, file: &Text) {
+    make_private(runtime, file.as_str());
+    if let Ok(log) = format!(in runtime.alloc(); "{}-wal", file.as_str()) {
+        make_private(runtime, &log);
+    }
+}
+
+// Makes an empty file that only its owner can read and write, if none exists.
+fn make_private(runtime: &HostRuntime, file: &str) {
+    let _ = private_options().open(runtime, file);
+}
+
+// How to make a file that only its owner can read and write: as a new one. An existing file is not
+// opened, so it keeps what it has.
+fn private_options() -> OpenOptions
+    ensures new { asks_create_new result ≡ true }
+    ensures kept { asks_truncate result ≡ false }
+    ensures other { asks_create result ≡ false }
+{
+    let mut options = OpenOptions::new();
+    // First, because no contract says what `mode` leaves of the others.
+    options.mode(0o600);
+    options
+        .write(true)
+        .create(false)
+        .truncate(false)
+        .create_new(true);
+    options
+}
+
+// Whether a file may be a database: a regular one that is long enough for a header, or an empty one
+// without a log that would be read in its place.
+fn may_be_database(runtime: &HostRuntime, file: &Text) -> bool {
+    match metadata(runtime, file.as_str()) {
+        Ok(found) if found.is_file() && found.len() == 0 => !has_log(runtime, file),
+        Ok(found) => found.is_file() && found.len() >= DATABASE_HEADER_OCTETS,
+        Err(_) => false,
+    }
+}
+
+// Whether the log of a database may be read: it is not damaged, or what is behind the damage may be
+// lost.
+fn is_readable(runtime: &HostRuntime, file: &Text, loses_commits: bool) -> bool {
+    loses_commits || damage_beside(runtime, runtime.alloc(), file.as_str()).is_none()
+}
+
+// Whether the log of a database has a frame. If there is no memory for its name, it counts as
+// having one.
+fn has_log(runtime: &HostRuntime, file: &Text) -> bool {
+    let Ok(log) = format!(in runtime.alloc(); "{}-wal", file.as_str()) else {
+        return true;
+    };
+    match metadata(runtime, log.as_str()) {
+        Ok(found) => found.len() > LOG_HEADER_OCTETS,
+        Err(_) => false,
+    }
+}
+
+// The book in a database that was opened over files that held an image.
+fn taken<D: Disk + Drop>(
+    alloc: Global,
+    connection: Connection<FileStore<D>>,
+    plans: &Plans,
+) -> Result<SqlBook<FileStore<D>>, (Fault, Left<D>)>
+    requires { (file_state connection).in_transaction ≡ false }
+    ensures adopted { (image : Image) → IsOpenedOn image connection
+        → IfOk result (λ book. HasCleanDisk (file_state book) → IsBookOf image plans.now book) }
+    ensures refused { (image : Image) → IsOpenedOn image connection
+        → IfErr result (λ e. IsRefused image plans.now e.0 e.1) }
+{
+    match SqlBook::adopt(alloc, connection, plans) {
+        Ok(book) => Ok(book),
+        Err((error, connection)) => {
+            Err((Fault::Store(store_fault(error)), Left::Open(connection)))
+        }
+    }
+}
+
+// Makes a book of a database that was opened over files that held an image. Returns its connection,
+// and how many plans were added.
+fn made_of<D: Disk + Drop>(
+    alloc: Global,
+    making: Making,
+    connection: Connection<FileStore<D>>,
+    plans: &Plans,
+) -> Result<(Connection<FileStore<D>>, u64), (Fault, Left<D>)>
+    requires { (file_state connection).in_transaction ≡ false }
+    ensures made { (image : Image) → IsOpenedOn image connection
+        → IfOk result (λ done. HasCleanDisk (file_state done.0)
+        → IsMade making image plans.now done.1 done.0) }
+    ensures refused { (image : Image) → IsOpenedOn image connection
+        → IfErr result (λ e. HasNotMade making image plans.now e.0 e.1) }
+{
+    match making {
+        Making::New { .. } => match SqlBook::create(alloc, connection, plans) {
+            Ok(book) => Ok((book.into_connection(), 0)),
+            Err((error, connection)) => {
+                Err((Fault::Store(store_fault(error)), Left::Open(connection)))
+            }
+        },
+        Making::Migrated => match SqlBook::migrate(alloc, connection, plans) {
+            Ok(book) => Ok((book.into_connection(), 0)),
+            Err((error, connection)) => {
+                Err((Fault::Store(store_fault(error)), Left::Open(connection)))
+            }
+        },
+        Making::Extended => match SqlBook::add_plans(alloc, connection, plans) {
+            Ok((book, count)) => Ok((book.into_connection(), count)),
+            Err((error, connection)) => {
+                Err((Fault::Store(store_fault(error)), Left::Open(connection)))
+            }
+        },
+    }
+}
+
+// Opens the database in a file, as it was found. If there is none yet, the pages of the new one end
+// in sums if that is requested.
+fn opened<S: Start>(
+    runtime: &HostRuntime,
+    file: &Text,
+    has_sums: bool,
+    start: S,
+) -> Result<FileConnection<S>, (Fault, Left<FileFrom<S>>)>
+    ensures found { IfOk result (IsOpenedOn (image_at S.Start)) }
+    ensures idle { IfOk result (λ c. (file_state c).in_transaction ≡ false) }
+    ensures sums { IfOk result (λ c. HasCleanDisk (file_state c)
+        → IsBlankAs has_sums (image_at S.Start) → (view c.store).has_sums ≡ has_sums) }
+    ensures unread { IfErr result (λ e. IsUnread (image_at S.Start) e.0 e.1) }
+{
+    match Connection::open_from(runtime, file.as_str(), has_sums, start) {
+        Ok(connection) => Ok(connection),
+        Err((_, Some(rest))) => Err((Fault::CannotOpen, Left::Unopened(rest))),
+        Err((_, None)) => Err((Fault::CannotOpen, Left::Nothing)),
+    }
+}
+
+// What is wrong with a book.
+fn store_fault(error: SqlBookError) -> StoreFault
+    ensures { result ≡ store_fault_of error }
+{
+    match error {
+        SqlBookError::NotABook => StoreFault::NotABook,
+        SqlBookError::PlansDiffer => StoreFault::PlansDiffer,
+        SqlBookError::WrongSchema(_) => StoreFault::WrongSchema,
+        SqlBookError::Unavailable => StoreFault::Unavailable,
+    }
+}

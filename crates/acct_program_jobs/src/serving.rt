@@ -1,0 +1,47 @@
+//! `serve`: a server over the book of a file.
+ghost use Rattle.std.specs.Prelude.{◌≡◌, None, true, false};
+
+use crate::work::Server;
+use acct_program_args::{Paths, Serving};
+use acct_program_commands::{SiteFile, note_clock};
+use acct_program_serving::{Errors, Surroundings};
+use std::io::Write;
+
+/// A server that will open the book of a file. While it runs it prints on `errors` what it drops,
+/// unless it is quiet, and what happens to its files. It is made before the configuration is read,
+/// so that it misses no change of that.
+pub(crate) fn server_of<'a, E: Write + Drop>(
+    runtime: &'a HostRuntime,
+    paths: &'a Paths,
+    serving: &'a Serving,
+    errors: Errors<E>,
+) -> Server<'a, E>
+    ensures { result.serving ≡ serving.entry }
+{
+    let source = SiteFile::new(runtime, &paths.config);
+    let mut errors = told_to(errors, serving.telling.is_quiet);
+    let file = &paths.database;
+    // Before the book is opened, which may make a log.
+    note_clock(runtime, file, &mut errors.notices);
+    Server {
+        serving,
+        file,
+        around: Surroundings { source, errors },
+    }
+}
+
+// Where a server prints what it drops: nowhere, if it is quiet.
+fn told_to<E: Drop>(errors: Errors<E>, is_quiet: bool) -> Errors<E>
+    ensures quiet { is_quiet ≡ true → result.drops ≡ None }
+    ensures other { is_quiet ≡ false → result ≡ errors }
+    ensures notices { result.notices ≡ errors.notices }
+{
+    if is_quiet {
+        let Errors { drops: _, notices } = errors;
+        return Errors {
+            drops: None,
+            notices,
+        };
+    }
+    errors
+}

@@ -1,0 +1,219 @@
+//! The commands that work on the book of a file, and close it at their end.
+ghost use Rattle.std.specs.Prelude.{◌≢◌, ◌≡◌, ◌<◌, ◌≤◌, ◌^◌, ℕ, List, Option, Result};
+ghost use Rattle.std.specs.Prelude.{Ok, IfOk, IfErr, IfSome};
+ghost use Rattle.sqlite_wal.specs.Files.{image_at};
+ghost use Rattle.acct_book.specs.declared.book.Book as book;
+ghost use Rattle.acct_site.specs.declared.config.Config.{Config};
+ghost use Rattle.acct_program.specs.declared.status.Status.{Status};
+ghost use Rattle.acct_program_commands.specs.declared.fault.Fault.{Fault};
+ghost use Rattle.acct_program_commands.specs.Imports.{Runs};
+ghost use Rattle.acct_program_commands.specs.Forwarding.{Forwards};
+ghost use Rattle.acct_program_args.specs.Orders.{IsBounded, seconds_of};
+ghost use Rattle.acct_program_serving.specs.Serving.{RunsServer};
+ghost use Rattle.acct_program_jobs.specs.Files.{Copies};
+ghost use Rattle.acct_program_jobs.specs.Commands.{IsNotClosed};
+ghost use Rattle.acct_program_jobs.specs.Jobs.{ClosesOrFails, WorksAndCloses, FailsAtWork, text_of};
+
+use crate::command::{Ending, Outcome, config_of, with_book};
+use crate::database::{FileConnection, adopted, close};
+use crate::left::Left;
+use acct_book::Book;
+use acct_model::Text;
+use acct_net::Sockets;
+use acct_program::Status;
+use acct_program_args::{Carrying, Paths, Serving};
+use acct_program_commands::{Fault, SiteFile, run_forward, run_import};
+use acct_program_serving::{Surroundings, run_serve};
+use acct_service::Exchange;
+use acct_site::Config;
+use acct_sql::SqlBook;
+use sqlite::{FileFrom, FileStore, Start};
+use std::io::{Read, Write};
+
+/// What a command does with an open book, and what it prints.
+pub(crate) trait Work<W: Write> {
+    /// What it needs.
+    ghost is_ready: { Self → Type 0 };
+
+    /// What it does with a configuration if it ends this way: from one book to another, and from
+    /// the old output to the new one.
+    ghost did: { {B : Type 0} → book.Ghosts B → Self → Config → Result Status Fault → B → B
+        → Option (List ℕ) → Option (List ℕ) → Type 0 };
+
+    /// Does it.
+    fn over<B: Book>(
+        self,
+        runtime: &HostRuntime,
+        config: &Config,
+        book: &mut B,
+        output: &mut W,
+    ) -> Result<Status, Fault>
+        requires { is_ready self }
+        ensures other { IfOk result (λ status. status ≢ Status.BadCommandLine) }
+        ensures did { did B.Book self config.now result book.old book.new (W.contents output.old)
+            (W.contents output.new) };
+}
+
+/// `import` at a moment, in seconds since 1970.
+#[derive(Drop)]
+pub(crate) struct Import<I: Drop> {
+    pub(crate) moment: u64,
+    pub(crate) input: I,
+}
+
+impl<W: Write, I: Read + Drop> Work<W> for Import<I> {
+    ghost is_ready = { λ it. it.moment < 2 ^ 53 };
+
+    ghost did = { λ b it config ended first last before after. Runs b config.plans it.moment
+        (I.remaining it.input) first last before after ended };
+
+    fn over<B: Book>(
+        self,
+        runtime: &HostRuntime,
+        config: &Config,
+        book: &mut B,
+        output: &mut W,
+    ) -> Result<Status, Fault> {
+        let Import { moment, input } = self;
+        run_import(runtime.alloc(), &config.plans, book, moment, input, output)
+    }
+}
+
+/// `forward` at a moment, in seconds since 1970.
+#[derive(Drop)]
+pub(crate) struct Forward<'a, E: Drop> {
+    pub(crate) carrying: &'a Carrying,
+    pub(crate) moment: u64,
+    pub(crate) progress: E,
+}
+
+impl<W: Write, E: Write + Drop> Work<W> for Forward<'_, E> {
+    ghost is_ready = { λ it. (it.moment < 2 ^ 53)
+        × IfSome it.carrying.now.oldest_report (λ days. days ≤ 36500) };
+
+    ghost did = { λ b it config ended first last before after. Forwards b config.plans
+        it.carrying.now it.moment first last ended };
+
+    fn over<B: Book>(
+        self,
+        runtime: &HostRuntime,
+        config: &Config,
+        book: &mut B,
+        output: &mut W,
+    ) -> Result<Status, Fault> {
+        let Forward {
+            carrying,
+            moment,
+            mut progress,
+        } = self;
+        run_forward(
+            runtime.alloc(),
+            &config.plans,
+            book,
+            carrying,
+            moment,
+            output,
+            &mut progress,
+        )
+    }
+}
+
+/// `serve`, with the file of its book by name.
+#[derive(Drop)]
+pub(crate) struct Server<'a, E: Drop> {
+    pub(crate) serving: &'a Serving,
+    pub(crate) file: &'a Text,
+    pub(crate) around: Surroundings<SiteFile<'a, HostRuntime>, E>,
+}
+
+impl<W: Write, E: Write + Drop> Work<W> for Server<'_, E> {
+    ghost is_ready = { λ it. IsBounded it.serving.now };
+
+    ghost did = { λ b it config ended first last before after. RunsServer b
+        ⟦<Sockets<'static, HostRuntime> as Exchange>⟧ (seconds_of it.serving.now.oldest_report)
+        config it.serving.now.turns before after ended first last };
+
+    fn over<B: Book>(
+        self,
+        runtime: &HostRuntime,
+        config: &Config,
+        book: &mut B,
+        output: &mut W,
+    ) -> Result<Status, Fault> {
+        let Server {
+            serving,
+            file,
+            around,
+        } = self;
+        let alloc = runtime.alloc();
+        run_serve(runtime, alloc, config, around, file, book, serving, output)
+    }
+}
+
+/// Works on the book in a file by the configuration in another one, and closes it. The first fault
+/// ends it.
+pub(crate) fn work_on<S: Start, W: Write + Drop, K: Work<W> + Drop>(
+    runtime: &HostRuntime,
+    paths: &Paths,
+    loses_commits: bool,
+    work: K,
+    mut output: W,
+    start: S,
+) -> Outcome<W, FileFrom<S>>
+    requires { K.is_ready work }
+    ensures other { IfOk result.ended (λ status. status ≢ Status.BadCommandLine) }
+    ensures does { ClosesOrFails (WorksAndCloses (image_at S.Start)
+        (λ config ended first last. K.did ⟦<SqlBook<FileStore<FileFrom<S>>> as Book>⟧ work config
+        ended first last (W.contents output) (text_of W.contents result.output)))
+        (FailsAtWork (image_at S.Start)
+        (λ config ended first last. K.did ⟦<SqlBook<FileStore<FileFrom<S>>> as Book>⟧ work config
+        ended first last (W.contents output) (text_of W.contents result.output)))
+        result.ended result.left }
+{
+    let ending = worked(runtime, paths, loses_commits, work, &mut output, start);
+    with_book(ending, output)
+}
+
+// How the work on the book in a file ended, and its files if it was closed.
+fn worked<S: Start, W: Write, K: Work<W> + Drop>(
+    runtime: &HostRuntime,
+    paths: &Paths,
+    loses_commits: bool,
+    work: K,
+    output: &mut W,
+    start: S,
+) -> Ending<S>
+    requires { K.is_ready work }
+    ensures other { IfOk result (λ done. done.0 ≢ Status.BadCommandLine) }
+    ensures closed { IfOk result (λ done. WorksAndCloses (image_at S.Start)
+        (λ config ended first last. K.did ⟦<SqlBook<FileStore<FileFrom<S>>> as Book>⟧ work config
+        ended first last (W.contents output.old) (W.contents output.new)) done.0 done.1) }
+    ensures failed { IfErr result (λ e. FailsAtWork (image_at S.Start)
+        (λ config ended first last. K.did ⟦<SqlBook<FileStore<FileFrom<S>>> as Book>⟧ work config
+        ended first last (W.contents output.old) (W.contents output.new)) e.0 e.1) }
+{
+    let config = config_of(runtime, &paths.config)?;
+    let mut book = adopted(
+        runtime,
+        &paths.database,
+        loses_commits,
+        &config.plans,
+        start,
+    )?;
+    let ended = work.over(runtime, &config, &mut book, output);
+    finished(ended, book.into_connection())
+}
+
+// Closes the book of a command that ended this way. After a fault its files stay open.
+fn finished<S: Start>(ended: Result<Status, Fault>, connection: FileConnection<S>) -> Ending<S>
+    ensures closed { IfOk result (λ done. (ended ≡ Ok done.0) × Copies connection done.1) }
+    ensures failed { IfErr result (λ e. IsNotClosed ended connection e.0 e.1) }
+{
+    match ended {
+        Ok(status) => match close(connection) {
+            Ok(files) => Ok((status, files)),
+            Err(failed) => Err(failed),
+        },
+        Err(fault) => Err((fault, Left::Open(connection))),
+    }
+}

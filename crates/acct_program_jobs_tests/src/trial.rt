@@ -1,0 +1,123 @@
+//! A command line, and its result.
+use acct_program::Status;
+use acct_program_args::job_of;
+use acct_program_commands::end;
+use acct_program_jobs::{Outcome, run};
+use acct_program_serving::Errors;
+use sqlite::Wary;
+use std::alloc::Global;
+use std::fs;
+use std::test::Fail;
+
+/// A command: its arguments after the program's name, and its standard input.
+pub type Command<'a> = (&'a str, &'a str);
+
+/// The expected result: the exit status, standard output and standard error.
+pub type Wanted<'a> = (Status, &'a str, &'a str);
+
+/// The result of a command.
+pub struct Printed {
+    status: Status,
+    output: Vec<u8>,
+    faults: Vec<u8>,
+}
+
+impl Drop for Printed {
+    fn drop(self) {
+        let Printed {
+            status: _,
+            output: _,
+            faults: _,
+        } = self;
+    }
+}
+
+impl Printed {
+    /// Whether it is this.
+    pub fn is(&self, (status, output, faults): Wanted<'_>) -> bool {
+        self.status == status
+            && self.output.as_slice() == output.as_bytes()
+            && self.faults.as_slice() == faults.as_bytes()
+    }
+
+    /// What it printed on standard output.
+    pub fn text(&self) -> &str {
+        str::from_utf8(self.output.as_slice()).unwrap_or("")
+    }
+}
+
+/// Runs a command of the program, and returns its result.
+pub fn came(rt: &HostRuntime, (line, input): Command<'_>) -> Result<Printed, Fail> {
+    let Ok(order) = job_of(rt.alloc(), words_of(rt.alloc(), line)?) else {
+        return Err("no command".into());
+    };
+    let errors = Errors {
+        drops: Some(Vec::new(rt.alloc())),
+        notices: Vec::new(rt.alloc()),
+    };
+    let output = Vec::new(rt.alloc());
+    let Outcome {
+        ended,
+        output,
+        left: _left,
+    } = run(
+        rt,
+        &order.job,
+        order.loses_commits,
+        input.as_bytes(),
+        output,
+        errors,
+        Wary,
+    );
+    let mut faults = Vec::new(rt.alloc());
+    let status = end(&mut faults, ended);
+    Ok(Printed {
+        status,
+        output: output.unwrap_or(Vec::new(rt.alloc())),
+        faults,
+    })
+}
+
+// The arguments of a command line, the program's name first.
+fn words_of(alloc: Global, line: &str) -> Result<Vec<String>, Fail> {
+    let mut words = Vec::new(alloc);
+    words.push(String::from_str(alloc, "radacctd")?)?;
+    for word in line.split(' ') {
+        words.push(String::from_str(alloc, word)?)?;
+    }
+    Ok(words)
+}
+
+/// Whether a command has this result.
+pub fn comes(rt: &HostRuntime, command: Command<'_>, wanted: Wanted<'_>) -> Result<bool, Fail> {
+    Ok(came(rt, command)?.is(wanted))
+}
+
+/// The clients and keys of a site.
+const HEAD: &str = "[[client]]\nname = \"ap1\"\naddress = \"127.0.0.1\"\nsecret = \"xyzzy5461\"\n\
+    [[key]]\ntoken = \"al-key-0000000001\"\naccount = \"al\"\n\
+    [[key]]\ntoken = \"cash-key-00000001\"\ncashier = true\n\
+    [[plan]]\nclass = \"default\"\nblock = 1000000\nunit = 5\n";
+
+/// Two plans next to the plan `default`.
+const GOLD: &str = "[[plan]]\nclass = \"gold\"\nblock = 1048576\nunit = 10\n";
+
+const SILVER: &str = "[[plan]]\nclass = \"silver\"\nblock = 1000000\nunit = 7\n";
+
+/// Writes three configurations into files: of the plans `default` and `gold`, with `silver` too,
+/// and of `default` and `silver`.
+pub fn write_sites(rt: &HostRuntime, names: [&str; 3]) -> Result<(), Fail> {
+    let [site, more, other] = names;
+    fs::write(rt, site, format!(in rt.alloc(); "{HEAD}{GOLD}")?.as_str())?;
+    fs::write(
+        rt,
+        more,
+        format!(in rt.alloc(); "{HEAD}{GOLD}{SILVER}")?.as_str(),
+    )?;
+    fs::write(
+        rt,
+        other,
+        format!(in rt.alloc(); "{HEAD}{SILVER}")?.as_str(),
+    )?;
+    Ok(())
+}

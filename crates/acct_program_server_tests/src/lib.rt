@@ -1,0 +1,14 @@
+//! Tests of `acct_service_run` and `acct_program_commands`, of their public calls only: what a server over an
+//! exchange counts, prints and writes, turn after turn.
+#![tactic(auto)]
+
+#[cfg(test)]
+mod rounds;
+#[cfg(test)]
+mod serving;
+#[cfg(test)]
+mod status;
+#[cfg(test)]
+mod turns;
+#[cfg(test)]
+mod watching;

@@ -1,0 +1,269 @@
+//! A server over sockets: binds them, and then runs a watched server over them.
+ghost use Rattle.std.specs.Prelude.{◌≡◌, ◌≤◌, ◌<◌, ◌^◌, IfOk, IfErr, IfSome, OnErr};
+ghost use Rattle.acct_book.specs.Step.{OnlyLooks};
+ghost use Rattle.acct_program_args.specs.Orders.{seconds_of};
+ghost use Rattle.acct_program_serving.specs.Serving.{EndsAfresh, RunsServer, IsUnbound, ended_of};
+
+use crate::watcher::Watcher;
+use acct_book::Book;
+use acct_model::{Text, address_of};
+use acct_net::{Sockets, moment_of};
+use acct_program::Status;
+use acct_program_args::{Listening, Serving, Telling, seconds_in};
+use acct_program_commands::{
+    Fault, FileRounds, Gauges, KeptBalances, Shared, SiteSource, StateSource, StatusFile,
+    StoreFault, Watch,
+};
+use acct_service::{Exchange, Until};
+use acct_service_run::Ended;
+use acct_site::Config;
+use std::alloc::{AllocError, Global};
+use std::cell::RefCell;
+use std::fs::Files;
+use std::io::{ErrorKind, Write};
+use std::net::Net;
+use std::time::Clock;
+
+/// What is around a server: the text of its configuration, and where it prints.
+#[derive(Drop)]
+pub struct Surroundings<S: Drop, E: Drop> {
+    /// The text of the configuration, which is polled.
+    pub source: S,
+    /// Where it prints what the caller of the program should see.
+    pub errors: Errors<E>,
+}
+
+/// Where a server prints what the caller of the program should see.
+#[derive(Drop)]
+pub struct Errors<E: Drop> {
+    /// The drops and the counts of each minute, if these are printed.
+    pub drops: Option<E>,
+    /// What happened to its files.
+    pub notices: E,
+}
+
+/// Serves a configuration over a book for so many turns, at the addresses and ports in `serving`.
+/// It binds all sockets, and then runs `Watcher::serve` over them.
+///
+/// While it runs it prints on `errors`, if it may, what it drops and how much it receives. It
+/// writes the files that `serving` names, one of which shows the size of the book's file,
+/// `database`. If the configuration of `source` changed, the turns that follow have the new one:
+/// `FileRounds`. It writes the file of balances before it prints that it serves. If that fails, the
+/// server begins all the same.
+///
+/// # Errors
+///
+/// `CannotBind`, and `NoMemory` if there is no memory for datagrams or names. The book and the
+/// output are then unchanged. `Store(Unavailable)` if the book was found shut or stuck, which ends
+/// the turns: whoever started the program must start it again. `CannotWrite` if the output failed,
+/// before the first turn or after the last one.
+pub fn run_serve<
+    'r,
+    R: Net + Clock + Files,
+    S: SiteSource + Drop,
+    B: Book,
+    W: Write,
+    E: Write + Drop,
+>(
+    runtime: &'r R,
+    alloc: Global,
+    config: &Config,
+    around: Surroundings<S, E>,
+    database: &Text,
+    book: &mut B,
+    serving: &Serving,
+    output: &mut W,
+) -> Result<Status, Fault>
+    requires turns { serving.now.turns < 2 ^ 63 }
+    requires days { IfSome serving.now.oldest_report (λ days. days ≤ 36500) }
+    ensures done { IfOk result (λ status. status ≡ Status.Done) }
+    ensures serves { RunsServer B.Book ⟦<Sockets<'r, R> as Exchange>⟧
+        (seconds_of serving.now.oldest_report) config.now serving.now.turns
+        (W.contents output.old) (W.contents output.new) result book.old book.new }
+{
+    let served = serve_sockets(
+        runtime, alloc, config, around, database, book, serving, output,
+    );
+    match served {
+        Ok((_sockets, ended)) => status_of(ended),
+        Err(fault) => Err(fault),
+    }
+}
+
+// The exit status of `serve`, or its fault.
+fn status_of(ended: Ended) -> Result<Status, Fault>
+    ensures status { result ≡ ended_of ended }
+    ensures done { IfOk result (λ status. status ≡ Status.Done) }
+{
+    match ended {
+        Ended::Told(_, Until::AllMade) => Ok(Status::Done),
+        Ended::Told(_, Until::Shut | Until::Stuck) | Ended::Untold(_, Until::Shut | Until::Stuck) =>
+            { Err(Fault::Store(StoreFault::Unavailable)) }
+        Ended::Untold(_, Until::AllMade) | Ended::NotBegun => Err(Fault::CannotWrite),
+    }
+}
+
+// Binds all sockets, and runs `Watcher::serve` over them. Returns them as the last turn left them.
+fn serve_sockets<
+    'r,
+    R: Net + Clock + Files,
+    S: SiteSource + Drop,
+    B: Book,
+    W: Write,
+    E: Write + Drop,
+>(
+    runtime: &'r R,
+    alloc: Global,
+    config: &Config,
+    around: Surroundings<S, E>,
+    database: &Text,
+    book: &mut B,
+    serving: &Serving,
+    output: &mut W,
+) -> Result<(Sockets<'r, R>, Ended), Fault>
+    requires turns { serving.now.turns < 2 ^ 63 }
+    requires days { IfSome serving.now.oldest_report (λ days. days ≤ 36500) }
+    ensures serves { IfOk result (λ done. EndsAfresh B.Book ⟦<Sockets<'r, R> as Exchange>⟧
+        (seconds_of serving.now.oldest_report) config.now serving.now.turns book.old book.new done.0 (W.contents output.old)
+        (W.contents output.new) done.1) }
+    ensures unbound { OnErr result ((book.new ≡ book.old) × (output.new ≡ output.old)) }
+    ensures why { IfErr result IsUnbound }
+{
+    let Surroundings {
+        source,
+        errors: Errors { drops, notices },
+    } = around;
+    let notices = RefCell::new(notices);
+    let gauges = Gauges::new();
+    let mut balances = balances_file(runtime, alloc, &serving.telling)?;
+    let state = StateSource::new(runtime, alloc, &gauges, database)?;
+    let counts = status_file(
+        runtime,
+        alloc,
+        &serving.telling,
+        state,
+        Shared::new(&notices),
+    )?;
+    let sockets = bound(runtime, alloc, &serving.listening)?;
+    let mut errors = Shared::new(&notices);
+    write_first(
+        runtime,
+        alloc,
+        &mut balances,
+        config,
+        book,
+        &gauges,
+        &mut errors,
+    );
+    let mut rounds = FileRounds::new(runtime, source, balances, &gauges, Shared::new(&notices));
+    let watcher = Watcher {
+        clock: runtime,
+        drops: watch_on(drops),
+        counts,
+    };
+    let (turns, oldest) = (serving.turns, seconds_in(serving.oldest_report));
+    let served = watcher.serve(
+        alloc,
+        config,
+        oldest,
+        book,
+        sockets,
+        &mut rounds,
+        turns,
+        output,
+    );
+    Ok(served)
+}
+
+// Writes the file of balances for the first time, if there is one.
+fn write_first<'r, R: Files + Clock, B: Book, E: Write>(
+    runtime: &'r R,
+    alloc: Global,
+    balances: &mut Option<KeptBalances<'r, R>>,
+    config: &Config,
+    book: &mut B,
+    gauges: &Gauges,
+    errors: &mut E,
+)
+    ensures { OnlyLooks B.Book book.old book.new }
+{
+    if let Some(balances) = balances {
+        let moment = moment_of(runtime);
+        balances.keep(alloc, &config.plans, book, moment, gauges, errors);
+    }
+}
+
+// The watch that logs to a writer what is dropped and how much is received, if there is a writer.
+fn watch_on<E: Write + Drop>(drops: Option<E>) -> Option<Watch<E>> {
+    match drops {
+        Some(writer) => Some(Watch::new(writer)),
+        None => None,
+    }
+}
+
+// The file of the counts, if one is named, of a server that starts now.
+fn status_file<'r, R: Clock + Files, E: Write + Drop>(
+    runtime: &'r R,
+    alloc: Global,
+    telling: &Telling,
+    state: StateSource<'r, R>,
+    errors: E,
+) -> Result<Option<StatusFile<'r, R, E>>, AllocError> {
+    match &telling.status {
+        Some(name) => {
+            let started_at = moment_of(runtime);
+            let status = StatusFile::new(runtime, alloc, name, started_at, state, errors)?;
+            Ok(Some(status))
+        }
+        None => Ok(None),
+    }
+}
+
+// The file of all balances, if one is named.
+fn balances_file<'r, R: Files>(
+    runtime: &'r R,
+    alloc: Global,
+    telling: &Telling,
+) -> Result<Option<KeptBalances<'r, R>>, AllocError> {
+    match &telling.balances {
+        Some(balances) => Ok(Some(KeptBalances::new(runtime, alloc, balances)?)),
+        None => Ok(None),
+    }
+}
+
+// Binds the sockets at the requested addresses and ports.
+fn bound<'r, R: Net + Clock>(
+    runtime: &'r R,
+    alloc: Global,
+    listening: &Listening,
+) -> Result<Sockets<'r, R>, Fault>
+    ensures fresh { IfOk result (λ s. (s.turns ≡ 0) × (s.failures ≡ 0)) }
+    ensures why { IfErr result IsUnbound }
+{
+    let addresses = addresses_of(alloc, &listening.addresses)?;
+    let Some(desk) = address_of(listening.desk_address.as_str()) else {
+        return Err(Fault::CannotBind);
+    };
+    let (radius_port, desk_port) = (listening.radius_port, listening.desk_port);
+    match Sockets::bind(runtime, alloc, &addresses, desk, radius_port, desk_port) {
+        Ok(sockets) => Ok(sockets),
+        Err(error) if error.kind() == ErrorKind::OutOfMemory => Err(Fault::NoMemory),
+        Err(_) => Err(Fault::CannotBind),
+    }
+}
+
+// The addresses that these texts spell.
+fn addresses_of(alloc: Global, texts: &[Text]) -> Result<Vec<[u8; 4]>, Fault>
+    ensures why { IfErr result IsUnbound }
+{
+    let mut addresses = Vec::new(alloc);
+    for text in texts {
+        let Some(address) = address_of(text.as_str()) else {
+            return Err(Fault::CannotBind);
+        };
+        if addresses.push(address).is_err() {
+            return Err(Fault::NoMemory);
+        }
+    }
+    Ok(addresses)
+}

@@ -1,2 +1,0 @@
--- the lines of the drops, one reason more
-pub mod DropLines

@@ -1,2 +1,0 @@
--- an end over an exchange, as one over another that counts and tells the same
-pub mod HandedOn

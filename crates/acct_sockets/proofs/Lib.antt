@@ -1,2 +1,0 @@
-mod InletLemmas
-mod PlaceLemmas

@@ -1,3 +1,0 @@
--- What private functions and proofs need, and no public contract reaches.
-pub mod Inlets
-pub mod Places

@@ -1,0 +1,15 @@
+use Rattle.sqlite.specs.Held.{state}
+use Rattle.acct_sql_tables.proofs.StepLemmas.{is_inside, execute_quiet}
+use Rattle.acct_sql_tables.proofs.CreateLemmas.{numbered}
+use Rattle.acct_sql_tables.proofs.new_tables.set_number.Goals as goal
+
+pub returns : goal.returns
+returns g c = record {
+  quiet = execute_quiet g.S.Store _ _ _ _ _ c.execute.ensures.same_reference
+      (λ off. (c.execute.ensures.ended off).1) c.execute.ensures.runs c.execute.ensures.survives;
+  done = λ clean d t.
+      let inside = is_inside _ c.in_ok-execute.field-0 _ _ c.in_ok-execute.was
+      (λ off. (c.execute.ensures.ended off).0) in
+      numbered d (state g.S.Store c.args.tx.now.conn.now) _ c.in_ok-execute.field-0
+      (c.in_ok-execute.ensures.runs clean inside) t;
+}

@@ -1,6 +1,0 @@
-use Rattle.std.proofs.Common.{◌≡◌, take, map}
-use Rattle.acct_tables.specs.inner.Listed.{column_said}
-use Rattle.acct_tables.proofs.book_schema.are_columns.Given as goal
-
-abbrev pub invariant-loop-at : goal.invariant-loop-at
-invariant-loop-at l = take l.at l.columns ≡ map column_said (take l.at l.texts)

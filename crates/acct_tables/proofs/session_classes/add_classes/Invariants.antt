@@ -1,7 +1,0 @@
-use Rattle.acct_tables.specs.inner.Inside.{CommitsNothing, Holds}
-use Rattle.acct_tables.specs.inner.Migrating.{HasWritten}
-use Rattle.acct_tables.proofs.session_classes.add_classes.Given as goal
-
-abbrev pub invariant-sessions : goal.invariant-sessions
-invariant-sessions g l = CommitsNothing g.S.Store l.fn.tx.conn l.tx.conn
-    × Holds g.S.Store (HasWritten l.plans l.plans l.last) l.tx.conn.now
