@@ -212,7 +212,7 @@ fn key_for(alloc: Global, report: &Report) -> Result<Key, AllocError>
 ///
 /// # Errors
 ///
-/// `AllocError` if memory is refused.
+/// `AllocError` if an allocation fails.
 pub fn advance(
     alloc: Global,
     plans: &Plans,

@@ -167,8 +167,8 @@ NamesJob (Some p) order =
     WordsAskFor p.0 p.1 order.job × IsFlag (codes "explain") p.1 order.explains
     × IsFlag (codes "lose-damaged-commits") p.1 order.loses_commits
 
--- A server makes fewer than 2^63 turns and receives reports at 1 to 16 addresses. It waits 1
--- to 86,400 seconds from one writing of the balances to the next. Its reports are up to 36,500 days
+-- A server makes fewer than 2^63 turns and receives reports at 1 to 16 addresses. It lets at least
+-- 1 to 86,400 seconds pass between two writings of the balances. Its reports are up to 36,500 days
 -- old.
 pub record IsBounded (serving : Serving) : Type 0 where
   pub turns : serving.turns < 2 ^ 63

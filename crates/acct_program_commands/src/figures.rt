@@ -128,7 +128,7 @@ fn write_parts<W: Write>(output: &mut W, figures: &Figures) -> io::Result<()>
     Ok(())
 }
 
-// Writes a metric of one value, and what it is told to be.
+// Writes a metric of one value, after its `HELP` and `TYPE` lines.
 fn write_metric<W: Write>(
     output: &mut W,
     kind: &'static str,
