@@ -119,8 +119,7 @@ def is_public(checker, crates, name):
                 continue
             text = text_of(path)
             of_trait = outer and last in checker.tree.members.get(outer, ())
-            mark = r"pub(?:\(crate\))?" if path.startswith("crates/radacctd/") else "pub"
-            shown = rf"\b{mark} (?:fn|struct|enum|trait|const|type|static) {last}\b"
+            shown = rf"\bpub (?:fn|struct|enum|trait|const|type|static) {last}\b"
             if re.search(shown, text) or (of_trait and re.search(rf"\bfn {last}\b", text)):
                 return not outer[:1].isupper() or last in checker.tree.members.get(outer, ())
     return False

@@ -1,4 +1,4 @@
--- A content goes on to stand for a history after plans were added to it.
+-- Why a content stands for a history after plans were added to it.
 use Rattle.std.proofs.Common.{◌≡◌, List, ◌∷◌, cond, refl, ap, ◌∙◌, subst}
 use Rattle.std.specs.Prelude.{ℕ, Option, Some, None, option_map}
 use Rattle.acct_model.specs.declared.plan.Plan.{Plan}
@@ -46,7 +46,7 @@ same-stands these those content history same st = record {
       (st.in_range account);
 }
 
--- what stands by the plans before an addition stands after it, when the book keeps the new plans
+-- a content of the old plans stands for the history with the addition, once it keeps the new plans
 pub added-stands : (plans added : List Plan) (content : Content) (history : History)
     → Stands (plans_before added plans) content history
     → Stands plans (keeping plans content) (PlansAdded added ∷ history)

@@ -10,8 +10,8 @@ use Rattle.acct_book.specs.Effect.{failed, looked, passed, unasked}
 use Rattle.acct_book.specs.Stands.{Stands}
 use Rattle.acct_book.specs.Step.{MayAdd, StoodFor, Does}
 
--- A content that a crash may leave stands for the history after the call, or a crash could leave it
--- before one that left the history, or it has the entry of a call that failed.
+-- A content that a crash may leave stands for the history after the call. Or the call left the
+-- history as it was: a crash could leave the content before, or it has the entry of a failed call.
 abbrev pub Leaves : {B : Type 0} → Ghosts B → List Plan → B → B → History → Effect → Type 0
 Leaves b plans old new history effect =
     (c : Content) → b.left new c

@@ -21,13 +21,13 @@ use Rattle.acct_book.specs.Step.{Looks, MayAdd, StoodFor, Does}
 use Rattle.acct_book.specs.inner.Step.{Puts}
 use Rattle.acct_book.proofs.StepLemmas.{Settles, looked_by}
 
--- an error that can be this one alone
+-- an error that can only be this one
 pub same_error : {T : Type 0} (r : Result T RecordError) (error : RecordError)
     → IsErrAnd r (λ e. e ≡ error) → r ≡ Err error
 same_error (Ok x) error and = absurd and
 same_error (Err e) error and = ap Err and
 
--- nothing was asked of the book yet
+-- the book was not called yet
 pub reads_none : {B T E : Type 0} (b : Ghosts B) (book : B) (error : E)
     → Looks {B = B} {T = T} {E = E} b book book (Err error)
 reads_none b book error = record {
@@ -61,7 +61,7 @@ told_open next (VoucherDiffers kept) now answers told = answers (λ is. cc)
 told_open next (BalanceLimit balance) now answers told = answers (λ is. cc)
 told_open next Unavailable now answers told = absurd told
 
--- whatever recording a top-up told
+-- any result of recording a top-up
 pub topup_own : (topup : TopUpFacts) (result : Result Recorded RecordError)
     → IsOwn (effect_of (entry.TopUp topup) result)
 topup_own topup (Ok New) = tt
@@ -70,7 +70,7 @@ topup_own topup (Err (VoucherDiffers kept)) = tt
 topup_own topup (Err (BalanceLimit balance)) = tt
 topup_own topup (Err Unavailable) = tt
 
--- recording asks the book
+-- recording calls the book
 pub asked : (next : Entry) (result : Result Recorded RecordError)
     → IsUnasked (effect_of next result) → ⊥
 asked next (Ok New) none = none
@@ -83,7 +83,7 @@ one_error : {T : Type 0} (r : Result T RecordError) (e f : RecordError) → r �
     → e ≡ f
 one_error r e f is also = cc
 
--- a refusal of the calls that looked is passed on
+-- a refusal by the calls that read is returned
 pub passed_on : {B T : Type 0} (b : Ghosts B) (plans : List Plan) (next : Entry) (old new : B)
     (r : Result T RecordError) (e : RecordError) (result : Result Recorded RecordError)
     → r ≡ Err e → IsErrAnd result (λ x. x ≡ e) → IsOwn (effect_of next (Err e))
@@ -105,7 +105,7 @@ passed_on b plans next old new r e result is passes own reads answers refuses se
     (now sound) refuses history (λ still. stood (reads.was_open still)))
     settled)
 
--- The whole effect was written, or nothing where the write failed: a crash may leave either.
+-- The whole effect was written, or nothing if the write failed: a crash may leave either.
 module _ {B T E F G : Type 0} (b : Ghosts B) (plans : List Plan) (next : Entry) (old mid new : B)
     (r : Result T E) (w : Result F G) (done : Content) (reads : Looks b old mid r)
     (writes : Puts b mid new done w)

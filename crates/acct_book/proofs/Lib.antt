@@ -14,9 +14,9 @@ pub mod Rows
 pub mod Steps
 -- what the calls of a book give together
 pub mod Calls
--- how a step is put together, for whoever makes a book record
+-- how a step is put together, for each implementation of a book
 pub mod StepLemmas
--- calls that only look, one after another
+-- calls that only read, one after another
 pub mod Looking
 -- what `record` says at its exits
 pub mod Exits
@@ -28,7 +28,7 @@ pub mod Ends
 pub mod RowLaws
 -- why a walk meets each member once
 pub mod WalkLaws
--- a walk by a call that gives the next member
+-- a walk by a call that returns the next member
 pub mod Walking
 -- why lists of members in order are fixed by their members
 pub mod Fixed

@@ -88,7 +88,7 @@ own_keys f key [] own = refl
 own_keys f key (e ∷ es) own = λ i. All-head (λ d. key d.1 ≡ f d.0) e es own i ∷ own_keys f key es
     (All-tail (λ d. key d.1 ≡ f d.0) e es own) i
 
--- The members of a map that pass a test, where each stands under its own key.
+-- The members of a map that pass a test, if each is under its own key.
 pub members : {K L X : Type 0} (cmp : L → L → Ordering) (f : K → L) (key : X → L) (test : L → K
     → Bool) (p : X → Bool) (es : List (K × X))
     → All (λ e. lookup (test (f e.0)) es ≡ Some e.1) es → ((l : L) (x : X)

@@ -43,7 +43,7 @@ pub record IsNew (plans : List Plan) (history : History) (next : Entry)
   pub fresh : IsFresh history next
   pub stands : Stands plans content (Accepted next ∷ history)
 
--- ---- what a row tells of its session
+-- ---- what a row says of its session
 
 abbrev account_in : Option RowFacts → Option (List ℕ)
 account_in o = option_map (λ row. row.account) o
@@ -57,7 +57,7 @@ account_at : (plan : Option Plan) (key : Key) (b : Bool) (all : List ReportFacts
 account_at plan key b all None = refl
 account_at plan key b all (Some x) = refl
 
--- a row tells what its session costs
+-- a row says what its session costs
 pub charge-row : (plans : List Plan) (history : History) (key : Key) (x : ReportFacts)
     → first_of (reports history (name_of key)) ≡ Some x
     → charge_before plans (row_of plans history key) ≡ charge_of plans history (name_of key)

@@ -1,11 +1,11 @@
--- A walk by a call that gives the next member: how far it came, and what a whole walk met.
+-- A walk by a call that returns the next member: how far it got, and what a whole walk met.
 use Rattle.std.proofs.Common.{◌≡◌, List, [], ◌∷◌, ◌++◌, Option, Some, None, map, refl, subst}
 use Rattle.std.specs.declared.cmp.Ordering.{Ordering}
 use Rattle.acct_book.specs.Walk.{IsNext, IsWalk}
 use Rattle.acct_book.specs.Meets.{Meets}
 
 module _ {K M : Type 0} (next : Option K → Option M → Type 0) (key_of : M → K) where
-  -- from a start these are the next members, one after the other, and the walk now stands here
+  -- from a start these are the next members, one after the other, and the walk is now here
   abbrev pub Walked : Option K → List M → Option K → Type 0
   Walked after [] now = now ≡ after
   Walked after (member ∷ rest) now =

@@ -88,7 +88,7 @@ next-copy {K = K} cmp at after j k x y h same copy =
     subst (λ (i : K). IsNext cmp at after (Some (i, y))) (sym same)
     (subst (λ z. IsNext cmp at after (Some (k, z))) (sym copy) h)
 
--- a copy of the next member, which stands under its own key
+-- a copy of the next member, which is under its own key
 pub next-own : {K X : Type 0} (cmp : K → K → Ordering) (at : K → Option X) (after : Option K)
     (key : X → K) (k : K) (x y : X) → IsNext cmp at after (Some (k, x))
     → ((j : K) (z : X) → at j ≡ Some z → key z ≡ j) → y ≡ x → IsNext cmp at after (Some (key y, y))

@@ -1,4 +1,4 @@
--- What the calls of a book do, whatever the book is.
+-- What the calls of any book do.
 use Rattle.std.specs.Prelude.{◌≡◌, ◌⊎◌, Result, OnOk, OnErr}
 use Rattle.acct_book.specs.Content.{Content}
 

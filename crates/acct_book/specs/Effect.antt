@@ -1,4 +1,4 @@
--- What a call does to a history. The effect alone says which history comes after.
+-- What a call does to a history. The effect determines the history after the call.
 use Rattle.std.specs.Prelude.{◌≡◌, ℤ, List, ◌∷◌, Result, Ok, Err}
 use Rattle.acct_model.specs.declared.plan.Plan.{Plan}
 use Rattle.acct_model.specs.declared.entry.Entry.{Entry}

@@ -140,8 +140,8 @@ pub record StaysEnded (before after : RowFacts) : Type 0 where
   pub stopped : before.state ≡ Stopped
       → (after.state ≡ Stopped) × (after.cause ≡ before.cause)
 
--- whatever is accepted later, and whatever plans are added, a session keeps its row, and an ended
--- one never opens again
+-- after any later entries and added plans, a session keeps its row, and an ended one never opens
+-- again
 abbrev pub EndedStaysEnded : Type 0
 EndedStaysEnded = (plans : List Plan) (later history : History) (key : Key) (row : RowFacts)
     → row_of (plans_then plans later) history key ≡ Some row

@@ -20,7 +20,7 @@ pub record RowFacts : Type 0 where
   pub calling : List ℕ
   pub framed : Option (List ℕ)
 
--- the word for a session's state, wherever one is shown
+-- the text of a session's state, in every place that shows one
 abbrev pub state_text : SessionState → List ℕ
 state_text Live = codes "open"
 state_text Closed = codes "closed"

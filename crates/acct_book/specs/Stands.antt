@@ -7,8 +7,8 @@ use Rattle.acct_book.specs.declared.key.Key.{Key}
 use Rattle.acct_book.specs.Rows.{row_of}
 use Rattle.acct_book.specs.Content.{Content}
 
--- If a book keeps a list of plans, these are its plans, in whatever order: each class has the same
--- plan by both.
+-- If a book keeps a list of plans, these are its plans, in any order: each class has the same plan
+-- by both.
 abbrev pub AreKept : List Plan → Option (List ℕ → Option Plan) → Type 0
 AreKept plans kept = IfSome kept
     (λ plan_of. (class : List ℕ) → plan_of class ≡ plan_for plans class)

@@ -15,7 +15,7 @@ abbrev pub Looks : {B T E : Type 0} → Ghosts B → B → B → Result T E → 
 Looks b old new result =
     Reads b.content b.is_sound b.is_open b.is_steady b.left old new result
 
--- Calls that only read, whatever they returned: what holds of a book before and after them.
+-- Calls that only read, with any results: what holds of a book before and after them.
 pub record OnlyLooks {B : Type 0} (b : Ghosts B) (old new : B) : Type 0 where
   pub was_sound : b.is_sound new → b.is_sound old
   pub was_open : b.is_open new → b.is_open old
@@ -32,7 +32,7 @@ MayAdd plans history next content =
 abbrev pub StoodFor : {B : Type 0} → Ghosts B → List Plan → B → History → Type 0
 StoodFor b plans book history = b.is_open book → Stands plans (b.content book) history
 
--- A call over a book with this effect, from whatever history the content stood for.
+-- A call over a book with this effect, from any history that the content stood for.
 pub record Does {B : Type 0} (b : Ghosts B) (plans : List Plan) (old new : B) (effect : Effect)
     : Type 0 where
   pub own : IsOwn effect

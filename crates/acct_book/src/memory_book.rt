@@ -99,15 +99,14 @@ impl Book for MemBook {
     fn put_session(&mut self, row: &Row, balance: i64) -> Result<(), Unavailable> {
         let key = row.key(self.alloc)?;
         let copy = row.copy(self.alloc)?;
-        let name = row.account.as_slice();
-        let account = owned(self.alloc, name)?;
+        let account = row.account.as_slice();
         put_both(
+            self.alloc,
             &mut self.rows,
             key,
             copy,
             &mut self.balances,
             account,
-            name,
             balance,
         )
     }
@@ -115,15 +114,14 @@ impl Book for MemBook {
     fn put_topup(&mut self, topup: &TopUp, balance: i64) -> Result<(), Unavailable> {
         let key = String::from_str(self.alloc, topup.voucher.as_str())?;
         let copy = copy_topup(self.alloc, topup)?;
-        let name = topup.account.as_slice();
-        let account = owned(self.alloc, name)?;
+        let account = topup.account.as_slice();
         put_both(
+            self.alloc,
             &mut self.topups,
             key,
             copy,
             &mut self.balances,
             account,
-            name,
             balance,
         )
     }
@@ -183,25 +181,25 @@ impl Book for MemBook {
 
 // Sets a balance and another value, both or neither.
 fn put_both<K: Ord + Drop, V: Drop>(
+    alloc: Global,
     map: &mut BTreeMap<K, V>,
     key: K,
     value: V,
     balances: &mut BTreeMap<Vec<u8>, i64>,
-    account: Vec<u8>,
-    name: &[u8],
+    account: &[u8],
     balance: i64,
 ) -> Result<(), Unavailable>
-    requires name { account.items ≡ name.now }
     ensures map { OnOk result (Updates K.cmp map.old map.new key (Some value)) }
     ensures balances { OnOk result ((a : List ℕ) → balance_at balances.new a
-        ≡ update bytes_eq (balance_at balances.old) name.now (Some balance) a) }
+        ≡ update bytes_eq (balance_at balances.old) account.now (Some balance) a) }
     ensures map_err { OnErr result (IsUnchanged map.old map.new) }
     ensures balances_err { OnErr result ((a : List ℕ) → balance_at balances.new a
         ≡ balance_at balances.old a) }
 {
-    match balances.get(name) {
-        Some(_) => put_known(map, key, value, balances, account, balance),
-        None => put_first(map, key, value, balances, account, name, balance),
+    let owned = owned(alloc, account)?;
+    match balances.get(account) {
+        Some(_) => put_known(map, key, value, balances, owned, balance),
+        None => put_first(map, key, value, balances, owned, account, balance),
     }
 }
 

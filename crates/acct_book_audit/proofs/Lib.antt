@@ -1,6 +1,6 @@
 -- sums over lists in which each element occurs once
 pub mod Onces
--- what the rows and the top-ups come to if their content stands for a history
+-- what the rows and the top-ups add up to if their content stands for a history
 pub mod Standing
 -- what was found on a walk, and what holds of each member that a whole walk met
 pub mod Walking

@@ -36,7 +36,7 @@ length-mapped : {M E : Type 0} (entry : M → E) (members : List M)
 length-mapped entry [] = refl
 length-mapped entry (m ∷ rest) = ap suc (length-mapped entry rest)
 
--- what is found of members is found of what they stand for
+-- what is found of members is what is found of their entries
 found_same : {M E : Type 0} (found : M → List Finding) (of : E → List Finding) (entry : M → E)
     (members : List M) → ((m : M) → Contains members m → found m ≡ of (entry m))
     → flat_map found members ≡ flat_map of (map entry members)

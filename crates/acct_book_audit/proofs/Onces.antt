@@ -37,7 +37,7 @@ sum_by-map f g h (x ∷ xs) same =
     ∙ sym (sum_by-cons h x xs)
 
 module _ {N : Type 0} (same : N → N → Bool) (decides : (a b : N) → Decides (same a b) (a ≡ b)) where
-  -- an element that passes a test stands among those that pass if it stands at all
+  -- an element that passes a test is among those that pass if it is in the list
   among : (p : N → Bool) (n : N) (ns : List N) → p n ≡ true
       → list_any (same n) (filter p ns) ≡ list_any (same n) ns
   among p n [] passes = refl
@@ -83,7 +83,7 @@ module _ {N : Type 0} (same : N → N → Bool) (decides : (a b : N) → Decides
             ])
       ] refl
 
-  -- the names of elements that stand in strict order of other keys are each once
+  -- if elements are in strict order of other keys, each of their names occurs once
   module _ {K X : Type 0} (cmp : K → K → Ordering) (total : IsTotalOrder cmp) (key : X → K)
       (name : X → N) (keyed : (x y : X) → name x ≡ name y → key x ≡ key y) where
     pub once : (xs : List X) → IsStrictlySortedBy cmp (map key xs)

@@ -1,4 +1,4 @@
--- What the rows and the top-ups come to if their content stands for a history.
+-- What the rows and the top-ups add up to if their content stands for a history.
 use Rattle.std.proofs.Common.{◌≡◌, ◌<◌, ℕ, ◌+◌, Bool, true, false, cond, ◌||◌, List, [], ◌∷◌, map}
 use Rattle.std.proofs.Common.{refl, sym, ap, ◌∙◌, subst, arith, true≢false, length, ◌⊎◌, inl, inr}
 use Rattle.std.specs.Prelude.{Contains, Some, None, IsSome, bytes_eq, pos, ◌-ℤ◌, ◌==◌, All}

@@ -12,7 +12,7 @@ use Rattle.acct_book_audit.specs.declared.auditor.Seen.{Seen}
 use Rattle.acct_book_audit.specs.Finding.{Finding, Grows}
 use Rattle.acct_book_audit.specs.Audit.{Counts}
 
--- ---- what was told
+-- ---- what was reported
 
 pub grows_then : (a b c : Option (List Finding)) (x y : List Finding) → Grows a x b → Grows b y c
     → Grows a (x ++ y) c
@@ -25,14 +25,14 @@ pub grows_nothing : (a : Option (List Finding)) → Grows a [] a
 grows_nothing None = tt
 grows_nothing (Some a) = sym (append-nil a)
 
--- what is found of one member more
+-- what is found of one more member
 pub found_more : {M : Type 0} (found : M → List Finding) (members : List M) (m : M)
     → flat_map found (members ++ m ∷ []) ≡ flat_map found members ++ found m
 found_more found members m =
     flat_map-append found members (m ∷ [])
     ∙ ap (λ t. flat_map found members ++ t) (append-nil (found m))
 
--- one member more was told
+-- the findings of one more member were reported
 pub told_more : {M : Type 0} (found : M → List Finding) (members : List M) (m : M)
     (a b c d : Option (List Finding)) → Grows a (flat_map found members) b → Grows b (found m) c
     → Grows c [] d → Grows a (flat_map found (members ++ m ∷ [])) d
@@ -42,7 +42,7 @@ told_more found members m a b c d before here after =
     (grows_then a c d (flat_map found members ++ found m) []
     (grows_then a b c (flat_map found members) (found m) before here) after)
 
--- one member more was counted
+-- one more member was counted
 pub counts_more : {M : Type 0} (found : M → List Finding) (members : List M) (m : M)
     (before after : Seen) (wrong : ℕ)
     → Counts before (length members) (length (flat_map found members))

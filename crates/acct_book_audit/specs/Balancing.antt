@@ -51,7 +51,7 @@ IsBalanced plans content account = (rows : List RowFacts) (topups : List TopUpFa
 abbrev pub planned_charge : List Plan → RowFacts → ℕ
 planned_charge plans row = if is_planned plans row then charge_of_row plans row else 0
 
--- a statement says what these rows and top-ups come to
+-- a statement says what these rows and top-ups add up to
 pub record States (plans : List Plan) (rows : List RowFacts) (topups : List TopUpFacts)
     (statement : Statement) : Type 0 where
   pub sessions : statement.sessions ≡ length rows
@@ -60,7 +60,7 @@ pub record States (plans : List Plan) (rows : List RowFacts) (topups : List TopU
   pub charged : statement.charged ≡ sum_by (planned_charge plans) rows
   pub unplanned : statement.unplanned ≡ count_by (λ row. not (is_planned plans row)) rows
 
--- a statement says what the rows and top-ups of an account come to, and has the balance kept
+-- a statement says what the rows and top-ups of an account add up to, and has the balance kept
 pub record IsStatement (plans : List Plan) (content : Content) (account : List ℕ)
     (kept : Option ℤ) (statement : Statement) : Type 0 where
   pub rows : List RowFacts

@@ -55,7 +55,7 @@ begun_on b selection plans book error = record {
   leaves = λ sound c may. inl may;
 }
 
--- a call that carries does so whatever it answers, if an answer says that the book is open
+-- a call that carries may return any result, if a success means that the book is open
 pub told_on : {B T U E F : Type 0} (b : Ghosts B) (selection : SelectionFacts) (plans : List Plan)
     (old new : B) (r : Result T E) (result : Result U F)
     → CarriesOn b selection plans old new r
@@ -117,7 +117,7 @@ joined_on b selection plans old mid new r result one other = record {
 
 -- ---- one batch
 
--- each of these rows stands in the content
+-- each of these rows is in the content
 abbrev pub AreThere : Content → List RowFacts → Type 0
 AreThere content rows = (row : RowFacts) → Contains rows row → content.rows (key_of row) ≡ Some row
 
@@ -163,7 +163,7 @@ carried_or_not (Ok true) P so otherwise = so refl
 carried_or_not (Ok false) P so otherwise = otherwise (λ is. cc)
 carried_or_not (Err e) P so otherwise = otherwise (λ is. cc)
 
--- a call that carries rows that stand in the content and that the selection takes
+-- a call that carries rows that are in the content and that the selection takes
 pub batch_on : {B U E : Type 0} (b : Ghosts B) (selection : SelectionFacts) (plans : List Plan)
     (rows : List RowFacts) (old new : B) (r : Result Bool E) (result : Result U E)
     → (b.is_open old → AreThere (b.content old) rows) → AreTaken selection rows

@@ -31,7 +31,7 @@ use Rattle.acct_model.proofs.Lists.{from_map}
 use Rattle.std.proofs.Common.{true≢false}
 use Rattle.acct_book_forward.proofs.Forwards.{carried_all, forwards_stand}
 
--- ---- rows that stand in the content
+-- ---- rows that are in the content
 
 have_rows : (owner class : List ℕ) (at : Key → Option RowFacts) (rows : List RowFacts)
     → AreIn at rows → AreAllOf owner class rows → HaveRows owner class at (map key_of rows)
@@ -49,7 +49,7 @@ sums_in plan at (row ∷ others) (one, are) =
     ∙ (λ i. blocks_at plan (sym one i)
     + sums_in plan (update same_key at (key_of row) None) others are i)
 
--- A report that carries rows forward which stand in a content does so in that content.
+-- A report that carries rows of a content forward does so in that content.
 forwards_carry : (plans : List Plan) (content : Content) (plan : Plan) (row : RowFacts)
     (others : List RowFacts) (report : ReportFacts)
     → plan_for plans plan.class ≡ Some plan → 0 < plan.block
@@ -138,7 +138,7 @@ none_is : (gone : List Key) (key : Key) (keys : List Key) (into : Key) → gone 
     → IsNone (key ∷ keys) into → IsNone gone into
 none_is gone key keys into are apart = subst (λ ks. IsNone ks into) (sym are) apart
 
--- the row into which sessions are carried stands under another key than theirs
+-- the row into which sessions are carried is under another key than theirs
 pub into_apart : (plans : List Plan) (content : Content) (gone : List Key) (row : RowFacts)
     → HasOwnKeys content → AreCarriedInto plans content gone row → IsNone gone (key_of row)
 into_apart plans content gone row own (report, by) =

@@ -1,4 +1,4 @@
--- A content goes on to stand for a history after sessions were carried forward.
+-- Why a content stands for a history after sessions were carried forward.
 use Rattle.std.proofs.Common.{◌≡◌, ◌≢◌, ℕ, ◌+◌, ◌*◌, Bool, true, false, ◌&&◌, ◌||◌, cond, List, []}
 use Rattle.std.proofs.Common.{◌∷◌, refl, sym, ap, ◌∙◌, subst, true≢false, arith, ◌<◌}
 use Rattle.std.specs.Prelude.{Option, Some, None, bytes_eq, is_some, option_map, Contains}
@@ -70,7 +70,7 @@ row-gone plans history key =
 pub name_key : (a b : Key) → name_of a ≡ name_of b → a ≡ b
 name_key a b e = λ i. record { client = (e i).client; session = (e i).session }
 
--- ---- what a row tells of its session
+-- ---- what a row says of its session
 
 -- a row is that of a first report
 pub first_at : (plan : Option Plan) (key : Key) (b : Bool) (all : List ReportFacts) (row : RowFacts)
@@ -275,8 +275,8 @@ carried_all plans content history key keys report st c =
           (sym (found_left plans content history key keys report st c)) c.into;
     }
 
--- The content in which sessions were carried forward stands for the history in which they were,
--- whatever history the content stood for before.
+-- The content in which sessions were carried forward stands for the history in which they were, for
+-- any history that the content stood for before.
 abbrev pub ForwardsStand : Type 0
 ForwardsStand = (plans : List Plan) (content : Content) (history : History) (key : Key)
     (keys : List Key) (report : ReportFacts)

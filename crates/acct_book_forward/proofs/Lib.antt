@@ -2,7 +2,7 @@
 pub mod Forwards
 -- what a call does to a book that carries sessions forward
 pub mod Carrying
--- of the rows of an account a part stands in the content
+-- some of the rows of an account are in the content
 pub mod CarriedParts
 -- calls that carry sessions forward, one after another, and what stays as it was
 pub mod CarriedOn

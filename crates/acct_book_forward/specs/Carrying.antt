@@ -21,8 +21,8 @@ use Rattle.acct_book.specs.Stands.{Stands}
 
 -- ---- which sessions
 
--- Which sessions are carried forward: those that ended before a moment, open ones that have told of
--- nothing since a moment, and none of some clients.
+-- Which sessions are carried forward: those that ended before a moment, open ones that have
+-- reported nothing since a moment, and none of some clients.
 pub record SelectionFacts : Type 0 where
   pub ended_before : ℕ
   pub silent_before : ℕ
@@ -40,7 +40,7 @@ limit_of selection Live = selection.silent_before
 limit_of selection Closed = selection.ended_before
 limit_of selection Stopped = selection.ended_before
 
--- why a session in this state stays that has told of a later moment
+-- why a session in this state stays if it has reported a later moment
 abbrev pub too_young : SessionState → Stay
 too_young Live = Open
 too_young Closed = Recent
@@ -90,8 +90,8 @@ IsCarriedOn selection plans history c =
     (batches : List Batch) × (after : History)
     × CarriesChosen selection plans history batches after × Stands plans c after
 
--- A call that carries chosen sessions forward, batch after batch, from whatever history the content
--- stood for, as far as it comes.
+-- A call that carries chosen sessions forward, batch after batch, from any history that the content
+-- stood for. It may stop early.
 pub record CarriesOn {B T E : Type 0} (b : Ghosts B) (selection : SelectionFacts) (plans : List Plan)
     (old new : B) (result : Result T E) : Type 0 where
   pub was_sound : b.is_sound new → b.is_sound old
@@ -100,7 +100,7 @@ pub record CarriesOn {B T E : Type 0} (b : Ghosts B) (selection : SelectionFacts
   pub answers : b.is_sound new → OnOk result (b.is_open new)
   pub stands : b.is_open new → (history : History) → Stands plans (b.content old) history
       → IsCarriedOn selection plans history (b.content new)
-  -- a crash leaves what it could before, or what stands for a history on the way
+  -- a crash leaves what it could before, or what stands for a history after some of the batches
   pub leaves : b.is_sound new → (c : Content) → b.left new c
       → b.left old c
       ⊎ (b.is_open old × ((history : History) → Stands plans (b.content old) history

@@ -1,6 +1,16 @@
-//! Tests of `acct_book`, of its public calls alone.
+//! Tests of `acct_book` and `acct_book_audit`, by their public calls only.
 #![tactic(auto)]
 
+#[cfg(test)]
+mod audit_findings;
+#[cfg(test)]
+mod audit_lines;
+#[cfg(test)]
+mod audit_of_many;
+#[cfg(test)]
+mod audit_refusals;
+#[cfg(test)]
+mod audited_books;
 #[cfg(test)]
 mod calls;
 #[cfg(test)]

@@ -28,7 +28,7 @@ pub json_of-IsJson : (body : List ℕ) (value : Option Data) → IsJson body val
     → value ≡ json_of body
 json_of-IsJson body value h = json_cases (is_utf8 body) body value refl h
 
--- ---- what the octets ask
+-- ---- what the octets ask for
 
 asks_at : (keys : List DeskKey) (request : List ℕ) (moment n : ℕ) (headers : List HeaderSpan)
     (spans : RequestSpans) (ask : Ask)
@@ -59,7 +59,7 @@ pub asks_without_front : (keys : List DeskKey) (request front : List ℕ) (momen
 asks_without_front keys request front moment n ask is bound none asked =
     (None, no_head n request bound (rw is at none), asked)
 
--- with a head, something is asked
+-- octets with a head ask for something
 pub something_asked : (keys : List DeskKey) (request front : List ℕ) (moment n : ℕ)
     (headers : List HeaderSpan) (spans : RequestSpans)
     → front ≡ take n request → n ≤ 8192 → IsHeadAt front headers spans
@@ -67,7 +67,7 @@ pub something_asked : (keys : List DeskKey) (request front : List ℕ) (moment n
 something_asked keys request front moment n headers spans is small at =
     (_, asks_at_front keys request front moment n headers spans _ is small at refl)
 
--- a request asks one thing
+-- a request asks for one thing
 pub one_ask : (keys : List DeskKey) (request : List ℕ) (moment : ℕ) (one other : Ask)
     → Asks keys request moment one → Asks keys request moment other → one ≡ other
 one_ask keys request moment one other x y =

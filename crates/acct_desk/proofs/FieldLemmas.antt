@@ -1,12 +1,10 @@
 -- Header fields by name, one more at a time.
-use Rattle.std.proofs.Common.{◌≡◌, ◌≢◌, ◌≤◌, ◌-◌, Option, Some, arith, length-append, ℕ, ◌+◌, ◌<◌}
+use Rattle.std.proofs.Common.{◌≡◌, ◌≢◌, Option, Some, arith, length-append, ℕ, ◌+◌, ◌<◌}
 use Rattle.std.proofs.Common.{Bool, true, false, cond, List, [], ◌∷◌, ◌++◌, length, take, map}
 use Rattle.std.proofs.Common.{get_or, refl, ap, ◌∙◌}
 use Rattle.std.proofs.lemmas.List.{take_more, map-append, append-nil}
 use Rattle.std.proofs.lemmas.List.Elements.{filter-append}
 use Rattle.std.specs.List.{filter, slice_get}
-use Rattle.std.specs.Char.{digit_value}
-use Rattle.std.proofs.lemmas.Bool.Decides.{nat_tests}
 use Rattle.acct_desk.specs.Request.{is_named, values_of}
 
 one_value : (named : Bool) (value : List ℕ × List ℕ)
@@ -55,6 +53,3 @@ later_field false o n vs ws v is some more first count = absurd (cc)
 later_field true o n [] ws v is some more first count = absurd (some count)
 later_field true o n (x ∷ vs) ws v is some more first count =
     rw more (first, rw length-append (omega arith))
-
-pub digit_of : (c : ℕ) → 48 ≤ c → c ≤ 57 → digit_value c ≡ c - 48
-digit_of c low high = grind (arith, nat_tests)

@@ -35,8 +35,7 @@ use Rattle.acct_desk.specs.Responses.{recorded_response}
 apart : ◌≡◌ {A = ℕ} 50 53 → ⊥
 apart e = omega arith
 
--- a page is not the response where the book was unavailable: their statuses differ in the tenth
--- octet
+-- a page is not the response of an unavailable book: their statuses differ in the tenth octet
 pub told-unavailable : (body : Data) → response_of 200 [] body ≢ unavailable_response
 unfolding unavailable_response digits
 told-unavailable body e = apart (ap (λ xs. get_or xs 9 0) e)
@@ -45,7 +44,7 @@ pub for_ok : {T E : Type 0} (P : T → Type 0) (r : Result T E) → IfOk r P →
 for_ok P (Ok x) h = λ y is. subst P (let same : x ≡ y = cc in same) h
 for_ok P (Err e) h = λ y is. absurd (cc)
 
--- ---- nothing was asked of the book
+-- ---- the book was not called
 
 mute_mutes : (ask : Ask) → Mutes ask unasked
 mute_mutes (refused refusal) = refl
@@ -59,7 +58,7 @@ refused_alone : {E : Type 0} (refusal : Refusal) (result : Result (Vec ℕ Globa
 refused_alone refusal (Ok octets) is = (is, refl)
 refused_alone refusal (Err e) is = refl
 
--- what is not told is told of any history
+-- if the effect is not `looked`, the response claims nothing about the history
 not_told : {E : Type 0} (plans : List Plan) (history : History) (ask : Ask) (effect : Effect)
     (result : Result (Vec ℕ Global) E) → (effect ≡ looked → ⊥)
     → IfOk result (λ octets. TellsAsk plans history ask octets.items effect)
@@ -91,7 +90,7 @@ module _ {B E : Type 0} (b : Ghosts B) (plans : List Plan) where
 
 -- ---- a page
 
--- the book is asked for a page
+-- the request is for a page
 abbrev pub IsOfPage : Ask → Type 0
 IsOfPage (refused refusal) = ⊥
 IsOfPage (me page account) = Unit {0}
@@ -208,7 +207,7 @@ topup_tells plans history topup (Err (record_error.VoucherDiffers kept)) octets 
 topup_tells plans history topup (Err (record_error.BalanceLimit balance)) octets e = absurd (cc e)
 topup_tells plans history topup (Err record_error.Unavailable) octets e = absurd (cc e)
 
--- a top-up, by what recording told
+-- a top-up, by what recording returned
 pub recorded_handles : {B E : Type 0} (b : Ghosts B) (plans : List Plan) (old new : B)
     (topup : TopUpFacts) (recorded : Result Recorded RecordError) (octets : Vec ℕ Global)
     → Does b plans old new (effect_of (entry.TopUp topup) recorded)

@@ -64,7 +64,7 @@ is_some-position_from test i (y ∷ ys) =
       | false ↦ is_some-position_from test (i + 1) ys
     ]
 
--- what stands at the place
+-- what is at the place
 pub record StandsAt {X : Type 0} (found : Option X) (i : ℕ) (xs : List X) (j : ℕ) : Type 0 where
   pub from : i ≤ j
   pub within : j < i + length xs
@@ -197,7 +197,7 @@ places-more m n keys key bs place token behind placed new updates cs =
     (cond (has_token cs key) (Some k) None)) count
     ∙ sym (position_from-more (has_token cs) 0 keys key)
 
--- where one more key was pushed, or none, there is still no fault
+-- if one more key was pushed, or none, there is still no fault
 pub faultless_still : {T E : Type 0} (r : Result T E) (old new : List DeskKey) (key : DeskKey)
     → OnOk r (new ≡ old ++ key ∷ []) → OnErr r (new ≡ old) → keys_fault old ≡ None
     → key_fault old key ≡ None → keys_fault new ≡ None
@@ -207,7 +207,7 @@ faultless_still (Ok x) old new key pushed same none alone =
 faultless_still (Err e) old new key pushed same none alone =
     subst (λ keys. keys_fault keys ≡ None) (sym same) none
 
--- where nothing of a map has changed, the places are the same
+-- if nothing of a map has changed, the places are the same
 pub places-kept : (m n : BTreeMap (Vec ℕ Global) ℕ) (keys : List DeskKey)
     → tree.IsUnchanged m n → ArePlaces m keys → ArePlaces n keys
 places-kept m n keys same placed cs =

@@ -120,7 +120,7 @@ module _ {B : Type 0} (plans : List Plan) (ask : Ask) (b : Ghosts B) (old new : 
   }
   shows_body (Err error) body reads opened is plain told = shows_none error reads
 
--- ---- what the book told, in a history that its content stands for
+-- ---- what the book returned, in a history that its content stands for
 
 pub balance_told : (plans : List Plan) (c : Content) (history : History) (a : List ℕ) (z : ℤ)
     → Stands plans c history → z ≡ kept_balance c a
@@ -143,7 +143,7 @@ own_row_at : (a : List ℕ) (o : Option RowFacts) (row : RowFacts) → own_row a
 own_row_at a None row e = absurd (cc)
 own_row_at a (Some kept) row e = own_row_by a kept row (bytes_eq a kept.account) refl e
 
--- the rows that a book gives of an account are those of its part
+-- the rows that a book returns for an account are those of its part
 pub rows_told : (plans : List Plan) (c : Content) (history : History) (a : List ℕ)
     (rows : List RowFacts) → Stands plans c history → AreRowsOf c a rows
     → AreRowsIn (part_of plans history a) rows
@@ -175,7 +175,7 @@ own_topup_at : (a : List ℕ) (o : Option TopUpFacts) (t : TopUpFacts) → own_t
 own_topup_at a None t e = absurd (cc)
 own_topup_at a (Some kept) t e = own_topup_by a kept t (bytes_eq a kept.account) refl e
 
--- the top-ups that a book gives of an account are those of its part
+-- the top-ups that a book returns for an account are those of its part
 pub topups_told : (plans : List Plan) (c : Content) (history : History) (a : List ℕ)
     (ts : List TopUpFacts) → Stands plans c history → AreTopUpsOf c a ts
     → AreTopUpsIn (part_of plans history a) ts

@@ -47,7 +47,7 @@ headless_open : (bytes : List ℕ) → length bytes < 8192
     → ((head : RequestHead) → ¬ (Begins bytes head)) → IsExtent bytes More
 headless_open bytes short none = (None, none, short_is_open (length bytes) short)
 
--- a head that comes with further octets ends among them
+-- a head that is whole with further octets ends among them
 no_head_came : (bytes more : List ℕ) → HasNoRequest bytes
     → NoHeadEnds (length bytes) (bytes ++ more) → HasNoRequest (bytes ++ more)
 no_head_came bytes more none quiet head rest reads =
@@ -66,7 +66,7 @@ no_head_came bytes more none quiet head rest reads =
           (subst EndsInEmptyLine (sym front) (head_ends head reads.0))
     ]
 
--- so few octets are all looked at
+-- octets that are this few are all in the front
 front_is_all : (bytes front : List ℕ) → front ≡ take (min (length bytes) 8192) bytes
     → length bytes < 8192 → front ≡ bytes
 front_is_all bytes front is short =

@@ -16,7 +16,7 @@ use Rattle.acct_desk.specs.declared.keys.KeysError.TheVariants.{BadToken, TwiceK
 use Rattle.acct_desk.specs.Keys.{is_token_text, has_token}
 use Rattle.acct_desk.specs.Routes.{desk_rows}
 
--- what is wrong with a key that comes after earlier ones
+-- what is wrong with a key that follows earlier ones
 abbrev pub key_fault : List DeskKey → DeskKey → Option KeysError
 key_fault earlier key =
     if not (is_token_text key.token) then Some BadToken

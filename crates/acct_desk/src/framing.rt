@@ -5,7 +5,8 @@ ghost use Rattle.acct_desk.specs.Request.{IsExtent, reach_of_fields, body_length
 ghost use Rattle.acct_desk.specs.Request.{is_empty};
 ghost use Rattle.acct_desk.specs.inner.Request.{IfWhole};
 
-use crate::head::{FIELD_LIMIT, head_of, length_value, values_named};
+use crate::head::{FIELD_LIMIT, head_of, values_named};
+use acct_model::number_of;
 use httparse::spans::{EMPTY_HEADER_SPAN, HeaderSpan};
 
 /// How far a request reaches.
@@ -27,6 +28,9 @@ pub(crate) const HEAD_LIMIT: usize = 8192;
 /// The most octets of a body.
 const BODY_LIMIT: u64 = 4096;
 
+/// The most digits of a Content-Length.
+const LENGTH_DIGITS: usize = 10;
+
 /// The length of the body by the Content-Length fields, if they are valid.
 pub(crate) fn declared_length(front: &[u8], headers: &[HeaderSpan]) -> Option<u64>
     requires { All (IsHeaderWithin (length front.now)) headers.now }
@@ -36,7 +40,7 @@ pub(crate) fn declared_length(front: &[u8], headers: &[HeaderSpan]) -> Option<u6
     let lengths = values_named(front, headers, "content-length");
     match lengths.first {
         None => Some(0),
-        Some(value) if lengths.count == 1 => length_value(value),
+        Some(value) if lengths.count == 1 => number_of(value, LENGTH_DIGITS),
         _ => None,
     }
 }

@@ -1,9 +1,9 @@
 //! The head of a request.
-ghost use Rattle.std.specs.Prelude.{◌≡◌, ◌≤◌, ℕ, length, map, All, IfSome, IfNone, option_map};
+ghost use Rattle.std.specs.Prelude.{◌≡◌, length, map, All, IfSome, IfNone, option_map};
 ghost use Rattle.std.specs.Prelude.{slice_get};
 ghost use Rattle.httparse.specs.Spans.{IsHeaderWithin, header_bytes};
 ghost use Rattle.acct_desk.specs.inner.Head.{IsHeadAt, HasNoHead};
-ghost use Rattle.acct_desk.specs.Request.{is_named, values_of, length_of};
+ghost use Rattle.acct_desk.specs.Request.{is_named, values_of};
 
 use httparse::Status;
 use httparse::spans::{HeaderSpan, RequestSpans, parse_request};
@@ -56,21 +56,4 @@ pub(crate) fn values_named<'b>(front: &'b [u8], headers: &[HeaderSpan], name: &s
         }
     }
     Values { first, count }
-}
-
-/// The number of a text of 1 to 10 digits.
-pub(crate) fn length_value(value: &[u8]) -> Option<u64>
-    ensures { result ≡ length_of value.now }
-{
-    if value.is_empty() || value.len() > 10 {
-        return None;
-    }
-    let mut number = 0u64;
-    for digit in value {
-        if !digit.is_ascii_digit() {
-            return None;
-        }
-        number = number * 10 + (*digit - b'0') as u64;
-    }
-    Some(number)
 }

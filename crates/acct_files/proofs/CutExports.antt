@@ -1,7 +1,7 @@
 -- Why the first three columns of an export of top-ups are a text that an import takes.
 use Rattle.std.proofs.Common.{sym, ◌≡◌, ◌<◌, ◌≤◌, ◌^◌, ℕ, Bool, true, false, ◌&&◌, List, [], ◌∷◌}
 use Rattle.std.proofs.Common.{length, map, Some, None, Ok, cond, refl, subst, arith, rules}
-use Rattle.std.specs.Prelude.{⊤, bytes_eq, decimal, flat_map, nat_le, take}
+use Rattle.std.specs.Prelude.{⊤, bytes_eq, decimal, flat_map, nat_le, nat_lt, take}
 use Rattle.std.specs.Char.{is_ascii_digit}
 use Rattle.std.specs.List.{filter, list_all}
 use Rattle.std.specs.Str.Parse.{digits_value}
@@ -16,6 +16,7 @@ use Rattle.csv.proofs.RoundTrip.{read-write}
 use Rattle.acct_model.specs.declared.plan.Plan.{Plan}
 use Rattle.acct_model.specs.declared.entry.Entry.TheVariants as entry
 use Rattle.acct_model.specs.History.{Accepted, History, all_topups, first_of, topup_of}
+use Rattle.acct_model.specs.Numbers.{is_numeral}
 use Rattle.acct_model.specs.Vouchers.{TopUpFacts, is_voucher_sum}
 use Rattle.acct_model.proofs.Escapes.{decoded-shown}
 use Rattle.acct_book.specs.Effect.{Effect, after_effect, Holds}
@@ -29,7 +30,7 @@ use Rattle.acct_files.specs.Exporting.{line, topup_header}
 use Rattle.acct_files.specs.Importing.{AreAll, Becomes, Imported}
 use Rattle.acct_files.specs.Laws.{AreKept, Credits, CutExportIsTaken, HaveOthers, MayBeKept}
 use Rattle.acct_files.specs.Laws.{cut_export, cut_fields, moved_to}
-use Rattle.acct_files.specs.Vouchers.{asked_by, is_sum_text, sum_of}
+use Rattle.acct_files.specs.Vouchers.{asked_by, sum_of}
 
 -- ---- the records of the text
 
@@ -83,8 +84,10 @@ sum_spelled n h =
     let digits : list_all is_ascii_digit (decimal n) ≡ true = digits_decimal own n fits in
     let short : length (decimal n) ≤ 13 = length-decimal-le 13 n (omega arith) (omega arith) fits in
     let some : 0 < length (decimal n) = (decimal_is_IsNumeral n fits).0.0 in
-    let is : is_sum_text (decimal n) ≡ true = grind (arith, nat_tests) in
-    rw is (digits_value-decimal own n fits)
+    let is : is_numeral 13 (decimal n) ≡ true = grind (arith, nat_tests) in
+    let same = digits_value-decimal own n fits in
+    let below : nat_lt n (2 ^ 64) ≡ true = grind (arith, nat_tests) in
+    rw (is, same, below) refl
 
 asks_again : (topup : TopUpFacts) (moment : ℕ) → MayBeKept topup
     → asked_by moment (cut_fields topup) ≡ Ok (moved_to moment topup)

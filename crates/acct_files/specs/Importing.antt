@@ -1,4 +1,4 @@
--- What an import does: the records of a text, what became of each, and what the book then stands
+-- What an import does: the records of a text, the outcome of each, and what the book then stands
 -- for.
 use Rattle.std.specs.Prelude.{◌≡◌, ◌≢◌, ◌⊎◌, ◌+◌, ◌≤◌, ⊤, ℕ, ℤ, Bool, true, false, List, [], ◌∷◌}
 use Rattle.std.specs.Prelude.{◌++◌, length, count_by, Option, Some, None, IfSome, option_map}
@@ -157,7 +157,7 @@ module _ {B : Type 0} (b : Ghosts B) where
     pub moves : Moves plans history after tried old new
 
 module _ {B : Type 0} (b : Ghosts B) where
-  -- what calls keep of a book, whatever it stands for
+  -- what calls keep of a book, for any history that it stands for
   pub record KeepsOpen (stopped : Option Stopped) (added : ℕ) (old new : B) : Type 0 where
     pub was_sound : b.is_sound new → b.is_sound old
     pub was_open : b.is_open new → b.is_open old

@@ -13,7 +13,7 @@ use Rattle.acct_files.specs.Exporting.{export_text, line, topup_fields, topup_he
 use Rattle.acct_files.specs.Vouchers.{Fields, asked_by}
 
 -- A line that one import added or repeated is a repeat in each later one that reaches it. That
--- holds whatever was accepted between the two, and whichever plans were added.
+-- holds for any entries accepted and any plans added between the two.
 abbrev pub RepeatsLater : Type 0
 RepeatsLater =
     (plans later_plans : List Plan) (moment later : ℕ) (old mid between new : History)

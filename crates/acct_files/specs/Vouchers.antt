@@ -1,11 +1,9 @@
 -- What a record of an import asks for.
-use Rattle.std.specs.Prelude.{◌≡◌, ℕ, ⊤, Bool, ◌&&◌, not, nat_le, if◌then◌else◌, List, [], ◌∷◌}
-use Rattle.std.specs.Prelude.{false, length, Option, Some, None, Result, Ok, Err, codes, bytes_eq}
-use Rattle.std.specs.Char.{is_ascii_digit}
-use Rattle.std.specs.List.{list_all}
+use Rattle.std.specs.Prelude.{◌≡◌, ℕ, ⊤, Bool, ◌&&◌, not, if◌then◌else◌, List, [], ◌∷◌, unwrap_or}
+use Rattle.std.specs.Prelude.{false, Option, Some, None, Result, Ok, Err, codes, bytes_eq}
 use Rattle.std.specs.Option.{option_map_or}
-use Rattle.std.specs.Str.Parse.{digits_value}
 use Rattle.percent_encoding.specs.Percent.{percent_decode}
+use Rattle.acct_model.specs.Numbers.{number_of}
 use Rattle.acct_model.specs.Vouchers.{TopUpFacts, is_voucher_number, is_voucher_account}
 use Rattle.acct_model.specs.Vouchers.{is_voucher_sum}
 use Rattle.acct_files.specs.declared.import_report.Cause.{Cause}
@@ -32,13 +30,9 @@ is_header fields = option_map_or
     (λ f. bytes_eq f.0 (codes "voucher") && bytes_eq f.1 (codes "account") && bytes_eq f.2
     (codes "sum")) (three_of fields) false
 
--- 1 to 13 digits
-abbrev pub is_sum_text : List ℕ → Bool
-is_sum_text text = nat_le 1 (length text) && nat_le (length text) 13 && list_all is_ascii_digit text
-
 -- the number that 1 to 13 digits spell, else 0, which is no voucher's sum
 abbrev pub sum_of : List ℕ → ℕ
-sum_of text = if is_sum_text text then digits_value 10 text else 0
+sum_of text = unwrap_or (number_of 13 text) 0
 
 -- the top-up of a number, an account and a sum at a moment, or the first rule that they break
 abbrev pub topup_asked : ℕ → List ℕ → List ℕ → ℕ → Result TopUpFacts Cause

@@ -1,13 +1,11 @@
 //! The vouchers that records of CSV ask for.
 ghost use Rattle.std.specs.Prelude.{◌≡◌, ◌^◌, ◌<◌, Ok, IfOk, IfErr, option_map};
-ghost use Rattle.std.specs.Char.{is_ascii_digit};
-ghost use Rattle.std.specs.List.{list_all};
 ghost use Rattle.csv.specs.Records.{fields_of};
-ghost use Rattle.acct_files.specs.Vouchers.{three_of, is_header as is_header_record, is_sum_text};
-ghost use Rattle.acct_files.specs.Vouchers.{sum_of, asked_by, topup_asked, IsLineFault};
+ghost use Rattle.acct_files.specs.Vouchers.{three_of, is_header as is_header_record};
+ghost use Rattle.acct_files.specs.Vouchers.{asked_by, topup_asked, IsLineFault};
 
 use crate::import_report::Cause;
-use acct_model::{TopUp, TopUpError};
+use acct_model::{TopUp, TopUpError, number_of};
 use csv::ByteRecord;
 use percent_encoding::percent_decode;
 use std::alloc::Global;
@@ -59,7 +57,9 @@ pub fn topup_in(alloc: Global, row: &ByteRecord, moment: u64) -> Result<TopUp, F
     let Ok(account) = percent_decode(account).into_cow(alloc) else {
         return Err(Fault::Memory);
     };
-    topup_of(alloc, voucher, &account, number_in(sum), moment)
+    // No voucher's sum is 0.
+    let sum = number_of(sum, MOST_DIGITS).unwrap_or(0);
+    topup_of(alloc, voucher, &account, sum, moment)
 }
 
 fn topup_of(
@@ -91,32 +91,4 @@ fn three_fields(row: &ByteRecord) -> Option<(&[u8], &[u8], &[u8])>
         return None;
     }
     Some((row.get(0)?, row.get(1)?, row.get(2)?))
-}
-
-// The number that 1 to 13 digits spell, else 0, which is no voucher's sum.
-fn number_in(text: &[u8]) -> u64
-    ensures { result ≡ sum_of text.now }
-{
-    if !is_number(text) {
-        return 0;
-    }
-    match from_utf8(text) {
-        Ok(digits) => digits.parse().unwrap_or(0),
-        Err(_) => 0,
-    }
-}
-
-fn is_number(text: &[u8]) -> bool
-    ensures { result ≡ is_sum_text text.now }
-{
-    if text.is_empty() || text.len() > MOST_DIGITS {
-        return false;
-    }
-    are_digits(text)
-}
-
-fn are_digits(octets: &[u8]) -> bool
-    ensures { result ≡ list_all is_ascii_digit octets.now }
-{
-    octets.iter().all(|octet| octet.is_ascii_digit())
 }

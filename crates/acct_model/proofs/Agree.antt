@@ -28,7 +28,7 @@ same_counted plan r q e =
     let same : n ≡ m = ap (λ (c : ReportClaim). counted_under plan c.input c.output) e in
     let le : n ≤ m = omega (arith, same) in le
 
--- where no claim is more, each report has one of its own claim, of which each plan counts no less
+-- if no claim is more, each report has one of its own claim, of which each plan counts no less
 pub counted-claimed : (plan : Option Plan) (these those : History) → ClaimsNoMore these those
     → (r : ReportFacts) → Contains (all_reports these) r
     → (q : ReportFacts) × Contains (all_reports those) q × (session_of q ≡ session_of r)
@@ -38,7 +38,7 @@ counted-claimed plan these those more r h =
     (more (OfReport (report_claim r)) (claim_of_report these r h)) in
     (q.0, q.1, same_names q.0 r q.2, same_counted plan r q.0 (sym q.2))
 
--- where no claim is more, each report is covered
+-- if no claim is more, each report is covered
 pub covers-claimed : (plans : List Plan) (these those : History) → ClaimsNoMore these those
     → Covers plans (all_reports those) (all_reports these)
 covers-claimed plans these those more r h =

@@ -1,4 +1,4 @@
--- Reports and top-ups that say the same of every account, in whatever order and number.
+-- Reports and top-ups that say the same of every account, in any order and number.
 use Rattle.std.proofs.Common.{◌≡◌, ℕ, ◌≤◌, true, cond, List, [], ◌∷◌, map, refl, sym, ◌∙◌, ap}
 use Rattle.std.proofs.Common.{subst, arith}
 use Rattle.std.specs.Prelude.{Contains, bytes_eq, Option, Some, max}
@@ -180,8 +180,8 @@ sessions_among plans these those covers name h =
     let q = covers r.0 r.1 in
     subst (λ v. Contains (map session_of those) v) (q.2 ∙ r.2) (to_map session_of those q.0 q.1)
 
--- where plans were added only for classes that no report bears, a session costs what its reports
--- cost by the plan that the class of the first names among those in force at the end
+-- if plans were added only for classes that no report has, a session costs what its reports cost by
+-- the plan that the class of the first names among those in force at the end
 pub charged-frozen : (plans : List Plan) (history : History) (account : List ℕ)
     → AddsForNone history
     → charged plans history account

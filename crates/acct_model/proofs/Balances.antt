@@ -61,7 +61,7 @@ share_listed weight account name (r ∷ rs) =
       | false ↦ share_listed weight account name rs
     ]
 
--- A report changes what its own session weighs, where it changes the weight of no other.
+-- A report changes what its own session weighs, if it changes the weight of no other.
 pub owned-report : (before after : SessionName → ℕ) (history : History) (report : ReportFacts)
     (account : List ℕ)
     → ((name : SessionName) → name ≢ session_of report → after name ≡ before name)
@@ -238,7 +238,7 @@ charge-own plans history report =
     ap (cost_of (plan_of plans (Accepted (entry.Report report) ∷ history) (session_of report)))
     (reports-own history report)
 
--- and by its plan from before, where there was a report of it
+-- and by its plan from before, if there was a report of it
 pub charge-later : (plans : List Plan) (history : History) (report first : ReportFacts)
     → first_of (reports history (session_of report)) ≡ Some first
     → charge_of plans (Accepted (entry.Report report) ∷ history) (session_of report)
@@ -291,7 +291,7 @@ balance-report plans history report account =
 
 -- ---- what a report's session costs after it
 
--- where the session's first report was there before: the costs before and after by one plan
+-- if the session's first report was there before: the costs before and after by one plan
 pub before-known : (plans : List Plan) (history : History) (report first : ReportFacts)
     (account : List ℕ) → first_of (reports history (session_of report)) ≡ Some first
     → cost_before plans history report account
@@ -310,7 +310,7 @@ after-known plans history report first account is = λ i. share account
     (first_of-more report first (reports history (session_of report)) is i)
     (charge-later plans history report first is i)
 
--- where there was none the session cost nothing
+-- if there was none, the session cost nothing
 pub before-none : (plans : List Plan) (history : History) (report : ReportFacts)
     (account : List ℕ) → first_of (reports history (session_of report)) ≡ None
     → cost_before plans history report account ≡ 0
@@ -322,7 +322,7 @@ other_share : (account : List ℕ) (report : ReportFacts) (o : Option ReportFact
 other_share account report None e = refl
 other_share account report (Some first) e = e
 
--- whoever does not own the session after the report didn't before
+-- an account that does not own the session after the report did not own it before
 pub share-other : (account : List ℕ) (report : ReportFacts) (rs : List ReportFacts)
     (before after : ℕ)
     → is_owner account (first_of (report ∷ rs)) ≡ false

@@ -55,7 +55,7 @@ one_move old new (carries batch) ((c, after), is) alike =
     (among (session_of batch.report) aside
     (here (session_of batch.report) (sessions_in batch ++ old.aside)))))
 
--- A course that began alike goes on alike.
+-- A course that began alike continues alike.
 pub goes_alike : (old new : Course) (moves : List Move) → Goes old moves new → Alike old → Alike new
 goes_alike old new [] is alike = subst Alike (sym is) alike
 goes_alike old new (move ∷ moves) (mid, one, rest) alike =

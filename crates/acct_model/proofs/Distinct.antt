@@ -6,14 +6,14 @@ use Rattle.std.specs.Bool.{Decides}
 use Rattle.std.specs.List.{list_any, sum_by}
 use Rattle.acct_model.specs.History.{distinct}
 
--- the element that changes stands in front
+-- the element that changes is in front
 changed_here : {K : Type 0} (f g : K → ℕ) (s : K) (ks : List K) (m : Bool)
     → sum_by g ks + cond m (f s) 0 ≡ sum_by f ks + cond m (g s) 0
     → sum_by g (cond m ks (s ∷ ks)) + f s ≡ sum_by f (cond m ks (s ∷ ks)) + g s
 changed_here f g s ks true h = h
 changed_here f g s ks false h = omega (arith, h, sum_by-cons f s ks, sum_by-cons g s ks)
 
--- another element stands in front
+-- another element is in front
 changed_there : {K : Type 0} (f g : K → ℕ) (k : K) (ks : List K) (m : Bool) (c d : ℕ)
     → g k ≡ f k
     → sum_by g ks + c ≡ sum_by f ks + d
@@ -21,7 +21,7 @@ changed_there : {K : Type 0} (f g : K → ℕ) (k : K) (ks : List K) (m : Bool) 
 changed_there f g k ks true c d e h = h
 changed_there f g k ks false c d e h = omega (arith, e, h, sum_by-cons f k ks, sum_by-cons g k ks)
 
--- an element more in front, which may stand there already
+-- one more element in front, which may be in the list already
 added : {K : Type 0} (f g : K → ℕ) (s : K) (ks : List K) (m : Bool)
     → sum_by g ks + cond m (f s) 0 ≡ sum_by f ks + cond m (g s) 0
     → sum_by g (cond m ks (s ∷ ks)) + cond m (f s) 0 ≡ sum_by f ks + g s
@@ -55,9 +55,8 @@ module _ {K : Type 0} (same : K → K → Bool) (decides : (a b : K) → Decides
             (cond (list_any (same s) ks) (g s) 0) other before
       ] refl
 
-  -- One more element s, and a function that differs from the old one at s alone: the sum gains what
-  -- s gains, where an
-  -- element that is new counted 0 before.
+  -- One more element s, and a function that differs from the old one only at s. The sum gains what
+  -- s gains; a new element counted 0 before.
   pub sum_by-distinct-more : (f g : K → ℕ) (s : K) → ((k : K) → k ≢ s → g k ≡ f k) → (ks : List K)
       → sum_by g (distinct same (s ∷ ks)) + cond (list_any (same s) ks) (f s) 0
       ≡ sum_by f (distinct same ks) + g s

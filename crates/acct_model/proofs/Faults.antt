@@ -35,7 +35,7 @@ module _ {X E : Type 0} (fault : List X → X → Option E) where
   pub faults_from-all : (xs : List X) (i : ℕ) → length xs ≤ i → faults_from i xs ≡ None
   faults_from-all xs i all = ap (first_fault_after fault (take i xs)) (drop_all i xs all)
 
-  -- where there is no fault, nor in one more that comes after all, there is none
+  -- if there is no fault, and one more element after all has none, there is still none
   faultless_after : (earlier xs : List X) (x : X) → first_fault_after fault earlier xs ≡ None
       → fault (earlier ++ xs) x ≡ None → first_fault_after fault earlier (xs ++ x ∷ []) ≡ None
   faultless_after earlier [] x none alone =
@@ -51,7 +51,7 @@ module _ {X E : Type 0} (fault : List X → X → Option E) where
       → first_fault fault (xs ++ x ∷ []) ≡ None
   faultless_more xs x none alone = faultless_after [] xs x none alone
 
-  -- where there is no fault, each element passes, judged by some that stand before it
+  -- if there is no fault, each element passes, judged by some that precede it
   pub passed : (earlier xs : List X) → first_fault_after fault earlier xs ≡ None → (x : X)
       → Contains xs x
       → (before : List X) × (fault before x ≡ None)

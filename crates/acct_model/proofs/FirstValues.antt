@@ -5,7 +5,7 @@ use Rattle.std.specs.Option.{option_map, option_or}
 use Rattle.std.specs.Borrow.{Bor}
 use Rattle.radius_codec.specs.Attributes.{value_of}
 
--- The first value of each type stands at its place, or else is the first of those that are left.
+-- The first value of each type is at its place, or else is the first of those that are left.
 pub record FirstsLeft (values : List (Option (Bor (List ℕ))))
     (left all : List (ℕ × List ℕ)) : Type 0 where
   pub size : length values ≡ 54

@@ -283,7 +283,7 @@ or_twice : (b c : Bool) → (b || (b || c)) ≡ (b || c)
 or_twice true c = refl
 or_twice false c = refl
 
--- who is known besides their owner is known without them
+-- without them the same accounts are known, other than their owner
 known-without_all : (plans : List Plan) (plan : Plan) (owner : List ℕ) (history : History)
     (names : List SessionName) → AreOf plans plan owner history names → (account : List ℕ)
     → (bytes_eq account owner || is_known (without_all names history) account)

@@ -1,4 +1,4 @@
--- A history in which sessions were carried forward goes on as the one in which none were.
+-- A history in which sessions were carried forward continues as the one in which none were.
 use Rattle.std.proofs.Common.{◌≡◌, ◌≢◌, ℕ, Bool, true, false, cond, List, [], ◌∷◌, refl, sym, ◌∙◌}
 use Rattle.std.proofs.Common.{ap}
 use Rattle.std.proofs.Common.{map, true≢false, arith}
@@ -89,7 +89,7 @@ given : List ℕ → List TopUpFacts → ℕ
 given account ts = sum_by (λ v. v.1) (distinct same_voucher
     (map voucher_of (filter (λ t. bytes_eq account t.account) ts)))
 
--- where the same is credited, the same is charged
+-- if balances and credits are the same, so are the charges
 same_charged : (credit one other : ℕ) → pos credit -ℤ pos one ≡ pos credit -ℤ pos other
     → one ≡ other
 same_charged credit one other e = omega (arith, ints, e)

@@ -92,7 +92,7 @@ plan_class-own plans class plan is =
     ∙ sym (ap (λ b. cond b class default_class)
     (sym (is_some-find (has_class class) plans) ∙ ap is_some is))
 
--- and so is `default`, where no plan has the class
+-- and so is `default`, if no plan has the class
 pub plan_class-default : (plans : List Plan) (class : List ℕ) (plan : Plan)
     → find (has_class class) plans ≡ None → find (has_class default_class) plans ≡ Some plan
     → plan.class ≡ plan_class plans class
@@ -203,7 +203,7 @@ pub plan-kept : (plans : List Plan) (history : History) (name : SessionName)
 plan-kept plans history name =
     kept_at plans (opening_of plans history name) (opening-kept plans history name)
 
--- ---- where plans were added only for classes that no report bears
+-- ---- if plans were added only for classes that no report has
 
 -- the plan that the class of a first report names
 abbrev pub plan_by : List Plan → Option ReportFacts → Option Plan

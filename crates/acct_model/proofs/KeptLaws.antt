@@ -28,7 +28,7 @@ use Rattle.acct_model.proofs.SamePlans.{SamePlans, none-before, same-balance}
 
 -- ---- the plan that the first report found
 
--- whatever comes later, a session stays opened as it was
+-- nothing later changes how a session was opened
 opened_then : (plans : List Plan) (later older : History) (r : ReportFacts)
     → reports older (session_of r) ≡ []
     → opening_of plans (later ++ Accepted (entry.Report r) ∷ older) (session_of r)

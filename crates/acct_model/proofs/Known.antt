@@ -28,7 +28,7 @@ sum_any_at : (b : Bool) (n : ℕ) (any : Bool) → nat_lt 0 n ≡ any
 sum_any_at true n any h = grind (arith, nat_tests)
 sum_any_at false n any h = let e : 0 + n ≡ n = omega arith in ap (nat_lt 0) e ∙ h
 
--- a sum of ones is above 0 where there is one
+-- a sum of ones is above 0 if there is one
 sum_any : {K : Type 0} (p : K → Bool) (ks : List K)
     → nat_lt 0 (sum_by (λ k. cond (p k) 1 0) ks) ≡ list_any p ks
 sum_any p [] = refl

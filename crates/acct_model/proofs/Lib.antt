@@ -1,3 +1,5 @@
+-- what a text of digits spells
+pub mod Numbers
 -- the least blocks that cover octets
 pub mod Blocks
 -- the first fault of a list from a place on, and what passes if there is none
@@ -54,7 +56,7 @@ pub mod KeptLaws
 pub mod Without
 -- to carry sessions forward moves no balance
 pub mod Forward
--- a history goes on alike if sessions were carried forward
+-- a history continues alike if sessions were carried forward
 pub mod GoOn
 -- a history in which sessions are carried forward keeps the balances of what was sent
 pub mod Courses

@@ -18,7 +18,7 @@ deeper x y xs h = Contains-append_right (x ∷ []) xs y h
 pub nowhere : {X : Type 0} (x : X) → Contains [] x → ⊥
 nowhere x h = let small : h.0 < 0 = h.1 in omega arith
 
--- an element stands first or later
+-- an element is the first one or a later one
 pub front_or_behind : {X : Type 0} (x y : X) (xs : List X) → Contains (x ∷ xs) y → (x ≡ y)
     ⊎ Contains xs y
 front_or_behind x y xs h = elim (Contains-append_cases (x ∷ []) xs y h) [
@@ -30,7 +30,7 @@ front_or_behind x y xs h = elim (Contains-append_cases (x ∷ []) xs y h) [
   | inr behind ↦ inr behind
 ]
 
--- the element that a mapped list has comes from one of the list
+-- an element of a mapped list is mapped from one of the list
 pub from_map : {X Y : Type 0} (f : X → Y) (xs : List X) (y : Y) → Contains (map f xs) y → (x : X)
     × Contains xs x × (f x ≡ y)
 from_map f [] y h = absurd (nowhere y h)
@@ -153,7 +153,7 @@ find-none p (x ∷ xs) e =
       | false ↦ λ h. find-none p xs h
     ] e
 
--- what is found stands in the list and passes
+-- what is found is in the list and passes
 pub find-some : {X : Type 0} (p : X → Bool) (xs : List X) (found : X) → find p xs ≡ Some found
     → Contains xs found × (p found ≡ true)
 find-some p [] found e = cc

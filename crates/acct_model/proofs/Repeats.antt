@@ -22,7 +22,7 @@ use Rattle.acct_model.proofs.Alike.{credited-among, to_session}
 use Rattle.acct_model.proofs.Claimed.{report_of_claim, topup_of_claim}
 use Rattle.acct_model.proofs.Agree.{same_names, same_counted}
 
--- a session costs the same after one more report, where its plan counts no less of another
+-- a session costs the same after one more report, if its plan counts no less of another
 pub cost-same : (plans : List Plan) (history : History) (report one : ReportFacts)
     (account : List ℕ)
     → Contains (reports history (session_of report)) one

@@ -16,7 +16,7 @@ and_both false q e = absurd (true≢false (sym e))
 both_and : (p q : Bool) → p ≡ true → q ≡ true → (p && q) ≡ true
 both_and p q e f = rw (e, f) refl
 
--- a test that fails, where the fact does not hold
+-- a test fails if the fact does not hold
 pub Decides-false : {P : Type 0} (b : Bool) → Decides b P → (P → ⊥) → b ≡ false
 Decides-false true d not = absurd (not (d.0 refl))
 Decides-false false d not = refl

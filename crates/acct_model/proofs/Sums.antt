@@ -16,7 +16,7 @@ module _ {K : Type 0} (same : K → K → Bool) (decides : (a b : K) → Decides
   but : (K → ℕ) → K → K → ℕ
   but f s k = cond (same s k) 0 (f k)
 
-  -- what s adds to a sum: its weight where it stands in the list
+  -- what s adds to a sum: its weight if it is in the list
   sum_but : (f : K → ℕ) (s : K) (ks : List K)
       → sum_by (but f s) (distinct same ks) + cond (list_any (same s) ks) (f s) 0
       ≡ sum_by f (distinct same ks)

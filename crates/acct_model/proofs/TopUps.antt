@@ -13,7 +13,7 @@ use Rattle.acct_model.proofs.Lists.{here, deeper, nowhere, all_listed, to_filter
 use Rattle.acct_model.proofs.Balances.{first_of-none}
 use Rattle.acct_model.proofs.Same.{Decides-bytes_eq, Decides-false}
 
--- where the first that passes stands, after which none passes
+-- the place of the first that passes: none that follows it in the list passes
 pub record IsFirst {X : Type 0} (p : X → Bool) (xs : List X) (first : X) : Type 0 where
   pub later : List X
   pub earlier : List X

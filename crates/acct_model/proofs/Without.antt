@@ -253,7 +253,7 @@ sum_left f g name rs none agree =
     let nothing = none_at (list_any (same_session name) ls) (g name) none in
     omega (arith, left, right, same, nothing, none)
 
--- What the session weighs is missing where it is missing.
+-- A history without the session lacks what the session weighs.
 pub owned-without : (before after : SessionName → ℕ) (history : History) (name : SessionName)
     (account : List ℕ)
     → ((other : SessionName) → other ≢ name → after other ≡ before other)

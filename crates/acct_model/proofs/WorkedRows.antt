@@ -41,8 +41,8 @@ topup voucher account amount =
 abbrev al : History → ℤ
 al history = balance_of plans history (codes "al")
 
--- the newest entry stands first: totals 0, 1, 1,048,576 and 1,048,577 of one session cost 0, 10, 10
--- and 20
+-- the newest entry is first: totals 0, 1, 1,048,576 and 1,048,577 of one session cost 0, 10, 10 and
+-- 20
 rises_0 : al (update (codes "s2") (codes "gold") 0 ∷ []) ≡ pos 0
 rises_0 = refl
 
@@ -59,7 +59,7 @@ rises_3 = refl
 gigaword : al (update (codes "s3") (codes "gold") 4294967296 ∷ []) ≡ negsuc 40959
 gigaword = refl
 
--- a lower total that comes later changes nothing, and one that comes first is overtaken
+-- a lower total that is reported later changes nothing, and one that is reported first is overtaken
 lower_later : al (update (codes "s4") (codes "gold") 1048576
     ∷ update (codes "s4") (codes "gold") 3145728 ∷ []) ≡ negsuc 29
 lower_later = refl
@@ -77,7 +77,7 @@ none_first : al (update (codes "s9") (codes "gold") 3000000 ∷ update (codes "s
     ≡ negsuc 14
 none_first = refl
 
--- a voucher that comes twice counts once, and one to another account not at all
+-- a voucher that is received twice counts once, and one to another account not at all
 vouchers : al (topup (codes "V-2") (codes "bo") 300 ∷ topup (codes "V-1") (codes "al") 500
     ∷ update (codes "s2") (codes "gold") 1048577 ∷ topup (codes "V-1") (codes "al") 500 ∷ [])
     ≡ pos 480

@@ -26,7 +26,7 @@ pub record Course : Type 0 where
 abbrev pub is_among : List SessionName → SessionName → Bool
 is_among names name = list_any (same_session name) names
 
--- what may come next
+-- what may happen next
 pub data Move : Type 0 where
   -- the entry is accepted
   accepts : Entry → Move

@@ -2,7 +2,7 @@
 use Rattle.std.specs.Prelude.{Option, None, Some, List, [], ◌∷◌, ◌++◌}
 use Rattle.std.specs.Option.{option_or}
 
--- The first fault of elements that come after earlier ones: each is judged by all before it.
+-- The first fault of elements that follow earlier ones: each is judged by all before it.
 abbrev pub first_fault_after : {X E : Type 0} → (List X → X → Option E) → List X → List X → Option E
 first_fault_after fault earlier [] = None
 first_fault_after fault earlier (x ∷ later) =

@@ -147,7 +147,7 @@ CarriesBatches plans history (batch ∷ batches) after =
 
 -- ---- what is accepted after
 
--- Two histories that go on alike: except for the sessions that were set aside they have the same
+-- Two histories that continue alike: except for the sessions that were set aside they have the same
 -- reports and plans. They have the same top-ups, and every account has one balance in both.
 pub record GoOnAlike (plans : List Plan) (is_aside : SessionName → Bool)
     (whole kept : History) : Type 0 where
@@ -164,9 +164,9 @@ is_of_aside is_aside (entry.Report report) = is_aside (session_of report)
 is_of_aside is_aside (entry.Restart restart) = false
 is_of_aside is_aside (entry.TopUp topup) = false
 
--- If sessions are carried forward and no report of them is received later, the history goes on as
--- the one in which nothing was. Whatever is accepted moves the same balances, whatever plans are
--- added, and whichever sessions are carried forward later.
+-- If sessions are carried forward and no report of them is received later, the history continues as
+-- the one in which nothing was. Any accepted entry moves the same balances, with any plans added
+-- and any sessions carried forward later.
 pub record ForwardGoesOn : Type 0 where
   pub begins : (plans : List Plan) (is_aside : SessionName → Bool) (history : History)
       → GoOnAlike plans is_aside history history

@@ -18,7 +18,7 @@ abbrev pub ShownReadsBack : Type 0
 ShownReadsBack = (octets : List ℕ) → All (λ octet. octet < 256) octets
     → percent_decode (shown octets) ≡ octets
 
--- of a session's reports the first is the deepest, whatever was accepted later
+-- of a session's reports the first is the deepest, after any reports accepted later
 abbrev pub FirstIsDeepest : Type 0
 FirstIsDeepest = (later : List ReportFacts) (report : ReportFacts)
     → first_of (later ++ report ∷ []) ≡ Some report

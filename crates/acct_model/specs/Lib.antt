@@ -4,6 +4,7 @@ pub mod TopUpFaults
 pub mod Plans
 pub mod Faults
 pub mod PlanFaults
+pub mod Numbers
 pub mod Entries
 pub mod FirstValues
 pub mod Shown

@@ -18,7 +18,7 @@ is_block block = nat_le 1 block && nat_le block (2 ^ 53)
 abbrev pub is_unit : ℕ → Bool
 is_unit unit = nat_le unit (10 ^ 9)
 
--- what is wrong with a plan that comes after earlier ones
+-- what is wrong with a plan that follows earlier ones
 abbrev pub plan_fault : List Plan → Plan → Option PlanError
 plan_fault earlier plan =
     if not (is_block plan.block) then Some BadBlock

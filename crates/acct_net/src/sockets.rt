@@ -13,12 +13,11 @@
 ghost use Rattle.std.specs.Prelude.{◌≡◌, ◌+◌, ◌-◌, ◌<◌, ◌^◌, false, None, IfOk};
 ghost use Rattle.std.specs.List.{list_any};
 
-use crate::clock::moment_of;
 use crate::datagrams::Datagrams;
 use crate::desk::{Desk, PLACES};
 use crate::readiness::Readiness;
 use acct_model::Octets;
-use acct_service::{Event, Exchange, Fault, What};
+use acct_service::{Event, Exchange, Fault, What, moment_of};
 use acct_wire::Reason;
 use std::alloc::Global;
 use std::io;

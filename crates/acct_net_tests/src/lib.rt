@@ -6,8 +6,6 @@ mod addresses;
 #[cfg(test)]
 mod callers;
 #[cfg(test)]
-mod clock;
-#[cfg(test)]
 mod faults;
 #[cfg(test)]
 mod sizes;

@@ -4,7 +4,7 @@ use Rattle.std.specs.Prelude.{[], Option, Some, None, IfSome, is_some, unwrap_or
 use Rattle.std.specs.Option.{option_or}
 use Rattle.clap.specs.Words.{Row, Text, all_of, first_of, one_of}
 use Rattle.clap.specs.Takes.{is_given}
-use Rattle.acct_program.specs.Numbers.{number_up_to}
+use Rattle.acct_model.specs.Numbers.{number_up_to}
 use Rattle.acct_program_args.specs.declared.job.Order.{Order}
 use Rattle.acct_program_args.specs.declared.job.Job.{Job}
 use Rattle.acct_program_args.specs.declared.job.Job.TheVariants as job

@@ -5,8 +5,7 @@ ghost use Rattle.clap.specs.Takes.{is_given as given_by_words};
 ghost use Rattle.acct_program_args.specs.Orders.{IsFlag, IsNumber, IsOldest};
 
 use crate::option_limits::{LAST_PORT, MOST_DAYS};
-use acct_model::Text;
-use acct_program::number_up_to;
+use acct_model::{Text, number_up_to};
 use clap::ArgMatches;
 use clap::parser::ValueSource;
 use std::alloc::{AllocError, Global};

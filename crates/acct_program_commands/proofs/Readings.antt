@@ -10,7 +10,7 @@ use Rattle.acct_program_commands.specs.declared.fault.Fault.TheVariants as fault
 use Rattle.acct_program_commands.specs.Checks.{IsNoConfig, IsFaultOf, IsRead}
 use Rattle.acct_program_commands.specs.Sights.{Reading}
 
--- an allocation may fail whatever the text is
+-- an allocation may fail for any text
 no_memory : (text : Option (List ℕ)) → IsNoConfig text (fault.Config (top_error Memory))
 no_memory None = tt
 no_memory (Some octets) = inr (inl refl)

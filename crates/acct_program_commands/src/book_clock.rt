@@ -4,7 +4,7 @@ ghost use Rattle.std.specs.Io.KnownBytes.{Appends};
 ghost use Rattle.acct_program_commands.specs.BookClock.{late_text, late_line};
 
 use acct_model::Text;
-use acct_net::moment_of;
+use acct_service::moment_of;
 use std::alloc::AllocError;
 use std::fs::Files;
 use std::io::Write;

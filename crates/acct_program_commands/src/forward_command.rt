@@ -290,7 +290,7 @@ fn survey<B: Book, W: Write>(
 {
     let mut totals = Totals::new();
     let mut after: Option<Vec<u8>> = None;
-    'accounts: for _ in 0..u64::MAX {
+    for _ in 0..u64::MAX {
         let Some((account, rows)) = look_next(book, &after)? else {
             return Ok(totals);
         };
@@ -370,7 +370,7 @@ fn carry_all<B: Book, E: Write>(
 {
     let mut totals = Totals::new();
     let mut after: Option<Vec<u8>> = None;
-    'accounts: for _ in 0..u64::MAX {
+    for _ in 0..u64::MAX {
         let Some((account, tally)) = carry_next(alloc, book, plans, selection, moment, &after)?
         else {
             return Ok(totals);

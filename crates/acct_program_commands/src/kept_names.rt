@@ -56,12 +56,20 @@ enum Place {
 
 // What is found at the two names of a file that is rewritten from time to time: its own, and the
 // one under which it is made.
-#[derive(Drop)]
 struct Spot {
     // Whether something that the program did not write is at one of them.
     is_foreign: bool,
     // Where they lead.
     places: [Place; 2],
+}
+
+impl Drop for Spot {
+    fn drop(self) {
+        let Spot {
+            is_foreign: _,
+            places: _,
+        } = self;
+    }
 }
 
 // What is found at the names of a server's files.
@@ -99,21 +107,27 @@ fn found_at<R: Files + AllocGlobal>(
     runtime: &R,
     files: ServerFiles<'_>,
 ) -> Result<Found, AllocError> {
-    let status = Written::of(runtime, files.status, STATUS_HEAD)?;
-    let balances = Written::of(runtime, files.balances, BALANCES_HEAD)?;
-    let log = name_with(runtime, files.database, "-wal")?;
-    let real = real_name(runtime, files.database)?;
-    let real_log = name_with(runtime, real.as_ref(), "-wal")?;
+    let status = Spot::of(runtime, files.status, STATUS_HEAD)?;
+    let balances = Spot::of(runtime, files.balances, BALANCES_HEAD)?;
+    let kept = kept_places(runtime, files)?;
     Ok(Found {
-        status: status.spot(runtime)?,
-        balances: balances.spot(runtime)?,
-        kept: [
-            place_of(runtime, Some(files.config))?,
-            place_of(runtime, files.database)?,
-            place_of(runtime, log.as_ref())?,
-            place_of(runtime, real_log.as_ref())?,
-        ],
+        status,
+        balances,
+        kept,
     })
+}
+
+// Where the files that must stay as they are lead: see `Found::kept`.
+fn kept_places<R: Files + AllocGlobal>(
+    runtime: &R,
+    files: ServerFiles<'_>,
+) -> Result<[Place; 4], AllocError> {
+    let real = real_name(runtime, files.database)?;
+    let config = place_of(runtime, Some(files.config))?;
+    let book = place_of(runtime, files.database)?;
+    let log = place_of_log(runtime, files.database)?;
+    let real_log = place_of_log(runtime, real.as_ref())?;
+    Ok([config, book, log, real_log])
 }
 
 // Whether one of the files to write would overwrite another file.
@@ -132,48 +146,31 @@ fn would_overwrite(found: &Found) -> bool
         || share_one(&status.places, &balances.places)
 }
 
-// A file that is rewritten from time to time, if one is named.
-struct Written<'a> {
-    name: Option<&'a Text>,
-    // The name under which it is made.
-    new_name: Option<Text>,
-    // Its first octets.
-    head: &'static [u8],
-}
-
-impl<'a> Drop for Written<'a> {
-    fn drop(self) {
-        let Written {
-            name: _,
-            new_name: _,
-            head: _,
-        } = self;
-    }
-}
-
-impl<'a> Written<'a> {
-    fn of<R: AllocGlobal>(
+impl Spot {
+    // What is found at the two names of a file that begins with `head`, if it is named.
+    fn of<R: Files + AllocGlobal>(
         runtime: &R,
-        name: Option<&'a Text>,
-        head: &'static [u8],
-    ) -> Result<Written<'a>, AllocError> {
+        name: Option<&Text>,
+        head: &[u8],
+    ) -> Result<Spot, AllocError> {
         let new_name = name_with(runtime, name, ".new")?;
-        Ok(Written {
-            name,
-            new_name,
-            head,
-        })
-    }
-
-    // What is found at its two names.
-    fn spot<R: Files + AllocGlobal>(&self, runtime: &R) -> Result<Spot, AllocError> {
-        let new_name = self.new_name.as_ref();
+        let new_name = new_name.as_ref();
+        let own = place_of(runtime, name)?;
+        let new = place_of(runtime, new_name)?;
         Ok(Spot {
-            is_foreign: is_foreign(runtime, self.name, self.head)
-                || is_foreign(runtime, new_name, self.head),
-            places: [place_of(runtime, self.name)?, place_of(runtime, new_name)?],
+            is_foreign: is_foreign(runtime, name, head) || is_foreign(runtime, new_name, head),
+            places: [own, new],
         })
     }
+}
+
+// Where the log of a database leads, if there is one.
+fn place_of_log<R: Files + AllocGlobal>(
+    runtime: &R,
+    database: Option<&Text>,
+) -> Result<Place, AllocError> {
+    let log = name_with(runtime, database, "-wal")?;
+    place_of(runtime, log.as_ref())
 }
 
 // A name with an ending, if there is a name.

@@ -4,7 +4,7 @@ use Rattle.std.specs.Net.Grammar.{IsDotted}
 use Rattle.acct_model.specs.Vouchers.{TopUpFacts}
 use Rattle.acct_model.specs.TopUpFaults.{topup_fault}
 use Rattle.acct_book.specs.declared.key.Key.{Key}
-use Rattle.acct_program.specs.Numbers.{number_of, number_up_to}
+use Rattle.acct_model.specs.Numbers.{number_of, number_up_to}
 use Rattle.acct_program_feed.specs.Octets.{octets_in_hex, octets_shown}
 use Rattle.acct_program_feed.specs.Words.{words}
 use Rattle.acct_program_feed.specs.declared.line.Line.{Line}
@@ -45,7 +45,7 @@ pub record AreTopUp (all : List (List ℕ)) (topup : TopUpFacts) : Type 0 where
   pub are : all ≡ codes "topup" ∷ moment_word ∷ topup.voucher ∷ account_word ∷ sum_word ∷ []
   pub moment_is : number_up_to (2 ^ 53 - 1) moment_word ≡ Some topup.when
   pub account_is : octets_shown account_word ≡ Some topup.account
-  pub sum_is : number_of sum_word ≡ Some topup.sum
+  pub sum_is : number_of 20 sum_word ≡ Some topup.sum
   pub faultless : topup_fault topup.voucher topup.account topup.sum ≡ None
 
 -- `session CLIENT SESSION`

@@ -17,8 +17,9 @@ use crate::line_fault::LineFault;
 use crate::octet_words::{octets_of, octets_shown};
 use crate::words::{cut_word, four_words, one_word, three_words, two_words};
 use acct_book::Key;
-use acct_model::{LAST_MOMENT, Octets, Text, TopUp, address_of};
-use acct_program::{number_of, number_up_to};
+use acct_model::{
+    LAST_MOMENT, MOST_DIGITS, Octets, Text, TopUp, address_of, number_of, number_up_to,
+};
 use std::alloc::Global;
 
 /// What a line asks for.
@@ -149,7 +150,7 @@ fn read_topup(alloc: Global, words: &str) -> Result<Line, LineFault>
 {
     let (moment, voucher, account, sum) = four_words(words).ok_or(LineFault::Bad)?;
     let moment = number_up_to(moment, LAST_MOMENT).ok_or(LineFault::Bad)?;
-    let sum = number_of(sum).ok_or(LineFault::Bad)?;
+    let sum = number_of(sum.as_bytes(), MOST_DIGITS).ok_or(LineFault::Bad)?;
     let account = octets_shown(alloc, account)?;
     let topup = TopUp::new(alloc, voucher, account.as_slice(), sum, moment)?;
     Ok(Line::TopUp { topup })

@@ -36,7 +36,7 @@ module _ {D : Type 0} {g : Ghosts D} where
         settled_at first.store stays db it.0.0.is_open may in
         subst (AreHeldIn image) (sym is) (record { holds = it.1.holds; found = it.1.reads })
 
-    -- what survives a change that failed: a read tells what was held, and a crash leaves that, or
+    -- what survives a change that failed: a read returns what was held, and a crash leaves that, or
     -- what the change commits
     module _ (last : Held (FileStore D g)) (Commits : Trees → Type 0)
         (survives : Survives (file_state first) (file_state last) Commits) where
@@ -66,7 +66,7 @@ module _ {D : Type 0} {g : Ghosts D} where
       reads_held clean is_open = subst (λ (d : Database). AreHeldIn image d.trees)
           (sym (looks.same clean is_open)) (was_held (was_clean clean)).trees
 
-      -- what only looked leaves the files as they were
+      -- a connection that only read leaves the files as they were
       pub holds_still : SeenMayStay g → HoldsStill image last
       holds_still stays = record {
         reads = reads_held;

@@ -14,7 +14,7 @@ use Rattle.acct_service_run.specs.declared.ended.Ended.TheVariants as how
 use Rattle.acct_service_run.specs.Runs.{Ran, Ends}
 use Rattle.acct_program_serving.specs.Serving.{EndsOver, EndsAfresh}
 
--- two exchanges count and tell the same
+-- two exchanges count and record the same
 pub record Agrees {X Y : Type 0} (x : exchange.Ghosts X) (y : exchange.Ghosts Y) (one : X)
     (other : Y) : Type 0 where
   pub turns : y.turn_count other ≡ x.turn_count one
@@ -51,7 +51,7 @@ module _ {B X Y : Type 0} (b : book.Ghosts B) (x : exchange.Ghosts X) (y : excha
     },
   )
 
--- a run of slices, of whose rounds nothing is said any more
+-- a run of slices, with no condition on its rounds
 however : {B : Type 0} (b : book.Ghosts B) (oldest : Option ℕ) (config : Config) (old new : B)
     (told later : Option (List Call)) (Went : List Slice → Type 0) (served : Served)
     → ServesInSlices b oldest config old new told later Went served

@@ -32,14 +32,14 @@ IsUnbound told = (told ≡ fault.CannotBind) ⊎ (told ≡ fault.NoMemory)
 
 -- A run of a server over a book and an exchange.
 module _ {B X : Type 0} (b : book.Ghosts B) (x : exchange.Ghosts X) where
-  -- an exchange made no turn and no fault, and was asked nothing
+  -- an exchange made no turn and no fault, and recorded no call
   pub record IsUnasked (first last : X) : Type 0 where
     pub turns : x.turn_count last ≡ x.turn_count first
     pub failures : x.failure_count last ≡ x.failure_count first
     pub told : x.told last ≡ x.told first
 
-  -- How a server ended over an exchange that is returned. Once it has begun its turns are a run,
-  -- whatever the output does. What it then printed is `serving` and the counts of that run, and
+  -- How a server ended over an exchange that is returned. Once it has begun, its turns are a run,
+  -- even if the output fails. What it then printed is `serving` and the counts of that run, and
   -- nothing else. Before that it does nothing.
   abbrev pub EndsOver : Option ℕ → Config → ℕ → (List Slice → Type 0) → B → B → X → X → Option (List ℕ)
       → Option (List ℕ) → Ended → Type 0

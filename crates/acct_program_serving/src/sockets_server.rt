@@ -7,14 +7,14 @@ ghost use Rattle.acct_program_serving.specs.Serving.{EndsAfresh, RunsServer, IsU
 use crate::watcher::Watcher;
 use acct_book::Book;
 use acct_model::{Text, address_of};
-use acct_net::{Sockets, moment_of};
+use acct_net::Sockets;
 use acct_program::Status;
 use acct_program_args::{Listening, Serving, Telling, seconds_in};
 use acct_program_commands::{
     Fault, FileRounds, Gauges, KeptBalances, Shared, SiteSource, StateSource, StatusFile,
     StoreFault, Watch,
 };
-use acct_service::{Exchange, Until};
+use acct_service::{Exchange, Until, moment_of};
 use acct_service_run::Ended;
 use acct_site::Config;
 use std::alloc::{AllocError, Global};
@@ -135,15 +135,13 @@ fn serve_sockets<
     } = around;
     let notices = RefCell::new(notices);
     let gauges = Gauges::new();
-    let mut balances = balances_file(runtime, alloc, &serving.telling)?;
-    let state = StateSource::new(runtime, alloc, &gauges, database)?;
-    let counts = status_file(
-        runtime,
-        alloc,
-        &serving.telling,
-        state,
-        Shared::new(&notices),
-    )?;
+    let telling = &serving.telling;
+    let errors = Shared::new(&notices);
+    let files = files_to_write(runtime, alloc, telling, &gauges, database, errors)?;
+    let WrittenFiles {
+        mut balances,
+        counts,
+    } = files;
     let sockets = bound(runtime, alloc, &serving.listening)?;
     let mut errors = Shared::new(&notices);
     write_first(
@@ -155,7 +153,7 @@ fn serve_sockets<
         &gauges,
         &mut errors,
     );
-    let mut rounds = FileRounds::new(runtime, source, balances, &gauges, Shared::new(&notices));
+    let mut rounds = FileRounds::new(runtime, source, balances, &gauges, errors);
     let watcher = Watcher {
         clock: runtime,
         drops: watch_on(drops),
@@ -173,6 +171,30 @@ fn serve_sockets<
         output,
     );
     Ok(served)
+}
+
+// The files that a server writes, if they are named.
+#[derive(Drop)]
+struct WrittenFiles<'s, R, E: Drop> {
+    // All balances.
+    balances: Option<KeptBalances<'s, R>>,
+    // Its counts.
+    counts: Option<StatusFile<'s, R, E>>,
+}
+
+// The files that a server writes. None of them was written yet.
+fn files_to_write<'s, R: Clock + Files, E: Write + Drop>(
+    runtime: &'s R,
+    alloc: Global,
+    telling: &Telling,
+    gauges: &'s Gauges,
+    database: &Text,
+    errors: E,
+) -> Result<WrittenFiles<'s, R, E>, AllocError> {
+    let balances = balances_file(runtime, alloc, telling)?;
+    let state = StateSource::new(runtime, alloc, gauges, database)?;
+    let counts = status_file(runtime, alloc, telling, state, errors)?;
+    Ok(WrittenFiles { balances, counts })
 }
 
 // Writes the file of balances for the first time, if there is one.

@@ -18,7 +18,7 @@ not_default plans class plan found has =
     ∙ sym ((Decides-bytes_eq default_class plan.class).0
     (find-some (has_class default_class) plans plan found).1)
 
--- where a class has a plan in one list, it has it in the other
+-- if a class has a plan in one list, it has one in the other
 none_alike : (these those : List Plan) (class : List ℕ) (plan : Plan)
     → find (has_class class) these ≡ None → find (has_class class) those ≡ Some plan
     → plan_for these class ≡ plan_for those class → ⊥

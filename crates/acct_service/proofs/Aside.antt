@@ -100,7 +100,7 @@ only_carried plans last spans life name at =
       | inr there ↦ there
     ]
 
--- ---- where nothing is carried forward
+-- ---- if nothing is carried forward
 
 pub stays_plain : (old last : Past) (spans : List Span) → CarryNone spans → HasCarriedNone old
     → Life old spans last → HasCarriedNone last × LifeInTime old spans last
@@ -187,7 +187,7 @@ reports_same old new span lives same name apart =
 
 -- ---- balances
 
--- both histories go on alike but for what was set aside
+-- both histories continue alike except for what was set aside
 abbrev pub GoesAlike : Past → Type 0
 GoesAlike past = GoOnAlike past.plans (is_among past.aside) past.whole past.history
 

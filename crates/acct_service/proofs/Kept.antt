@@ -32,14 +32,14 @@ use Rattle.acct_service.specs.Settling.{HasKept, HasSameTopUps}
 use Rattle.acct_service.proofs.Lives.{repeated_claimed}
 use Rattle.acct_service.proofs.Spans.{CarriesNothing, Grown, moved, same_growth}
 
--- ---- what came is kept
+-- ---- what was received is kept
 
 -- the entry is a top-up whose number, account and sum were accepted
 abbrev pub IsClaimed : History → Entry → Type 0
 IsClaimed history asked = (topup : TopUpFacts) × (asked ≡ entry.TopUp topup)
     × Contains (claims history) (OfTopUp (topup_claim topup))
 
--- a history grew, and each entry that was told of came meanwhile or is a claimed top-up
+-- a history grew, and each acknowledged entry was accepted in between or is a claimed top-up
 pub record Grows (old : History) (told : List Entry) (new : History) : Type 0 where
   pub newer : History
   pub is : new ≡ newer ++ old
@@ -117,7 +117,7 @@ module _ {X S : Type 0} (Step : X → S → X → Type 0) (history_in : X → Hi
 
 -- ---- effects
 
--- what an effect keeps, and what it acknowledges where the reply was taken or not
+-- what an effect keeps, and what it acknowledges, whether or not the reply was taken
 abbrev EffectKept : History → Effect → Bool → Type 0
 EffectKept old effect is_taken =
     Grows old (listed (acknowledged_by effect is_taken)) (after_effect old effect)

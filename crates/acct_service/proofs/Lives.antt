@@ -89,7 +89,7 @@ to_claims (x ∷ es) e claim h is =
       | inr behind ↦ claimed_after x es claim (to_claims es e claim behind is)
     ]
 
--- where each entry that was accepted in one history is kept in another, no claim is more
+-- if each entry that was accepted in one history is kept in another, no claim is more
 pub kept_claims : (these those : History)
     → ((e : Entry) → Contains these (Accepted e) → IsKept those e) → ClaimsNoMore these those
 kept_claims these those kept claim h =
@@ -137,7 +137,7 @@ first_stands kept (t ∷ ts) e =
       | Some x ↦ λ is h. deeper t kept ts (first_stands kept ts (is ∙ h))
     ] refl e
 
--- a repeated top-up's claim stands already
+-- the claim of a repeated top-up is there already
 pub repeated_claimed : (old : History) (t kept : TopUpFacts) → topup_of old t.voucher ≡ Some kept
     → kept.account ≡ t.account → kept.sum ≡ t.sum
     → Contains (claims old) (OfTopUp (topup_claim t))

@@ -118,7 +118,7 @@ visit_proper visit named answered =
 
 -- ---- members
 
--- no report of a line came
+-- no report of a line was accepted
 abbrev GrowsProper : History → History → Type 0
 GrowsProper old new = (newer : History) × (new ≡ newer ++ old)
     × ((report : ReportFacts) → Contains (all_reports newer) report

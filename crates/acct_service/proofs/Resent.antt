@@ -210,7 +210,7 @@ span_orderly old new span (end, goes, plans, may, beside) h =
     (subst (λ ps. IsOrderly ps end) (sym plans)
     (goes_orderly old.plans old.history end span goes h))
 
--- ---- what comes again
+-- ---- what is received again
 
 first_some : (t : TopUpFacts) (ts : List TopUpFacts) → Contains ts t
     → (first : TopUpFacts) × (first_of ts ≡ Some first)

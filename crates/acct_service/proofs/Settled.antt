@@ -113,7 +113,7 @@ added_in config older e holds way =
       | inr by ↦ imported_in config older e holds by
     ]
 
--- a chain goes on by one step
+-- a chain continues by one step
 chain_more : {X S : Type 0} (Step : X → S → X → Type 0) (old mid new : X)
     (steps : List S) (step : S) → Chain Step old steps mid
     → Step mid step new → Chain Step old (steps ++ step ∷ []) new
@@ -211,7 +211,7 @@ possible config sent consistent fine =
       ),
     )
 
--- each claim of acknowledged entries that are kept stands
+-- if acknowledged entries are kept, so is each of their claims
 acknowledged_claims : (told : List Entry) (last : History)
     → ((e : Entry) → Contains told e → IsKept last e) → ClaimsNoMore (history_of told) last
 acknowledged_claims told last kept = kept_claims (history_of told) last (λ e at.

@@ -80,7 +80,7 @@ rounds_more r first then last (one ∷ later) slice (next, went, rest) goes =
 
 module _ {B R : Type 0} (b : book.Ghosts B) (r : rounds.Ghosts R) (oldest : Option ℕ)
     (config : Config) where
-  -- how far the slices came: the run so far, and the configuration for the turns that follow
+  -- how far the slices got: the run so far, and the configuration for the turns that follow
   pub record Reached (old new : B) (old_told new_told : Option (List Call)) (first last : R)
       (site : Config) (served : Served) : Type 0 where
     pub so_far : ServesInSlices b oldest config old new old_told new_told
@@ -148,7 +148,7 @@ module _ {B R : Type 0} (b : book.Ghosts B) (r : rounds.Ghosts R) (oldest : Opti
         plans_are = same_then config.plans site gave reached.plans_are plans;
       }
 
-  -- after a look at the book
+  -- after a read of the book
   pub reached_looked : (old mid new : B) (told later : Option (List Call)) (first last : R)
       (site : Config) (served : Served)
       → Reached old mid told later first last site served → OnlyLooks b mid new
@@ -169,7 +169,7 @@ module _ {B R : Type 0} (b : book.Ghosts B) (r : rounds.Ghosts R) (oldest : Opti
         plans_are = reached.plans_are;
       }
 
-  -- a slice, the round after it, and a look at the book after that
+  -- a slice, the round after it, and a read of the book after that
   pub reached_slice : (old mid turned looked new : B) (told later last : Option (List Call))
       (first before after : R) (changed gave : Option Config)
       (site : Config) (was is : Served) → site ≡ unwrap_or changed config

@@ -19,7 +19,7 @@ use Rattle.acct_site.specs.declared.config.Config.{Config}
 use Rattle.acct_service.specs.declared.event.What.TheVariants.{Datagram, Desk}
 use Rattle.acct_service.specs.Machine.{Answer, replied, dropped, mute, TakesStep}
 
--- the answer that an outcome comes to, and a response
+-- the answer that an outcome results in, and a response
 abbrev pub answer_by : Outcome → List ℕ → Answer
 answer_by (Reply size) array = replied (take size array)
 answer_by (Drop reason) array = dropped reason
@@ -28,7 +28,7 @@ abbrev pub response_by : {E : Type 0} → Result (Vec ℕ Global) E → Answer
 response_by (Ok octets) = replied octets.items
 response_by (Err error) = mute
 
--- a datagram has no page to be told
+-- a datagram that is dropped never has the effect `looked`
 dropped_looks : (oldest : Option ℕ) (clients : List Client) (source bytes : List ℕ) (moment : ℕ) (reason : Reason)
     → wire.DropsWithin oldest clients source bytes moment reason looked → ⊥
 dropped_looks oldest clients source bytes moment why.BalanceLimit says =

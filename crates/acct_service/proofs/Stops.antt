@@ -31,7 +31,7 @@ use Rattle.acct_service.specs.Stops.{StopsAreLived}
 use Rattle.acct_service.proofs.AlikePlans.{same_plans}
 use Rattle.acct_service.proofs.Spans.{CarriesNothing, Stays, run_stays, lines_stay}
 
--- the past after members came to both histories
+-- the past after members were added to both histories
 abbrev grown_to : Past → List Plan → History → Past
 grown_to past plans newer = record {
   plans = plans;
@@ -40,7 +40,7 @@ grown_to past plans newer = record {
   aside = past.aside;
 }
 
--- such a past, where only members came
+-- such a past, if only members were added
 lived : (past : Past) (newer : History) (span : Span) (c : Content) → CarriesNothing span
     → Goes past.plans past.history span (newer ++ past.history)
     → MayLeave (plans_after past.plans span) (newer ++ past.history) (HasTried span) c
@@ -82,7 +82,7 @@ lived past newer span c nothing goes may =
     beside old new (extended more) nothing newer is was aside = ((newer, is, was), aside)
     beside old new (carried those selection batches) nothing newer is was aside = absurd nothing
 
--- the same where entries were accepted
+-- the same if entries were accepted
 lived_on : (past : Past) (after : History) (span : Span) (c : Content) → CarriesNothing span
     → Stays past.history after → Goes past.plans past.history span after
     → MayLeave (plans_after past.plans span) after (HasTried span) c
@@ -92,7 +92,7 @@ lived_on past after span c nothing (entries, is) goes may =
     (subst (Goes past.plans past.history span) is goes)
     (subst (λ h. MayLeave (plans_after past.plans span) h (HasTried span) c) is may)
 
--- what an import may leave, in the words of a span
+-- what an import may leave, as a span states it
 may_leave : (config : Config) (moment : ℕ) (rows : List Fields) (outcomes : List Outcome)
     (tried : Option TopUpFacts) (after : History) (c : Content)
     → importing.ImportLeaves config.plans after tried c

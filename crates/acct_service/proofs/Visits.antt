@@ -41,7 +41,7 @@ run_join plans history mid after [] more is run =
 run_join plans history mid after (visit ∷ visits) more (next, step, rest) run =
     (next, step, run_join plans next mid after visits more rest run)
 
--- what is told grows twice
+-- what is recorded grows twice
 pub grows_twice : {C : Type 0} (a b c : Option (List C)) (calls later : List C) → Grows a calls b
     → Grows b later c → Grows a (calls ++ later) c
 grows_twice a b None calls later g h = tt
@@ -50,7 +50,7 @@ grows_twice None (Some b) (Some c) calls later g h = absurd g
 grows_twice (Some a) (Some b) (Some c) calls later g h =
     h ∙ ap (λ cs. cs ++ later) g ∙ append_assoc a calls later
 
--- a turn may tell nothing more
+-- a turn may record no call
 pub grows_none : {C : Type 0} (a : Option (List C)) → Grows a [] a
 grows_none None = tt
 grows_none (Some a) = sym (append-nil a)
@@ -68,7 +68,7 @@ count_by-append : {X : Type 0} (p : X → Bool) (xs ys : List X)
     → count_by p (xs ++ ys) ≡ count_by p xs + count_by p ys
 count_by-append p xs ys = sum_by-append (λ y. cond (p y) 1 0) xs ys
 
--- counts go on by those of more visits
+-- counts rise by those of more visits
 pub counts_join : (visits more : List Visit) (old new : Served) → Counts visits old
     → CountsMore more old new → Counts (visits ++ more) new
 counts_join visits more old new counts one = record {
@@ -259,7 +259,7 @@ module _ {B : Type 0} (b : Ghosts B) (plans : List Plan) where
         second.told);
   }
 
-  -- after a look at the book
+  -- after a read of the book
   pub attends_looked : (visits : List Visit) (old mid new : B) (told later : Option (List Call))
       → Attends b plans visits old mid told later → OnlyLooks b mid new
       → Attends b plans visits old new told later
@@ -365,7 +365,7 @@ module _ {B : Type 0} (b : Ghosts B) (oldest : Option ℕ) (config : Config) whe
     counts = counts_more turns.visits turn.visits was now is turns.counts turn.counts;
   }
 
-  -- a turn in which nothing came
+  -- a turn in which nothing was received
   pub turn_none : (book : B) (told later : Option (List Call)) (was is : Served)
       → Grows told [] later → CountsMore [] was is → TakesTurn b oldest config book book told later was is
   turn_none book told later was is grows counts = record {
@@ -376,7 +376,7 @@ module _ {B : Type 0} (b : Ghosts B) (oldest : Option ℕ) (config : Config) whe
     counts = counts;
   }
 
-  -- a turn in which an event came and was answered
+  -- a turn in which an event was received and answered
   pub turn_one : (old new : B) (told later : Option (List Call)) (was is : Served)
       (event : Event) (answer : Answer) (is_taken : Bool)
       (t : TakesStep b oldest config event.moment event.what old new answer)

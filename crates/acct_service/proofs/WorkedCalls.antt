@@ -47,7 +47,7 @@ module _ (first second : Event) (differ : first ≢ second) (octets : List ℕ) 
   both_then_late event (dropped reason) is_taken visits is = cc
   both_then_late event mute is_taken visits is = after_first visits (cc)
 
-  -- an event came, then another, and only then was the first one's reply asked for
+  -- an event was returned, then another, and only then was a reply to the first requested
   pub late_is_refused : (visits : List Visit)
       → flat_map calls_of visits ≡ call.Gave first ∷ call.Gave second ∷ late ∷ [] → ⊥
   late_is_refused [] is = cc

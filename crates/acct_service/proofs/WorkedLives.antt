@@ -39,8 +39,8 @@ visit answer effect is_taken = record {
   is_taken = is_taken;
 }
 
--- A voucher whose 201 is lost is not acknowledged. Its 200, when it comes again and that is taken,
--- acknowledges it.
+-- A voucher whose 201 is lost is not acknowledged. It is acknowledged once it is sent again and its
+-- 200 is taken.
 a_lost_response : acknowledged (served [] (
     visit (replied (codes "201")) (added v1) false
     ∷ visit (replied (codes "200")) (repeated v1) true ∷ []

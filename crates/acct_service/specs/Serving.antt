@@ -127,7 +127,7 @@ pub record Leads {B : Type 0} (b : Ghosts B) (plans : List Plan) (visits : List 
 -- The visits of a server's turns over a book, under configurations with these plans.
 pub record Attends {B : Type 0} (b : Ghosts B) (plans : List Plan) (visits : List Visit)
     (old new : B) (old_told new_told : Option (List Call)) : Type 0 where
-  -- each event is answered as the machine may answer it, whatever the book held
+  -- each event is answered as the machine may answer it, with any content of the book
   pub answered : (visit : Visit) → Contains visits visit → IsAnswered visit
   -- from each history for which the content stood
   pub leads : b.is_sound new → (history : History) → StoodFor b plans old history

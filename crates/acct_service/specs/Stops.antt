@@ -1,4 +1,4 @@
--- What a stop leaves of a book is a history that its life goes on from.
+-- What a stop leaves of a book is a history that its life continues from.
 use Rattle.std.specs.Prelude.{◌≡◌, ◌⊎◌, ℕ, List, Option, Result}
 use Rattle.acct_model.specs.declared.plan.Plan.{Plan}
 use Rattle.acct_model.specs.History.{History}
@@ -33,7 +33,8 @@ module _ {B : Type 0} (b : Ghosts B) where
   abbrev pub LeavesOnly : Past → B → Type 0
   LeavesOnly past book = (c : Content) → b.left book c → Stands past.plans c past.history
 
-  -- Whatever a crash leaves of the book stands for a history that this span and a stop lead to.
+  -- Anything that a crash leaves of the book stands for a history that this span and a stop lead
+  -- to.
   abbrev pub LivesOnBy : Past → Span → B → Type 0
   LivesOnBy past span book = (c : Content) → b.left book c → IsLivedOn past span c
 
@@ -66,7 +67,7 @@ module _ {B : Type 0} (b : Ghosts B) where
         (result : Result T E) → StoodFor b past.plans old past.history
         → CarriesOn b selection past.plans old new result → b.is_open new
         → IsCarriedAlong past selection (b.content new)
-    -- So is whatever a crash leaves, if that call was killed, failed or succeeded.
+    -- So is anything that a crash leaves, if that call was killed, failed or succeeded.
     pub carried_so_far : (past : Past) (selection : SelectionFacts) (old new : B)
         (result : Result T E) → StoodFor b past.plans old past.history → LeavesOnly past old
         → CarriesOn b selection past.plans old new result → b.is_sound new

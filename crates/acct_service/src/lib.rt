@@ -13,6 +13,7 @@
 //!    stays recorded when its reply fails.
 #![tactic(auto)]
 
+mod clock;
 mod event;
 mod exchange;
 pub mod laws;
@@ -23,6 +24,7 @@ mod server;
 mod slices;
 mod stepping;
 
+pub use clock::moment_of;
 pub use event::{Event, What};
 pub use exchange::{Asked, Call, Exchange, Fault};
 pub use outbox::Outbox;

@@ -65,7 +65,7 @@ module _ {B X : Type 0} (b : book.Ghosts B) (x : exchange.Ghosts X) where
     pub faults : x.failure_count last ≡ x.failure_count first + served.faults
     pub run : ServesInSlices b oldest config old new (x.told first) (x.told last) Went served
 
-  -- How a server ended. Once it has begun its turns are a run, whatever the output does. What it
+  -- How a server ended. Once it has begun, its turns are a run, even if the output fails. What it
   -- then printed is `serving` and the counts of that run, and nothing else. Before that it does
   -- nothing.
   abbrev pub Ends : Option ℕ → Config → ℕ → (List Slice → Type 0) → B → B → X → X → Option (List ℕ)

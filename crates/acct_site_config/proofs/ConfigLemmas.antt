@@ -29,7 +29,7 @@ pub of_clients : (arrays : Arrays) (error : ConfigError)
 of_clients arrays error (inl memory) = inl memory
 of_clients arrays error (inr first) = inr (inl first)
 
--- so is one of the plans or keys, where the clients have none
+-- so is one of the plans or keys, if the clients have none
 pub of_later : (arrays : Arrays) (clients : List Client) (error : ConfigError)
     → AreClientTables arrays.0 clients → (error.kind ≡ Memory) ⊎ IsLaterFault arrays error
     → (error.kind ≡ Memory) ⊎ IsTableFault arrays error

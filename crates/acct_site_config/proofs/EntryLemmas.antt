@@ -23,7 +23,7 @@ viewed_at [] i value h = absurd (cc h)
 viewed_at (x ∷ values) zero value h = ap (option_map view) h
 viewed_at (x ∷ values) (suc i) value h = viewed_at values i value h
 
--- what stands at a place
+-- what is at a place
 pub viewed : (values : List Value) (i : ℕ) (value : Value) → i < length values
     → value ≡ get_or values i value → slice_get (map view values) i ≡ Some (view value)
 viewed values i value within is =
@@ -66,7 +66,7 @@ module _ {V X E : Type 0} (values_of : Data → Option V) (Says : V → X → Ty
         faultless = faultless_more fault entries entry are.faultless alone;
       }
 
-  -- what spells no entry is refused, whatever comes before it
+  -- what spells no entry is refused, with any elements before it
   pub unspelled : {T : Type 0} (bad : ConfigKind) (kind_of : E → ConfigKind) (earlier : List X)
       (element : Data) (kind : ConfigKind) (result : Result T ConfigKind)
       → IsErrAnd result (λ why. why ≡ kind) → IsUnspelled values_of Says fault bad element kind

@@ -70,7 +70,7 @@ none_known : {V : Type 0} (o : Option V) (v : V) → (IsSome o → true ≡ fals
 none_known None v h = tt
 none_known (Some w) v h = absurd (true≢false (h refl))
 
--- A cache whose keys are told apart by their names.
+-- A cache whose keys are distinguished by their names.
 module _ {K N : Type 0} (same : N → N → Bool) (decides : (a b : N) → Decides (same a b) (a ≡ b))
     (name : K → N) where
   laws : IsEquivalence (λ a b. same (name a) (name b))
@@ -90,7 +90,7 @@ module _ {K N : Type 0} (same : N → N → Bool) (decides : (a b : N) → Decid
       go true equal = absurd (other ((decides (name k) (name x)).0 is
           ∙ sym ((decides n (name x)).0 equal)))
 
-  -- after `put`, whatever came of it
+  -- after `put`, for any result
   pub learned : {V T E : Type 0} (old new : LruCache K V) (k : K) (v : V) (result : Result T E)
       → OnOk result (new
       ≡ lru_cache (put_entries (λ a b. same (name a) (name b)) old k v) old.cap)
@@ -130,7 +130,7 @@ module _ {K N : Type 0} (same : N → N → Bool) (decides : (a b : N) → Decid
       named (subst (λ es. Learns (name k) v (λ m. lookup (λ x. same m (name x)) es)
       (found_among same name (Some new))) there (learned old new k v result ok err fits))
 
-  -- it is kept, or nothing is where memory was refused
+  -- it is kept, or nothing is if an allocation failed
   pub kept_or_none : {V E : Type 0} (n : N) (v : V) (old taken kept : Option (LruCache K V))
       (result : Result (LruCache K V) E) → taken ≡ old → kept ≡ result_ok result
       → IfOk result (λ after. Learns n v (found_among same name taken)
@@ -144,7 +144,7 @@ module _ {K N : Type 0} (same : N → N → Bool) (decides : (a b : N) → Decid
       subst (λ o. Learns n v (found_among same name old) (found_among same name o)) (sym is)
       (record { here = tt; others = λ n other. tt })
 
--- what a look shows of a cache is known
+-- what `peek` shows of a cache is known
 pub peeked : {X : Type 0} (shown : Option (Bor X)) (known : Option X)
     → option_copied shown ≡ known → IfSome shown (λ x. known ≡ Some x.now)
 peeked None known is = tt

@@ -126,7 +126,7 @@ plan_told None bare facts is fits =
     absurd (omega (arith, never, fits))
 plan_told (Some class) bare facts is fits = (class, refl, is)
 
--- the row of the table `session_plan` that tells the plan of a session
+-- the row of the table `session_plan` that has the plan of a session
 record IsPlanRowOf (db : Database) (facts : RowFacts) (row : Row) : Type 0 where
   there : Has (db.trees session_plan.tree) row
   says : AreColumns (session_plan_columns facts) (columns row)

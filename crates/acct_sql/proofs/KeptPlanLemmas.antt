@@ -69,7 +69,7 @@ module _ (row : RowFacts) (old mid : State) (rows : List Row) (book : IsBook old
     abbrev kept : List Row
     kept = old.now.trees session_plan.tree
 
-    -- the look showed the plan that is kept
+    -- the query showed the plan that is kept
     first_kept : (first : Row) (more : List Row) → rows ≡ first ∷ more
         → plans_in_tables old.now.trees (key_of row) ≡ Some (bytes (column first 0))
     first_kept first more is = sym (plan_found (key_of row) old mid (first ∷ more) book
@@ -106,7 +106,7 @@ module _ (row : RowFacts) (old mid : State) (rows : List Row) (book : IsBook old
       same_plans = looked;
     }
 
-    -- what is set after the look is set from before it
+    -- what is set since the query is set since before it
     set_then : (new : State) → HasSetPlan (key_of row) row.plan mid new
         → HasSetPlan (key_of row) row.plan old new
     set_then new made = record {

@@ -44,7 +44,7 @@ module _ {S T E : Type 0} (g : Ghosts S) (old new : Held S) (result : Result T E
   open_now : is_sound_at g new → is_open_at g new
   open_now clean = subst (λ r. OnOk r (is_open_at g new)) is (answers clean)
 
-  -- what was told of the tables stays true
+  -- what was known of the tables stays true
   told_after : (P Q : Content → Type 0)
       → (is_open_at g new → P (content_at g old) → Q (content_at g new))
       → IsTold (state g old) P → IsTold (state g new) Q
@@ -62,7 +62,7 @@ module _ {S T E : Type 0} (g : Ghosts S) (old new : Held S) (result : Result T E
         (λ v. IsTold (state g new) (P n v))
         (λ v. told_after (P n v) (P n v) (same n v)) (was n)
 
-    -- the call told or set one of it, and changed no other
+    -- the call returned or set one of these, and changed no other
     one_told : (same : N → N → Bool) (decides : (a b : N) → Decides (same a b) (a ≡ b))
         (after : N → Option V) (key : N) (value : V) → Learns key value before after
         → (is_open_at g new → P key value (content_at g new))

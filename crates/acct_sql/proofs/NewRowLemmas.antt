@@ -1,9 +1,8 @@
 -- Rows that an INSERT puts without a query before it. It fails if a row has the key, so none had
 -- it.
-use Rattle.std.proofs.Common.{◌≡◌, [], ◌∷◌, Bool, true, false, arith, refl, sym, ap, ◌∙◌, subst}
+use Rattle.std.proofs.Common.{◌≡◌, [], ◌∷◌, false, arith, refl, sym, ap, ◌∙◌}
 use Rattle.std.proofs.Common.{Some, Ok, true≢false, pos}
 use Rattle.std.specs.Map.{update}
-use Rattle.std.specs.List.{list_any}
 use Rattle.std.specs.Ordering.{is_eq}
 use Rattle.std.proofs.lemmas.Bool.{and_parts, not-true}
 use Rattle.std.proofs.lemmas.Cmp.{tied_itself}

@@ -45,7 +45,7 @@ remembers_read g old new result memory reads was = record {
 
 -- ---- a write
 
--- a row that stands after a live session was closed is live only if it was before
+-- a row is live after live sessions were closed only if it was before
 live_closed : (client : List ℕ) (row : RowFacts) → (closed_by client row).state ≡ Live
     → row.state ≡ Live
 live_closed client row = go (bytes_eq client row.client) row.state refl

@@ -111,16 +111,7 @@ impl<S: Alter> SqlBook<S> {
             return Err((SqlBookError::NotABook, conn));
         }
         match make_book(&mut conn, plans) {
-            Ok(()) => {
-                let memory = Memory::new(alloc);
-                let known = Known::nothing();
-                Ok(SqlBook {
-                    conn,
-                    alloc,
-                    memory,
-                    known,
-                })
-            }
+            Ok(()) => Ok(SqlBook::over(alloc, conn)),
             Err(_) => Err((SqlBookError::Unavailable, conn)),
         }
     }
@@ -159,16 +150,7 @@ impl<S: Alter> SqlBook<S> {
     {
         connection_is_idle(&conn);
         match examine(&mut conn, plans) {
-            Ok(()) => {
-                let memory = Memory::new(alloc);
-                let known = Known::nothing();
-                Ok(SqlBook {
-                    conn,
-                    alloc,
-                    memory,
-                    known,
-                })
-            }
+            Ok(()) => Ok(SqlBook::over(alloc, conn)),
             Err(error) => Err((error, conn)),
         }
     }
@@ -216,16 +198,7 @@ impl<S: Alter> SqlBook<S> {
     {
         connection_is_idle(&conn);
         match migrate_book(&mut conn, plans) {
-            Ok(()) => {
-                let memory = Memory::new(alloc);
-                let known = Known::nothing();
-                Ok(SqlBook {
-                    conn,
-                    alloc,
-                    memory,
-                    known,
-                })
-            }
+            Ok(()) => Ok(SqlBook::over(alloc, conn)),
             Err(error) => Err((error, conn)),
         }
     }
@@ -280,18 +253,21 @@ impl<S: Alter> SqlBook<S> {
         connection_is_idle(&conn);
         plans.have_no_fault();
         match add_to_book(&mut conn, plans) {
-            Ok(added) => {
-                let memory = Memory::new(alloc);
-                let known = Known::nothing();
-                let book = SqlBook {
-                    conn,
-                    alloc,
-                    memory,
-                    known,
-                };
-                Ok((book, added))
-            }
+            Ok(added) => Ok((SqlBook::over(alloc, conn), added)),
             Err(error) => Err((error, conn)),
+        }
+    }
+
+    // A book over a connection to the tables of a book, of which nothing is known yet.
+    fn over(alloc: Global, conn: Connection<S>) -> SqlBook<S>
+        requires { IsResting (state S.Store conn) }
+        ensures { result ≡ conn }
+    {
+        SqlBook {
+            conn,
+            alloc,
+            memory: Memory::new(alloc),
+            known: Known::nothing(),
         }
     }
 

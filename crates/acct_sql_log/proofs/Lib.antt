@@ -1,4 +1,4 @@
 -- how commits are counted frame by frame
 pub mod Counting
--- how a reader goes on
+-- how a reader continues
 pub mod ReadingLemmas

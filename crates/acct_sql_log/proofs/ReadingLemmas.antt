@@ -1,4 +1,4 @@
--- How a reader goes on, and where it ends.
+-- How a reader continues, and where it ends.
 use Rattle.std.proofs.Common.{◌≡◌, ◌+◌, ◌-◌, ◌*◌, ◌/◌, ◌≤◌, ◌<◌, ℕ, List, ◌++◌, length, take, drop}
 use Rattle.std.proofs.Common.{Option, Some, None, refl, arith, sym, ◌∙◌, ap, subst}
 use Rattle.std.proofs.Common.{take_at, drop_at, drop-drop, slice_index}
@@ -46,7 +46,7 @@ read_out octets at n old (Some ys) bs (within, is) eats end len =
     let none : length ys ≡ 0 = ap length end in
     omega arith
 
--- there are so many whole frames where fewer octets than one more frame has are left
+-- these are all whole frames, if fewer octets are left than one more frame has
 pub counts_frames : (octets : List ℕ) (frames n : ℕ)
     → frame_at (page_size octets) frames + n ≡ length octets → n < 24 + page_size octets
     → frame_count octets ≡ frames

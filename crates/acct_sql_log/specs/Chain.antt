@@ -1,5 +1,5 @@
--- The log of a book as a chain: its header is link 0, and its frames are links 1, 2 and so on. A
--- sum in each link goes on from the link before it.
+-- The log of a book as a chain: its header is link 0, and its frames are links 1, 2 and so on. The
+-- sum in each link continues from the link before it.
 use Rattle.std.specs.Prelude.{◌≡◌, ◌+◌, ◌-◌, ◌/◌, ◌<◌, ◌==◌, ◌&&◌, ◌||◌, ℕ, zero, suc, Bool, not}
 use Rattle.std.specs.Prelude.{true}
 use Rattle.std.specs.Prelude.{if◌then◌else◌, nat_le, List, length, slice_index}
@@ -19,7 +19,7 @@ abbrev pub frame_count : List ℕ → ℕ
 frame_count log = (length log - 32) / (24 + page_size log)
 
 -- A link passes SQLite's test. A frame has the salts of the header and names a page, and its sum
--- goes on from the link before it.
+-- continues from the link before it.
 abbrev pub Holds : List ℕ → ℕ → Type 0
 Holds log zero = IsSigned (header log)
 Holds log (suc i) = IsFrame (header log) (sum_before (page_size log) log i) (frame_in log i)

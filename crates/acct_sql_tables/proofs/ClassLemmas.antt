@@ -97,7 +97,7 @@ module _ (old new : State) (rows : List Row) (book : IsBook old.now) where
 
 -- ---- a query inside a transaction
 
--- what was written so far is written after a look
+-- what was written so far is still written after a query
 pub written_on : (plans counts : List Plan) (last : Option ℤ) (old new : State)
     → IsUnchanged old new → HasWritten plans counts last old → HasWritten plans counts last new
 written_on plans counts last old new same w =
@@ -133,7 +133,7 @@ pub none_shown : (rows front : List Row) → front ≡ rows → None ≡ slice_g
 none_shown rows [] same is = sym same
 none_shown rows (x ∷ more) same is = absurd cc
 
--- a query with no RETURNING commits nothing, whatever comes of it
+-- a query with no RETURNING commits nothing, whatever its result
 pub plain_kept : (sql : List _) (params : Row) (old new : State) {V : Type 0} (items : V → List Row)
     (r : Result V Error) → (IsTrue old.is_open → IsPlain (understood old.now.schema sql))
     → IfOk r (λ rows. Shown sql params old new (items rows))

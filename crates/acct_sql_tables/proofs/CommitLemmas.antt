@@ -117,7 +117,7 @@ module _ {S T E F : Type 0} (g : Ghosts S) (old end : Held S) (mid : State)
     stay_by clean o looked (Ok x) ok err = ok.1.now_is ∙ of_ok done ok.0 (looked (mid_clean clean))
     stay_by clean o looked (Err e) ok err = undone clean (rolled clean err) o
 
-    -- after a look the tables are as they were
+    -- after a read the tables are as they were
     pub tables_stay : (HasCleanDisk mid → OnOk done (mid.now ≡ (state g old).now))
         → IsOpenBook last → last.now ≡ (state g old).now
     tables_stay looked o = stay_by o.0.0 o.0.1 looked result (finished.ok o.0.0)
@@ -183,7 +183,7 @@ module _ {S T E F : Type 0} (g : Ghosts S) (old end : Held S) (mid : State)
     pub writes_at_rest : WritesAtRest g old end change result
     writes_at_rest = record { resting = rests; wrote = wrote; plans = leaves_plans }
 
--- ---- the same write, told by the book's error
+-- ---- the same write, with the book's error as its result
 
 pub unavailable : Unavailable
 unavailable = record {}

@@ -142,7 +142,7 @@ content_none db sessions accounts vouchers = λ i. record {
   plans = None;
 }
 
--- where no table has other rows but those of the plans, the content is as it was but for its list
+-- if only the tables of the plans have other rows, the content is as it was except for its list
 content_same : (old new : Trees) → new session.tree ≡ old session.tree → new account.tree
     ≡ old account.tree → new voucher.tree ≡ old voucher.tree
     → new session_plan.tree ≡ old session_plan.tree → content_in_tables new

@@ -59,7 +59,7 @@ find_has p (x ∷ xs) r h = go (p x) refl h (find_has p xs r)
     go true is h rest = let same : x ≡ r = cc in (inl (sym same), ap p (sym same) ∙ is)
     go false is h rest = (inr (rest h).0, (rest h).1)
 
--- where nothing was found, no member passes
+-- if nothing was found, no member passes
 pub none_has : {X : Type 0} (p : X → Bool) (xs : List X) → find p xs ≡ None → (x : X) → Has xs x
     → p x ≡ false
 none_has p [] none x h = absurd h
@@ -114,7 +114,7 @@ find_left p gone old new one stays left = elim (looked p old) [
   | inr none ↦ none_is p new (λ s h. none s (left.back s h).0) ∙ sym (none_is p old none)
 ]
 
--- one member came to those of before
+-- one member was added to those of before
 pub record IsAdded {X : Type 0} (put : X) (old new : List X) : Type 0 where
   pub back : (y : X) → Has new y → (y ≡ put) ⊎ Has old y
   pub forth : (y : X) → Has old y → Has new y

@@ -1,4 +1,4 @@
--- Rowids that ascend tell rows apart.
+-- Rowids that ascend distinguish rows.
 use Rattle.std.proofs.Common.{◌≡◌, inl, inr, ℕ, ℤ, List, [], ◌∷◌, true, false, Bool, map}
 use Rattle.std.proofs.Common.{flat_map, refl, sym, ap, subst, ◌∙◌, Ordering, Less, Equal, Greater}
 use Rattle.std.proofs.Common.{true≢false, int_cmp}
@@ -40,7 +40,7 @@ module _ {X K : Type 0} (e : K → K → Bool) (flips : (x y : K) → e x y ≡ 
   apart x (z ∷ xs) y h (inl same) = ap (λ k. e (key x) (key k)) same ∙ h.0
   apart x (z ∷ xs) y h (inr later) = apart x xs y h.1 later
 
-  -- where the keys differ, two members with one key are one
+  -- if the keys differ, two members with one key are one
   one_of : (xs : List X) → IsDistinct e (map key xs) → (r s : X) → Has xs r → Has xs s
       → e (key r) (key s) ≡ true → r ≡ s
   unfolding IsDistinct

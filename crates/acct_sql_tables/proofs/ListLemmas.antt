@@ -219,7 +219,7 @@ module _ {K : Type 0} (cmp : K → K → Ordering) (total : IsTotalOrder cmp) wh
     ascends_first [] = tt
     ascends_first (x ∷ xs) = (tt, tt)
 
-    -- the first ones ascend, and the next comes after the last of them
+    -- the first ones ascend, and the next is above the last of them
     pub ascends_more : (xs : List X) (i : ℕ) (last next : X) → 0 < i → i < length xs → last
         ≡ get_or xs (i - 1) last → next ≡ get_or xs i next
         → IsStrictlySortedBy cmp (map key (take i xs))

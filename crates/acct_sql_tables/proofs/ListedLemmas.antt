@@ -35,7 +35,7 @@ same_listed old new same = λ i class. option_or
 
 -- ---- one plan for each class
 
--- plans without a fault are told apart by their classes
+-- plans without a fault are distinguished by their classes
 one_plan : (earlier plans : List Plan) → first_fault_after plan_fault earlier plans ≡ None
     → (p q : Plan) → Has plans p → Has plans q → p.class ≡ q.class → p ≡ q
 one_plan earlier [] none p q hp hq same = absurd hp

@@ -104,7 +104,7 @@ module _ (sql : List ℕ) (params : Row) (old new : State) {V : Type 0} (items :
   pub peeked_open : HasCleanDisk new → OnOk r (IsTrue new.is_open)
   peeked_open clean = open_by clean r (ok clean)
 
--- ---- one look after another
+-- ---- one read after another
 
 pub looks_then : (a b c : State) → LooksAtTables a b → LooksAtTables b c → LooksAtTables a c
 looks_then a b c one two = record {

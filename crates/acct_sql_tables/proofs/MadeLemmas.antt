@@ -381,7 +381,7 @@ plan_updates params old new count = updates 6 session_plan.name session_plan.tre
     texts.SET_SESSION_PLAN.now t.session_filter t.plan_project params old new count
     t.set_session_plan_is t.set_session_plan_plain
 
--- the content without plans, where its three tables are as they were
+-- the content without plans, if its three tables are as they were
 pub bare_same : (old new : Trees) → new account.tree ≡ old account.tree → new voucher.tree
     ≡ old voucher.tree → new session.tree ≡ old session.tree
     → content_without_plans new ≡ content_without_plans old
@@ -392,7 +392,7 @@ bare_same old new accounts vouchers sessions = λ i. record {
   plans = None;
 }
 
--- where a row of the session is kept, an UPDATE sets its plan
+-- if a row of the session is kept, an UPDATE sets its plan
 pub made_plan : (row : RowFacts) (old new : State) (count : ℕ) → IsBookIf old
     → (kept : Row) → Has (old.now.trees session_plan.tree) kept
     → is_session (key_of row) kept ≡ true
@@ -418,7 +418,7 @@ made_plan row old new count books kept has mine h =
           (λ e. absurd (omega (arith, e))) done.applies.tables;
     }
 
--- where none is kept, an INSERT sets it
+-- if none is kept, an INSERT sets it
 pub made_new_plan : (row : RowFacts) (old new : State) (count : ℕ) → IsBookIf old
     → ((r : Row) → Has (old.now.trees session_plan.tree) r → is_session (key_of row) r ≡ false)
     → ExecutesInside 0 texts.NEW_SESSION_PLAN.now (session_plan_columns row) old new (Ok count)
@@ -658,7 +658,7 @@ made_new_topup topup old mid new count more books none first second =
       same_plans = unchanged;
     }
 
--- ---- an UPDATE, and an INSERT where it met no row
+-- ---- an UPDATE, and an INSERT if it met no row
 
 pub put_row : {S : Type 0} (g : Ghosts S) (row : RowFacts)
     → framed_in (framed_octets row.framed) ≡ row.framed → (old new : State) → IsBookIf old

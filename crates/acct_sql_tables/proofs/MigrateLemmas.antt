@@ -304,7 +304,7 @@ ordered m n not_less not_greater = go (int_cmp m n) refl
     go Equal is = exact_signed m n is
     go Greater is = absurd (not_greater is)
 
--- a session stands after a rowid or it does not
+-- a session is after a rowid or it is not
 after_or_not : (last : Option ℤ) (s : Row) → IsAfter last s ⊎ ¬ IsAfter last s
 after_or_not None s = inl tt
 after_or_not (Some id) s = go (int_cmp (id_in (rowid s)) id) refl
@@ -315,7 +315,7 @@ after_or_not (Some id) s = go (int_cmp (id_in (rowid s)) id) refl
     go Equal is = inr (λ other. let no : Equal ≡ Greater = sym is ∙ other in absurd cc)
     go Greater is = inl is
 
--- each session up to the shown one has its row, where each before it had
+-- each session up to the shown one has its row, if each before it had
 one_class_more : (plans : List Plan) (last : Option ℤ) (id : ℤ) (row put : Row) (more : List Row)
     (old new : Trees) → IsTidy (old session.tree) → new session.tree ≡ old session.tree
     → column row 0 ≡ Int id

@@ -42,7 +42,7 @@ module _ (t : ℕ) (filter project : List Term) (order : List (Term × Key)) (lo
       go [] is there = there
       go (o ∷ more) is there = cc
 
-  -- the row that was shown is that of a row that is met, and none that is met comes before it
+  -- the row that was shown is that of a row that is met, and none that is met precedes it
   pub least_met : (row : Row) (rest : List Row) → IsAnswerAs lost first_query db params (row ∷ rest)
       → (r : Row) × Has (db t) r × (meets t filter project order lost db params r ≡ true)
       × (row ≡ eval_all project (params ∷ r ∷ []))
@@ -82,7 +82,7 @@ module _ (t : ℕ) (filter project : List Term) (order : List (Term × Key)) (lo
 
 -- ---- the least key
 
--- what tells the rows of a table apart, how its keys are ordered, and which of them are met
+-- what distinguishes the rows of a table, how its keys are ordered, and which of them are met
 module _ {K X : Type 0} (cmp : K → K → Ordering) (holds : K → Row → Bool) (read : Row → X) (t : ℕ)
     (filter project : List Term) (order : List (Term × Key)) (db : Trees) (params : Row)
     (past : K → Type 0)

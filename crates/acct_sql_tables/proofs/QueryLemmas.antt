@@ -151,7 +151,7 @@ seen_unhidden t filter project order limit lost seen db params rows same a =
 
 -- ---- a statement that is such a query
 
--- under this schema the text means this query, and nothing besides
+-- under this schema the text means this query, and nothing else
 pub record IsQueryIn (schema : Schema) (text : List ℕ) (t : ℕ) (filter project : List Term)
     (order : List (Term × Key)) (limit : Term) : Type 0 where
   pub names : List (List ℕ)

@@ -289,7 +289,7 @@ read_on {U = U} {F = F} g old new rows result is h = record {
     on_any (Ok x) p = p
     on_any (Err e) p = tt
 
--- the same read, told by the book's error
+-- the same read, with the book's error as its result
 pub read_told : {S T U E : Type 0} (g : Ghosts S) (old inside new : Held S) (r : Result T E)
     → inside ≡ old → HasReadBook g inside new r
     → Reads {T = U} {E = Unavailable} (content_at g) (is_sound_at g) (is_open_at g) (is_steady_at g)
@@ -305,7 +305,7 @@ read_told {U = U} g old inside new r same w =
       adds_none = h.adds_none;
     }
 
--- and of one that succeeded, whatever its answer is told as
+-- and of one that succeeded, with any answer
 pub read_done : {S T U E : Type 0} (g : Ghosts S) (old inside new : Held S) (r : Result T E) (x : T)
     (told : U) → inside ≡ old → r ≡ Ok x → HasReadBook g inside new r
     → Reads {T = U} {E = Unavailable} (content_at g) (is_sound_at g) (is_open_at g)
@@ -322,7 +322,7 @@ read_done {T = T} {E = E} g old inside new r x told same is w =
       adds_none = h.adds_none;
     }
 
--- what a read found, told of the book that the connection is
+-- what a read found holds of the book that the connection is
 pub found_told : {S T E Q : Type 0} (P : S → T → Type 0) (old inside : S) (r : Result T E) (x : T)
     → inside ≡ old → r ≡ Ok x → (Q → IfOk r (P inside)) → Q → P old x
 found_told P old inside r x same is found q =

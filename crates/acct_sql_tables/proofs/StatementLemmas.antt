@@ -1,4 +1,4 @@
--- What UPDATE, DELETE and INSERT do to a table of the book, whichever it is.
+-- What UPDATE, DELETE and INSERT do to any table of the book.
 use Rattle.std.proofs.Common.{◌≡◌, ◌⊎◌, inl, inr, ℕ, ◌/◌, List, [], ◌∷◌, length, Some, None, Ok}
 use Rattle.std.proofs.Common.{Err, Result, slice_get, sym, ap, subst, subst₂, ◌∙◌, unwrap_or}
 use Rattle.std.proofs.lemmas.List.{length-map}
@@ -28,7 +28,7 @@ use Rattle.sqlite.proofs.Callers.{IsPlain, command_of, statement_of, runs_as, on
 use Rattle.acct_sql_tables.specs.Tables.{book_schema, table_of}
 use Rattle.acct_sql_tables.proofs.QueryLemmas.{over_table, all_rows, seen_unhidden}
 
--- a part that gave a value did not stop on the way
+-- a part that returned a value did not stop early
 pub went : {B E R : Type 0} {b : B} {Stops : E → Type 0}
     → ((stop : E) × Stops stop × (Ok b ≡ Err stop)) ⊎ R → R
 went (inl stopped) = absurd (let e = stopped.2 in cc)

@@ -367,7 +367,7 @@ within_next at after k row h = (
   ],
 )
 
--- where the client has no later session, the next is that of the next client
+-- if the client has no later session, the next is that of the next client
 pub beyond_next : (at : Key → Option RowFacts) (after : Key) (o : Option (Key × RowFacts))
     → IsLeast key_cmp at (IsWithin after) None → IsLeast key_cmp at (IsBeyond after.client) o
     → IsNext key_cmp at (Some after) o

@@ -39,8 +39,8 @@ pub record HasSamePlans (old new : Trees) : Type 0 where
   pub prices : new price_plan.tree ≡ old price_plan.tree
   pub counts : new plan_count.tree ≡ old plan_count.tree
 
--- A call leaves them so: in what the book shows at its end, and in whatever a crash may leave that
--- it could not leave before.
+-- A call leaves them so: in what the book shows at its end, and in anything that a crash may leave
+-- that it could not leave before.
 pub record LeavesPlans (old new : State) : Type 0 where
   pub shows : IsOpenBook new → HasSamePlans old.now.trees new.now.trees
   pub survives : Survives old new (λ db. IsOpenBook old × HasSamePlans old.now.trees db)

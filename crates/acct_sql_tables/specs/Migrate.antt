@@ -97,8 +97,8 @@ AddsNoPlans [] = Unit {0}
 AddsNoPlans (Accepted next ∷ older) = AddsNoPlans older
 AddsNoPlans (PlansAdded added ∷ older) = ⊥
 
--- The content of an older book, which has no plans of its sessions, stands for a history: as any
--- content does, those plans aside.
+-- The content of an older book, which has no plans of its sessions, stands for a history as any
+-- content does, except for those plans.
 pub record StoodFor (plans : List Plan) (content : Content) (history : History) : Type 0 where
   pub no_additions : AddsNoPlans history
   pub rows : (key : Key) → content.rows key ≡ option_map without_plan (row_of plans history key)

@@ -78,7 +78,7 @@ module _ (plans : List Plan) (db : Trees) (faultless : plans_fault plans ≡ Non
       → p.class ≡ q.class
   same_class p q row one other = blob_is p.class q.class (sym one ∙ other)
 
-  -- where the tables keep plans that these extend, each kept plan is one of these
+  -- if the tables keep plans that these extend, each kept plan is one of these
   pub among_extended : AreExtended plans db → AreAmong plans db
   among_extended it =
       let into = λ (o : Plan). λ (there : Has it.old o). has_contained plans o
@@ -99,7 +99,7 @@ module _ (plans : List Plan) (db : Trees) (faultless : plans_fault plans ≡ Non
       }
 
   module _ (among : AreAmong plans db) where
-    -- whatever plans the tables keep, these extend them
+    -- these extend any plans that the tables keep
     module _ (old : List Plan) (kept : KeepsPlans old db) where
       of_old : (o : Plan) → Has old o → Has plans o
       of_old o there =

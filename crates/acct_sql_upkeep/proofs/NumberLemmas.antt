@@ -33,7 +33,7 @@ use Rattle.acct_sql_tables.proofs.ValueLemmas.{equal_text, text_equal}
 
 -- ---- what it shows
 
--- the answer tells of the number in the table
+-- the answer shows the number in the table
 pub record Tells (db : Trees) (rows : List Row) : Type 0 where
   pub none : HasNone rows → (n : ℤ) → ¬ (HasNumber n db)
   pub one : (n : ℤ) → IsSchemaNumber n rows → HasNumberAlone n db

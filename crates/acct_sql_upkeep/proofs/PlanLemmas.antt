@@ -41,7 +41,7 @@ module _ (old new : State) (rows : List Row) (plans : List Plan) (known : IsKnow
       → ShowsPlan plan (eval_all plan_shown ([] ∷ r ∷ []))
   is_said plan r says = record { class = says.class; block = says.block; unit = says.unit }
 
-  -- the answer shows the plan that a row has, and that alone
+  -- the answer shows the plan that a row has, and no other
   pub price_of_shown : (plan : Plan) → IsShownIn Prices rows plan → IsPriced plan old.now.trees
   price_of_shown plan row =
       let r = shown_has price_plan.tree [] plan_shown [] Null old.now.trees [] rows answer row.0

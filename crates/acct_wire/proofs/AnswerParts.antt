@@ -35,7 +35,7 @@ use Rattle.acct_wire.specs.inner.Datagrams.{reason_of, RefusesAs, IsDropped}
 use Rattle.acct_wire.specs.Outcomes.{DropsWithin, AnswersWithin, WritesReply}
 use Rattle.acct_wire.proofs.Spelled.{asked_some}
 
--- ---- the datagram alone
+-- ---- only the datagram
 
 -- refused attributes break a rule, or memory was refused
 misspelled : (secret bytes : List ℕ) (identifier : ℕ) (authenticator : List ℕ)
@@ -129,7 +129,7 @@ no_topup name attributes moment (entries.TopUp topup) spelled is = spelled
 
 module _ {B : Type 0} (b : Ghosts B) (oldest : Option ℕ) (clients : List Client)
     (plans : List Plan) (source bytes : List ℕ) (moment : ℕ) where
-  -- there was no memory for an entry that the datagram asks for
+  -- an allocation failed for an entry that the datagram asks for
   no_memory : (array : List ℕ) (book : B) (asked : Entry)
       → RequestAsksFor clients source bytes moment asked
       → IsTooOld oldest moment asked ⊎ (¬ IsTooOld oldest moment asked)
@@ -141,7 +141,7 @@ module _ {B : Type 0} (b : Ghosts B) (oldest : Option ℕ) (clients : List Clien
   no_memory array book asked asks (inr recent) =
       (failed asked, (asked, asks, inr (recent, refl)), failed_by b plans book asked)
 
-  -- the book wasn't asked
+  -- the book was not called
   pub dropped_does : (array : List ℕ) (book : B) (reason : Reason)
       → IsDropped oldest clients source bytes moment reason
       → (effect : Effect) × AnswersWithin oldest clients source bytes moment array (Drop reason)

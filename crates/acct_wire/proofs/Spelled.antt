@@ -49,7 +49,7 @@ spelled_some name attributes moment none =
       | false ↦ λ h. spelled_by_status name attributes moment (status_of attributes) refl h
     ] none
 
--- a datagram that asks for some entry asks for one that can be told
+-- a datagram that asks for some entry asks for one that can be named
 pub asked_some : (clients : List Client) (source bytes : List ℕ) (moment : ℕ)
     → IsAsking clients source bytes
     → (asked : Entry) × RequestAsksFor clients source bytes moment asked

@@ -7,7 +7,7 @@ use Rattle.acct_wire.specs.declared.client.ClientError.{ClientError}
 use Rattle.acct_wire.specs.declared.client.ClientError.TheVariants.{TwiceNamed, TwiceAddressed}
 use Rattle.acct_wire.specs.Clients.{has_name, has_address}
 
--- what is wrong with a client that comes after earlier ones
+-- what is wrong with a client that follows earlier ones
 abbrev pub client_fault : List Client → Client → Option ClientError
 client_fault earlier client =
     if list_any (has_name client.name) earlier then Some TwiceNamed

@@ -62,7 +62,7 @@ AnswersWithin oldest clients source bytes moment array (Reply size) effect =
 AnswersWithin oldest clients source bytes moment array (Drop reason) effect =
     DropsWithin oldest clients source bytes moment reason effect
 
--- a datagram may be answered so, whatever the age of a report
+-- a datagram may be answered so, with a report of any age
 abbrev pub Answers : List Client → List ℕ → List ℕ → ℕ → List ℕ → Outcome → Effect → Type 0
 Answers = AnswersWithin None
 

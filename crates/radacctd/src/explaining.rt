@@ -1,6 +1,4 @@
 //! What `--explain` adds to a fault.
-use crate::by_syncs::BySyncs;
-use crate::order::{Ran, ended_of};
 use acct_model::Text;
 use acct_program_args::{Job, Order, Paths};
 use acct_program_commands::{Fault, StoreFault, read_config};
@@ -8,6 +6,7 @@ use acct_program_explain::{
     Explained, Wanted, explain, explain_plans, explain_sockets, explain_tables,
 };
 use acct_program_jobs::{Left, Outcome};
+use acct_program_orders::{BySyncs, Ran, ended_of};
 use sqlite_disk::Disk;
 use std::io::Write;
 
@@ -16,13 +15,35 @@ const OVERWRITTEN: &str =
     "explained: a file of --status or --balances, or the same name with .new, \
     is the book, its log, the configuration or the other file, or radacctd did not write it";
 
-/// Prints what is known about the fault that ended a job, if that is more than its text says.
-pub(crate) fn explain_fault<E: Write>(
-    runtime: &HostRuntime,
-    job: &Job,
-    fault: Fault,
-    errors: &mut E,
-) {
+/// Prints why the job of an order ended so, if the order asks for that: more about its fault, which
+/// plan differs, or what its database has. For `check` it also describes the book. It closes the
+/// files of the book before it explains why they cannot be opened. Else it would find the program's
+/// own lock.
+pub(crate) fn explain_run<W: Write + Drop>(runtime: &HostRuntime, order: &Order, ran: Ran<W>) {
+    if !order.explains {
+        return;
+    }
+    let ended = ended_of(&ran);
+    if let Err(fault) = ended {
+        explain_fault(runtime, &order.job, fault, &mut runtime.stderr());
+    }
+    match ran {
+        BySyncs::Once(outcome) => explain_outcome(runtime, &order.job, outcome),
+        BySyncs::Twice(outcome) => explain_outcome(runtime, &order.job, outcome),
+    }
+    if let (Ok(_), Job::Check { .. }, Some(file)) = (ended, &order.job, book_file(&order.job)) {
+        let what = Explained::Opened { file };
+        explain(runtime, runtime.alloc(), what, &mut runtime.stderr());
+    }
+    if ended == Err(Fault::CannotOpen) {
+        if let Some(what) = unopened(order) {
+            explain(runtime, runtime.alloc(), what, &mut runtime.stderr());
+        }
+    }
+}
+
+// Prints what is known about the fault that ended a job, if that is more than its text says.
+fn explain_fault<E: Write>(runtime: &HostRuntime, job: &Job, fault: Fault, errors: &mut E) {
     match (fault, job) {
         (Fault::CannotBind, Job::Serve { serving, .. }) => {
             let wanted = Wanted {
@@ -36,7 +57,7 @@ pub(crate) fn explain_fault<E: Write>(
         (Fault::WouldOverwrite, _) => {
             let _ = writeln!(errors, "{OVERWRITTEN}");
         }
-        // `explain_book` does, once its files are closed.
+        // `explain_run` does, once its files are closed.
         (Fault::CannotOpen, _) => {}
         _ => {
             if let Some(what) = explained(job, fault) {
@@ -46,42 +67,18 @@ pub(crate) fn explain_fault<E: Write>(
     }
 }
 
-/// Prints why a book was rejected, if the order asks for that: which plan differs, what its
-/// database has, or why it cannot be opened. Before the last, it closes the book's files, because
-/// it would else find the program's own lock.
-pub(crate) fn explain_book<W: Write + Drop>(runtime: &HostRuntime, order: &Order, ran: Ran<W>) {
-    let ended = ended_of(&ran);
-    match ran {
-        BySyncs::Once(outcome) => explain_outcome(runtime, order, outcome),
-        BySyncs::Twice(outcome) => explain_outcome(runtime, order, outcome),
-    }
-    if !order.explains {
-        return;
-    }
-    if let (Ok(_), Job::Check { .. }, Some(file)) = (ended, &order.job, book_file(&order.job)) {
-        let what = Explained::Opened { file };
-        explain(runtime, runtime.alloc(), what, &mut runtime.stderr());
-    }
-    if ended == Err(Fault::CannotOpen) {
-        if let Some(what) = unopened(order) {
-            explain(runtime, runtime.alloc(), what, &mut runtime.stderr());
-        }
-    }
-}
-
 // Prints why the book of an outcome was rejected. The book is still open.
 fn explain_outcome<W: Write + Drop, D: Disk + Drop>(
     runtime: &HostRuntime,
-    order: &Order,
+    job: &Job,
     outcome: Outcome<W, D>,
 ) {
-    let job = &order.job;
     let Outcome {
         ended,
         output: _output,
         left: mut rest,
     } = outcome;
-    let (true, Err(Fault::Store(fault))) = (order.explains, ended) else {
+    let Err(Fault::Store(fault)) = ended else {
         return;
     };
     let (Some(config), Some(file)) = (config_file(job), book_file(job)) else {

@@ -6,15 +6,13 @@
 //! answers a script.
 #![tactic(auto)]
 
-mod by_syncs;
 mod explaining;
-mod order;
 
-use crate::explaining::explain_book;
-use crate::order::carry_out;
+use crate::explaining::explain_run;
 use acct_program::Status;
 use acct_program_args::{job_of, tell};
 use acct_program_explain::explain_words;
+use acct_program_orders::carry_out;
 use acct_program_serving::Errors;
 use std::io::BufWriter;
 use std::process::ExitCode;
@@ -48,7 +46,7 @@ fn main(rt: HostRuntime) -> ExitCode {
     let drops = Some(drops);
     let errors = Errors { drops, notices };
     let (status, ran) = carry_out(&rt, &order, rt.stdin(), output, errors, &mut rt.stderr());
-    explain_book(&rt, &order, ran);
+    explain_run(&rt, &order, ran);
     ExitCode::from(status)
 }
 

@@ -16,7 +16,7 @@ length_field-front bytes has =
     get_or-take size bytes 3 0 (omega (arith, has.least)) in
     omega (arith, high, low)
 
--- as many octets stand in it as its Length counts
+-- it has as many octets as its Length counts
 pub IsFront-front : (bytes : List ℕ) → HasFront bytes → IsFront (front_of bytes)
 IsFront-front bytes has =
     let same = length_field-front bytes has in

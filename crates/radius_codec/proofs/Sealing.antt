@@ -38,8 +38,7 @@ drop-put_mid_from from size end xs ys within is =
     drop_at (take from xs) (ys ++ drop size (drop from xs)) from (length-take-le from xs within)
     ∙ ap (λ zs. ys ++ zs) (drop-drop size from xs ∙ ap (λ n. drop n xs) (sym is))
 
--- an array in which the head and the digest stand before attributes is a sealed packet and what
--- stood after them
+-- an array with the head and the digest before attributes is a sealed packet and what followed them
 pub sealed_in : (code identifier end : ℕ) (place octets secret out behind now rest : List ℕ)
     → end ≡ 20 + length octets
     → behind ≡ octets ++ rest
@@ -67,7 +66,7 @@ take-sealed code identifier place octets secret rest =
     take_at (sealed code identifier place octets secret) rest (20 + length octets)
     (length-sealed code identifier place octets secret)
 
--- a packet that was sealed is read as its own attributes, whatever octets follow
+-- a packet that was sealed is read as its own attributes, with any octets after it
 pub Framed-sealed : (code identifier : ℕ) (place secret behind : List ℕ)
     (attributes : List (ℕ × List ℕ)) → Fits attributes
     → Framed (sealed code identifier place (spellings attributes) secret ++ behind) code identifier

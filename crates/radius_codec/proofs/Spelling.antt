@@ -136,7 +136,7 @@ head_two [] two = absurd (omega (arith, two))
 head_two (x ∷ []) two = absurd (omega (arith, two))
 head_two (x ∷ y ∷ xs) two = refl
 
--- the attribute that the first two octets give, and what comes after it
+-- the attribute that the first two octets give, and what follows it
 pub front_attribute : (xs : List ℕ) (size : ℕ) → size ≡ get_or xs 1 0 → 2 ≤ size → size ≤ length xs
     → xs ≡ get_or xs 0 0 ∷ (length (take (size - 2) (drop 2 xs)) + 2)
     ∷ (take (size - 2) (drop 2 xs) ++ take (length xs - size) (drop size xs))
@@ -153,7 +153,7 @@ front_attribute xs size is least most =
     ∙ take-append-drop (size - 2) (drop 2 xs) in
     rw (long, parts) (head_two xs two)
 
--- what comes after an attribute is shorter
+-- what follows an attribute is shorter
 pub length_behind : (octets rest : List ℕ) (a : ℕ × List ℕ) → octets ≡ spelling a ++ rest
     → length rest < length octets
 length_behind octets rest a joined = omega (arith, ap length joined, length-append a.1 rest)
@@ -162,7 +162,7 @@ pub some_from_test : (xs : List ℕ) (b : Bool) → b ≡ (length xs == 0) → b
 some_from_test [] b is not = λ empty. absurd (true≢false (sym is ∙ not))
 some_from_test (x ∷ xs) b is not = λ empty. cc
 
--- after an attribute come attributes again
+-- what follows an attribute is attributes
 pub AreAttributes-rest : (octets rest : List ℕ) (a : ℕ × List ℕ) → octets ≡ spelling a ++ rest
     → AreAttributes octets → AreAttributes rest
 AreAttributes-rest octets rest a joined are =

@@ -134,7 +134,7 @@ pairs-drop_more xs i d within = ap pairs (drop_more xs i d within)
 pub pairs-drop_all : (xs : List (ℕ × Bor (List ℕ))) (i : ℕ) → length xs ≤ i → pairs (drop i xs) ≡ []
 pairs-drop_all xs i all = ap pairs (drop_all i xs all)
 
--- what is measured so far, where these attributes are left
+-- what is measured so far, if these attributes are left
 pub record Measured (size : ℕ) (left all : List (ℕ × List ℕ)) : Type 0 where
   pub sum : size + length (spellings left) ≡ length (spellings all)
   pub few : size ≤ 4076

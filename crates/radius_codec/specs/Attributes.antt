@@ -27,8 +27,7 @@ pub record Spells (octets : List ℕ) (attributes : List (ℕ × List ℕ)) : Ty
   pub short : AreShort attributes
   pub joined : octets ≡ spellings attributes
 
--- The attributes have room in one packet: 4,076 octets beside the first twenty (RFC 2865, section
--- 3).
+-- The attributes fit into one packet: 4,076 octets after the first twenty (RFC 2865, section 3).
 pub record Fits (attributes : List (ℕ × List ℕ)) : Type 0 where
   pub short : AreShort attributes
   pub few : length (spellings attributes) ≤ 4076

@@ -22,8 +22,7 @@ pub record HasFront (bytes : List ℕ) : Type 0 where
   pub most : length_field bytes ≤ 4096
   pub there : length_field bytes ≤ length bytes
 
--- The octets that the Length field counts; what comes after them is padding (RFC 2866, section
--- 3).
+-- The octets that the Length field counts; what follows them is padding (RFC 2866, section 3).
 abbrev pub front_of : List ℕ → List ℕ
 front_of bytes = take (length_field bytes) bytes
 
@@ -64,12 +63,12 @@ IsFault bytes BadAttribute =
 abbrev pub head_octets : ℕ → ℕ → ℕ → List ℕ
 head_octets code identifier size = code ∷ identifier ∷ big_bytes 2 size
 
--- The digest that an authenticator is: MD5 over the first four octets, the sixteen that stand in
--- the authenticator's place, the attributes and the secret (RFC 2866, section 3).
+-- The digest that an authenticator is: MD5 over the first four octets, the sixteen in the
+-- authenticator's place, the attributes and the secret (RFC 2866, section 3).
 abbrev pub digest : List ℕ → List ℕ → List ℕ → List ℕ → List ℕ
 digest head place octets secret = md5 (head ++ place ++ octets ++ secret)
 
--- In a request's digest sixteen zeros stand in the authenticator's place (RFC 2866, section 3).
+-- A request's digest has sixteen zeros in the authenticator's place (RFC 2866, section 3).
 abbrev pub request_place : List ℕ
 request_place = replicate 16 0
 
@@ -83,7 +82,7 @@ HasDigest front place secret =
 abbrev pub IsSigned : List ℕ → List ℕ → Type 0
 IsSigned front secret = HasDigest front request_place secret
 
--- The front is signed as a response to a request of this authenticator, which stands in the
+-- The front is signed as a response to a request of this authenticator, which takes the
 -- authenticator's place in the digest: its authenticator is its Response Authenticator (RFC 2866,
 -- section 3).
 abbrev pub IsSignedResponse : List ℕ → List ℕ → List ℕ → Type 0
@@ -113,8 +112,7 @@ abbrev pub proxy_states : List (ℕ × List ℕ) → List (ℕ × List ℕ)
 proxy_states attributes = filter (λ attribute. attribute.0 == PROXY_STATE) attributes
 
 -- The Accounting-Response to a request of this identifier, authenticator and list of attributes
--- (RFC 2866, section 4.2): in its digest the request's authenticator stands in the place of its
--- own.
+-- (RFC 2866, section 4.2): its digest has the request's authenticator in the place of its own.
 abbrev pub reply_octets : ℕ → List ℕ → List (ℕ × List ℕ) → List ℕ → List ℕ
 reply_octets identifier authenticator attributes secret =
     sealed ACCOUNTING_RESPONSE identifier authenticator (spellings (proxy_states attributes)) secret

@@ -129,7 +129,7 @@ pub record IsAfter (plans : List Plan) (history : History) (gone : List Key) (co
   pub carries : CarriesForward plans history batch.name batch.names batch.report
   pub stands : Stands plans content (forwarded history (sessions_in batch) batch.report)
 
--- A call that carries the sessions of these keys forward, if they fit, from whatever history the
+-- A call that carries the sessions of these keys forward, if they fit, from any history that the
 -- content stood for.
 pub record CarriesInto {B E : Type 0} (b : Ghosts B) (plans : List Plan) (gone : List Key)
     (old new : B) (result : Result Bool E) : Type 0 where

@@ -43,7 +43,7 @@ IsKnown schema = (schema ≡ book_schema) ⊎ ((older : OlderSchema) × (schema 
 abbrev pub HasCounts : Schema → Type 0
 HasCounts schema = (schema ≡ book_schema) ⊎ (schema ≡ second_schema)
 
--- the rowids of its accounts, vouchers, sessions and their plans tell their rows apart
+-- the rowids of its accounts, vouchers, sessions and their plans distinguish their rows
 pub record AreTidy (db : Trees) : Type 0 where
   pub accounts : IsTidy (db account.tree)
   pub vouchers : IsTidy (db voucher.tree)

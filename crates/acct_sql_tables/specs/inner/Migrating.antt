@@ -33,21 +33,21 @@ use Rattle.acct_sql_tables.specs.inner.Inside.{HasBecome, IsBookOf}
 
 -- ---- an older book
 
--- rowids tell the rows of the first tables apart
+-- rowids distinguish the rows of the first tables
 pub record AreFirstTidy (db : Trees) : Type 0 where
   pub metas : IsTidy (db meta.tree)
   pub accounts : IsTidy (db account.tree)
   pub vouchers : IsTidy (db voucher.tree)
   pub sessions : IsTidy (db session.tree)
 
--- The rows are those of an older book of these plans. Those of the first tables are told apart by
--- their rowids.
+-- The rows are those of an older book of these plans. Those of the first tables are distinguished
+-- by their rowids.
 pub record HasOlderRows (older : OlderSchema) (plans : List Plan) (db : Trees) : Type 0 where
   pub number : HasNumberAlone (number_of older) db
   pub plans_kept : KeepsOlderPlans older plans db
   pub tidy : AreFirstTidy db
 
--- it is an older book of these plans, whose rowids tell its rows apart
+-- it is an older book of these plans, whose rowids distinguish its rows
 pub record IsOlderBook (older : OlderSchema) (plans : List Plan) (db : Database) : Type 0 where
   pub schema : db.schema ≡ schema_of older
   pub rows : HasOlderRows older plans db.trees

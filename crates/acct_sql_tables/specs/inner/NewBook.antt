@@ -39,7 +39,7 @@ pub record AreEmpty (db : Database) : Type 0 where
 abbrev pub HasRun : List ℕ → State → State → Type 0
 HasRun sql old new = (n : ℕ) × ExecutesInside 0 sql [] old new (Ok n)
 
--- the transaction goes on, and nothing was committed in it
+-- the transaction continues, and nothing was committed in it
 pub record GoesOn (committed : Database) (s : State) : Type 0 where
   pub is_open : IsTrue s.is_open
   pub mode : s.in_transaction ≡ true

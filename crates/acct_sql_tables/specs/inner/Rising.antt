@@ -1,4 +1,4 @@
--- Ids that rise from row to row, and the tables that are asked for their rowids.
+-- Ids that rise from row to row, and the tables whose rowids are queried.
 use Rattle.std.specs.Prelude.{◌≡◌, ℕ, ℤ, List, [], Option, IfSome, map}
 use Rattle.std.specs.Ordering.{int_cmp}
 use Rattle.std.specs.declared.cmp.Ordering.TheVariants.{Less}

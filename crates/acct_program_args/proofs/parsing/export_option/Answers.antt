@@ -8,5 +8,5 @@ pub returns : goal.returns
 returns c =
     let found = rw c.in_ok-text.was at c.get_str.ensures in
     let rows = sym (found ∙ first_value-rows (found_of c.args.options.now) (codes "what")) in
-    IfSome_then c.export_named.result c.export_named.ensures
+    IfSome_then c.export_named.result c.export_named.ensures.some
     (λ what h. rows ∙ ap (λ text. Some text) h)

@@ -9,8 +9,8 @@ returns-in_err-account g c =
     let new = c.carry_next.new.book in
     told_on b c.args.selection.now c.args.plans.now c.args.book.now new c.carry_next.result
     c.from_residual.result
-    (joined_on b c.args.selection.now c.args.plans.now c.args.book.now c.accounts.book new _
-    c.carry_next.result (c.accounts.invariant fault.NoMemory) c.carry_next.ensures)
+    (joined_on b c.args.selection.now c.args.plans.now c.args.book.now c.loop.book new _
+    c.carry_next.result (c.loop.invariant fault.NoMemory) c.carry_next.ensures)
     (λ sound. not_ok c.from_residual.result _ (b.is_open new) c.from_residual.ensures.1)
 
 pub returns-in_default : goal.returns-in_default
@@ -18,15 +18,15 @@ returns-in_default g c =
     let b = g.B.Book in
     let new = c.carry_next.new.book in
     told_on b c.args.selection.now c.args.plans.now c.args.book.now new c.carry_next.result _
-    (joined_on b c.args.selection.now c.args.plans.now c.args.book.now c.accounts.book new _
-    c.carry_next.result (c.accounts.invariant fault.NoMemory) c.carry_next.ensures)
+    (joined_on b c.args.selection.now c.args.plans.now c.args.book.now c.loop.book new _
+    c.carry_next.result (c.loop.invariant fault.NoMemory) c.carry_next.ensures)
     c.in_ok-account.ensures.answers
 
-pub accounts-preserved : goal.accounts-preserved
-accounts-preserved g c = λ error.
+pub loop-preserved : goal.loop-preserved
+loop-preserved g c = λ error.
     let b = g.B.Book in
     let new = c.carry_next.new.book in
     told_on b c.args.selection.now c.args.plans.now c.args.book.now new c.carry_next.result _
-    (joined_on b c.args.selection.now c.args.plans.now c.args.book.now c.accounts.book new _
-    c.carry_next.result (c.accounts.invariant error) c.carry_next.ensures)
+    (joined_on b c.args.selection.now c.args.plans.now c.args.book.now c.loop.book new _
+    c.carry_next.result (c.loop.invariant error) c.carry_next.ensures)
     (λ sound. tt)

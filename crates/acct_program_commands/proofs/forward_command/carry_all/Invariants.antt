@@ -5,6 +5,6 @@ use Rattle.acct_program_commands.specs.declared.forward_command.Totals.{Totals}
 use Rattle.acct_program_commands.proofs.forward_command.carry_all.Given as goal
 
 -- sessions were carried
-abbrev pub invariant-accounts : goal.invariant-accounts
-invariant-accounts g l = (error : Fault)
+abbrev pub invariant-loop : goal.invariant-loop
+invariant-loop g l = (error : Fault)
     → CarriesOn {T = Totals} g.B.Book l.selection l.plans l.fn.book l.book (Err error)

@@ -23,7 +23,7 @@ joined a n k xs ys within fits =
     ∙ ap (λ (l : List ℕ). take a (put_mid a k xs ys) ++ l) (sym (ap (take n) rest ∙ back))
     ∙ sym (take-add a n (put_mid a k xs ys))
 
--- so much fits
+-- the octets fit
 fits_in : (a n k : ℕ) (xs ys : List ℕ) → a ≤ length xs → n ≤ length ys
     → a + n ≤ length (put_mid a k xs ys)
 fits_in a n k xs ys within fits =

@@ -10,8 +10,8 @@ invariant_of-self c =
     let e = c.put_both.ensures in
     let put = put-session c.put_both.result s.rows c.put_both.new.map s.balances
     c.put_both.new.balances s.topups c.args.row.now c.in_ok-copy.copy c.in_ok-key.key
-    c.as_slice-name.result.now _ c.args.balance
-    c.in_ok-key.ensures c.in_ok-copy.ensures (c.as_slice-name.ensures
+    c.as_slice-account.result.now _ c.args.balance
+    c.in_ok-key.ensures c.in_ok-copy.ensures (c.as_slice-account.ensures
     ∙ ap (λ r. r.account) c.row.view_is) (to_z-of_z w64 c.args.balance c.ranges.balance) e.map
     e.balances e.map_err e.balances_err in
     record {
@@ -25,8 +25,8 @@ returns c =
     let e = c.put_both.ensures in
     let put = put-session c.put_both.result s.rows c.put_both.new.map s.balances
     c.put_both.new.balances s.topups c.args.row.now c.in_ok-copy.copy c.in_ok-key.key
-    c.as_slice-name.result.now _ c.args.balance
-    c.in_ok-key.ensures c.in_ok-copy.ensures (c.as_slice-name.ensures
+    c.as_slice-account.result.now _ c.args.balance
+    c.in_ok-key.ensures c.in_ok-copy.ensures (c.as_slice-account.ensures
     ∙ ap (λ r. r.account) c.row.view_is) (to_z-of_z w64 c.args.balance c.ranges.balance) e.map
     e.balances e.map_err e.balances_err in
     mem-writes s _ _ c.put_both.result put

@@ -10,9 +10,9 @@ invariant_of-self c =
     let e = c.put_both.ensures in
     let put = put-topup c.put_both.result s.topups c.put_both.new.map s.balances
     c.put_both.new.balances s.rows c.args.topup.now c.in_ok-copy.copy c.in_ok-key.key
-    c.as_slice-name.result.now _ c.args.balance
+    c.as_slice-account.result.now _ c.args.balance
     (c.in_ok-key.ensures.ok ∙ c.as_str.ensures ∙ ap (λ r. r.voucher) c.topup.view_is)
-    c.in_ok-copy.ensures (c.as_slice-name.ensures ∙ ap (λ r. r.account) c.topup.view_is)
+    c.in_ok-copy.ensures (c.as_slice-account.ensures ∙ ap (λ r. r.account) c.topup.view_is)
     (to_z-of_z w64 c.args.balance c.ranges.balance) e.map e.balances e.map_err e.balances_err in
     record {
       own_keys = own-put c.put_both.result _ _ _ put s.own_keys
@@ -25,8 +25,8 @@ returns c =
     let e = c.put_both.ensures in
     let put = put-topup c.put_both.result s.topups c.put_both.new.map s.balances
     c.put_both.new.balances s.rows c.args.topup.now c.in_ok-copy.copy c.in_ok-key.key
-    c.as_slice-name.result.now _ c.args.balance
+    c.as_slice-account.result.now _ c.args.balance
     (c.in_ok-key.ensures.ok ∙ c.as_str.ensures ∙ ap (λ r. r.voucher) c.topup.view_is)
-    c.in_ok-copy.ensures (c.as_slice-name.ensures ∙ ap (λ r. r.account) c.topup.view_is)
+    c.in_ok-copy.ensures (c.as_slice-account.ensures ∙ ap (λ r. r.account) c.topup.view_is)
     (to_z-of_z w64 c.args.balance c.ranges.balance) e.map e.balances e.map_err e.balances_err in
     mem-writes s _ _ c.put_both.result put

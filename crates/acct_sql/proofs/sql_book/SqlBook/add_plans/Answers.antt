@@ -1,4 +1,4 @@
-use Rattle.std.proofs.Common.{rules, ◌∷◌, sym, subst}
+use Rattle.std.proofs.Common.{◌∷◌, sym, subst}
 use Rattle.sqlite.specs.Held.{state}
 use Rattle.acct_model.specs.Plans.{plans_added}
 use Rattle.acct_model.specs.History.{PlansAdded}
@@ -8,12 +8,10 @@ use Rattle.acct_sql_tables.specs.Content.{content_in_tables}
 use Rattle.acct_sql_upkeep.specs.inner.Adding.{IsBookAddedTo}
 use Rattle.acct_sql.proofs.AdditionLemmas.{left_by_addition}
 use Rattle.acct_sql.proofs.TiedLemmas.{tied}
-use Rattle.acct_sql.proofs.KnownLemmas.{knows_nothing}
-use Rattle.acct_sql.proofs.RememberLemmas.{remembers_none}
 use Rattle.acct_sql.proofs.sql_book.SqlBook.add_plans.Goals as goal
 
 pub returns-in-Ok-clause-stands : goal.returns-in-Ok-clause-stands
-returns-in-Ok-clause-stands g c clean = λ old history kept fine stood.
+returns-in-Ok-clause-stands g c = rw c.over.ensures (λ clean old history kept fine stood.
     let plans = c.args.plans.now in
     let before = (state g.S.Store c.args.conn).now.trees in
     let made : IsBookAddedTo plans before c.in-Ok.added
@@ -21,27 +19,19 @@ returns-in-Ok-clause-stands g c clean = λ old history kept fine stood.
     in
     subst (λ content. Stands plans content (PlansAdded (plans_added old plans) ∷ history))
     (sym made.is.is.content) (additions_stand old plans (content_in_tables before) history fine
-    c.have_no_fault.ensures (made.counted old kept).0 stood)
+    c.have_no_fault.ensures (made.counted old kept).0 stood))
 
 pub returns-in-Ok-clause-tables : goal.returns-in-Ok-clause-tables
 returns-in-Ok-clause-tables g c = tied g.S.Store _
 
 pub returns-in-Ok-clause-leaves : goal.returns-in-Ok-clause-leaves
-returns-in-Ok-clause-leaves g c = record {
+returns-in-Ok-clause-leaves g c = rw c.over.ensures (record {
   leaves = left_by_addition c.args.plans.now (state g.S.Store c.args.conn)
       (state g.S.Store c.add_to_book.new.conn) c.add_to_book.ensures.survives;
-}
+})
 
 pub returns-in-Err-clause-leaves_err : goal.returns-in-Err-clause-leaves_err
 returns-in-Err-clause-leaves_err g c = record {
   leaves = left_by_addition c.args.plans.now (state g.S.Store c.args.conn)
       (state g.S.Store c.add_to_book.new.conn) c.add_to_book.ensures.survives;
 }
-
-pub invariant_of-book : goal.invariant_of-book
-invariant_of-book g c = (
-  search rules,
-  remembers_none (state g.S.Store c.add_to_book.new.conn) c.new-memory.result c.new-memory.ensures,
-  knows_nothing (state g.S.Store c.add_to_book.new.conn) c.nothing-known.result
-      c.nothing-known.ensures.balances c.nothing-known.ensures.sessions,
-)

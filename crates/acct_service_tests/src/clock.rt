@@ -1,5 +1,5 @@
 //! A clock that stands still, and its moment.
-use acct_net::moment_of;
+use acct_service::moment_of;
 use std::io;
 use std::io::ErrorKind;
 use std::test::Fail;

@@ -1,7 +1,7 @@
 //! What audits find in books whose balances are right and wrong.
-use crate::books::Put::{Carries, Costs, Gives};
-use crate::books::{Put, Session, put_all, some_plans};
-use crate::lines::Lines;
+use crate::audit_lines::Lines;
+use crate::audited_books::Put::{Carries, Costs, Gives};
+use crate::audited_books::{Put, Session, put_all, some_plans};
 use acct_book::{Book, MemBook};
 use acct_book_audit::{audit, find_balance};
 use std::alloc::Global;

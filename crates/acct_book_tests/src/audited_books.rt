@@ -1,5 +1,5 @@
 //! Books with rows, top-ups and balances as a test wants them, right or wrong.
-use crate::books::Put::{Carries, Costs, Gives};
+use crate::audited_books::Put::{Carries, Costs, Gives};
 use acct_book::{Book, Row, SessionState};
 use acct_model::{Count, Octets, Plans, Text, TopUp};
 use acct_site::plan;

@@ -3,8 +3,8 @@ use Rattle.std.specs.Prelude.{◌≡◌}
 use Rattle.acct_program_args.specs.declared.job.Job.{Job}
 use Rattle.acct_program_args.specs.declared.job.Job.TheVariants as job
 use Rattle.acct_program_args.specs.declared.job.Syncs.TheVariants as syncs
-use Rattle.radacctd.specs.declared.by_syncs.BySyncs.{BySyncs}
-use Rattle.radacctd.specs.declared.by_syncs.BySyncs.TheVariants.{Once, Twice}
+use Rattle.acct_program_orders.specs.declared.by_syncs.BySyncs.{BySyncs}
+use Rattle.acct_program_orders.specs.declared.by_syncs.BySyncs.TheVariants.{Once, Twice}
 
 -- this of what was synced once, and that of what was synced twice
 abbrev pub EitherWay : {A B : Type 0} → BySyncs A B → (A → Type 0) → (B → Type 0) → Type 0

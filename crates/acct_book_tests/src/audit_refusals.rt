@@ -1,7 +1,7 @@
 //! Books that fail a call of an audit.
-use crate::books::Put::{Costs, Gives};
-use crate::books::{Put, put_all, some_plans};
-use crate::lines::{Ends, Lines};
+use crate::audit_lines::{Ends, Lines};
+use crate::audited_books::Put::{Costs, Gives};
+use crate::audited_books::{Put, put_all, some_plans};
 use acct_book::{Book, MemBook};
 use acct_book_audit::audit;
 use acct_book_fakes::FailingBook;

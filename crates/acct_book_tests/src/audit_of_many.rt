@@ -1,6 +1,6 @@
 //! Accounts of many sessions, and many accounts.
-use crate::books::{row_of, some_plans};
-use crate::lines::Lines;
+use crate::audit_lines::Lines;
+use crate::audited_books::{row_of, some_plans};
 use acct_book::{Book, MemBook};
 use acct_book_audit::audit;
 use acct_model::{Octets, Plans};

@@ -4,10 +4,9 @@ ghost use Rattle.sqlite_wal.specs.Files.{image_at};
 ghost use Rattle.acct_program_args.specs.Orders.{HasBounds};
 ghost use Rattle.acct_program_commands.specs.Endings.{ended_status};
 ghost use Rattle.acct_program_jobs.specs.Jobs.{DoesJob, text_of};
-ghost use Rattle.radacctd.specs.Syncs.{EitherWay, SyncsOnce};
+ghost use Rattle.acct_program_orders.specs.Syncs.{EitherWay, SyncsOnce};
 
 use crate::by_syncs::BySyncs;
-use crate::explaining::explain_fault;
 use acct_book::Book;
 use acct_net::Sockets;
 use acct_program::Status;
@@ -21,11 +20,11 @@ use sqlite::{FileFrom, FileStore, MemStore, Start, Unknown, Wary};
 use std::io::{Read, Write};
 
 /// The outcome of a job over the files of a book.
-pub(crate) type Ran<W> = BySyncs<Outcome<W, FileFrom<Unknown>>, Outcome<W, FileFrom<Wary>>>;
+pub type Ran<W> = BySyncs<Outcome<W, FileFrom<Unknown>>, Outcome<W, FileFrom<Wary>>>;
 
 /// Does the job of an order over these streams. Returns the exit status, and the outcome of the
-/// job. A fault that ended it is printed on `faults`, and explained if the order asks for that.
-pub(crate) fn carry_out<I: Read + Drop, W: Write + Drop, E: Write + Drop, F: Write>(
+/// job. A fault that ended it is printed on `faults`.
+pub fn carry_out<I: Read + Drop, W: Write + Drop, E: Write + Drop, F: Write>(
     runtime: &HostRuntime,
     order: &Order,
     input: I,
@@ -52,13 +51,7 @@ pub(crate) fn carry_out<I: Read + Drop, W: Write + Drop, E: Write + Drop, F: Wri
 {
     let loses = order.loses_commits;
     let ran = run_as_it_syncs(runtime, &order.job, loses, input, output, errors);
-    let ended = ended_of(&ran);
-    let status = end(faults, ended);
-    if let Err(fault) = ended
-        && order.explains
-    {
-        explain_fault(runtime, &order.job, fault, faults);
-    }
+    let status = end(faults, ended_of(&ran));
     (status, ran)
 }
 
@@ -107,7 +100,7 @@ fn run_as_it_syncs<I: Read + Drop, W: Write + Drop, E: Write + Drop>(
 }
 
 /// How a job ended.
-pub(crate) fn ended_of<W: Write>(ran: &Ran<W>) -> Result<Status, Fault>
+pub fn ended_of<W: Write>(ran: &Ran<W>) -> Result<Status, Fault>
     ensures { EitherWay ran.now (λ once. result ≡ once.ended) (λ twice. result ≡ twice.ended) }
 {
     match ran {

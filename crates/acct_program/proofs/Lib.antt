@@ -1,2 +1,0 @@
--- what a word of digits spells
-pub mod Numbers

@@ -1,0 +1,22 @@
+//! Tests of `acct_program_jobs`, the commands as an operator gives them, over files, and of
+//! `acct_program_explain`, what `--explain` prints.
+#![tactic(auto)]
+
+#[cfg(test)]
+mod commands;
+#[cfg(test)]
+mod explained_books;
+#[cfg(test)]
+mod explained_configurations;
+#[cfg(test)]
+mod explained_files;
+#[cfg(test)]
+mod explained_sockets;
+#[cfg(test)]
+mod explained_words;
+#[cfg(test)]
+mod files;
+#[cfg(test)]
+mod servers;
+#[cfg(test)]
+mod trial;
