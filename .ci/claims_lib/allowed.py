@@ -31,6 +31,8 @@ FREERADIUS = each(
     "access-servers/*.conf",
     "ap1=10.0.0.1",
     "detail-again",
+    "mods-enabled/eap",
+    "use_tunneled_reply = yes",
     "is-empty",
     "is-over",
     "nasipaddress",
@@ -83,6 +85,7 @@ ALLOWED = {
     },
     "docs/DESK.md": {
         "fcgiwrap": "Debian's package",
+        "ignoreip": "fail2ban's own",
         **each("nginx' paths", "/desk/", "/redeem/"),
         "settings.json": "radacctd-pages makes it",
         "revoke": "a command of radacctd-key",
