@@ -1,0 +1,66 @@
+"""Which names an account may have, and how tools write names and read them.
+
+The tools import it: it lies next to them in the repository, and in libexec/radacctd where
+bin/install puts it. FreeRADIUS and the pages have the same rule (docs/FILES.md).
+
+A name is octets, and two names are one only if each octet is the same. A text spells an octet as
+itself, or as % and two hexadecimal digits.
+"""
+
+import re
+import urllib.parse
+
+LONGEST = 253
+# Unicode's white space, and the mark that begins some files.
+SPACES = frozenset(
+    map(chr, [*range(9, 14), 0x20, 0x85, 0xA0, 0x1680, *range(0x2000, 0x200B), 0x2028, 0x2029])
+) | frozenset("\u202f\u205f\u3000\ufeff")
+# How Excel writes a number of more than 11 digits, with the point of English or the comma of German.
+LONG_NUMBER = re.compile(r"[0-9]+(?:[.,][0-9]+)?E\+[0-9]+")
+# What makes a field a formula, in spite of apostrophes before it.
+FORMULA = re.compile(r"'*[=+\-@\t\r]")
+
+
+def octets_of(text):
+    """The octets of a name as a file or a command line spells it."""
+    return urllib.parse.unquote_to_bytes(text.encode("utf-8", "surrogateescape"))
+
+
+def shown(octets):
+    """Octets as exports spell them: % and whatever is not plain as % and two digits."""
+    return "".join(chr(it) if 32 <= it < 127 and it != 37 else f"%{it:02X}" for it in octets)
+
+
+def why_not(name):
+    """Why an account may not have a name, octets or a text of them, or None if it may.
+
+    Such a name could not log in, or is the work of a spreadsheet.
+    """
+    octets = name if isinstance(name, bytes) else name.encode("utf-8", "surrogateescape")
+    if not 1 <= len(octets) <= LONGEST:
+        return f"it has {len(octets)} octets, not 1 to {LONGEST}"
+    try:
+        text = octets.decode("utf-8")
+    except UnicodeDecodeError:
+        return "it is not UTF-8"
+    if any(it < 32 or it == 127 for it in octets):
+        return "it has a control character"
+    if text[0] in SPACES or text[-1] in SPACES:
+        return "it begins or ends with a space"
+    if text[0] == "'":
+        return "it begins with an apostrophe, as a spreadsheet marks a text"
+    if "%{" in text:
+        return "it has %{, which FreeRADIUS would expand"
+    if LONG_NUMBER.fullmatch(text):
+        return "a spreadsheet has rounded it: give the column the type text"
+    return None
+
+
+def cell(text):
+    """A field of a CSV file for people: no spreadsheet takes it for a formula."""
+    return "'" + text if FORMULA.match(text) else text
+
+
+def text_of_cell(field):
+    """What a field of a CSV file for people says."""
+    return field[1:] if field[:1] == "'" and FORMULA.match(field) else field

@@ -1,0 +1,78 @@
+"""Names of accounts that may enter, and names that may not, for each place that tests names."""
+
+import os
+import subprocess
+import sys
+
+from served import ROOT, check
+
+sys.path.append(os.path.join(ROOT, "etc", "tools"))
+
+import radacctd_names as names
+
+# As a file of vouchers spells them: % and two digits are one octet.
+MAY = ["al", "Al", "Mueller-1127", "anna maria", "-x", "=x", "+49 170 1", "@home", "a'b", "a,b"]
+MAY += ["müller", "Łódź", "王", "a%25b", "{x}", "O\u2019Neil", "1E5", "123456789012", "E+1"]
+MAY += ["a\\b", "x" * 253, "a\u00a0b", "1.2.3E+4", "a\u200db"]
+MAY_NOT = {
+    "": "it has 0 octets",
+    "x" * 254: "it has 254 octets",
+    "%FF": "not UTF-8",
+    "M%FCller": "not UTF-8",
+    "%ED%A0%80": "not UTF-8",
+    "a%00": "a control character",
+    "a%0Ab": "a control character",
+    "a%09b": "a control character",
+    "a%7Fb": "a control character",
+    " al": "a space",
+    "al ": "a space",
+    "al%C2%A0": "a space",
+    "\u2003al": "a space",
+    "%EF%BB%BFal": "a space",
+    "'anton": "an apostrophe",
+    "''": "an apostrophe",
+    "a%{User-Name}": "%{",
+    "%25{": "%{",
+    "%%7B": "%{",
+    "1.23457E+11": "rounded",
+    "1,23457E+11": "rounded",
+    "12E+10": "rounded",
+}
+
+
+def faults_of_rule():
+    """Rows of the two tables that the module judges otherwise."""
+    for spelled in MAY:
+        if (why := names.why_not(names.octets_of(spelled))) is not None:
+            yield spelled, why
+    for spelled, part in MAY_NOT.items():
+        if part not in (why := str(names.why_not(names.octets_of(spelled)))):
+            yield spelled, why
+
+
+def faults_of_cells():
+    """Texts that a file for people does not bring back, or that a spreadsheet takes for formulas."""
+    texts = [start + rest for start in ("", "'", "''", "'''") for rest in ("", "=1", "+1", "-1", "a")]
+    for text in [*texts, "@x", "\tx", "\rx", "a=b", "Łódź", "'\t"]:
+        written = names.cell(text)
+        if names.text_of_cell(written) != text or written[:1] in tuple("=+-@\t\r"):
+            yield text, written
+
+
+def test_rule():
+    check("names: each row of the rule", list(faults_of_rule()), [])
+    check("fields of a file for people come back", list(faults_of_cells()), [])
+    for spelled in ("Łódź", "a%2Cb", "100%", "%00"):
+        octets = names.octets_of(spelled)
+        check(f"{spelled} comes back as exports spell it", names.octets_of(names.shown(octets)), octets)
+
+
+def test_found(prefix):
+    """The tools find the module where bin/install puts it, and leave nothing next to it."""
+    folder = os.path.join(prefix, "libexec", "radacctd")
+    tool = os.path.join(prefix, "sbin", "radacctd-sell")
+    text = b"voucher,account,sum\nV-1,'anton,5\n"
+    done = subprocess.run([tool, "--dry-run"], input=text, capture_output=True, cwd="/")
+    said = "record 2: the account `'anton` may not enter: it begins with an apostrophe"
+    found = done.returncode, said in done.stderr.decode(), "__pycache__" in os.listdir(folder)
+    check("an installed tool has the rule of names", found, (1, True, False))
