@@ -2,6 +2,7 @@
 the built program. interop/freeradius and interop/moved share it. It needs the packages freeradius
 and freeradius-utils."""
 
+import glob
 import importlib.machinery
 import importlib.util
 import json
@@ -161,6 +162,18 @@ def library():
     raise SystemExit("FreeRADIUS' modules are not where they are looked for")
 
 
+def with_clock(seconds):
+    """The environment of a program whose clock differs by so many seconds, or whose clock is that
+    of a file; None if the package faketime is missing."""
+    found = [it for it in glob.glob("/usr/lib/*/faketime/libfaketimeMT.so.1")]
+    if not seconds:
+        return dict(os.environ)
+    if not found:
+        return None
+    more = {"LD_PRELOAD": found[0], "FAKETIME": f"{seconds:+d}s", "DONT_FAKE_MONOTONIC": "1"}
+    return {**os.environ, **more}
+
+
 def key_of(account):
     return f"key-{ACCOUNTS.index(account)}-00000000000"
 
@@ -285,6 +298,7 @@ class FreeRadius:
             "access-servers.conf": self.access_servers(),
             "radacctd/settings.conf": self.settings(book, settings),
             "radacctd/kept": text_of("kept"),
+            "radacctd/attributes": text_of("attributes"),
             "mods-enabled/radacctd": text_of("modules"),
             "mods-enabled/more": "pap {\n}\nexpr {\n}\n" + ALWAYS + EAP,
             "policy.d/radacctd": text_of("policy"),

@@ -108,9 +108,11 @@ class FreeRadius(front.FreeRadius):
         text = text.replace("10.0.0.5", self.own).replace("10.0.0.6", self.other)
         return text.replace("11814", str(self.port))
 
-    def begin(self):
+    def begin(self, clock=0):
+        """Starts it, with a clock that differs by so many seconds."""
         begun = len(self.logged())
-        self.process = subprocess.Popen(self.words("-f"), stdout=subprocess.DEVNULL)
+        how = {"stdout": subprocess.DEVNULL, "env": front.with_clock(clock)}
+        self.process = subprocess.Popen(self.words("-f"), **how)
         end = time.monotonic() + STARTS
         while "Ready to process requests" not in self.logged()[begun:]:
             if time.monotonic() > end or self.process.poll() is not None:

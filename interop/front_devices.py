@@ -1,0 +1,79 @@
+"""The parts of interop/freeradius about what devices send: clocks that are wrong, and attributes
+that FreeRADIUS cannot send on."""
+
+import time
+
+from front import MEBIBYTE, check, waits_for
+from front_parts import Sender, attribute, both, count_in, packet_of, part
+
+EVENT_TIMESTAMP, DELAY = 55, 41
+DEVICE = "127.0.2.1"
+# By how many seconds a device's clock differs; None is a clock of 1970.
+SKEWS = [-3600, -5, 0, 2, 5, 60, 3600, 86_400 * 400, None]
+# How far a moment may be off, in seconds.
+NEAR = 5
+# Attributes that devices may send, and that radacctd does not read.
+ODD = {
+    "extended, unknown": attribute(241, b"\xc8" + b"abc"),
+    "extended, of no octets": attribute(242, b"\xc8"),
+    "extended and long, unknown": attribute(245, b"\xc8\x00" + b"x" * 200),
+    "extended and long, in pieces": attribute(246, b"\xc8\x80" + b"x" * 251)
+    + attribute(246, b"\xc8\x00" + b"y" * 251),
+    "a vendor's, unknown": attribute(26, b"\x00\x00\xff\xfe\x01\x04ab"),
+    "a vendor's, broken": attribute(26, b"\x00\x00\x01\x37\x01\xffab"),
+    "a number of three octets": attribute(61, b"\x00\x00\x0f"),
+    "a text of NUL and octets above 127": attribute(30, b"a\x00\xff\xfe\n\"\\'%{User-Name}"),
+    "a password": attribute(2, b"0123456789abcdef"),
+    "a state of a proxy": attribute(33, b"\x00\n\"%{Class}"),
+    "none of any dictionary": attribute(199, b"\x00\x01"),
+    "3 KB of them": b"".join(attribute(18, b"m" * 253) for _ in range(12)),
+}
+
+
+def told(radius, packet):
+    """Whether a report of a device is answered."""
+    return Sender(radius.acct).send([(DEVICE, packet)]) == 1
+
+
+def moments(book):
+    return {row["session"].split("/")[1]: row["last"] for row in book.rows("bo")}
+
+
+@part
+def clocks(folder):
+    """A device's clock makes no report older or younger, and none is filed for it."""
+    with both(folder, settings=[("oldest_report", "60")]) as (book, radius):
+        sent = {}
+        for number, skew in enumerate(SKEWS):
+            for delay in (None, 0, 100):
+                name = f"T-{number}-{delay}"
+                now = int(time.time())
+                moment = 1000 if skew is None else now + skew
+                packet = packet_of(name, b"bo", MEBIBYTE)
+                packet += attribute(EVENT_TIMESTAMP, moment.to_bytes(4, "big"))
+                if delay is not None:
+                    packet += attribute(DELAY, delay.to_bytes(4, "big"))
+                sent[name] = now - (delay or 0)
+                if not told(radius, packet):
+                    check(f"{name} is answered", False, True)
+        waits_for("all are charged", lambda: book.balance("bo"), -10 * len(sent))
+        check("none is filed", count_in(radius.unsent), 0)
+        found = moments(book)
+        off = {it: found.get(it, 0) - moment for it, moment in sent.items()}
+        check("each at its moment", {it: s for it, s in off.items() if abs(s) > NEAR}, {})
+
+
+@part
+def odd(folder):
+    """No attribute that a device may send keeps a report, or those behind it, from radacctd."""
+    with both(folder) as (book, radius):
+        for number, (name, more) in enumerate(ODD.items(), 1):
+            packet = packet_of(f"A-{number}", b"bo", MEBIBYTE) + more
+            check(f"an attribute that is {name}: answered", told(radius, packet), True)
+            waits_for("and charged", lambda: book.balance("bo"), -10 * number, 6)
+        for number in range(40):
+            told(radius, packet_of(f"B-{number}", b"bo", MEBIBYTE))
+        total = -10 * (len(ODD) + 40)
+        waits_for("and so is what comes behind them", lambda: book.balance("bo"), total, 6)
+        check("none is filed", count_in(radius.unsent), 0)
+        waits_for("the queue is empty", lambda: count_in(radius.queue), 0)
