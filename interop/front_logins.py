@@ -1,0 +1,277 @@
+"""The parts of interop/freeradius about logins: the mirror, names, quotas, PEAP and TTLS."""
+
+import csv
+import hashlib
+import importlib.util
+import os
+import random
+import shutil
+import socket
+import subprocess
+import time
+import types
+
+import front
+from front import FILES, MEBIBYTE, SECRET, check, report, waits_for
+from front_parts import attribute, both, looked_up, part, restarted
+
+SPENT = "Your allowance is spent."
+
+
+@part
+def mirror(folder):
+    """The mirror: who may read what, what it says of a fault, and 100,000 accounts."""
+    book = front.Book(folder)
+    plans, path = os.path.join(folder, "plans.csv"), os.path.join(folder, "mirror.db")
+    program = os.path.join(FILES, "balances-mirror")
+    words = [program, book.balances, plans, path]
+    told = lambda: subprocess.run(words, capture_output=True, text=True)
+    done = subprocess.run(
+        [os.path.join(FILES, "plans-of"), book.config], capture_output=True, text=True
+    )
+    check(
+        "the plans are printed",
+        (done.returncode, done.stdout.count("\n")),
+        (0, len(front.PLANS) + 1),
+    )
+    check("and no secret", front.BOOK_SECRET in done.stdout or "key-" in done.stdout, False)
+    front.written(plans, done.stdout)
+    done = told()
+    check("without balances it fails", (done.returncode, "No such file" in done.stderr), (1, True))
+    front.written(book.balances, "account,balance\nal,5\n")
+    check("nor does it take another file", told().returncode, 1)
+    lines = "".join(f"st{number:06d},{number},0\n" for number in range(100_000))
+    front.written(book.balances, "account,balance,overrun\nM%C3%BCller,-7,7\n" + lines)
+    begun = time.monotonic()
+    check("it takes 100,000 accounts", told().returncode, 0)
+    print(f"         in {time.monotonic() - begun:.1f} seconds", flush=True)
+    check("the balance of Müller", looked_up(path, "Müller"), -7)
+    front.written(book.balances, "account,balance,overrun\nst000001,3,0\n")
+    check("a newer file", (told().returncode, looked_up(path, "st000001")), (0, 3))
+    check("has none of those that it lacks", looked_up(path, "Müller"), None)
+    if os.geteuid() == 0:
+        rights(folder, words, book)
+
+
+def rights(folder, words, book):
+    """As the unit runs it: a user of no right but the group of the balances' folder."""
+    group, user = 54321, 54322
+    shared, own = os.path.join(folder, "shared"), os.path.join(folder, "own")
+    os.mkdir(shared)
+    os.mkdir(own)
+    os.chown(shared, 0, group)
+    os.chmod(shared, 0o2750)
+    os.chown(own, user, user)
+    balances = os.path.join(shared, "balances.csv")
+    front.written(balances, "account,balance,overrun\nal,5,0\n")
+    os.chmod(balances, 0o640)
+    os.chmod(book.config, 0o640)
+    program = os.path.join(own, "balances-mirror")
+    shutil.copy(words[0], program)
+    os.chmod(words[2], 0o644)
+    mirrored = os.path.join(own, "mirror.db")
+    drop = ["setpriv", f"--reuid={user}", f"--regid={user}", f"--groups={group}"]
+    # A pyenv of root's is out of such a user's reach.
+    python = ["/usr/bin/python3"] if os.path.exists("/usr/bin/python3") else ["python3"]
+    done = subprocess.run(
+        [*drop, *python, program, balances, words[2], mirrored], capture_output=True
+    )
+    check("the group of the folder is enough", (done.returncode, done.stderr), (0, b""))
+    done = subprocess.run([*drop, "cat", book.config], capture_output=True)
+    check("and does not read the configuration", (done.returncode, done.stdout), (1, b""))
+
+
+MIKROTIK = ("Mikrotik-Total-Limit", "Mikrotik-Total-Limit-Gigawords")
+
+
+@part
+def logins(folder):
+    """A login below one unit is refused, others get their quota."""
+    lines = "client {0} {{\n\tipaddr = {1}\n\tsecret = {2}\n\tradacctd_quota = {0}\n}}\n"
+    clients = "".join(lines.format(*pair, SECRET) for pair in QUOTAS.items())
+    settings = [("time_classes", '"^hour$"')]
+    with both(folder, clients=clients, settings=settings) as (book, radius):
+        check(
+            "without money a login is refused",
+            told(radius, "al"),
+            (False, {"Reply-Message": SPENT}),
+        )
+        book.sell("al", 105, "V-1")
+        wanted = (True, {MIKROTIK[0]: "10485760", MIKROTIK[1]: "0"})
+        waits_for("105 at 10 a MiB are 10 MiB", lambda: told(radius, "al"), wanted)
+        free = told(radius, "room 12", "free")
+        check("a plan of unit 0 is no limit", free, (True, {}))
+        for account in ("nobody", "al'; DROP TABLE balance; --", "&User-Name", "%{User-Name}"):
+            check(f"{account} is refused", told(radius, account)[0], False)
+        directions(radius)
+        sold = {"bo": 9, "big": 10_000 * 410, "most": 10**12, "even": 4096 * 10}
+        for number, (account, total) in enumerate(sold.items()):
+            check(f"{account} buys {total}", book.sell(account, total, f"V-1{number}"), 201)
+        waits_for(
+            "4,096 MiB: the low half is not 0",
+            lambda: told(radius, "even"),
+            (True, {MIKROTIK[0]: "4294967295", MIKROTIK[1]: "0"}),
+        )
+        check("9 is below one unit: refused", told(radius, "bo")[0], False)
+        caps(radius)
+        spent_and_bought(book, radius)
+
+
+# Which client has which attributes.
+QUOTAS = {"chillispot": "127.0.3.1", "pfsense": "127.0.3.2", "none": "127.0.3.3"}
+
+
+def told(radius, account, plan="gold", source="127.0.2.1"):
+    """A login's fate, and what the reply says but for the Class."""
+    accepted, pairs = radius.logs_in(account, [f'NAS-Port-Id = "{plan}"'], source)
+    pairs.pop("Class", None)
+    return accepted, pairs
+
+
+def directions(radius):
+    ten = "10485760"
+    rows = [
+        ("127.0.2.1", "up", {"Mikrotik-Recv-Limit": ten, "Mikrotik-Recv-Limit-Gigawords": "0"}),
+        ("127.0.2.1", "down", {"Mikrotik-Xmit-Limit": ten, "Mikrotik-Xmit-Limit-Gigawords": "0"}),
+        ("127.0.3.1", "gold", {"ChilliSpot-Max-Total-Octets": ten}),
+        ("127.0.3.1", "up", {"ChilliSpot-Max-Input-Octets": ten}),
+        ("127.0.3.1", "down", {"ChilliSpot-Max-Output-Octets": ten}),
+        ("127.0.3.2", "gold", {"pfSense-Max-Total-Octets": ten}),
+        ("127.0.3.2", "up", {}),
+        ("127.0.3.3", "gold", {}),
+        ("127.0.3.3", "hour", {"Session-Timeout": "6300"}),
+        ("127.0.3.1", "unknown", {"ChilliSpot-Max-Total-Octets": "21000000"}),
+    ]
+    for source, plan, wanted in rows:
+        check(f"{plan} at {source}", told(radius, "al", plan, source), (True, wanted))
+
+
+def caps(radius):
+    """Large quotas, whose products would not fit."""
+    octets = 410_000 * MEBIBYTE
+    wanted = {MIKROTIK[0]: str(octets % 2**32), MIKROTIK[1]: str(octets >> 32)}
+    check("410,000 MiB with gigawords", told(radius, "big"), (True, wanted))
+    chilli = {"ChilliSpot-Max-Total-Octets": "4294967295"}
+    check("and capped without", told(radius, "big", "gold", "127.0.3.1"), (True, chilli))
+    largest = (1023 << 53) - 1
+    wanted = {MIKROTIK[0]: str(largest % 2**32), MIKROTIK[1]: str(largest >> 32)}
+    check(
+        "10^12 at 1 for 2^53: the most blocks below 2^63",
+        told(radius, "most", "huge"),
+        (True, wanted),
+    )
+    check("hours too", told(radius, "most", "hour"), (True, {"Session-Timeout": "2147483647"}))
+
+
+def spent_and_bought(book, radius):
+    done = radius.reports("ap1", report("Interim-Update", "Q-1", "al", 11 * MEBIBYTE))
+    check("al uses 11 MiB", done, True)
+    refused = (False, {"Reply-Message": SPENT})
+    waits_for("and is refused", lambda: told(radius, "al"), refused)
+    book.sell("al", 15, "V-2")
+    wanted = (True, {MIKROTIK[0]: "1048576", MIKROTIK[1]: "0"})
+    waits_for("a voucher, and he is accepted", lambda: told(radius, "al"), wanted)
+    seconds = report("Stop", "Q-2", "al", 999, ["Acct-Session-Time = 301"], "hour")
+    check("301 seconds are reported", radius.reports("ap1", seconds), True)
+    waits_for("at 1 a minute they cost 6", lambda: book.balance("al"), 4)
+    book.kill()
+    radius.mirroring.kill()
+    time.sleep(3)
+    ages(radius)
+
+
+def ages(radius):
+    """What the settings oldest, if_old and share do."""
+    path = os.path.join(radius.raddb, "radacctd", "settings.conf")
+    with open(path, encoding="utf-8") as file:
+        text = file.read().replace("oldest = 60", "oldest = 1")
+    sold = (
+        True,
+        {
+            MIKROTIK[0]: str(205_000 * MEBIBYTE % 2**32),
+            MIKROTIK[1]: str(205_000 * MEBIBYTE >> 32),
+        },
+    )
+    refused = (False, {"Reply-Message": "Please try again in some minutes."})
+    changes = [
+        ("old balances, accept: no quota", text, (True, {})),
+        ("old balances, refuse", text.replace('if_old = "accept"', 'if_old = "refuse"'), refused),
+        (
+            "share 2: half of what is left",
+            text.replace("oldest = 1", "oldest = 999").replace("share = 1", "share = 2"),
+            sold,
+        ),
+    ]
+    for name, changed, wanted in changes:
+        restarted(radius, path, changed)
+        check(name, told(radius, "big"), wanted)
+    os.remove(radius.mirror)
+    restarted(radius, path, changes[1][1])
+    check("no mirror, refuse", told(radius, "big"), refused)
+    restarted(radius, path, changes[0][1])
+    check("no mirror, accept", told(radius, "big"), (True, {}))
+
+
+def names_of_the_tools():
+    """The module of the rule that radacctd's tools have."""
+    path = os.path.join(front.ROOT, "etc", "tools", "radacctd_names.py")
+    spec = importlib.util.spec_from_file_location("radacctd_names", path)
+    module = importlib.util.module_from_spec(spec)
+    spec.loader.exec_module(module)
+    return module
+
+
+# Octets of which names are made at random: parts of characters, marks, white space.
+PIECES = [bytes([it]) for it in b" '%{1E+.,aM\t\x7f\xc2\xa0\xe2\x80\x83\xf0\x9f\xed\x8f\xbf\xc0\xf4"]
+NAMES = [
+    *(b"al", b"room 12, 50%", "Müller".encode(), b"AL", b"o'brien", b"a\\b", b'a"b', b"% {", b"E+4"),
+    *(b"%{User-Name}", b"a%{", b"%%{Class}b", b"'anton", b"1.23457E+11", b"1,2E+9", b"12E+4"),
+    *(b" al", b"al ", "\u2003al".encode(), "al\u00a0".encode(), "\ufeffal".encode(), b"a\nb"),
+    *(b"\xff", b"\xc0\xaf", b"\xed\xa0\x80", b"\xf4\x90\x80\x80", b"a\x00b", b"x" * 253),
+    *("ü".encode() * 126, b"=1+2", "😀".encode(), "a\u2003b".encode(), b"-x", b"&User-Name"),
+]
+
+
+@part
+def names(folder):
+    """Who could not be charged does not log in: the rule of radacctd's tools, name by name."""
+    rule, rng = names_of_the_tools(), random.Random(4)
+    tried = [*NAMES, *(b"".join(rng.choices(PIECES, k=rng.randint(1, 9))) for _ in range(400))]
+    tried = list(dict.fromkeys(tried))
+    book = types.SimpleNamespace(radius=1, balances=os.path.join(folder, "balances.csv"))
+    with open(book.balances, "w", encoding="ascii", newline="") as file:
+        rows = [(rule.shown(it), 500, 0) for it in tried]
+        csv.writer(file, lineterminator="\n").writerows([("account", "balance", "overrun"), *rows])
+    radius = front.FreeRadius(folder, book)
+    plans = os.path.join(folder, "plans.csv")
+    front.written(plans, "class,block,unit,count\ndefault,1,1,both\n")
+    words = [os.path.join(FILES, "balances-mirror"), book.balances, plans, radius.mirror]
+    subprocess.run(words, check=True)
+    try:
+        radius.start()
+        wanted = {it: rule.why_not(it) is None for it in tried}
+        got = {it: accepted(radius, it) for it in tried}
+        different = [it for it in tried if got[it] != wanted[it]]
+        check(f"{len(tried)} names: each logs in if the tools take it", different, [])
+        count = sum(wanted.values())
+        print(f"         {count} of them do", flush=True)
+        check("some do, and most do not", 30 < count < len(tried) / 2, True)
+        refused = (False, {"Reply-Message": "This name cannot be charged."})
+        check("with a reason", told(radius, "'anton"), refused)
+    finally:
+        radius.end()
+
+
+def accepted(radius, name):
+    """Whether a login is accepted: not by radclient, which would take %{ for a text to expand."""
+    secret, password = SECRET.encode(), b"right".ljust(16, b"\0")
+    with socket.socket(socket.AF_INET, socket.SOCK_DGRAM) as opened:
+        opened.bind(("127.0.2.1", 0))
+        opened.settimeout(front.PATIENCE)
+        authenticator = os.urandom(16)
+        mask = hashlib.md5(secret + authenticator).digest()
+        hidden = bytes(one ^ other for one, other in zip(password, mask))
+        body = attribute(1, name) + attribute(2, hidden)
+        head = bytes([1, 1]) + (20 + len(body)).to_bytes(2, "big")
+        opened.sendto(head + authenticator + body, ("127.0.0.1", radius.auth))
+        return opened.recv(4096)[0] == 2

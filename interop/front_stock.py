@@ -1,0 +1,244 @@
+"""The parts of interop/freeradius on Debian's own configuration: the page's steps, and logins by
+PEAP and TTLS."""
+
+import os
+import re
+import shutil
+import subprocess
+import time
+
+import front
+from front import FILES, LISTEN, MEBIBYTE, SECRET, check
+from front_parts import Missing, part
+
+STOCK = "/etc/freeradius/3.0"
+DEFAULT, INNER = "sites-available/default", "sites-available/inner-tunnel"
+
+
+def page_steps():
+    """The text of the page's steps."""
+    page = os.path.join(front.ROOT, "docs", "FREERADIUS.md")
+    with open(page, encoding="utf-8") as file:
+        text = file.read()
+    return text[text.index("## Set it up") : text.index("## The access servers")]
+
+
+def debians_own(folder):
+    """Debian's configuration in a folder, with what the page's commands copy there."""
+    if not os.access(os.path.join(STOCK, "radiusd.conf"), os.R_OK):
+        raise Missing(f"{STOCK}: the package freeradius has it, and only root reads it")
+    steps = page_steps()
+    check("the page names each file", [n for n in os.listdir(FILES) if n not in steps], [])
+    raddb = os.path.join(folder, "raddb")
+    subprocess.run(["cp", "-a", STOCK, raddb], check=True)
+    words = {"cd /etc/freeradius/3.0": f"cd {raddb}", ".../etc/freeradius": FILES}
+    copied = [line.strip() for line in steps.splitlines() if re.match(r" +(cd|mkdir|cp) ", line)]
+    copied = [line for line in copied if "/etc/systemd" not in line]
+    script = "\n".join(["set -e", *copied])
+    for one, other in words.items():
+        script = script.replace(one, other)
+    done = subprocess.run(["sh", "-c", script], capture_output=True, text=True)
+    check("the page's commands copy them", (done.returncode, done.stderr), (0, ""))
+    lines = "$INCLUDE radacctd/settings.conf\n$INCLUDE radacctd/access-servers.conf\n"
+    edited(raddb, "radiusd.conf", "\nmodules {", "\n" + lines + "modules {")
+    raddbdir = f"raddbdir = {STOCK}"
+    edited(raddb, "radiusd.conf", raddbdir, f"raddbdir = {raddb}")
+    edited(raddb, DEFAULT, "\naccounting {", "\naccounting {\n\tradacctd_accounting\n")
+    for name in (DEFAULT, INNER):
+        edited(raddb, name, "\npost-auth {", "\npost-auth {\n" + page_login(steps))
+    return raddb
+
+
+def page_login(steps):
+    """The lines that the page puts into post-auth."""
+    found = re.search(r"(?m)^ +update reply \{(?:.|\n)*?^ +radacctd_login$", steps)
+    return found[0] + "\n"
+
+
+def edited(raddb, name, one, other):
+    """Replaces a text that a file has once."""
+    path = os.path.join(raddb, name)
+    with open(path, encoding="utf-8") as file:
+        text = file.read()
+    check(f"{name} has its place", text.count(one), 1)
+    front.written(path, text.replace(one, other))
+
+
+@part
+def stock(folder):
+    """The page's steps on Debian's own configuration."""
+    raddb = debians_own(folder)
+    words = ["freeradius", "-d", raddb, "-CX"]
+    done = subprocess.run(words, capture_output=True, text=True)
+    check("FreeRADIUS takes them", done.returncode, 0)
+    if done.returncode:
+        print(done.stdout[-700:], done.stderr[-500:])
+
+
+# By the outer name nobody pays.
+OUTER = "somebody-else"
+SUPPLICANT = """network={{
+	ssid="tried"
+	key_mgmt=WPA-EAP
+	eap={eap}
+	anonymous_identity="{outer}"
+	identity="{name}"
+	password="right"
+	phase2="{inner}"
+}}
+"""
+METHODS = [
+    ("PEAP", "auth=MSCHAPV2"),
+    ("TTLS", "auth=PAP"),
+    ("TTLS", "auth=MSCHAPV2"),
+    ("TTLS", "autheap=MSCHAPV2"),
+    ("TTLS", "autheap=MD5"),
+]
+SPACED = "room 12"
+ATTRIBUTE = re.compile(r"Attribute \d+ \((User-Name|Class|Vendor-Specific)\).*\n +Value: (.*)")
+# Mikrotik-Total-Limit, by its number.
+TOTAL = "00003a8c1106"
+
+
+class Stock:
+    """FreeRADIUS with Debian's configuration and the page's steps, at ports of its own."""
+
+    def __init__(self, folder, raddb):
+        self.folder, self.raddb = folder, raddb
+        self.port = front.KILL.free_port(front.KILL.socket.SOCK_DGRAM)
+        self.log, self.process = os.path.join(folder, "out"), None
+        for name in ("log", "run", "log/radacct"):
+            os.makedirs(os.path.join(folder, name))
+        own = [
+            ("logdir = /var/log/freeradius", f"logdir = {folder}/log"),
+            ("run_dir = ${localstatedir}/run/${name}", f"run_dir = {folder}/run"),
+            ("\tuser = freerad\n", ""),
+            ("\tgroup = freerad\n", ""),
+        ]
+        for one, other in own:
+            edited(raddb, "radiusd.conf", one, other)
+        self.ports()
+        self.users()
+
+    def ports(self):
+        """Listens at its own port alone."""
+        for name in (DEFAULT, INNER):
+            path = os.path.join(self.raddb, name)
+            with open(path, encoding="utf-8") as file:
+                text = file.read()
+            front.written(path, re.sub(r"(?m)^listen \{$(.|\n)*?^\}$", "", text))
+        listen = LISTEN.format(kind="auth", family="ipaddr", address="127.0.0.1", port=self.port)
+        listen = listen.replace("type =", "virtual_server = default\n\t\ttype =", 1)
+        front.written(os.path.join(self.raddb, "sites-enabled", "port"), listen)
+
+    def users(self):
+        """Two users with money, one who has none, and the mirror of what they have."""
+        names = ("al", SPACED, "poor")
+        text = "".join(f'"{name}" Cleartext-Password := "right"\n\n' for name in names)
+        front.written(os.path.join(self.raddb, "mods-config/files/authorize"), text)
+        edited(self.raddb, "radacctd/access-servers.conf", "10.0.0.0/16", "127.0.0.0/8")
+        path = os.path.join(self.raddb, "radacctd/access-servers.conf")
+        subprocess.run(["sed", "-i", f"s/change-me-access-points/{SECRET}/", path], check=True)
+        edited(self.raddb, "clients.conf", "client localhost {", "client nobody {")
+        subprocess.run(
+            ["sed", "-i", r"s/ipaddr = 127.0.0.1/ipaddr = 192.0.2.1/", f"{self.raddb}/clients.conf"],
+            check=True,
+        )
+        mirror = os.path.join(self.folder, "run", "balances.db")
+        path = os.path.join(self.raddb, "radacctd/settings.conf")
+        with open(path, encoding="utf-8") as file:
+            text = file.read()
+        front.written(path, re.sub(r"(?m)^\tmirror = .*$", f"\tmirror = {mirror}", text))
+        balances, plans = (os.path.join(self.folder, name) for name in ("b.csv", "plans.csv"))
+        rows = f"al,105,0\n{SPACED},55,0\npoor,9,0\n{OUTER},1000000,0\n"
+        front.written(balances, "account,balance,overrun\n" + rows)
+        plan = f"gold,{MEBIBYTE},10,both\ndefault,{MEBIBYTE},1000,both\n"
+        front.written(plans, "class,block,unit,count\n" + plan)
+        words = [os.path.join(FILES, "balances-mirror"), balances, plans, mirror]
+        subprocess.run(words, check=True)
+
+    def said(self):
+        with open(self.log, encoding="utf-8", errors="replace") as file:
+            return file.read()
+
+    def start(self):
+        self.end()
+        with open(self.log, "wb") as file:
+            words = ["freeradius", "-d", self.raddb, "-fxx", "-l", "stdout"]
+            self.process = subprocess.Popen(words, stdout=file, stderr=file)
+        ready = "Ready to process requests"
+        front.waits_for("FreeRADIUS is ready", lambda: ready in self.said(), True)
+
+    def end(self):
+        if self.process is not None and self.process.poll() is None:
+            self.process.kill()
+            self.process.communicate()
+
+    def login(self, name, eap, inner, outer=OUTER):
+        """The name, the Class and the quota of an Access-Accept, or None."""
+        path = os.path.join(self.folder, "supplicant.conf")
+        front.written(path, SUPPLICANT.format(eap=eap, inner=inner, name=name, outer=outer))
+        words = ["eapol_test", "-c", path, "-a", "127.0.0.1", "-p", str(self.port), "-r0", "-t5"]
+        words += ["-A", "127.0.2.1", "-s", SECRET]
+        done = subprocess.run(words, capture_output=True, text=True)
+        text = done.stdout[done.stdout.rfind("RADIUS message: code=") :]
+        if done.returncode or not text.startswith("RADIUS message: code=2"):
+            return None
+        found = ATTRIBUTE.findall(text.split("\nSTA ")[0])
+        names = [it.strip("'") for kind, it in found if kind == "User-Name"]
+        classes = [bytes.fromhex(it).decode() for kind, it in found if kind == "Class"]
+        quotas = [int(it[12:], 16) for _, it in found if it.startswith(TOTAL)]
+        return names, classes, quotas
+
+
+@part
+def tunnels(folder):
+    """PEAP and TTLS with Debian's eap: the inner name pays, by the page's steps."""
+    if shutil.which("eapol_test") is None:
+        raise Missing("eapol_test: the package eapoltest has it")
+    radius = Stock(folder, debians_own(folder))
+    try:
+        radius.start()
+        by_steps(radius)
+        with open(os.path.join(radius.raddb, INNER), encoding="utf-8") as file:
+            kept = file.read()
+        edited(radius.raddb, INNER, page_login(page_steps()), "")
+        radius.start()
+        got = [radius.login("al", *method) for method in METHODS]
+        check("without the step in the inner tunnel: refused", got, len(METHODS) * [None])
+        check("with a reason", radius.said().count("radacctd_login is missing in the inner") > 0, True)
+        front.written(os.path.join(radius.raddb, INNER), kept)
+        other_settings(radius)
+    finally:
+        radius.end()
+
+
+def by_steps(radius):
+    """The page's steps, with all methods."""
+    for method in METHODS:
+        name = " ".join(method)
+        wanted = (["al"], ["gold"], [10 * MEBIBYTE])
+        check(f"{name}: name, Class and quota", radius.login("al", *method), wanted)
+        check(f"{name}: without money", radius.login("poor", *method), None)
+        check(f"{name}: with the outer name", radius.login("al", *method, "al"), wanted)
+    check("a name with a space", radius.login(SPACED, *METHODS[0]), None)
+    check("is refused by filter_username", "contains whitespace" in radius.said(), True)
+
+
+def other_settings(radius):
+    """radacctd_filter, and replies that are taken from the tunnel, too."""
+    for name in (DEFAULT, INNER):
+        edited(radius.raddb, name, "\n\tfilter_username\n", "\n\tradacctd_filter\n")
+    path = os.path.join(radius.raddb, "mods-available/eap")
+    with open(path, encoding="utf-8") as file:
+        text = file.read()
+    check("Debian's eap takes no reply from a tunnel", text.count("use_tunneled_reply = no"), 2)
+    for setting in ("no", "yes"):
+        front.written(path, text.replace("use_tunneled_reply = no", f"use_tunneled_reply = {setting}"))
+        radius.start()
+        for method in METHODS:
+            got = radius.login(SPACED, *method)
+            wanted = ([SPACED], ["gold"], [5 * MEBIBYTE])
+            check(f"use_tunneled_reply = {setting}, {' '.join(method)}", got, wanted)
+        check("a name that ends with a space", radius.login("al ", *METHODS[0]), None)
+        check("is refused with a reason", "cannot be charged" in radius.said(), True)
