@@ -148,13 +148,16 @@ def codes_of(sheet, count, folder):
 def make_vouchers(proxy, folder):
     """The codes of a sheet, whose stock lies in the folder of the test."""
     words = ["--stock", f"{folder}/stock.csv", "--to", folder, "--url", "https://localhost"]
-    status, said, _ = tool("radacctd-vouchers", *words, "30", "500")
+    words += ["--settings", f"{proxy.folder}/site/settings.json"]
+    status, said, _ = tool("radacctd-vouchers", *words, "--count", "30", "--sum", "5.00")
     check(
         "radacctd-vouchers makes a sheet", (status, said.split(":")[0]), (0, "30 vouchers of 5.00")
     )
     made, stock = glob.glob(f"{folder}/vouchers-*.csv")[0], f"{folder}/stock.csv"
-    check("the CSV is the stock", text_of(made), text_of(stock))
     sheet = made.replace(".csv", ".pdf")
+    name = os.path.basename(made).removesuffix(".csv")
+    wanted = text_of(made).replace("code,sum", "code,sum,sheet").replace(",500", f",500,{name}")
+    check("the CSV is the stock's", text_of(stock), wanted)
     modes = [mode_of(it) for it in (made, sheet, stock)]
     check("no one else can read them", modes, ["0o600", "0o600", "0o640"])
     codes = [row[0] for row in csv.reader(text_of(stock).splitlines()[1:])]
@@ -163,8 +166,7 @@ def make_vouchers(proxy, folder):
     check("the sheet has each code", all(it in text for it in codes), True)
     wanted = sorted(f"https://localhost/redeem/#c={it}" for it in codes)
     check("as a QR code, too", codes_of(sheet, len(codes), folder), wanted)
-    time.sleep(1.1)
-    tool("radacctd-vouchers", *words, "1", "700")
+    tool("radacctd-vouchers", *words, "--count", "1", "--sum", "7")
     check("a second sheet adds to the stock", text_of(stock).count("\n"), 32)
     return codes
 

@@ -22,6 +22,7 @@ def run(test):
     print("        ", first.compare()[1][0], flush=True)
     sold_at_one(test, first, second)
     sold_twice(test, first, second)
+    odd_names(test, first, second)
     by_a_file(test, first, second)
     by_a_code(test, first)
     limit_at_one(test, first, second)
@@ -75,6 +76,18 @@ def sold_twice(test, first, second):
     check("which keeps none of them", second.outbox_command("--list").stdout, "")
 
 
+def odd_names(test, first, second):
+    """Names that could not log in: a new one is refused, and one that the book has is not."""
+    for account, number in (("'anton", "O-1"), (" al", "O-2"), ("1.23457E+11", "O-3")):
+        check(f"the outbox does not sell to `{account}`", first.sell(account, 5, number), 422)
+    for machine in (first, second):
+        check("a book has ` old`", machine.book.topup(" old", 5, "O-4"), 201)
+    balance = lambda: first.balances()[1].get(" old")
+    waits_for("its balance is written", balance, 5, PATIENCE)
+    check("the outbox sells to it", first.sell(" old", 5, "O-5"), 201)
+    all_well(test, "both books get it")
+
+
 def by_a_file(test, first, second):
     """radacctd-sell by the outbox while the other desk is down."""
     second.book.kill()
@@ -104,7 +117,7 @@ def by_a_code(test, first):
     code = body + letters[weight % len(letters)]
     stock = os.path.join(test.folder, "stock.csv")
     with open(stock, "w", encoding="ascii") as file:
-        file.write(f"{code[:5]}-{code[5:10]}-{code[10:]},30\n")
+        file.write(f"code,sum\n{code[:5]}-{code[5:10]}-{code[10:]},30\n")
     text = json.dumps({"account": "user6", "code": code})
     given = {"CONTENT_LENGTH": str(len(text)), "RADACCTD_STOCK": stock, "RADACCTD_KEY": first.key}
     given["RADACCTD_DESKS"] = f"127.0.0.1:{first.outbox_port}"

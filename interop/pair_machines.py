@@ -162,6 +162,7 @@ class Machine:
         words += ["--listen", f"127.0.0.1:{self.outbox_port}", "--key-file", self.key]
         words += ["--own", f"127.0.0.1:{self.book.desk}"]
         words += ["--other", f"127.0.0.1:{self.other.book.desk}"]
+        words += ["--balances", self.book.balances]
         with open(os.path.join(self.folder, "outbox.log"), "ab") as log:
             self.outbox = subprocess.Popen(words, stdout=subprocess.PIPE, stderr=log, text=True)
         if self.outbox.stdout.readline() != "serving\n":

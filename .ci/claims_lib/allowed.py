@@ -63,6 +63,8 @@ ALLOWED = {
     },
     "README.md": {"./try": "bin/try makes it"},
     "CHANGELOG.md": {
+        "radacctd_login": "a policy of FreeRADIUS' files",
+        "use_tunneled_reply": "FreeRADIUS' own",
         "access-server.conf": "a file or an option of another version",
         "from-radacct --behind": "a file or an option of another version",
         "is-empty": "a file or an option of another version",
@@ -84,7 +86,7 @@ ALLOWED = {
         "and_then(word_of)": "shows what the checker does not accept",
     },
     "docs/DESK.md": {
-        "fcgiwrap": "Debian's package",
+        **each("Debian's packages", "fcgiwrap", "fonts-dejavu-core"),
         "ignoreip": "fail2ban's own",
         **each("nginx' paths", "/desk/", "/redeem/"),
         "settings.json": "radacctd-pages makes it",
@@ -144,6 +146,7 @@ ALLOWED = {
         "radacctd/settings.conf": "a copy of a file of etc/freeradius",
     },
     "man/radacctd-vouchers.8": {
+        "fonts-dejavu-core": "Debian's package",
         "code,sum": "the columns of a stock file",
         "/redeem/": "nginx' path",
     },

@@ -1,0 +1,249 @@
+"""The stock of printed vouchers: which codes are live, which are withdrawn, and who got one.
+
+radacctd-vouchers and radacctd-redeem import it. In the stock's folder are
+
+    stock.csv         code,sum,sheet: root writes it. Older ones have no sheet.
+    withdrawn.csv     moment,code,sheet: root adds to it. What is in it cannot be redeemed.
+    given/given.csv   moment,event,code,account,desks: radacctd-redeem adds to it
+
+A second log of what is withdrawn lies in another folder, so it outlives a restored stock. Lines are
+only added, each on the disk before it counts; a last line without its end was never counted.
+"""
+
+import collections
+import contextlib
+import csv
+import errno
+import fcntl
+import io
+import os
+import re
+import stat
+import time
+import zlib
+
+import radacctd_names as names
+
+FOLDER = "/var/lib/radacctd-vouchers"
+SECOND = "/var/lib/radacctd-withdrawn/withdrawn.csv"
+LETTERS, GROUP = "ACDEFHJKMNPQRTUWXY34679", 5
+CODE = re.compile(f"[{LETTERS}]{{15}}")
+STOCK_HEADER, OLD_HEADER = b"code,sum,sheet\n", b"code,sum\n"
+WITHDRAWN_HEADER = b"moment,code,sheet\n"
+GIVEN_HEADER = b"moment,event,code,account,desks\n"
+# A code is for an account from now on; a desk took it; or a desk refused it, so it is free again.
+GIVEN, TAKEN, REFUSED = "given", "taken", "refused"
+EVENT = re.compile("given|taken|refused")
+# How long another run is waited for, in seconds, and how large a file may be.
+PATIENCE, LARGEST = 20, 1 << 28
+
+# For whom a code is, where it goes, and which desks took it.
+State = collections.namedtuple("State", "account desks taken")
+FREE = State(None, (), frozenset())
+
+
+class Fault(Exception):
+    """Why the stock cannot be used. It names no code and no key."""
+
+
+def check_letter(code):
+    """The letter that makes one wrong letter, or two in the wrong order, a wrong code."""
+    return LETTERS[sum(at * LETTERS.index(it) for at, it in enumerate(code, 1)) % len(LETTERS)]
+
+
+def code_of(text):
+    """A code as the stock has it, or None if the text is none."""
+    code = re.sub("[ -]", "", text.upper())
+    if not CODE.fullmatch(code) or check_letter(code[:-1]) != code[-1]:
+        return None
+    return "-".join(code[at : at + GROUP] for at in range(0, len(code), GROUP))
+
+
+def fault_of(act, path, fault):
+    return Fault(f"cannot {act} {path}: {fault.strerror}")
+
+
+def whole_lines(path, header, may_be_old=False):
+    """The whole lines of a file of ours, behind its header; none if there is no file.
+
+    A user's file cannot stop the reader or lead it elsewhere: it is no link, and no pipe.
+    """
+    try:
+        handle = os.open(path, os.O_RDONLY | os.O_NOFOLLOW | os.O_NONBLOCK | os.O_CLOEXEC)
+    except FileNotFoundError:
+        return b""
+    except OSError as fault:
+        raise fault_of("read", path, fault) from None
+    with os.fdopen(handle, "rb") as file:
+        found = os.fstat(handle)
+        if not stat.S_ISREG(found.st_mode) or found.st_size > LARGEST:
+            raise Fault(f"{path} is no file, or has more than {LARGEST} octets")
+        text = file.read(LARGEST)
+    text = text[: text.rfind(b"\n") + 1]
+    for it in (header, OLD_HEADER) if may_be_old else (header,):
+        if text.startswith(it):
+            return text[len(it) :]
+    if text:
+        raise Fault(f"{path} does not begin with the line {header.decode().strip()}")
+    return b""
+
+
+def stock_lines(path):
+    return whole_lines(path, STOCK_HEADER, may_be_old=True)
+
+
+def worth(path, code):
+    """What the stock says that a code is worth, or None."""
+    line = rb"(?m)^%s,([0-9]{1,13})(?:,.*)?$" % code.encode()
+    found = re.search(line, stock_lines(path))
+    return int(found[1]) if found else None
+
+
+def is_withdrawn(paths, code):
+    return any(b",%s," % code.encode() in whole_lines(it, WITHDRAWN_HEADER) for it in paths)
+
+
+def withdrawn_in(path):
+    """The moment and the sheet of each code of a log."""
+    text = whole_lines(path, WITHDRAWN_HEADER).decode("ascii", "replace")
+    rows = csv.reader(io.StringIO(text, newline=""))
+    return {row[1]: (row[0], names.text_of_cell(row[2])) for row in rows if len(row) == 3}
+
+
+def lines_of(rows):
+    """Rows as lines of a CSV file for people."""
+    file = io.StringIO()
+    writer = csv.writer(file, lineterminator="\n")
+    writer.writerows([it if isinstance(it, int) else names.cell(it) for it in row] for row in rows)
+    return file.getvalue().encode("ascii", "replace")
+
+
+@contextlib.contextmanager
+def locked(folder, patience=PATIENCE):
+    """The stock's folder, which one run has at a time: to change it, or to give a code."""
+    try:
+        handle = os.open(folder, os.O_RDONLY | os.O_DIRECTORY | os.O_CLOEXEC)
+    except OSError as fault:
+        raise fault_of("open the folder", folder, fault) from None
+    try:
+        wait_for(lambda: fcntl.flock(handle, fcntl.LOCK_EX | fcntl.LOCK_NB), folder, patience)
+        yield
+    finally:
+        os.close(handle)
+
+
+def wait_for(lock, what, patience):
+    end = time.monotonic() + patience
+    while True:
+        try:
+            return lock()
+        except (BlockingIOError, PermissionError):
+            if time.monotonic() > end:
+                raise Fault(f"{what}: another run has had it for {patience} seconds") from None
+            time.sleep(0.02)
+
+
+class Log:
+    """A file that only grows. The folder of the stock is to be locked while lines are added."""
+
+    def __init__(self, path, header):
+        self.path, self.header = path, header
+        way = os.O_RDWR | os.O_APPEND | os.O_CREAT | os.O_NOFOLLOW | os.O_CLOEXEC
+        try:
+            self.handle = os.open(path, way, 0o600)
+        except OSError as fault:
+            raise fault_of("write", path, fault) from None
+
+    def text(self):
+        """The whole lines, header and all."""
+        text = os.pread(self.handle, os.fstat(self.handle).st_size, 0)
+        return text[: text.rfind(b"\n") + 1]
+
+    def add(self, octets):
+        """Adds whole lines; they are on the disk, or the file is as it was and this is a fault."""
+        whole = len(self.text())
+        try:
+            # A line without its end was never counted.
+            os.ftruncate(self.handle, whole)
+            self.write(octets if whole else self.header + octets)
+            if not whole:
+                sync_folder(os.path.dirname(self.path))
+        except OSError as fault:
+            with contextlib.suppress(OSError):
+                os.ftruncate(self.handle, whole)
+            raise fault_of("write", self.path, fault) from None
+
+    def write(self, octets):
+        if os.write(self.handle, octets) != len(octets):
+            raise OSError(errno.ENOSPC, os.strerror(errno.ENOSPC))
+        os.fsync(self.handle)
+
+    def close(self):
+        os.close(self.handle)
+
+
+def sync_folder(path):
+    handle = os.open(path or ".", os.O_RDONLY | os.O_DIRECTORY | os.O_CLOEXEC)
+    try:
+        os.fsync(handle)
+    finally:
+        os.close(handle)
+
+
+def events_in(text, code=None):
+    """The events of all codes or of one: event, code, account and desks. What is none is left out:
+    the user who redeems can write what they like.
+    """
+    lines = text.decode("ascii", "replace").split("\n")
+    if code is not None:
+        lines = [it for it in lines if f",{code}," in it]
+    for row in csv.reader(it for it in lines if it.isprintable()):
+        if len(row) == 5 and EVENT.fullmatch(row[1]) and code_of(row[2]) == row[2]:
+            yield [names.text_of_cell(it) for it in row[1:]]
+
+
+def after(state, event, account, desks):
+    """The state of a code after an event."""
+    if event == GIVEN and state.account is None:
+        return State(account, tuple(desks.split()), frozenset())
+    if event == TAKEN and state.account == account:
+        return state._replace(taken=state.taken | {desks})
+    if event == REFUSED and not state.taken:
+        return FREE
+    return state
+
+
+def states_in(path):
+    """The state of each code that was given to anybody."""
+    found = {}
+    for event, code, account, desks in events_in(whole_lines(path, GIVEN_HEADER)):
+        found[code] = after(found.get(code, FREE), event, account, desks)
+    return {code: it for code, it in found.items() if it.account is not None}
+
+
+class Given(Log):
+    """What radacctd-redeem adds to. A code has one request at a time."""
+
+    def __init__(self, path):
+        super().__init__(path, GIVEN_HEADER)
+
+    @contextlib.contextmanager
+    def turn(self, code, patience=PATIENCE):
+        """The right to a code. Behind the end of the file an octet stands for it."""
+        place = (1 << 40) + zlib.crc32(code.encode())
+        lock = lambda: fcntl.lockf(self.handle, fcntl.LOCK_EX | fcntl.LOCK_NB, 1, place)
+        wait_for(lock, self.path, patience)
+        try:
+            yield
+        finally:
+            fcntl.lockf(self.handle, fcntl.LOCK_UN, 1, place)
+
+    def state(self, code):
+        state = FREE
+        for event, _, account, desks in events_in(self.text(), code):
+            state = after(state, event, account, desks)
+        return state
+
+    def note(self, event, code, account, desks):
+        """Adds an event; the folder of the stock is to be locked."""
+        self.add(lines_of([[int(time.time()), event, code, account, desks]]))

@@ -1,0 +1,348 @@
+"""Rows of interop/tools: printed vouchers, from the sheet to two desks that are killed."""
+
+import collections
+import csv
+import glob
+import json
+import os
+import pty
+import random
+import re
+import signal
+import subprocess
+import sys
+import threading
+import time
+
+from served import ROOT, check
+
+sys.path.append(os.path.join(ROOT, "etc", "tools"))
+
+import radacctd_stock as stocks
+
+SETTINGS = {"name": "Hotel Łódź", "url": "https://localhost", "currency": "zł", "decimals": 2}
+KEY = "cash-key-00000001"
+ANSWERED, AWAY, USED, NONE = 200, 503, 409, 404
+
+
+class Shop:
+    """A stock in a folder, and the tools that work with it."""
+
+    def __init__(self, prefix, folder):
+        # What runs radacctd-redeem: strace, say.
+        self.prefix, self.folder, self.before = prefix, folder, []
+        os.mkdir(folder)
+        os.mkdir(f"{folder}/stock")
+        self.stock, self.key = f"{folder}/stock/stock.csv", f"{folder}/key"
+        self.write("settings.json", json.dumps(SETTINGS))
+        self.write("key", KEY + "\n")
+
+    def write(self, name, text):
+        with open(f"{self.folder}/{name}", "w", encoding="utf-8") as file:
+            file.write(text)
+
+    def text(self, name):
+        with open(f"{self.folder}/{name}", encoding="utf-8") as file:
+            return file.read()
+
+    def words(self, *more):
+        words = [f"{self.prefix}/sbin/radacctd-vouchers", "--stock", self.stock]
+        return [*words, "--settings", f"{self.folder}/settings.json", *more]
+
+    def __call__(self, *more, **how):
+        """The status, the output and the errors of radacctd-vouchers; nobody answers it."""
+        how = {"stdin": subprocess.DEVNULL, "cwd": self.folder, **how}
+        done = subprocess.run(self.words(*more), capture_output=True, text=True, **how)
+        return done.returncode, done.stdout, done.stderr
+
+    def answered(self, text, *more):
+        """The same for a person at a terminal, who types a text."""
+        one, other = pty.openpty()
+        os.write(one, text.encode())
+        try:
+            return self(*more, stdin=other)
+        finally:
+            os.close(one)
+            os.close(other)
+
+    def make(self, count, total="5.00"):
+        """The name of a new sheet, and its codes."""
+        said = self("--count", str(count), "--sum", total, "--yes")
+        sheet = re.search(r"vouchers-[0-9-]+", said[1])[0]
+        with open(f"{self.folder}/{sheet}.csv", encoding="ascii", newline="") as file:
+            return sheet, [row["code"] for row in csv.DictReader(file)]
+
+    def begin(self, account, code, desks):
+        """A request to redeem a code, in flight."""
+        body = json.dumps({"account": account, "code": code}).encode()
+        env = {**os.environ, "RADACCTD_STOCK": self.stock, "RADACCTD_KEY": self.key}
+        env |= {"RADACCTD_WITHDRAWN": f"{self.folder}/stock/second.csv"}
+        env |= {"RADACCTD_DESKS": ",".join(desks), "CONTENT_LENGTH": str(len(body))}
+        pipe = subprocess.PIPE
+        words = [*self.before, f"{self.prefix}/sbin/radacctd-redeem"]
+        process = subprocess.Popen(words, env=env, stdin=pipe, stdout=pipe, stderr=pipe)
+        process.stdin.write(body)
+        process.stdin.close()
+        process.stdin = None
+        return process
+
+    def redeem(self, account, code, desks):
+        """The status, and what standard error says."""
+        output, errors = self.begin(account, code, desks).communicate()
+        found = re.match(rb"Status: (\d+)", output)
+        return int(found[1]) if found else None, errors.decode()
+
+
+def desk_of(site):
+    return f"127.0.0.1:{site.ports[1]}"
+
+
+def credited(site):
+    """Account and sum of each printed code that the book of a site has."""
+    lines = site.command("export", "topups")[1].splitlines()[1:]
+    rows = [it for it in csv.reader(lines) if it[0].startswith("W-")]
+    return {row[0][2:]: (row[1], int(row[2])) for row in rows}
+
+
+def making(shop):
+    """What is asked before many vouchers, or much money, and the sheet in other letters."""
+    status, _, errors = shop("500", "2")
+    named = "--count COUNT --sum SUM" in errors and "500 vouchers of 0.02" in errors
+    check("COUNT SUM is refused, with the new words", (status, named), (2, True))
+    many, much = ("--count", "101", "--sum", "0.01"), ("--count", "3", "--sum", "333.34")
+    for words in (many, much):
+        status, _, errors = shop(*words)
+        check(f"nobody is there to say yes to {words}", (status, "give --yes" in errors), (1, True))
+        status, output, _ = shop.answered("\n", *words)
+        check("no is the answer of Enter", (status, "[y/N]" in output), (1, True))
+    check("nothing was made", glob.glob(f"{shop.folder}/vouchers*") + os.listdir(f"{shop.folder}/stock"), [])
+    status, output, _ = shop.answered("y\n", *much)
+    check("y makes them", (status, "3 vouchers of 333.34 zł, 1000.02 zł" in output), (0, True))
+    for total in ("0", "0.00", "5.001", "-5", "1e3", "1,000", "", "10000000000.01", "1.2.3"):
+        got = shop("--count", "1", "--sum", total)[0]
+        check(f"a sum of `{total}`", got, 2)
+    sheet = glob.glob(f"{shop.folder}/vouchers-*.pdf")[0]
+    text = subprocess.run(["pdftotext", sheet, "-"], capture_output=True, text=True).stdout
+    found = "Hotel Łódź" in text, "333.34 zł" in text
+    check("letters beyond Windows-1252 are printed", found, (True, True))
+    shop.write("settings.json", json.dumps({**SETTINGS, "name": "王"}))
+    status, _, errors = shop("--count", "1", "--sum", "1")
+    check("a letter that no font has is refused", (status, "give another --name" in errors), (1, True))
+    check("with --name it is made", shop("--count", "1", "--sum", "1,50", "--name", "Hotel")[0], 0)
+    shop.write("settings.json", json.dumps(SETTINGS))
+    os.rename(f"{shop.folder}/settings.json", f"{shop.folder}/away")
+    status, _, errors = shop("--count", "1", "--sum", "1")
+    check("without the site's money", (status, "radacctd-pages" in errors), (1, True))
+    os.rename(f"{shop.folder}/away", f"{shop.folder}/settings.json")
+
+
+def old_stock(shop):
+    """A stock of an earlier version: codes without sheets."""
+    codes = [it.code for it in stocks_of(shop)]
+    shop.write("stock/stock.csv", "code,sum\n" + "".join(f"{it},500\n" for it in codes))
+    _, more = shop.make(2)
+    found = {it.code: it.sheet for it in stocks_of(shop)}
+    check("an older stock gets sheets", (len(found), set(more) < set(found)), (len(codes) + 2, True))
+    wanted = f"older sheets: {len(codes)} of 5.00 zł: live {len(codes)}, given 0, withdrawn 0\n"
+    check("and is listed", wanted in shop("--list")[1], True)
+    shop.write("one.csv", f"\ufeffcode;sum\n{codes[0]};500\n")
+    said = shop("--withdraw", "one.csv")
+    check("its codes are withdrawn by their file", (said[0], "withdrawn: 1 codes" in said[1]), (0, True))
+
+
+def stocks_of(shop):
+    with open(shop.stock, encoding="ascii", newline="") as file:
+        rows = list(csv.reader(file))[1:]
+    return [collections.namedtuple("Row", "code sum sheet")(*(it + [""])[:3]) for it in rows]
+
+
+def withdrawing(shop, site):
+    """A sheet is withdrawn while the desk is up, and stays so in spite of an older stock."""
+    sheet, codes = shop.make(6)
+    other, more = shop.make(2)
+    desk = [desk_of(site)]
+    before = {name: shop.text(f"stock/{name}") for name in ("stock.csv", "withdrawn.csv")}
+    check("a code is redeemed", shop.redeem("anna", codes[0], desk)[0], ANSWERED)
+    check("a code of its own is withdrawn", shop("--withdraw", f"W-{codes[1]}")[0], 0)
+    check("and not redeemed", shop.redeem("anna", codes[1], desk)[0], NONE)
+    for what in (sheet, f"{sheet}.pdf", f"{shop.folder}/{sheet}.csv"):
+        status, _, errors = shop("--withdraw", what)
+        check("a sheet wants a yes", (status, "Withdraw 5 codes for ever?" in errors), (1, True))
+    check("and is live until then", shop.redeem("bo", codes[2], desk)[0], ANSWERED)
+    status, output, _ = shop("--withdraw", sheet, "--yes")
+    said = "withdrawn: 4 codes, 20.00 zł; 1 were so before\ngiven before: 2 codes, 10.00 zł\n"
+    check("what was given is printed", (status, output.startswith(said)), (0, True))
+    check("with its account", f"  W-{codes[0]}  5.00 zł  anna\n" in output, True)
+    found = [shop.redeem("anna", it, desk)[0] for it in codes]
+    check("none of the sheet is redeemed from then on", found, [NONE] * 6)
+    check("another sheet is", shop.redeem("anna", more[0], desk)[0], ANSWERED)
+    wanted = f"{sheet}: 6 of 5.00 zł: live 0, given 2, withdrawn 4\n"
+    check("the sheets are listed", wanted in shop("--list")[1], True)
+    rows = shop("--list", sheet)[1].splitlines()
+    check("and the codes of one", f"{codes[0]},500,given,anna" in rows, True)
+    check("nothing is withdrawn by a wrong name", shop("--withdraw", other, "vouchers-1")[0], 1)
+    check("it is live", shop.redeem("anna", more[1], desk)[0], ANSWERED)
+    for name, text in before.items():
+        shop.write(f"stock/{name}", text)
+    check("after an older stock is put back", shop.redeem("anna", codes[3], desk)[0], NONE)
+    status, _, errors = shop("--list")
+    told = f"lacked 6 withdrawn codes, of {sheet}" in errors
+    check("the next run says what was withdrawn since", (status, told), (0, True))
+    os.remove(f"{shop.folder}/stock/second.csv")
+    check("and the first log has it again", shop.redeem("anna", codes[3], desk)[0], NONE)
+    check("a lost log is written again", "they stay" in shop("--list")[2].lower(), True)
+    check("and then nothing is lacking", shop("--list")[2], "")
+
+
+def full_disk(shop, site):
+    """A log that cannot be written: nothing is redeemed, and half a line never stays."""
+    _, codes = shop.make(2)
+    desk, path = [desk_of(site)], f"{shop.folder}/stock/given/given.csv"
+    before = shop.text("stock/given/given.csv")
+    full = ["strace", "-f", "-qq", "-o", os.devnull, "-e", "trace=fsync"]
+    shop.before = [*full, "-e", "inject=fsync:error=ENOSPC"]
+    status, errors = shop.redeem("anna", codes[0], desk)
+    shop.before = []
+    check("without space no code is given", (status, "No space left" in errors), (AWAY, True))
+    check("and the log is as it was", shop.text("stock/given/given.csv"), before)
+    with open(path, "a", encoding="ascii") as file:
+        file.write(f"1,given,{codes[0]},bo,{desk[0]}")
+    check("a line that was cut is none", shop.redeem("anna", codes[0], desk)[0], ANSWERED)
+    check("and does not stay", shop.text("stock/given/given.csv").count(",bo,"), before.count(",bo,"))
+    os.rename(path, path + ".away")
+    os.symlink(f"{shop.folder}/settings.json", path)
+    check("a link is not followed", shop.redeem("anna", codes[1], desk)[0], AWAY)
+    check("nor by root", (shop("--list")[0], shop.text("settings.json")[:1]), (1, "{"))
+    os.remove(path)
+    os.mkfifo(path)
+    check("a pipe stops nobody", shop("--list", timeout=20)[0], 1)
+    os.remove(path)
+    os.rename(path + ".away", path)
+
+
+def key_files(shop, site):
+    """A file with more than a key: no octet of it is printed."""
+    _, codes = shop.make(1)
+    secret = "other-secret-0000001"
+    for text, line in ((f"{KEY}\n{secret}\n", 2), (f"{KEY} {secret}\n", 1), (f"\n{secret}", 2)):
+        shop.write("key", text)
+        status, errors = shop.redeem("anna", codes[0], [desk_of(site)])
+        found = status, KEY in errors or secret in errors, f"line {line} of " in errors
+        check("a wrong key file is named by its line", found, (AWAY, False, True))
+    shop.write("key", KEY + "\n\n")
+    check("an empty line does no harm", shop.redeem("anna", codes[0], [desk_of(site)])[0], ANSWERED)
+
+
+def two_desks(shop, sites):
+    """One of two desks is down: a code is for the first who asked, whatever comes back."""
+    _, codes = shop.make(4)
+    desks = [desk_of(it) for it in sites]
+    check("both desks take a code", shop.redeem("alice", codes[0], desks)[0], ANSWERED)
+    sites[1].kill()
+    check("with one down there is no answer", shop.redeem("alice", codes[1], desks)[0], AWAY)
+    check("another account gets nothing", shop.redeem("bob", codes[1], desks)[0], USED)
+    sites[1].start()
+    sites[0].kill()
+    check("nor while the other one is down", shop.redeem("bob", codes[1], desks)[0], USED)
+    check("nor from that one alone", shop.redeem("bob", codes[1], desks[1:])[0], USED)
+    status, _ = shop.redeem("alice", codes[2], desks)
+    check("a desk that is not there binds nothing", status, AWAY)
+    sites[0].start()
+    check("so another account may have it", shop.redeem("bob", codes[2], desks)[0], ANSWERED)
+    check("the first gets the other one", shop.redeem("alice", codes[1], desks)[0], ANSWERED)
+    os.kill(sites[0].process.pid, signal.SIGSTOP)
+    check("a desk that does not answer", shop.redeem("alice", codes[3], desks)[0], AWAY)
+    check("may have it, so no other account", shop.redeem("bob", codes[3], desks[1:])[0], USED)
+    os.kill(sites[0].process.pid, signal.SIGCONT)
+    check("the same account gets it there", shop.redeem("alice", codes[3], desks[1:])[0], ANSWERED)
+    found = [it.sell("W-" + codes[3], "alice", 500) for it in sites]
+    check("in both books", found, [{"result": "repeat"}] * 2)
+
+
+class Chaos:
+    """Guests who ask for the same codes at once, while requests and desks are killed and stopped."""
+
+    def __init__(self, shop, sites, seed):
+        self.shop, self.sites, self.pick = shop, sites, random.Random(seed)
+        self.codes, self.desks = shop.make(60)[1], [desk_of(it) for it in sites]
+        self.answers, self.lock, self.end = set(), threading.Lock(), 0
+        self.counts = collections.Counter()
+
+    def guest(self, seed):
+        pick = random.Random(seed)
+        while time.monotonic() < self.end:
+            code, account = pick.choice(self.codes), pick.choice(("alice", "bob", "eve"))
+            desks = self.desks[:: pick.choice((1, 1, -1))]
+            process = self.shop.begin(account, code, desks)
+            if pick.random() < 0.3:
+                time.sleep(pick.uniform(0, 0.3))
+                process.kill()
+            output, _ = process.communicate()
+            with self.lock:
+                self.counts[output[8:11].decode() or "killed"] += 1
+                if output.startswith(b"Status: 200"):
+                    self.answers.add((code, account))
+
+    def disturb(self):
+        """Kills or stops one of the desks, and lets it go on."""
+        site = self.pick.choice(self.sites)
+        time.sleep(self.pick.uniform(0, 1))
+        if self.pick.random() < 0.2:
+            os.kill(site.process.pid, signal.SIGSTOP)
+            time.sleep(self.pick.uniform(0, 7))
+            os.kill(site.process.pid, signal.SIGCONT)
+        else:
+            site.kill()
+            time.sleep(self.pick.uniform(0, 1))
+            site.start()
+        self.counts["desks"] += 1
+
+    def run(self, seconds):
+        self.end = time.monotonic() + seconds
+        guests = [threading.Thread(target=self.guest, args=(it,)) for it in range(4)]
+        for it in guests:
+            it.start()
+        while time.monotonic() < self.end:
+            self.disturb()
+        for it in guests:
+            it.join()
+
+
+def at_random(shop, sites, seconds, seed):
+    chaos = Chaos(shop, sites, seed)
+    chaos.run(seconds)
+    last = collections.defaultdict(set)
+    for code in chaos.codes:
+        for account in ("alice", "bob", "eve"):
+            if shop.redeem(account, code, chaos.desks)[0] == ANSWERED:
+                last[code].add(account)
+    for site in sites:
+        site.kill()
+    books = [credited(it) for it in sites]
+    print(f"          seed {seed}, {dict(chaos.counts)}, {len(chaos.answers)} codes and accounts answered")
+    wrong = [it for it in chaos.codes if len({book[it] for book in books if it in book}) != 1]
+    check("each code is one account's in both books", wrong, [])
+    lost = [it for it in chaos.answers if any(book.get(it[0]) != (it[1], 500) for book in books)]
+    check("each code that was answered is credited to its account", lost, [])
+    check("and each goes to one account at last", {len(it) for it in last.values()}, {1})
+
+
+def test(folder, prefix, make_site):
+    """All rows; `make_site` makes an installation in a folder, whose server is up."""
+    os.mkdir(folder)
+    os.chmod(folder, 0o711)
+    making(Shop(prefix, f"{folder}/making"))
+    sites = [make_site(f"{folder}/{it}") for it in ("one", "two")]
+    shop = Shop(prefix, f"{folder}/shop")
+    try:
+        shop.make(3)
+        old_stock(shop)
+        withdrawing(shop, sites[0])
+        full_disk(shop, sites[0])
+        key_files(shop, sites[0])
+        two_desks(shop, sites)
+        seconds = int(os.environ.get("RADACCTD_SECONDS", "20"))
+        at_random(shop, sites, seconds, int(os.environ.get("RADACCTD_SEED", "56")))
+    finally:
+        for it in sites:
+            it.kill()
