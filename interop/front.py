@@ -299,6 +299,7 @@ class FreeRadius:
             "radacctd/settings.conf": self.settings(book, settings),
             "radacctd/kept": text_of("kept"),
             "radacctd/attributes": text_of("attributes"),
+            "radacctd/queue.pl": text_of("queue.pl"),
             "mods-enabled/radacctd": text_of("modules"),
             "mods-enabled/more": "pap {\n}\nexpr {\n}\n" + ALWAYS + EAP,
             "policy.d/radacctd": text_of("policy"),

@@ -1,6 +1,7 @@
 """The parts of interop/freeradius: each tests some sentences of docs/FREERADIUS.md."""
 
 import contextlib
+import csv
 import hashlib
 import os
 import re
@@ -11,6 +12,7 @@ import sqlite3
 import subprocess
 import threading
 import time
+import urllib.parse
 
 import front
 from front import ACCESS_SERVERS, FILES, MEBIBYTE, SECRET, check, report, waits_for
@@ -133,6 +135,11 @@ def told_in_pieces(radius, book):
         check("and one session", count, 1)
 
 
+NAMES = ["&User-Name", "% {", "a\\b", "Müller", "%{User-Name}", "a%{", "%%{Class}b", "a'b\"c\\n"]
+NAMES = [it.encode() for it in NAMES]
+NAMES += [b"\xff\xfe", b"a\nTimestamp = 0", b" a ", b"#", b"a, b = c", bytes(range(1, 254)), b"a\0b"]
+
+
 @part
 def ids(folder):
     """Each session is charged once, whatever its id and however its reports differ."""
@@ -154,20 +161,20 @@ def ids(folder):
                 check(f"{status} of an id {name} is answered", done, True)
             waits_for("and charged once", lambda: book.balance("al"), before - 20)
             check("as one session", len(book.rows("al")), number)
-        names = ["&User-Name", "% {", "a\\b", "Müller"]
-        lost = ["%{User-Name}", "a%{", "%%{Class}b"]
-        # Not by radclient, which would take these for texts to expand.
-        for name in names + lost:
-            packet = packet_of("N-1", name.encode(), 1, 2)
+        # Not by radclient, which would take some for texts to expand.
+        for name in NAMES:
+            packet = packet_of("N-1", name, 1, 2)
             done = Sender(radius.acct).send([(ACCESS_SERVERS["ap1"][0], packet)])
-            check(f"a session N-1 of {name} is answered", done, 1)
+            check(f"a session N-1 of {name!r} is answered", done, 1)
         waits_for("the queue is empty", lambda: count_in(radius.queue), 0)
-        check("names that the queue would lose are filed", count_in(radius.unsent), len(lost))
+        check("and none is filed", count_in(radius.unsent), 0)
         book.kill()
         rows = book.export("sessions").splitlines()
-        check("each of the others has its own", sum("/N-1/" in row for row in rows), len(names))
+        check("each has its own", sum("/N-1/" in row for row in rows), len(NAMES))
         check("BO has no session", [row for row in rows if ",BO," in row], [])
-        accounts = [row.split(",")[0] for row in book.export("balances").splitlines()]
+        accounts = [row[0] for row in csv.reader(book.export("balances").splitlines())]
+        found = {urllib.parse.unquote_to_bytes(it) for it in accounts}
+        check("of its own account, octet for octet", [it for it in NAMES if it not in found], [])
         check("and no account without a name is charged", "" in accounts, False)
 
 

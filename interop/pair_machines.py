@@ -92,7 +92,6 @@ class FreeRadius(front.FreeRadius):
         super().write_files(book, settings)
         names = {
             "pair.conf": "radacctd/pair.conf",
-            "pair-modules": "mods-enabled/radacctd-pair",
             "pair-server": "sites-enabled/radacctd-pair",
         }
         for name, place in names.items():
