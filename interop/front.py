@@ -18,7 +18,8 @@ import books
 FOLDER = os.path.dirname(os.path.abspath(__file__))
 ROOT = os.path.dirname(FOLDER)
 FILES = os.path.join(ROOT, "etc", "freeradius")
-PROGRAMS = ("balances-mirror", "plans-of", "kept-sessions")
+PROGRAMS = ("balances-mirror", "kept-sessions")
+PLANS_IN_FORCE = os.path.join(ROOT, "etc", "plans-in-force")
 # The folders of the queue's readers.
 READERS = [f"reader-{number}" for number in range(8)]
 MEBIBYTE = 1 << 20
@@ -195,7 +196,9 @@ class Book(KILL.Server):
     def __init__(self, folder):
         self.config = os.path.join(folder, "radacctd.toml")
         self.book = os.path.join(folder, "book")
+        self.folder = folder
         self.balances = os.path.join(folder, "balances.csv")
+        self.plans = os.path.join(folder, "plans.csv")
         with open(self.config, "w", encoding="utf-8") as file:
             file.write(self.configuration())
         words = [KILL.PROGRAM, "init", "--config", self.config, "--db", self.book, *books.INIT]
@@ -222,7 +225,13 @@ class Book(KILL.Server):
             for account in ACCOUNTS
         )
 
+    def put_plans(self, folder=None, prefix=""):
+        """Writes the plans in force, as the unit does before it starts the server."""
+        words = [PLANS_IN_FORCE, self.book, folder or self.folder, prefix]
+        subprocess.run(words, check=True)
+
     def start(self, *more):
+        self.put_plans()
         ports = ["--radius-port", str(self.radius), "--desk-port", str(self.desk)]
         words = [KILL.PROGRAM, "serve", "--config", self.config, "--db", self.book, *ports]
         words += ["--balances", self.balances, "--balances-every", "1", *more]
@@ -266,7 +275,7 @@ class FreeRadius:
     def settings(self, book, changes):
         text = text_of("settings.conf").replace("11813", str(book.radius))
         text = text.replace("change-me-freeradius-to-radacctd", BOOK_SECRET)
-        text = text.replace("/var/lib/radacctd-mirror/balances.db", self.mirror)
+        text = text.replace("/run/radacctd-mirror/balances.db", self.mirror)
         for name, value in changes:
             text, found = re.subn(rf"(?m)^\t{name} = .*$", lambda _: f"\t{name} = {value}", text)
             assert found == 1, name
@@ -330,10 +339,8 @@ class FreeRadius:
 
     def mirrors(self, book):
         """Keeps the mirror, as the unit does."""
-        plans = os.path.join(self.raddb, "radacctd", "plans.csv")
-        with open(plans, "w", encoding="ascii") as file:
-            subprocess.run([os.path.join(FILES, "plans-of"), book.config], stdout=file, check=True)
-        words = [os.path.join(FILES, "balances-mirror"), book.balances, plans, self.mirror, "0.2"]
+        words = [os.path.join(FILES, "balances-mirror"), book.balances, book.plans, self.mirror]
+        words.append("0.2")
         # It says once that radacctd has written no balances yet.
         self.mirroring = subprocess.Popen(words, stderr=subprocess.DEVNULL)
 

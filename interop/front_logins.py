@@ -1,11 +1,10 @@
-"""The parts of interop/freeradius about logins: the mirror, names, quotas, PEAP and TTLS."""
+"""The parts of interop/freeradius about logins: names, quotas, and balances that are old."""
 
 import csv
 import hashlib
 import importlib.util
 import os
 import random
-import shutil
 import socket
 import subprocess
 import time
@@ -13,72 +12,9 @@ import types
 
 import front
 from front import FILES, MEBIBYTE, SECRET, check, report, waits_for
-from front_parts import attribute, both, looked_up, part, restarted
+from front_parts import attribute, both, part, restarted
 
 SPENT = "Your allowance is spent."
-
-
-@part
-def mirror(folder):
-    """The mirror: who may read what, what it says of a fault, and 100,000 accounts."""
-    book = front.Book(folder)
-    plans, path = os.path.join(folder, "plans.csv"), os.path.join(folder, "mirror.db")
-    program = os.path.join(FILES, "balances-mirror")
-    words = [program, book.balances, plans, path]
-    told = lambda: subprocess.run(words, capture_output=True, text=True)
-    done = subprocess.run(
-        [os.path.join(FILES, "plans-of"), book.config], capture_output=True, text=True
-    )
-    check(
-        "the plans are printed",
-        (done.returncode, done.stdout.count("\n")),
-        (0, len(front.PLANS) + 1),
-    )
-    check("and no secret", front.BOOK_SECRET in done.stdout or "key-" in done.stdout, False)
-    front.written(plans, done.stdout)
-    done = told()
-    check("without balances it fails", (done.returncode, "No such file" in done.stderr), (1, True))
-    front.written(book.balances, "account,balance\nal,5\n")
-    check("nor does it take another file", told().returncode, 1)
-    lines = "".join(f"st{number:06d},{number},0\n" for number in range(100_000))
-    front.written(book.balances, "account,balance,overrun\nM%C3%BCller,-7,7\n" + lines)
-    begun = time.monotonic()
-    check("it takes 100,000 accounts", told().returncode, 0)
-    print(f"         in {time.monotonic() - begun:.1f} seconds", flush=True)
-    check("the balance of Müller", looked_up(path, "Müller"), -7)
-    front.written(book.balances, "account,balance,overrun\nst000001,3,0\n")
-    check("a newer file", (told().returncode, looked_up(path, "st000001")), (0, 3))
-    check("has none of those that it lacks", looked_up(path, "Müller"), None)
-    if os.geteuid() == 0:
-        rights(folder, words, book)
-
-
-def rights(folder, words, book):
-    """As the unit runs it: a user of no right but the group of the balances' folder."""
-    group, user = 54321, 54322
-    shared, own = os.path.join(folder, "shared"), os.path.join(folder, "own")
-    os.mkdir(shared)
-    os.mkdir(own)
-    os.chown(shared, 0, group)
-    os.chmod(shared, 0o2750)
-    os.chown(own, user, user)
-    balances = os.path.join(shared, "balances.csv")
-    front.written(balances, "account,balance,overrun\nal,5,0\n")
-    os.chmod(balances, 0o640)
-    os.chmod(book.config, 0o640)
-    program = os.path.join(own, "balances-mirror")
-    shutil.copy(words[0], program)
-    os.chmod(words[2], 0o644)
-    mirrored = os.path.join(own, "mirror.db")
-    drop = ["setpriv", f"--reuid={user}", f"--regid={user}", f"--groups={group}"]
-    # A pyenv of root's is out of such a user's reach.
-    python = ["/usr/bin/python3"] if os.path.exists("/usr/bin/python3") else ["python3"]
-    done = subprocess.run(
-        [*drop, *python, program, balances, words[2], mirrored], capture_output=True
-    )
-    check("the group of the folder is enough", (done.returncode, done.stderr), (0, b""))
-    done = subprocess.run([*drop, "cat", book.config], capture_output=True)
-    check("and does not read the configuration", (done.returncode, done.stdout), (1, b""))
 
 
 MIKROTIK = ("Mikrotik-Total-Limit", "Mikrotik-Total-Limit-Gigawords")
@@ -180,36 +116,55 @@ def spent_and_bought(book, radius):
     ages(radius)
 
 
+WAIT = {"Reply-Message": "Please try again in some minutes."}
+
+
 def ages(radius):
     """What the settings oldest, if_old and share do."""
     path = os.path.join(radius.raddb, "radacctd", "settings.conf")
     with open(path, encoding="utf-8") as file:
-        text = file.read().replace("oldest = 60", "oldest = 1")
-    sold = (
-        True,
-        {
-            MIKROTIK[0]: str(205_000 * MEBIBYTE % 2**32),
-            MIKROTIK[1]: str(205_000 * MEBIBYTE >> 32),
-        },
-    )
-    refused = (False, {"Reply-Message": "Please try again in some minutes."})
+        last = file.read().replace("oldest = 60", "oldest = 1")
+    line = '\tif_old = "last"\n'
+    check("the setting is last", last.count(line), 1)
+    accept, refuse = (last.replace(line, f'\tif_old = "{it}"\n') for it in ("accept", "refuse"))
+    half = {MIKROTIK[0]: str(205_000 * MEBIBYTE % 2**32)}
+    half[MIKROTIK[1]] = str(205_000 * MEBIBYTE >> 32)
+    share = last.replace("oldest = 1", "oldest = 999").replace("share = 1", "share = 2")
     changes = [
-        ("old balances, accept: no quota", text, (True, {})),
-        ("old balances, refuse", text.replace('if_old = "accept"', 'if_old = "refuse"'), refused),
-        (
-            "share 2: half of what is left",
-            text.replace("oldest = 1", "oldest = 999").replace("share = 1", "share = 2"),
-            sold,
-        ),
+        ("old balances, accept: no quota", accept, (True, {})),
+        ("old balances, no line of it: the same", last.replace(line, ""), (True, {})),
+        ("old balances, refuse", refuse, (False, WAIT)),
+        ("share 2: half of what is left", share, (True, half)),
     ]
     for name, changed, wanted in changes:
         restarted(radius, path, changed)
         check(name, told(radius, "big"), wanted)
+    by_last_balances(radius, path, last)
     os.remove(radius.mirror)
-    restarted(radius, path, changes[1][1])
-    check("no mirror, refuse", told(radius, "big"), refused)
-    restarted(radius, path, changes[0][1])
-    check("no mirror, accept", told(radius, "big"), (True, {}))
+    for name, changed, wanted in (
+        ("no mirror, refuse", refuse, (False, WAIT)),
+        ("no mirror, last", last, (False, WAIT)),
+        ("no mirror, accept", accept, (True, {})),
+    ):
+        restarted(radius, path, changed)
+        check(name, told(radius, "big"), wanted)
+
+
+def by_last_balances(radius, path, text):
+    """The last balances are believed, up to a limit."""
+    restarted(radius, path, text.replace("last_quota = 500", "last_quota = 100"))
+    check("last: who was spent stays out", told(radius, "bo"), (False, {"Reply-Message": SPENT}))
+    check("so does who never bought", told(radius, "nobody"), (False, {"Reply-Message": SPENT}))
+    check("a free plan is no limit", told(radius, "bo", "free"), (True, {}))
+    quota = lambda count: (True, {MIKROTIK[0]: str(count * MEBIBYTE), MIKROTIK[1]: "0"})
+    got = [told(radius, "big") for _ in range(5)]
+    wanted = [quota(10), quota(5), quota(2), quota(1), (False, WAIT)]
+    check("who had money gets 100, then half of it, and so on", got, wanted)
+    check("another account has its own count", told(radius, "most"), quota(10))
+    short = (True, {"Session-Timeout": "900"})
+    check("no quota can be sent: 900 seconds", told(radius, "most", "gold", "127.0.3.3"), short)
+    hours = told(radius, "most", "hour", "127.0.3.3")
+    check("hours are capped, too", hours, (True, {"Session-Timeout": "1500"}))
 
 
 def names_of_the_tools():

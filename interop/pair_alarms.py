@@ -168,12 +168,9 @@ def while_one_is_down(test, first, second):
         return pair_machines.COMPARE.balances_of(path)[1].get("zoe")
 
     waits_for("the first machine copies the second's balances", balance, 80, PATIENCE)
-    plans = os.path.join(first.folder, "plans.csv")
-    with open(plans, "w", encoding="ascii") as file:
-        words = [os.path.join(pair_machines.front.FILES, "plans-of"), first.book.config]
-        subprocess.run(words, stdout=file, check=True)
-    words = [os.path.join(pair_machines.front.FILES, "balances-mirror"), path, plans]
-    subprocess.run([*words, first.radius.mirror], check=True)
+    words = [os.path.join(pair_machines.front.FILES, "balances-mirror"), path]
+    words += [os.path.join(os.path.dirname(path), "plans.csv"), first.radius.mirror]
+    subprocess.run(words, check=True)
     accepted, pairs = first.radius.logs_in("zoe")
     quota = pairs.get("Mikrotik-Total-Limit")
     check("a login there has the quota of 80", (accepted, quota), (True, str(8 * MEBIBYTE)))

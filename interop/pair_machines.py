@@ -62,6 +62,7 @@ class Book(front.Book):
         return text + f'[[key]]\ntoken = "{KILL.CASHIER}"\ncashier = true\n'
 
     def begin(self):
+        self.put_plans()
         words = [KILL.PROGRAM, "serve", "--config", self.config, "--db", self.book, "--quiet"]
         words += ["--radius-port", str(self.radius), "--desk-port", str(self.desk)]
         words += ["--balances", self.balances, "--balances-every", "1", "--status", self.counts]
@@ -169,7 +170,8 @@ class Machine:
 
     def compare_words(self):
         words = [os.path.join(PAIR, "radacctd-compare"), "--balances", self.book.balances]
-        words += ["--counts", self.book.counts, "--queues", *self.radius.queues]
+        words += ["--plans", self.book.plans, "--counts", self.book.counts]
+        words += ["--queues", *self.radius.queues]
         return [*words, "--outbox", f"127.0.0.1:{self.outbox_port}"]
 
     def begin_teller(self):

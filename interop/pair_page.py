@@ -24,6 +24,7 @@ FREERADIUS = os.path.join(ROOT, "docs", "FREERADIUS.md")
 FORWARD = os.path.join(ROOT, "docs", "FORWARD.md")
 CONFIG, BOOK = "/etc/radacctd.toml", "/var/lib/radacctd/book"
 RADDB = "/etc/freeradius/3.0"
+MIRROR = "/run/radacctd-mirror/balances.db"
 QUEUE = "/var/log/freeradius/radacct/radacctd"
 SHARED = "/usr/local/share/radacctd"
 ADDRESSES = ["10.0.0.5", "10.0.0.6"]
@@ -202,7 +203,7 @@ def is_well(it):
 
 def mirrored(it):
     query = "SELECT balance FROM balance ORDER BY balance DESC"
-    rows = it.run(f"sqlite3 /var/lib/radacctd-mirror/balances.db '{query}'")[1].split()
+    rows = it.run(f"sqlite3 {MIRROR} '{query}'")[1].split()
     return [it for it in rows if it != "0"]
 
 
@@ -275,9 +276,9 @@ def planned(first, second):
     for it in (first, second):
         check(f"{it.title}: the plan is added", "added 1" in run(it, "plans", commands[2]), True)
     for it in (first, second):
-        plans = steps(section(FREERADIUS, "Set it up"))[8].split("\n")
-        line = next(line for line in plans if line.startswith("radacctd/plans-of"))
-        run(it, "the mirror's plans", f"cd {RADDB}\n{line}; grep -q silver radacctd/plans.csv")
+        query = "SELECT count(*) FROM plan WHERE CAST(class AS TEXT) = \'silver\'"
+        planned = lambda it=it: it.run(f'sqlite3 {MIRROR} "{query}"')[1].strip()
+        waits_for(f"{it.title}: the mirror has it", planned, "1", 120)
     check("a report of the new Class", report(second, "s4", "cy", 2 << 20, "silver"), True)
     wanted = {"al": 400, "bo": 95, "cy": 54}
     both_have([first, second], "it at the new price", wanted)

@@ -103,6 +103,7 @@ class ShardBook(front.Book):
         return f"{self.shard}-key-{self.site.numbers[account]:012d}"
 
     def start(self, *_):
+        self.put_plans(self.site.balances, f"{self.shard}-")
         words = [KILL.PROGRAM, "serve", "--config", self.config, "--db", self.book]
         words += ["--radius-port", str(self.radius), "--desk-port", str(self.desk)]
         words += ["--bind", self.address, "--desk-bind", self.address, "--balances-every", "1"]
@@ -192,8 +193,8 @@ class Site:
 
     def mirrors(self):
         """Keeps the mirror of the joined balances."""
-        joined = os.path.join(self.balances, "balances.csv")
-        self.radius.mirrors(types.SimpleNamespace(config=self.books["s0"].config, balances=joined))
+        joined = {it: os.path.join(self.balances, f"{it}.csv") for it in ("balances", "plans")}
+        self.radius.mirrors(types.SimpleNamespace(**joined))
 
     def make_nginx(self):
         changes = [

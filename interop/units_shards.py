@@ -189,7 +189,7 @@ def freeradius(site):
     check("a login gets its quota", until(quota, 20), True)
     said = login(['User-Name = "nobody"', words[1]])
     check("who never bought is refused", "Your allowance is spent." in said, True)
-    modes = box.must("stat -c '%A %U' /var/lib/radacctd-mirror/balances.db").strip()
+    modes = box.must("stat -c '%A %U' /run/radacctd-mirror/balances.db").strip()
     check("the mirror is its user's", modes, "-rw------- freerad")
     state = site.systemctl("is-active radacctd-mirror")[1].strip()
     check("the mirror runs under systemd", state, "active")

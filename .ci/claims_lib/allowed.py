@@ -17,6 +17,7 @@ def each(reason, *texts):
 FREERADIUS = each(
     "FreeRADIUS, its folder, an access server or the first edition has it",
     '"accept"',
+    '"last"',
     '"refuse"',
     "%{NAS-Identifier}",
     "ChilliSpot-Max-Total-",
@@ -70,8 +71,6 @@ ALLOWED = {
     },
     "README.md": {"./try": "bin/try makes it"},
     "CHANGELOG.md": {
-        "radacctd_login": "a policy of FreeRADIUS' files",
-        "use_tunneled_reply": "FreeRADIUS' own",
         "access-server.conf": "a file or an option of another version",
         "from-radacct --behind": "a file or an option of another version",
         "is-empty": "a file or an option of another version",
