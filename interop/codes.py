@@ -259,6 +259,30 @@ def two_desks(shop, sites):
     check("in both books", found, [{"result": "repeat"}] * 2)
 
 
+def killed_at_steps(shop, sites):
+    """A request is killed before each call that writes, syncs or sends: then two accounts ask."""
+    desks, ends = [desk_of(it) for it in sites], collections.Counter()
+    books, wrong, codes = {}, [], shop.make(60)[1]
+    for call in ("connect", "fsync", "write", "sendto"):
+        for when in range(1, 20):
+            code = codes.pop()
+            shop.before = ["strace", "-f", "-qq", "-o", os.devnull, "-e", f"trace={call}"]
+            shop.before += ["-e", f"inject={call}:signal=SIGKILL:when={when}"]
+            first, _ = shop.redeem("alice", code, desks)
+            shop.before = []
+            found = [shop.redeem(it, code, desks)[0] for it in ("bob", "alice")]
+            if sorted(found) != [ANSWERED, USED]:
+                wrong.append((call, when, found))
+            books[code] = "bob" if found[0] == ANSWERED else "alice"
+            ends[books[code]] += 1
+            if first == ANSWERED:
+                break
+    check("killed at each step, a code is for one of two accounts", wrong, [])
+    print(f"          kills before a code was given {ends['bob']}, after it {ends['alice']}")
+    check("some kills came before it was given, some after", len(ends), 2)
+    return books
+
+
 class Chaos:
     """Guests who ask for the same codes at once, while requests and desks are killed and stopped."""
 
@@ -341,8 +365,11 @@ def test(folder, prefix, make_site):
         full_disk(shop, sites[0])
         key_files(shop, sites[0])
         two_desks(shop, sites)
+        books = killed_at_steps(shop, sites)
         seconds = int(os.environ.get("RADACCTD_SECONDS", "20"))
         at_random(shop, sites, seconds, int(os.environ.get("RADACCTD_SEED", "56")))
+        found = [{it: credited(site)[it][0] for it in books} for site in sites]
+        check("and both books have it so", found, [books, books])
     finally:
         for it in sites:
             it.kill()
