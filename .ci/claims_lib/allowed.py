@@ -116,6 +116,8 @@ ALLOWED = {
         "target/radacctd_VERSION_amd64.deb": "bin/package makes it",
     },
     "man/radacctd-backup.8": {"FOLDER/book-wal": "a copy"},
+    "man/radacctd-edit.8": {"FILE.edit-base": "radacctd-edit makes it"},
+    "man/radacctd-key.8": {"FILE.key-new": "radacctd-key makes it"},
     "man/radacctd-restore.8": {"BOOK.replaced-DATE-TIME": "restore makes it"},
     "man/radacctd-pages.8": {
         **each("radacctd-pages makes it", "FOLDER/plans.json", "FOLDER/settings.json"),
