@@ -266,14 +266,22 @@ def plans(folder):
         done = subprocess.run(words, capture_output=True, text=True)
         check("the plan is added", (done.returncode, done.stdout), (0, "added 1\n"))
         check("it is in force once the server is started", login()[1], "default")
+        left_by_kill(folder, book.book)
         book.start()
         wanted = (True, "silver", quota(50 // 3 * MEBIBYTE))
         waits_for("then its quota is of the new plan", login, wanted)
         used = report("Interim-Update", "S-2", "al", 2 * MEBIBYTE, plan="silver")
         check("a session of it", radius.reports("ap1", used), True)
         waits_for("costs that", lambda: book.balance("al"), 44)
-        left = [it for it in os.listdir(folder) if it.startswith(".plans.")]
+        left = [it for it in os.listdir(folder) if it.startswith(".plans")]
         check("nothing is left next to the book", left, [])
+
+
+def left_by_kill(folder, book):
+    """What plans-in-force leaves if it is killed: a second name, with which no book is served."""
+    left = os.path.join(folder, ".plans-of-book.left")
+    os.mkdir(left)
+    os.link(book, os.path.join(left, "book"))
 
 
 def login_of(radius, plan):
