@@ -150,9 +150,8 @@ def make_vouchers(proxy, folder):
     words = ["--stock", f"{folder}/stock.csv", "--to", folder, "--url", "https://localhost"]
     words += ["--settings", f"{proxy.folder}/site/settings.json"]
     status, said, _ = tool("radacctd-vouchers", *words, "--count", "30", "--sum", "5.00")
-    check(
-        "radacctd-vouchers makes a sheet", (status, said.split(":")[0]), (0, "30 vouchers of 5.00")
-    )
+    wanted = 0, "30 vouchers of 5.00 EUR, 150.00 EUR together"
+    check("radacctd-vouchers makes a sheet", (status, said.split(":")[0]), wanted)
     made, stock = glob.glob(f"{folder}/vouchers-*.csv")[0], f"{folder}/stock.csv"
     sheet = made.replace(".csv", ".pdf")
     name = os.path.basename(made).removesuffix(".csv")
