@@ -95,11 +95,22 @@ class Browser:
         self.driver = None
 
     def kill(self):
-        """Ends everything at once, as a power cut does."""
+        """Ends the driver, and the browser with it."""
         if self.driver:
             os.killpg(self.driver.pid, signal.SIGKILL)
             self.driver.wait(timeout=20)
         self.session = self.driver = None
+
+    def cut(self):
+        """Ends each process of the browser at once, as a power cut does; the profile stays."""
+        for name in filter(str.isdigit, os.listdir("/proc")):
+            try:
+                with open(f"/proc/{name}/cmdline", "rb") as file:
+                    if self.profile.encode() in file.read() and int(name) != os.getpid():
+                        os.kill(int(name), signal.SIGKILL)
+            except OSError:
+                continue
+        self.kill()
 
     def go(self, url):
         # A new document each time, even if only the fragment differs.

@@ -12,6 +12,8 @@ import time
 from served import ROOT, check, free_port
 
 CASHIERS = {"anna": "anna-has-a-pass", "bert": "bert-has-a-pass"}
+# Names that a log and a header must have as they are.
+CASHIERS |= {"jörg": "jörg-has-a-pass", 'an"na': "an-other-pass"}
 MAIN = """
 {user}
 worker_processes 1;

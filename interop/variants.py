@@ -110,6 +110,7 @@ def pair(folder):
         site.start(1)
         check("until that took it, too", browser.shows("None", "#pending", 25), True)
         check("both have it", (first.balance(), second.balance()), (400, 400))
+        pair_refuses(browser, site)
         first.kill()
         check(
             "a guest reads while the first is away",
@@ -118,10 +119,33 @@ def pair(folder):
         )
         site.start(0)
         first.kill(), second.kill()
-        check("the books are the same", topups(first), topups(second))
+        rows = [it for it in topups(first) if not it.startswith("D2-TAKEN")]
+        check("the books are the same but for the number of the first", rows, topups(second))
     finally:
         browser.kill()
         site.end()
+
+
+def pair_refuses(browser, site):
+    """The second book is asked only once the first one took the sale."""
+    first, second = site.servers
+    check("a number of the first book", site.proxy.sell("al", 700, "D2-TAKEN", book="a"), 201)
+    browser.js("window.ownNumber = newNumber; newNumber = () => 'D2-TAKEN'")
+    sell_by_page(browser, "room 12", "9")
+    check("is refused for another account", browser.shows("used for another sale"), True)
+    browser.js("newNumber = window.ownNumber")
+    asked = [it for it in site.proxy.log("radacctd-sales.log") if "D2-TAKEN" in it["sale"]]
+    found = [(it["book"], it["status"]) for it in asked]
+    check("and the second book is not asked", found, [("a", 201), ("a", 409)])
+    first.kill()
+    sell_by_page(browser, "room 12", "1")
+    check("the first is away: the sale is kept", browser.shows("The sale is kept"), True)
+    time.sleep(5)
+    check("and the second book has nothing of it", second.balance(), 400)
+    site.start(0)
+    check("the first is back", browser.shows("Sold. room 12 has 1.00 EUR more.", seconds=25), True)
+    check("then both have it", browser.shows("None", "#pending", 25), True)
+    check("once each", (first.balance(), second.balance()), (500, 500))
 
 
 def shards(folder):
@@ -212,6 +236,8 @@ def certificates(folder):
     changes = [
         ('auth_basic           "Front desk";', ""),
         ("auth_basic_user_file /etc/nginx/radacctd/cashiers;", ""),
+        ("set $radacctd_login  password;", ""),
+        ("# set $radacctd_login", "set $radacctd_login"),
         ("# if ($ssl_client_verify", "if ($ssl_client_verify"),
         (
             "# ssl_client_certificate /etc/nginx/radacctd/cashiers.pem",
