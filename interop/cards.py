@@ -215,12 +215,37 @@ def forms(proxy, codes):
 
 
 def fill(browser, account, code):
+    """Types account and code, and says yes to the question if there is one."""
     browser.js(
         "for (const [id, value] of Object.entries(arguments[0]))"
         " document.getElementById(id).value = value;"
-        "document.getElementById('form').requestSubmit()",
+        "document.getElementById('form').requestSubmit();"
+        "document.getElementById('yes').click()",
         {"account": account, "code": code},
     )
+
+
+def question(browser, proxy, code):
+    """A code is redeemed for an account only after a question that names both."""
+    browser.js("document.getElementById('account').focus()")
+    browser.keys("bo 2\ue007\ue007\ue007")
+    asked = browser.shows(f"Put the voucher {code} on the account bo 2?", "#question")
+    found = (asked, browser.js("return draft?.account"))
+    check("Enter and Enter again only ask", found, (True, "bo 2"))
+    sent = [it for it in proxy.log("radacctd.log") if it["path"] == "/redeem/code"]
+    time.sleep(1)
+    again = [it for it in proxy.log("radacctd.log") if it["path"] == "/redeem/code"]
+    check("and send nothing", len(again), len(sent))
+    browser.js("own = 'room 12'; drawQuestion()")
+    told = browser.shows("is for the account room 12", "#question")
+    check("who has another card is told", told, True)
+    browser.click("#no")
+    typed = browser.js("return document.getElementById('code').value")
+    check("the form is there again", typed, code)
+    for name, why in (("'anton", "apostrophe"), ("1.5E+11", "no whole account"), ("a%{b}", "%{")):
+        browser.js("document.getElementById('account').value = arguments[0];"
+                   "document.getElementById('form').requestSubmit()", name)
+        check(f"{name} is refused", why in browser.text("#message"), True)
 
 
 def redeem(browser, proxy, server, folder, restart, readable):
@@ -235,6 +260,7 @@ def redeem(browser, proxy, server, folder, restart, readable):
             "the code has left the address bar", browser.call("GET", "/url"), proxy.url("/redeem/")
         )
         readable(browser, "the redeem page")
+        question(browser, proxy, codes[0])
         fill(browser, "Zoë & Max", codes[0])
         check("a code is redeemed", browser.shows("Done. Zoë & Max has 5.00 EUR more."), True)
         fill(browser, "Zoë & Max", codes[0].lower().replace("-", " "))
