@@ -247,7 +247,8 @@ class Checker:
         own |= {"docs/SHARDS.md": "etc/", "docs/PAIR.md": "etc/"}
         folder = own.get(self.page, "no folder")
         if self.page == "docs/WATCHING.md" and word.startswith("radacctd_"):
-            return False
+            # The counts that are not the program's.
+            return has(tree.scripts["etc/freeradius/front-counts"], word)
         texts = [it for path, it in tree.scripts.items() if path.startswith(folder)]
         texts.append(self.tool(os.path.basename(self.page)[:-2]))
         if any(has(it, word) for it in texts):
