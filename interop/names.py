@@ -4,7 +4,7 @@ import os
 import subprocess
 import sys
 
-from served import ROOT, check
+from served import PROGRAM, ROOT, check
 
 sys.path.append(os.path.join(ROOT, "etc", "tools"))
 
@@ -76,3 +76,31 @@ def test_found(prefix):
     said = "record 2: the account `'anton` may not enter: it begins with an apostrophe"
     found = done.returncode, said in done.stderr.decode(), "__pycache__" in os.listdir(folder)
     check("an installed tool has the rule of names", found, (1, True, False))
+
+
+SITE = '[[client]]\nname = "nas-7"\naddress = "127.0.0.1"\nsecret = "s"\n'
+SITE += '[[plan]]\nclass = "default"\nblock = 1000000\nunit = 5\n'
+TABLE = "radacctid,acctsessionid,acctuniqueid,username,nasipaddress,acctstarttime,acctupdatetime,"
+TABLE += "acctstoptime,acctsessiontime,acctinputoctets,acctoutputoctets,calledstationid,"
+TABLE += "callingstationid,acctterminatecause,framedipaddress,class\n"
+
+
+def test_moved(folder):
+    """Balances of another system: what a spreadsheet made of a name is listed, not credited."""
+    os.mkdir(folder)
+    rows = "account,balance\nal,10\n'anton,20\n'=x,30\n1.2E+11,5\n"
+    for name, text in (("site", SITE), ("table", TABLE), ("balances", rows)):
+        with open(f"{folder}/{name}", "w", encoding="utf-8") as file:
+            file.write(text)
+    book = ["--config", f"{folder}/site", "--db", f"{folder}/book"]
+    subprocess.run([PROGRAM, "init", *book], check=True, capture_output=True)
+    words = [os.path.join(ROOT, "interop", "from-radacct"), *book, "--radacct", f"{folder}/table"]
+    words += ["--balances", f"{folder}/balances", "--vouchers", f"{folder}/vouchers"]
+    done = subprocess.run(words, capture_output=True, text=True)
+    listed = [it for it in done.stdout.splitlines() if it.startswith("account ")]
+    wanted = ["account 'anton: no voucher of 20: ", "account 1.2E+11: no voucher of 5: "]
+    found = [line.startswith(it) for line, it in zip(listed, wanted)]
+    check("odd names of another system are listed", (done.returncode, found), (1, [True, True]))
+    with open(f"{folder}/vouchers", encoding="ascii") as file:
+        made = sorted(line.split(",", 1)[1] for line in file.read().splitlines()[1:])
+    check("and the others moved", made, ["=x,30", "al,10"])
