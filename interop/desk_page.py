@@ -61,4 +61,4 @@ def put_redeem(box, key):
 
 def put_jail(box):
     """The steps of fail2ban."""
-    box.must(script_of(steps_of("DESK.md", "for an hour:", "- **No browser")))
+    box.must(script_of(steps_of("DESK.md", "closes no sale:", "- **No browser")))

@@ -198,7 +198,7 @@ def shards_by_page(browser):
     check("and sells nothing to one in a wrong book", browser.shows("in a wrong book"), True)
     browser.js("document.querySelector('#sales button:last-child').click()")
     command = browser.text("#correction")
-    check("a correction names the shards' tool", "radacctd-shards debit '" in command, True)
+    check("a correction names the shards' tool", "radacctd-shards debit -- '" in command, True)
 
 
 def accounts():
@@ -264,8 +264,16 @@ def certificates(folder):
             400,
         )
         check("guests need none", site.proxy.status("/me/balance", key=GUEST), 200)
+        named = ("-u", "mallory:x", *body[:-1], body[-1].replace("C-1", "C-2"))
+        check("a login beside it", site.proxy.status("/desk/a/topups", *own, *named), 201)
+        head = site.proxy.curl("/desk/a/overruns", "-u", "mallory:x", *own)[1]
+        check("is not in the header", ("cn=anna" in head, "mallory" in head), (True, False))
+        check("nor one alone", site.proxy.status("/desk/a/topups", *named), 403)
+        time.sleep(0.2)
         lines = site.proxy.log("radacctd-sales.log")
         sold = [it["cashier"] for it in lines if it["status"] == 201]
-        check("the log names the certificate", sold, ["CN=anna"])
+        check("the log names the certificate", sold, ["CN=anna", "CN=anna"])
+        lines += site.proxy.log("radacctd.log")
+        check("and nobody else", {it["cashier"] for it in lines}, {"CN=anna", ""})
     finally:
         site.end()
