@@ -163,15 +163,19 @@ def library():
     raise SystemExit("FreeRADIUS' modules are not where they are looked for")
 
 
-def with_clock(seconds):
-    """The environment of a program whose clock differs by so many seconds, or whose clock is that
-    of a file; None if the package faketime is missing."""
-    found = [it for it in glob.glob("/usr/lib/*/faketime/libfaketimeMT.so.1")]
-    if not seconds:
+def with_clock(clock):
+    """The environment of a program whose clock differs by so many seconds, or by those that a file
+    says at each look; None if the package faketime is missing."""
+    found = glob.glob("/usr/lib/*/faketime/libfaketimeMT.so.1")
+    if not clock:
         return dict(os.environ)
     if not found:
         return None
-    more = {"LD_PRELOAD": found[0], "FAKETIME": f"{seconds:+d}s", "DONT_FAKE_MONOTONIC": "1"}
+    more = {"LD_PRELOAD": found[0], "DONT_FAKE_MONOTONIC": "1", "NO_FAKE_STAT": "1"}
+    if isinstance(clock, int):
+        more["FAKETIME"] = f"{clock:+d}s"
+    else:
+        more.update(FAKETIME_TIMESTAMP_FILE=clock, FAKETIME_NO_CACHE="1")
     return {**os.environ, **more}
 
 
@@ -267,6 +271,8 @@ class FreeRadius:
         self.mirror = os.path.join(folder, "run", "balances.db")
         self.log = os.path.join(folder, "log", "radius.log")
         self.process = self.mirroring = None
+        # By how much its clock differs, or the file that says so.
+        self.clock = 0
         for name in ("log", "run", "radacct", "radacct/radacctd", "radacct/radacctd-unsent"):
             os.makedirs(os.path.join(folder, name), exist_ok=True)
         self.clients, self.sites, self.authorize = clients, sites, authorize
@@ -333,7 +339,8 @@ class FreeRadius:
 
     def start(self):
         begun = len(self.logged())
-        self.process = subprocess.Popen(self.words("-f"), stdout=subprocess.DEVNULL)
+        how = {"stdout": subprocess.DEVNULL, "env": with_clock(self.clock)}
+        self.process = subprocess.Popen(self.words("-f"), **how)
         ready = "Ready to process requests"
         waits_for("FreeRADIUS is ready", lambda: ready in self.logged()[begun:], True)
 

@@ -1,10 +1,13 @@
-"""The parts of interop/freeradius about what devices send: clocks that are wrong, and attributes
-that FreeRADIUS cannot send on."""
+"""The parts of interop/freeradius about clocks, those of devices and FreeRADIUS' own, and about
+attributes that FreeRADIUS cannot send on."""
 
+import os
+import re
 import time
 
+import front
 from front import MEBIBYTE, check, waits_for
-from front_parts import Sender, attribute, both, count_in, packet_of, part
+from front_parts import Missing, Sender, attribute, both, count_in, packet_of, part
 
 EVENT_TIMESTAMP, DELAY = 55, 41
 DEVICE = "127.0.2.1"
@@ -77,3 +80,56 @@ def odd(folder):
         waits_for("and so is what comes behind them", lambda: book.balance("bo"), total, 6)
         check("none is filed", count_in(radius.unsent), 0)
         waits_for("the queue is empty", lambda: count_in(radius.queue), 0)
+
+
+# The clock while reports come, and while they are sent: by how much it differs. None is 1970.
+STEPS = [(0, -2), (0, 2), (0, -100 * 86_400), (0, 400 * 86_400), (-2, 0), (100 * 86_400, 0)]
+STEPS += [(-100 * 86_400, 0), (None, 0)]
+
+
+class Clock:
+    """What FreeRADIUS takes for the time."""
+
+    def __init__(self, folder):
+        self.path = os.path.join(folder, "clock")
+        self.set(0)
+
+    def set(self, seconds):
+        seconds = 1000 - int(time.time()) if seconds is None else seconds
+        front.written(self.path + ".new", f"{seconds:+d}s\n")
+        os.rename(self.path + ".new", self.path)
+
+
+@part
+def steps(folder):
+    """A step of the clock while reports wait makes none older or younger, and files none."""
+    if front.with_clock(1) is None:
+        raise Missing("faketime")
+    clock = Clock(folder)
+    with both(folder, settings=[("oldest_report", "60")]) as (book, radius):
+        radius.kill()
+        radius.clock = clock.path
+        radius.start()
+        sent = {}
+        for number, (before, after) in enumerate(STEPS):
+            book.kill()
+            clock.set(before)
+            for session in range(8):
+                name = f"U-{number}-{session}"
+                sent[name] = int(time.time())
+                if not told(radius, packet_of(name, b"bo", MEBIBYTE)):
+                    check(f"{name} is answered", False, True)
+            clock.set(after)
+            # As radacctd-clock.timer does.
+            radius.kill()
+            radius.start()
+            book.start()
+            total = -10 * len(sent)
+            waits_for(f"{before} s, then {after} s: charged", lambda: book.balance("bo"), total, 60)
+            clock.set(0)
+            radius.kill()
+            radius.start()
+        check("none is filed", count_in(radius.unsent), 0)
+        found = moments(book)
+        off = {it: found.get(it, 0) - moment for it, moment in sent.items()}
+        check("each at its moment", {it: s for it, s in off.items() if abs(s) > NEAR}, {})

@@ -475,6 +475,8 @@ class Sender:
 
     def __init__(self, port, secret=SECRET):
         self.port, self.secret = port, secret.encode()
+        # The attributes of each report that was answered.
+        self.answered = set()
 
     def signed(self, identifier, attributes):
         head = bytes([4, identifier]) + (20 + len(attributes)).to_bytes(2, "big")
@@ -522,7 +524,9 @@ class Sender:
                 del flying[number, identifier]
                 continue
             entry[2:] = [now, tried + 1]
-            opened.send(self.signed(identifier, attributes))
+            # The server may be down.
+            with contextlib.suppress(ConnectionRefusedError):
+                opened.send(self.signed(identifier, attributes))
 
     def heard(self, number, flying):
         count = 0
@@ -530,9 +534,12 @@ class Sender:
         while opened is not None:
             try:
                 reply = opened.recv(4096)
-            except BlockingIOError:
+            except (BlockingIOError, ConnectionRefusedError):
                 break
-            count += flying.pop((number, reply[1]), None) is not None
+            entry = flying.pop((number, reply[1]), None)
+            if entry is not None:
+                self.answered.add(entry[1])
+                count += 1
         return count
 
 

@@ -1,0 +1,370 @@
+"""The parts of interop/freeradius about the queue's disk: one that is full or broken, a power cut,
+and FreeRADIUS killed while it writes. What was answered is charged once, and what was not is sent
+again.
+
+They mount file systems of their own, so they need root, loop devices, and mkfs of each kind.
+"""
+
+import contextlib
+import fcntl
+import os
+import random
+import re
+import shutil
+import struct
+import subprocess
+import threading
+import time
+
+import front
+from front import MEBIBYTE, check, waits_for
+from front_parts import Missing, Sender, both, count_in, packet_of, part
+
+KINDS = ["ext4", "xfs", "btrfs", "overlay", "tmpfs"]
+# In MiB: the least that mkfs takes.
+SIZES = {"ext4": 24, "xfs": 304, "btrfs": 112, "overlay": 24, "tmpfs": 8}
+MAKES = {
+    "ext4": ["mkfs.ext4", "-q", "-m", "0", "-N", "256"],
+    "xfs": ["mkfs.xfs", "-q"],
+    "btrfs": ["mkfs.btrfs", "-q", "-M"],
+}
+MAKES["overlay"] = MAKES["ext4"]
+# How many reports come while a disk is full, and how many while it is broken.
+REPORTS, FEW = 240, 20
+# What is left of a full disk, in octets: less than the reports take. xfs and btrfs give files more
+# than they need.
+LEFT = {"ext4": 50_000, "overlay": 50_000, "tmpfs": 50_000, "xfs": 0, "btrfs": 0}
+KILLS = 6
+WRITES = "no report is answered until this is over"
+OVER = "reports are written and answered again"
+
+
+def run(*words):
+    return subprocess.run(words, check=True, capture_output=True, text=True)
+
+
+class Disk:
+    """A file system of its own at a folder."""
+
+    def __init__(self, kind, folder, at):
+        self.kind, self.folder, self.at = kind, folder, at
+        self.image = os.path.join(folder, f"{kind}.img")
+        self.under = os.path.join(folder, "under") if kind == "overlay" else at
+        self.filler = None
+        os.makedirs(self.under, exist_ok=True)
+        if kind != "tmpfs":
+            if shutil.which(MAKES[kind][0]) is None:
+                raise Missing(f"{MAKES[kind][0]}, which makes {kind}")
+            with open(self.image, "wb") as file:
+                file.truncate(SIZES[kind] << 20)
+            run(*MAKES[kind], self.image)
+        self.mount()
+
+    def mount(self):
+        if self.kind == "tmpfs":
+            run("mount", "-t", "tmpfs", "-o", f"size={SIZES['tmpfs']}m", "tmpfs", self.at)
+            return
+        run("mount", "-o", "loop", self.image, self.under)
+        if self.kind == "overlay":
+            parts = [os.path.join(self.under, it) for it in ("lower", "upper", "work")]
+            for it in parts:
+                os.makedirs(it, exist_ok=True)
+            options = "lowerdir={},upperdir={},workdir={}".format(*parts)
+            run("mount", "-t", "overlay", "-o", options, "overlay", self.at)
+
+    def end(self):
+        for it in {self.at: 0, self.under: 0}:
+            for _ in range(300):
+                done = subprocess.run(["umount", it], capture_output=True, text=True)
+                if "busy" not in done.stderr:
+                    break
+                time.sleep(0.1)
+
+    def fill(self):
+        """Leaves less than some reports take."""
+        self.filler = os.path.join(self.at, "filler")
+        with open(self.filler, "wb", buffering=0) as file:
+            for size in (1 << 20, 1 << 16, 1 << 12):
+                with contextlib.suppress(OSError):
+                    while self.free() > LEFT[self.kind] + size:
+                        os.write(file.fileno(), bytes(size))
+            os.fsync(file.fileno())
+
+    def free(self):
+        found = os.statvfs(self.at)
+        return found.f_bavail * found.f_frsize
+
+    def relieve(self):
+        os.remove(self.filler)
+        # btrfs gives space back once it has committed.
+        os.sync()
+
+    def cut(self):
+        """What a power cut leaves: what the disk has at this moment, and nothing of the memory."""
+        left = os.path.join(self.folder, "left.img")
+        run("cp", "--sparse=always", self.image, left)
+        self.end()
+        os.rename(left, self.image)
+        self.mount()
+
+
+@contextlib.contextmanager
+def on_a_disk(folder, kind, **how):
+    """radacctd and FreeRADIUS, whose queue is on a disk of this kind."""
+    if os.geteuid() != 0:
+        raise Missing("root, who may mount a file system")
+    at = os.path.join(folder, "radacct")
+    os.makedirs(at, exist_ok=True)
+    disk = Disk(kind, folder, at)
+    try:
+        with both(folder, ["--sync", "once"], **how) as (book, radius):
+            yield disk, book, radius
+    finally:
+        disk.end()
+
+
+def reports(letter, count):
+    """One report of each of so many sessions, which costs 10."""
+    return [
+        (f"127.0.4.{1 + it % 50}", packet_of(f"{letter}-{it}", b"bo", MEBIBYTE, 2))
+        for it in range(count)
+    ]
+
+
+def sent(radius, pairs, patience=3):
+    """Sends each report once: which were answered, and which were not."""
+    sender = Sender(radius.acct)
+    sender.send(pairs, patience, tries=1)
+    return [it for it in pairs if it[1] in sender.answered], [
+        it for it in pairs if it[1] not in sender.answered
+    ]
+
+
+def sent_until_answered(radius, pairs, patience=60):
+    end = time.monotonic() + patience
+    while pairs and time.monotonic() < end:
+        pairs = sent(radius, pairs)[1]
+    check("all are answered in the end", len(pairs), 0)
+
+
+def sessions_in(radius):
+    """The sessions of the whole records in the queue."""
+    found = set()
+    for path in front.files_in(radius.queue):
+        with open(path, encoding="latin-1") as file:
+            for record in file.read().split("\n\n")[:-1]:
+                found.update(re.findall(r'\tAcct-Session-Id = "127[^/]*/([^/"]*)/', record))
+    return found
+
+
+def names_of(pairs):
+    return {re.search(rb",.([A-Z]-[0-9]+)\x01", packet).group(1).decode() for _, packet in pairs}
+
+
+def marks(radius):
+    folder = os.path.join(radius.folder, "run")
+    return sorted(it.split(".")[1] for it in os.listdir(folder) if it.startswith("radacctd-queue."))
+
+
+def is_over(radius):
+    """A report after ten seconds ends the fault."""
+    time.sleep(11)
+    check("a report later", len(sent(radius, reports("H", 1))[0]), 1)
+    log = radius.logged()
+    check("one line said so, and one that it is over", (log.count(WRITES), log.count(OVER)), (1, 1))
+    check("and its mark is gone", "fault" in marks(radius), False)
+
+
+def filled(folder, kind, drains):
+    """A disk that is full while reports come."""
+    with on_a_disk(folder, kind) as (disk, book, radius):
+        print(f"         {kind}, radacctd {'up' if drains else 'down'}", flush=True)
+        check("it says if it is not kept", marks(radius), ["volatile"] if kind == "tmpfs" else [])
+        if not drains:
+            book.kill()
+        disk.fill()
+        answered, others = sent(radius, reports("F", REPORTS))
+        print(f"         {len(answered)} of {REPORTS} answered", flush=True)
+        if not drains:
+            check("some are not answered", bool(others), True)
+            lacks = names_of(answered) - sessions_in(radius)
+            check("what was answered is in the queue", sorted(lacks)[:5], [])
+            check("a mark says so", "fault" in marks(radius), True)
+        disk.relieve()
+        sent_until_answered(radius, others)
+        if not drains:
+            is_over(radius)
+            book.start("--sync", "once")
+        all_charged(book, radius, REPORTS + (not drains))
+
+
+def all_charged(book, radius, total):
+    waits_for("the queue is empty", lambda: count_in(radius.queue), 0, 180)
+    waits_for("each is charged once", lambda: book.balance("bo"), -10 * total)
+    check("none is filed", count_in(radius.unsent), 0)
+
+
+@part
+def full(folder):
+    """A full disk of each kind: what is answered is charged, and the rest is not answered."""
+    for kind, drains in [*((it, False) for it in KINDS), ("ext4", True)]:
+        within = os.path.join(folder, f"{kind}-{drains}")
+        os.mkdir(within)
+        filled(within, kind, drains)
+
+
+def no_nodes(disk):
+    """No further file can be made."""
+    made = []
+    with contextlib.suppress(OSError):
+        while True:
+            path = os.path.join(disk.at, f"empty-{len(made)}")
+            with open(path, "xb"):
+                made.append(path)
+    yield
+    for path in made:
+        os.remove(path)
+
+
+def read_only(disk):
+    run("mount", "-o", "remount,ro", disk.at)
+    yield
+    run("mount", "-o", "remount,rw", disk.at)
+
+
+def vanished(disk):
+    queue = os.path.join(disk.at, "radacctd")
+    os.rename(queue, queue + "-away")
+    yield
+    os.rename(queue + "-away", queue)
+
+
+def immutable(disk):
+    """What even root may not change."""
+    queue = os.path.join(disk.at, "radacctd")
+    run("chattr", "-R", "+i", queue)
+    yield
+    run("chattr", "-R", "-i", queue)
+
+
+def shut_down(disk):
+    """The file system ends after a fault, as after one of its disk: each call is an I/O error."""
+    opened = os.open(disk.at, os.O_RDONLY)
+    fcntl.ioctl(opened, EXT4_IOC_SHUTDOWN, struct.pack("I", 1))
+    os.close(opened)
+    yield
+    disk.end()
+    disk.mount()
+
+
+FAULTS = {
+    "a disk without inodes": no_nodes,
+    "a disk that is read-only": read_only,
+    "a folder that vanished": vanished,
+    "a folder that may not be written": immutable,
+    "a disk that fails": shut_down,
+}
+# Octets of a quota: less than the reports take.
+QUOTA = 90_000
+# _IOR('X', 125, __u32) of the kernel's ext4.
+EXT4_IOC_SHUTDOWN = 0x8004587D
+
+
+@part
+def broken(folder):
+    """A disk that is broken: no report is answered, and each is charged once it is mended."""
+    with on_a_disk(folder, "ext4") as (disk, book, radius):
+        total = 0
+        for number, (name, fault) in enumerate(FAULTS.items()):
+            waits_for("nothing is queued", lambda: count_in(radius.queue), 0)
+            # The readers remove their last files.
+            time.sleep(2)
+            broken = fault(disk)
+            next(broken)
+            answered, others = sent(radius, reports(chr(ord("J") + number), FEW))
+            check(f"{name}: none is answered", len(answered), 0)
+            check("a mark says so", "fault" in marks(radius), True)
+            next(broken, None)
+            sent_until_answered(radius, others)
+            total += FEW
+        all_charged(book, radius, total)
+
+
+@part
+def quota(folder):
+    """A quota that is used up, here one of btrfs, which holds for root, too."""
+    with on_a_disk(folder, "btrfs") as (disk, book, radius):
+        book.kill()
+        run("btrfs", "quota", "enable", disk.at)
+        run("btrfs", "qgroup", "limit", str(QUOTA), disk.at)
+        answered, others = sent(radius, reports("Q", REPORTS))
+        print(f"         {len(answered)} of {REPORTS} answered", flush=True)
+        check("not all are answered", bool(others), True)
+        check("a mark says so", "fault" in marks(radius), True)
+        lacks = names_of(answered) - sessions_in(radius)
+        check("what was answered is in the queue", sorted(lacks)[:5], [])
+        run("btrfs", "qgroup", "limit", "none", disk.at)
+        sent_until_answered(radius, others)
+        book.start("--sync", "once")
+        all_charged(book, radius, REPORTS)
+
+
+@part
+def cuts(folder):
+    """A power cut loses none of the reports that were answered, on each kind of disk."""
+    for number, kind in enumerate(it for it in KINDS if it not in ("tmpfs", "overlay")):
+        within = os.path.join(folder, kind)
+        os.mkdir(within)
+        with on_a_disk(within, kind) as (disk, book, radius):
+            book.kill()
+            total = 0
+            for turn in range(3):
+                pairs = reports(chr(ord("A") + turn), REPORTS // 2)
+                sent_until_answered(radius, pairs)
+                radius.kill()
+                disk.cut()
+                total += len(pairs)
+                check(f"{kind}, cut {turn + 1}: all are there", len(sessions_in(radius)), total)
+                radius.start()
+            book.start("--sync", "once")
+            all_charged(book, radius, total)
+
+
+@part
+def torn(folder):
+    """FreeRADIUS is killed while it writes: what was answered is charged, half a record is not."""
+    rng = random.Random(56)
+    with on_a_disk(folder, "ext4") as (disk, book, radius):
+        book.kill()
+        names, waiting = set(), []
+        for turn in range(KILLS):
+            pairs = waiting + reports(chr(ord("A") + turn), REPORTS // 4)
+            killer = threading.Timer(rng.random() / 2, radius.kill)
+            killer.start()
+            answered, waiting = sent(radius, pairs, 1)
+            killer.join()
+            names |= names_of(answered)
+            check(f"kill {turn + 1}: {len(answered)} answered", names - sessions_in(radius), set())
+            tear(radius, rng)
+            if turn % 3 == 2:
+                book.start("--sync", "once")
+                radius.start()
+                waits_for("the queue is empty", lambda: count_in(radius.queue), 0, 180)
+                book.kill()
+                names.clear()
+            else:
+                radius.start()
+        sent_until_answered(radius, waiting)
+        book.start("--sync", "once")
+        all_charged(book, radius, KILLS * (REPORTS // 4))
+
+
+HALF = b"Fri Nov 27 10:00:00 2026\n\tAcct-Status-Type = Stop\n\tUser-Na"
+
+
+def tear(radius, rng):
+    """Half of a record at the end of each file, as a kill or a power cut may leave one."""
+    for path in front.files_in(radius.queue):
+        if rng.random() < 0.5:
+            with open(path, "ab") as file:
+                file.write(HALF[: rng.randrange(1, len(HALF))])
