@@ -134,7 +134,7 @@ def first_night(exports):
     check("before the first night there is none", (status, "no two exports" in text), (1, True))
     status, text, tables = exports("day", "2026-10-31")
     check("after the first night there is one", status, 0)
-    check("which says of what", "2026-10-31 00:00:00, for which there is no export" in text, True)
+    check("which says of what", "2026-10-31 00:00:00 (reckoned from" in text, True)
     check("older sales and sessions are none of the day", [tables["vouchers.csv"],
           tables["usage.csv"]], [[], []])
     check("but of the balance", tables["balances.csv"], [["Müller 7", "1050"] + ["0"] * 4 + ["1050"]])
@@ -143,6 +143,8 @@ def first_night(exports):
     check("whose sales they are", tables["vouchers.csv"], [["D1-", "1", "1250"]])
     wanted = [["Müller 7", "0", "1250", "200", "0", "0", "1050"]]
     check("and whose sessions", tables["balances.csv"], wanted)
+    status, text, tables = exports("day", "2026-11-02")
+    check("there is one after a copy that was made by day, too", (status, tables["usage.csv"]), (0, []))
     status, text, tables = exports("month", "2026-11")
     check("a month that goes on", (status, len(tables["cashiers.csv"])), (0, 3))
 
