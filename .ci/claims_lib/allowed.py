@@ -60,6 +60,7 @@ FREERADIUS = each(
 
 ALLOWED = {
     "*": {
+        "site.tar.gz": "radacctd-site makes it in a night's copy",
         "rattle-kit-13f logic dac8208d650f15bf": "the kit's own name of its version",
         **each("sqlite3's own words", ".backup", ".dump"),
         **each("sqlite3's own words", "-readonly", "no_ckpt_on_close", "PRAGMA journal_mode=DELETE"),
@@ -115,7 +116,14 @@ ALLOWED = {
         "radacctd-...": "stands for all tools",
         "target/radacctd_VERSION_amd64.deb": "bin/package makes it",
     },
+    "docs/GONE.md": {
+        **each("stands for all that begin so", "/etc/radacctd*", "/etc/default/radacctd*"),
+        **each("a folder of root's, as in the steps", "/root", "/root/copy"),
+        "radacctd_0.1.0_amd64.deb": "bin/package makes it",
+        "rsync": "a program of Debian's",
+    },
     "man/radacctd-backup.8": {"FOLDER/book-wal": "a copy"},
+    "man/radacctd-site.8": {"PLACE.replaced-DATE-TIME": "radacctd-site makes it"},
     "man/radacctd-edit.8": {"FILE.edit-base": "radacctd-edit makes it"},
     "man/radacctd-key.8": {"FILE.key-new": "radacctd-key makes it"},
     "man/radacctd-restore.8": {"BOOK.replaced-DATE-TIME": "restore makes it"},
