@@ -3,18 +3,20 @@
 import collections
 import csv
 import glob
+import http.client
 import json
 import os
 import pty
 import random
 import re
 import signal
+import socket
 import subprocess
 import sys
 import threading
 import time
 
-from served import ROOT, check
+from served import ROOT, check, free_port
 
 sys.path.append(os.path.join(ROOT, "etc", "tools"))
 
@@ -194,6 +196,47 @@ def withdrawing(shop, site):
     check("and then nothing is lacking", shop("--list")[2], "")
 
 
+def injected(shop, call, when, what, *more):
+    """The status of radacctd-vouchers over whose so-manieth call something comes."""
+    words = ["strace", "-qq", "-o", os.devnull, "-e", f"trace={call}"]
+    words += ["-e", f"inject={call}:{what}:when={when}", *shop.words(*more)]
+    how = {"stdin": subprocess.DEVNULL, "cwd": shop.folder, "capture_output": True}
+    return subprocess.run(words, **how).returncode
+
+
+def stopped_tool(shop):
+    """radacctd-vouchers is killed at each step, and finds a full disk: no older code is lost, and
+    a sheet is withdrawn by the next run.
+    """
+    make = ("--count", "2", "--sum", "1")
+    wrong, kills = [], 0
+    for call, what in (("fsync", "signal=SIGKILL"), ("rename", "signal=SIGKILL"),
+                       ("fsync", "error=ENOSPC")):
+        for when in range(1, 12):
+            before = {it.code for it in stocks_of(shop)}
+            status = injected(shop, call, when, what, *make)
+            more = {it.code for it in stocks_of(shop)} - before
+            if before - {it.code for it in stocks_of(shop)} or len(more) not in (0, 2):
+                wrong.append((call, what, when, len(more)))
+            kills += status != 0
+            if status == 0:
+                break
+    check("stopped as it makes a sheet: all of it is in the stock, or none", wrong, [])
+    for call, what in (("fsync", "signal=SIGKILL"), ("fsync", "error=ENOSPC")):
+        for when in range(1, 12):
+            sheet = shop.make(3)[0]
+            status = injected(shop, call, when, what, "--withdraw", sheet, "--yes")
+            kills += status != 0
+            if shop("--withdraw", sheet, "--yes")[0] != 0 or shop("--list")[2]:
+                wrong.append((call, what, when))
+            if f"{sheet}: 3 of 5.00 zł: live 0, given 0, withdrawn 3" not in shop("--list")[1]:
+                wrong.append((call, what, when, "live"))
+            if status == 0:
+                break
+    check("stopped as it withdraws one: the next run does it", wrong, [])
+    check("it was stopped some times", kills > 8, True)
+
+
 def full_disk(shop, site):
     """A log that cannot be written: nothing is redeemed, and half a line never stays."""
     _, codes = shop.make(2)
@@ -290,7 +333,11 @@ class Chaos:
         self.shop, self.sites, self.pick = shop, sites, random.Random(seed)
         self.codes, self.desks = shop.make(60)[1], [desk_of(it) for it in sites]
         self.answers, self.lock, self.end = set(), threading.Lock(), 0
+        # How long a desk takes to start, in seconds: so long both are up at times.
+        self.start = 1
         self.counts = collections.Counter()
+        # What was withdrawn, and what of it was given before.
+        self.withdrawn, self.given = set(), set()
 
     def guest(self, seed):
         pick = random.Random(seed)
@@ -310,7 +357,7 @@ class Chaos:
     def disturb(self):
         """Kills or stops one of the desks, and lets it go on."""
         site = self.pick.choice(self.sites)
-        time.sleep(self.pick.uniform(0, 1))
+        time.sleep(self.pick.uniform(0, 2 * self.start))
         if self.pick.random() < 0.2:
             os.kill(site.process.pid, signal.SIGSTOP)
             time.sleep(self.pick.uniform(0, 7))
@@ -318,7 +365,9 @@ class Chaos:
         else:
             site.kill()
             time.sleep(self.pick.uniform(0, 1))
+            begun = time.monotonic()
             site.start()
+            self.start = max(self.start, time.monotonic() - begun)
         self.counts["desks"] += 1
 
     def run(self, seconds):
@@ -326,10 +375,20 @@ class Chaos:
         guests = [threading.Thread(target=self.guest, args=(it,)) for it in range(4)]
         for it in guests:
             it.start()
+        half = time.monotonic() + seconds / 2
         while time.monotonic() < self.end:
             self.disturb()
+            if time.monotonic() > half and not self.withdrawn:
+                self.withdraw()
         for it in guests:
             it.join()
+
+    def withdraw(self):
+        """Withdraws some codes while guests ask for them."""
+        self.withdrawn = set(self.codes[::3])
+        said = self.shop("--withdraw", *self.withdrawn, "--yes")
+        self.given = set(re.findall(r"(?m)^  W-(\S+)", said[1]))
+        check("codes are withdrawn meanwhile", said[0], 0)
 
 
 def at_random(shop, sites, seconds, seed):
@@ -344,11 +403,57 @@ def at_random(shop, sites, seconds, seed):
         site.kill()
     books = [credited(it) for it in sites]
     print(f"          seed {seed}, {dict(chaos.counts)}, {len(chaos.answers)} codes and accounts answered")
-    wrong = [it for it in chaos.codes if len({book[it] for book in books if it in book}) != 1]
-    check("each code is one account's in both books", wrong, [])
-    lost = [it for it in chaos.answers if any(book.get(it[0]) != (it[1], 500) for book in books)]
+    holders = {it: {book[it] for book in books if it in book} for it in chaos.codes}
+    live = [it for it in chaos.codes if it not in chaos.withdrawn]
+    check("no code is two accounts'", [it for it in holders if len(holders[it]) > 1], [])
+    wrong = [it for it in live if any(it not in book for book in books)]
+    check("each code is in both books at last", wrong, [])
+    wrong = [it for it in chaos.withdrawn - chaos.given if holders[it]]
+    check("what was withdrawn and not given before is in none", wrong, [])
+    check("some were given before", 0 < len(chaos.given) < len(chaos.withdrawn), True)
+    known = lambda it: all(book.get(it[0]) == (it[1], 500) for book in books)
+    lost = [it for it in chaos.answers if not known(it)]
     check("each code that was answered is credited to its account", lost, [])
-    check("and each goes to one account at last", {len(it) for it in last.values()}, {1})
+    check("and each goes to one account at last", {len(last[it]) for it in live}, {1})
+    check("and a withdrawn one to none", [it for it in chaos.withdrawn if last[it]], [])
+
+
+def asked(port, account, number):
+    """The status that a desk gives to a voucher of 5."""
+    body = json.dumps({"account": account, "sum": 5, "voucher": number})
+    caller = http.client.HTTPConnection("127.0.0.1", port, timeout=30)
+    caller.request("POST", "/topups", body, {"Desk-Key": KEY})
+    return caller.getresponse().status
+
+
+def outbox_names(folder, sites):
+    """The outbox sells to no name that could not log in, unless it is known."""
+    os.mkdir(folder)
+    port = free_port(socket.SOCK_STREAM)
+    with open(os.open(f"{folder}/key", os.O_WRONLY | os.O_CREAT, 0o600), "w", encoding="ascii") as file:
+        file.write(KEY + "\n")
+    with open(f"{folder}/balances.csv", "w", encoding="ascii") as file:
+        file.write("account,balance,overrun\n old,5,0\n")
+    words = [os.path.join(ROOT, "etc", "pair", "radacctd-outbox"), "--listen", f"127.0.0.1:{port}"]
+    words += ["--key-file", f"{folder}/key", "--db", f"{folder}/outbox.db"]
+    words += ["--balances", f"{folder}/balances.csv"]
+    words += ["--own", desk_of(sites[0]), "--other", desk_of(sites[1])]
+    pipe = subprocess.PIPE
+    outbox = subprocess.Popen(words, stdout=pipe, stderr=pipe, text=True)
+    try:
+        check("the outbox serves", outbox.stdout.readline(), "serving\n")
+        check("it sells", asked(port, "al", "O-1"), 201)
+        for account in ("'anton", " al", "1.23457E+11", "%FF", "a%25{b}"):
+            check(f"but not to `{account}`", asked(port, account, "O-2"), 422)
+        check("the number is free", asked(port, "=al", "O-2"), 201)
+        check("it sells to one that has a balance", asked(port, " old", "O-3"), 201)
+        os.remove(f"{folder}/balances.csv")
+        check("and once more, without the balances", asked(port, " old", "O-4"), 201)
+        check("a repeat is one", asked(port, " old", "O-3"), 200)
+    finally:
+        outbox.kill()
+        errors = outbox.communicate()[1]
+    check("and says why it did not", errors.count(" may not enter: "), 5)
 
 
 def test(folder, prefix, make_site):
@@ -359,9 +464,11 @@ def test(folder, prefix, make_site):
     sites = [make_site(f"{folder}/{it}") for it in ("one", "two")]
     shop = Shop(prefix, f"{folder}/shop")
     try:
+        outbox_names(f"{folder}/outbox", sites)
         shop.make(3)
         old_stock(shop)
         withdrawing(shop, sites[0])
+        stopped_tool(shop)
         full_disk(shop, sites[0])
         key_files(shop, sites[0])
         two_desks(shop, sites)

@@ -22,7 +22,6 @@ def run(test):
     print("        ", first.compare()[1][0], flush=True)
     sold_at_one(test, first, second)
     sold_twice(test, first, second)
-    odd_names(test, first, second)
     by_a_file(test, first, second)
     by_a_code(test, first)
     limit_at_one(test, first, second)
@@ -74,18 +73,6 @@ def sold_twice(test, first, second):
     check("both refuse X-1 to a third", first.sell("user3", 7, "X-1"), 409)
     check("a number of the other outbox, too", second.sell("user3", 1, "V-1"), 409)
     check("which keeps none of them", second.outbox_command("--list").stdout, "")
-
-
-def odd_names(test, first, second):
-    """Names that could not log in: a new one is refused, and one that the book has is not."""
-    for account, number in (("'anton", "O-1"), (" al", "O-2"), ("1.23457E+11", "O-3")):
-        check(f"the outbox does not sell to `{account}`", first.sell(account, 5, number), 422)
-    for machine in (first, second):
-        check("a book has ` old`", machine.book.topup(" old", 5, "O-4"), 201)
-    balance = lambda: first.balances()[1].get(" old")
-    waits_for("its balance is written", balance, 5, PATIENCE)
-    check("the outbox sells to it", first.sell(" old", 5, "O-5"), 201)
-    all_well(test, "both books get it")
 
 
 def by_a_file(test, first, second):
