@@ -1,5 +1,7 @@
 """Names of accounts that may enter, and names that may not, for each place that tests names."""
 
+import importlib.machinery
+import importlib.util
 import os
 import subprocess
 import sys
@@ -51,8 +53,9 @@ def faults_of_rule():
 
 
 def faults_of_cells():
-    """Texts that a file for people does not bring back, or that a spreadsheet takes for formulas."""
-    texts = [start + rest for start in ("", "'", "''", "'''") for rest in ("", "=1", "+1", "-1", "a")]
+    """Texts that a file for people does not bring back, or that are formulas in it."""
+    rests = ("", "=1", "+1", "-1", "a")
+    texts = [start + rest for start in ("", "'", "''", "'''") for rest in rests]
     for text in [*texts, "@x", "\tx", "\rx", "a=b", "Łódź", "'\t"]:
         written = names.cell(text)
         if names.text_of_cell(written) != text or written[:1] in tuple("=+-@\t\r"):
@@ -64,7 +67,22 @@ def test_rule():
     check("fields of a file for people come back", list(faults_of_cells()), [])
     for spelled in ("Łódź", "a%2Cb", "100%", "%00"):
         octets = names.octets_of(spelled)
-        check(f"{spelled} comes back as exports spell it", names.octets_of(names.shown(octets)), octets)
+        found = names.octets_of(names.shown(octets))
+        check(f"{spelled} comes back as exports spell it", found, octets)
+
+
+def test_parts():
+    """A file for 16 books: a field with a formula's apostrophe goes to the book of its name."""
+    loader = importlib.machinery.SourceFileLoader(
+        "radacctd_shards", os.path.join(ROOT, "etc", "shards", "radacctd-shards")
+    )
+    shards = importlib.util.module_from_spec(importlib.util.spec_from_loader(loader.name, loader))
+    loader.exec_module(shards)
+    spelled = [f"'={at}" for at in range(40)]
+    parts = shards.Parts([[f"V-{it[2:]}", it, "5"] for it in spelled])
+    wanted = {it: shards.shard_of(it[1:].encode()) for it in spelled}
+    found = {row[1]: shard for shard, rows in parts.rows.items() for row in rows}
+    check("of 16 books a formula's apostrophe is none of the name's", found, wanted)
 
 
 def test_found(prefix):

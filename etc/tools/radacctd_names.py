@@ -15,7 +15,7 @@ LONGEST = 253
 SPACES = frozenset(
     map(chr, [*range(9, 14), 0x20, 0x85, 0xA0, 0x1680, *range(0x2000, 0x200B), 0x2028, 0x2029])
 ) | frozenset("\u202f\u205f\u3000\ufeff")
-# How Excel writes a number of more than 11 digits, with the point of English or the comma of German.
+# How Excel writes a number of more than 11 digits: with the point of English, the comma of German.
 LONG_NUMBER = re.compile(r"[0-9]+(?:[.,][0-9]+)?E\+[0-9]+")
 # What makes a field a formula, in spite of apostrophes before it.
 FORMULA = re.compile(r"'*[=+\-@\t\r]")
