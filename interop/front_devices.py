@@ -60,6 +60,7 @@ def clocks(folder):
                 if not told(radius, packet):
                     check(f"{name} is answered", False, True)
         waits_for("all are charged", lambda: book.balance("bo"), -10 * len(sent))
+        waits_for("the queue is empty", lambda: count_in(radius.queue), 0)
         check("none is filed", count_in(radius.unsent), 0)
         found = moments(book)
         off = {it: found.get(it, 0) - moment for it, moment in sent.items()}
@@ -129,6 +130,7 @@ def steps(folder):
             clock.set(0)
             radius.kill()
             radius.start()
+        waits_for("the queue is empty", lambda: count_in(radius.queue), 0)
         check("none is filed", count_in(radius.unsent), 0)
         found = moments(book)
         off = {it: found.get(it, 0) - moment for it, moment in sent.items()}
