@@ -371,6 +371,20 @@ def full_disk(folder, proxy):
         subprocess.run(["umount", "-l", small], check=True)
 
 
+def no_store(browser, proxy):
+    """A browser that may keep nothing sells nothing."""
+    source = "Object.defineProperty(window, 'indexedDB', { get() { throw new Error('no'); } });"
+    browser.debug("Page.enable")
+    own = browser.debug("Page.addScriptToEvaluateOnNewDocument", source=source)["identifier"]
+    browser.go(proxy.url("/desk/"))
+    check("a browser that keeps nothing", browser.shows("This browser keeps nothing"), True)
+    shown = browser.js("return !document.getElementById('form').hidden")
+    check("sells nothing", shown, False)
+    browser.debug("Page.removeScriptToEvaluateOnNewDocument", identifier=own)
+    browser.go(proxy.url("/desk/"))
+    check("allowed to, it goes on", browser.shows("Ready."), True)
+
+
 def ends_shift(browser, proxy):
     """The totals begin again; nothing of the book changes."""
     browser.go(proxy.url("/desk/"))
@@ -397,6 +411,7 @@ def run(browser, proxy, server, folder, start, readable, speak):
     old_password(browser, proxy)
     umlauts(browser, proxy)
     earlier_page(browser, proxy)
+    no_store(browser, proxy)
     full_disk(folder, proxy)
     server.kill()
     rows = list(csv.reader(server.export("topups")))

@@ -75,6 +75,25 @@ return both.map((it) => [rows(it, "totals"), before(it)]);
 """
 
 
+# Five sales, the next one after so many milliseconds, whether or not the one before is done.
+FIVE = """
+const on = (id) => document.getElementById(id);
+const sell = (at) => {
+  on("desk").value = "K1";
+  on("desk").oninput();
+  on("account").value = "room " + at;
+  on("sum").value = "1.00";
+  on("form").requestSubmit();
+  on("yes").click();
+};
+for (let at = 0; at < 5; at++) setTimeout(() => sell(at), at * arguments[0]);
+"""
+SOLD = """
+return sendAgain().then(() => [kept.sales.filter(isSold).map((it) => it.voucher),
+  totalsOf(kept.sales, 1).map((it) => it.sum), kept.sales.length]);
+"""
+
+
 class Desk:
     """A stand-in for nginx and the desks. `modes` says how each book behaves."""
 
@@ -378,6 +397,38 @@ class Play:
         if shown == sold - back and all(it == books[0] for it in books):
             return None
         return {"shown": shown, "sold": sold, "back": back, "books": books, "done": self.done}
+
+
+def begin(browser, desk):
+    """Opens the page anew, and waits until it has sent what it kept."""
+    browser.open()
+    browser.go(f"http://localhost:{desk.port}/desk/")
+    for _ in range(600):
+        if browser.js("return window.timers === 2"):
+            return
+        time.sleep(0.05)
+    raise SystemExit("the page does not begin")
+
+
+def cuts(browser, count, seed):
+    """Ends the browser so many times amid sales, as a power cut does: what the book took counts."""
+    desk, chance = Desk(), random.Random(seed)
+    try:
+        for _ in range(count):
+            begin(browser, desk)
+            browser.js(FIVE, chance.randrange(1, 60))
+            time.sleep(chance.random() * 0.3)
+            browser.cut()
+        begin(browser, desk)
+        listed, sums, kept = browser.js(SOLD)
+        taken = desk.credits[""]
+        name = f"{count} browsers that were killed amid sales: the list has what the book took"
+        check(name, (sorted(listed), kept), (sorted(taken), len(taken)))
+        check("and so have the totals", sums, [sum(it[1] for it in taken.values())])
+        check("some were sold", len(taken) > count, True)
+    finally:
+        browser.cut()
+        desk.end()
 
 
 def play(browser, count, seed):

@@ -172,6 +172,7 @@ def shards(folder):
         browser.log_in("anna", "anna-has-a-pass")
         browser.go(site.proxy.url("/desk/"))
         browser.shows("anna", "#cashier")
+        shards_away(browser)
         shards_by_page(browser)
         first.kill(), second.kill()
         sums = [it.split(",", 1)[1] for it in topups(second)]
@@ -181,6 +182,15 @@ def shards(folder):
     finally:
         browser.kill()
         site.end()
+
+
+def shards_away(browser):
+    """14 of the 16 books have no server: the page says of which nobody knows who is overdrawn."""
+    away = ", ".join(it for it in ALL_SHARDS if it not in SHARD_BOOKS)
+    said = browser.shows(f"Not all books can be reached just now: {away}.", "#message", 20)
+    check("the page names the books that are away", said, True)
+    known = browser.text("#over").strip()
+    check("and whose overdrawn accounts are not known", known, f"Not known of {away}.")
 
 
 def shards_by_page(browser):
