@@ -94,6 +94,7 @@ ALLOWED = {
     },
     "docs/DESK.md": {
         **each("Debian's packages", "fcgiwrap", "fonts-dejavu-core"),
+        "adm": "a group of the system",
         "ignoreip": "fail2ban's own",
         **each("nginx' paths", "/desk/", "/redeem/"),
         "settings.json": "radacctd-pages makes it",
