@@ -177,13 +177,13 @@ def names_of_the_tools():
 
 
 # Octets of which names are made at random: parts of characters, marks, white space.
-PIECES = [bytes([it]) for it in b" '%{1E+.,aM\t\x7f\xc2\xa0\xe2\x80\x83\xf0\x9f\xed\x8f\xbf\xc0\xf4"]
+PIECES = b" '%{1E+.,aM\t\x7f\xc2\xa0\xe2\x80\x83\xf0\x9f\xed\x8f\xbf\xc0\xf4"
 NAMES = [
-    *(b"al", b"room 12, 50%", "Müller".encode(), b"AL", b"o'brien", b"a\\b", b'a"b', b"% {", b"E+4"),
+    *(b"al", b"room 12, 50%", "Müller".encode(), b"AL", b"o'brien", b"a\\b", b'a"b', b"% {"),
     *(b"%{User-Name}", b"a%{", b"%%{Class}b", b"'anton", b"1.23457E+11", b"1,2E+9", b"12E+4"),
     *(b" al", b"al ", "\u2003al".encode(), "al\u00a0".encode(), "\ufeffal".encode(), b"a\nb"),
     *(b"\xff", b"\xc0\xaf", b"\xed\xa0\x80", b"\xf4\x90\x80\x80", b"a\x00b", b"x" * 253),
-    *("ü".encode() * 126, b"=1+2", "😀".encode(), "a\u2003b".encode(), b"-x", b"&User-Name"),
+    *("ü".encode() * 126, b"=1+2", "😀".encode(), "a\u2003b".encode(), b"-x", b"&User-Name", b"E+4"),
 ]
 
 
@@ -191,7 +191,7 @@ NAMES = [
 def names(folder):
     """Who could not be charged does not log in: the rule of radacctd's tools, name by name."""
     rule, rng = names_of_the_tools(), random.Random(4)
-    tried = [*NAMES, *(b"".join(rng.choices(PIECES, k=rng.randint(1, 9))) for _ in range(400))]
+    tried = [*NAMES, *(bytes(rng.choices(PIECES, k=rng.randint(1, 9))) for _ in range(400))]
     tried = list(dict.fromkeys(tried))
     book = types.SimpleNamespace(radius=1, balances=os.path.join(folder, "balances.csv"))
     with open(book.balances, "w", encoding="ascii", newline="") as file:

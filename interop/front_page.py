@@ -12,6 +12,7 @@ FOLDER = "/var/lib/radacctd-balances"
 COUNTS = "/var/lib/radacctd-front/radacctd-front.prom"
 SILVER = pair_page.PLAN.format("silver", 1 << 20, 3)
 MIKROTIK = "Mikrotik-Total-Limit = "
+SPENT = "Your allowance is spent."
 UNITS = ("radacctd-mirror", "radacctd-front")
 
 
@@ -59,7 +60,7 @@ def set_up(box, staged):
 
 
 def plans(box):
-    """A plan that waits is in force nowhere, and one that was added everywhere, with no more steps."""
+    """A plan that waits is in force nowhere; one that was added everywhere, with no more steps."""
     sell(box, "al", 5000)
     at_default = ("default", 1_000_000_000)
     waits_for("a Class without a plan is default", lambda: login(box, "al"), at_default, 60)
@@ -106,7 +107,7 @@ def units(box):
 def boots(box):
     """After a boot without radacctd: the last balances, from a mirror that is made anew."""
     sell(box, "poor", 2)
-    waits_for("who has less than a unit", lambda: login(box, "poor"), "Your allowance is spent.", 60)
+    waits_for("who has less than a unit", lambda: login(box, "poor"), SPENT, 60)
     box.must("systemctl disable radacctd; systemctl stop radacctd")
     box.must(f"touch -d '-5 minutes' {FOLDER}/balances.csv")
     box.reboot()
@@ -115,9 +116,10 @@ def boots(box):
     box.run("systemctl start freeradius")
     late = ("silver", 500 // 3 << 20)
     waits_for("who had money gets the quota of an outage", lambda: login(box, "al"), late, 90)
-    check("who was spent stays out", login(box, "poor"), "Your allowance is spent.")
+    check("who was spent stays out", login(box, "poor"), SPENT)
     box.must("systemctl enable --now radacctd")
-    waits_for("it is back: the whole quota", lambda: login(box, "al"), ("silver", 5000 // 3 << 20), 90)
+    whole = ("silver", 5000 // 3 << 20)
+    waits_for("it is back: the whole quota", lambda: login(box, "al"), whole, 90)
 
 
 def follow(box, staged):

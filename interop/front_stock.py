@@ -140,10 +140,8 @@ class Stock:
         path = os.path.join(self.raddb, "radacctd/access-servers.conf")
         subprocess.run(["sed", "-i", f"s/change-me-access-points/{SECRET}/", path], check=True)
         edited(self.raddb, "clients.conf", "client localhost {", "client nobody {")
-        subprocess.run(
-            ["sed", "-i", r"s/ipaddr = 127.0.0.1/ipaddr = 192.0.2.1/", f"{self.raddb}/clients.conf"],
-            check=True,
-        )
+        words = ["sed", "-i", "s/ipaddr = 127.0.0.1/ipaddr = 192.0.2.1/"]
+        subprocess.run([*words, f"{self.raddb}/clients.conf"], check=True)
         mirror = os.path.join(self.folder, "run", "balances.db")
         path = os.path.join(self.raddb, "radacctd/settings.conf")
         with open(path, encoding="utf-8") as file:
@@ -206,7 +204,8 @@ def tunnels(folder):
         radius.start()
         got = [radius.login("al", *method) for method in METHODS]
         check("without the step in the inner tunnel: refused", got, len(METHODS) * [None])
-        check("with a reason", radius.said().count("radacctd_login is missing in the inner") > 0, True)
+        reason = "radacctd_login is missing in the inner tunnel"
+        check("with a reason", reason in radius.said(), True)
         front.written(os.path.join(radius.raddb, INNER), kept)
         other_settings(radius)
     finally:
@@ -234,7 +233,8 @@ def other_settings(radius):
         text = file.read()
     check("Debian's eap takes no reply from a tunnel", text.count("use_tunneled_reply = no"), 2)
     for setting in ("no", "yes"):
-        front.written(path, text.replace("use_tunneled_reply = no", f"use_tunneled_reply = {setting}"))
+        line = f"use_tunneled_reply = {setting}"
+        front.written(path, text.replace("use_tunneled_reply = no", line))
         radius.start()
         for method in METHODS:
             got = radius.login(SPACED, *method)
