@@ -135,3 +135,48 @@ def steps(folder):
         found = moments(book)
         off = {it: found.get(it, 0) - moment for it, moment in sent.items()}
         check("each at its moment", {it: s for it, s in off.items() if abs(s) > NEAR}, {})
+
+
+def of_another_boot(radius, moment=None):
+    """Makes what waits that of an earlier boot, at times one whose clock was not set."""
+    for path in front.files_in(radius.queue):
+        with open(path, encoding="latin-1") as file:
+            text = re.sub(r'(\tTmp-String-4 = ")[^/]*', r"\g<1>another", file.read())
+        if moment is not None:
+            text = re.sub(r"\tTimestamp = \d+", f"\tTimestamp = {moment}", text)
+        front.written(path, text)
+
+
+@part
+def boots(folder):
+    """Reports of an earlier boot are dated by the time of day; what cannot be dated waits."""
+    with both(folder, settings=[("oldest_report", "60")]) as (book, radius):
+        begun = int(time.time())
+        for number, moment in enumerate((None, 1000)):
+            book.kill()
+            check("a report is answered", told(radius, packet_of(f"V-{number}", b"bo", 1)), True)
+            radius.kill()
+            of_another_boot(radius, moment)
+            radius.start()
+            book.start()
+            if moment is None:
+                waits_for("it is charged", lambda: book.balance("bo"), -10)
+        mark = os.path.join(folder, "run", "radacctd-queue.undated")
+        waits_for("one without a moment waits", lambda: os.path.exists(mark), True)
+        time.sleep(6)
+        found = book.balance("bo"), count_in(radius.unsent)
+        check("and is neither charged nor filed", found, (-10, 0))
+        check("one line says so", radius.logged().count("it waits, and so do those behind it"), 1)
+        restarted_without_limit(radius)
+        waits_for("without a limit it is charged", lambda: book.balance("bo"), -20)
+        late = [it for it in moments(book).values() if not begun - 1 <= it <= time.time() + 1]
+        check("each at its moment, or at that of sending", late, [])
+
+
+def restarted_without_limit(radius):
+    path = os.path.join(radius.raddb, "radacctd", "settings.conf")
+    with open(path, encoding="utf-8") as file:
+        text = file.read()
+    radius.kill()
+    front.written(path, text.replace("oldest_report = 60", "oldest_report = 0"))
+    radius.start()

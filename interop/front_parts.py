@@ -138,6 +138,7 @@ def told_in_pieces(radius, book):
 NAMES = ["&User-Name", "% {", "a\\b", "Müller", "%{User-Name}", "a%{", "%%{Class}b", "a'b\"c\\n"]
 NAMES = [it.encode() for it in NAMES]
 NAMES += [b"\xff\xfe", b"a\nTimestamp = 0", b" a ", b"#", b"a, b = c", bytes(range(1, 254)), b"a\0b"]
+NAMES += [b"\xff" * 253, b'"' * 253, b"%" * 253, b"\\" * 253]
 
 
 @part

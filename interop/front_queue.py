@@ -178,6 +178,7 @@ REPORTS = int(os.environ.get("REPORTS", "4000"))
 EACH = int(os.environ.get("EACH", "1"))
 ALONE = min(REPORTS, 4000)
 LOGINS = 3000
+SYNCS = 100
 MONEY = 10**9
 
 
@@ -192,6 +193,7 @@ def used(letter, count):
 
 def rates(folder):
     """How fast reports are taken, and the queue drains with one reader and with eight."""
+    print(f"         one sync of the queue's disk: {sync_time(folder):.2f} ms", flush=True)
     print(f"         {EACH} reports a session, load {os.getloadavg()[0]:.1f}", flush=True)
     with both(folder) as (book, radius):
         book.sell("bo", MONEY, "V-1")
@@ -203,6 +205,16 @@ def rates(folder):
         for turn, number in enumerate((1, len(READERS))):
             restarted(radius, path, text.replace("readers = 8", f"readers = {number}"))
             queue_rates(book, radius, turn, number)
+
+
+def sync_time(folder):
+    """How long a write of a record's size takes until it is on the disk, in milliseconds."""
+    with open(os.path.join(folder, "sync"), "wb", buffering=0) as file:
+        begun = time.monotonic()
+        for _ in range(SYNCS):
+            file.write(bytes(600))
+            os.fdatasync(file.fileno())
+    return (time.monotonic() - begun) / SYNCS * 1000
 
 
 def queue_rates(book, radius, turn, number):
