@@ -1,0 +1,351 @@
+"""The site of interop/promise: FreeRADIUS in front of a book, a second book that gets the sales
+alone, the outbox of both, and printed codes. Each program may be killed at any moment, and
+FreeRADIUS and its book have clocks that the test sets.
+"""
+
+import contextlib
+import csv
+import glob
+import http.client
+import json
+import os
+import re
+import signal
+import socket
+import subprocess
+import threading
+import time
+
+import front
+from front import KILL, ROOT
+from promise_disk import Small
+from promise_model import PLANS, SECONDS
+
+TOOLS = os.path.join(ROOT, "etc", "tools")
+OUTBOX = os.path.join(ROOT, "etc", "pair", "radacctd-outbox")
+CASHIER = KILL.CASHIER
+FAKETIME = "/usr/lib/*/faketime/libfaketimeMT.so.1"
+# How long a program may take to start, in seconds.
+STARTS = 180
+# The queue's file system: its MiB and inodes.
+MEBIBYTES, INODES = 96, 512
+URL = "https://accounts.example.org"
+
+
+class Clock:
+    """How far the clock of some programs is off, in seconds."""
+
+    def __init__(self, folder, name):
+        self.path, self.off = os.path.join(folder, f"clock-{name}"), 0
+        self.set(0)
+
+    def set(self, seconds):
+        with open(self.path + ".new", "w", encoding="ascii") as file:
+            file.write(f"{seconds:+d}\n")
+        os.rename(self.path + ".new", self.path)
+        self.off = seconds
+
+    def environment(self):
+        library = glob.glob(FAKETIME)
+        if not library:
+            raise SystemExit("libfaketime is missing: the package faketime has it")
+        own = {
+            "LD_PRELOAD": library[0],
+            "FAKETIME_TIMESTAMP_FILE": self.path,
+            "FAKETIME_CACHE_DURATION": "1",
+            "FAKETIME_DONT_FAKE_MONOTONIC": "1",
+            "DONT_FAKE_MONOTONIC": "1",
+            "NO_FAKE_STAT": "1",
+        }
+        return {**os.environ, **own}
+
+
+class Killed:
+    """A program that is killed and started again. One at a time does so."""
+
+    def __init__(self):
+        self.lock, self.process, self.kills = threading.RLock(), None, 0
+
+    def is_up(self):
+        return self.process is not None and self.process.poll() is None
+
+    def kill(self, signal_=signal.SIGKILL):
+        if self.is_up():
+            self.process.send_signal(signal_)
+        if self.process is not None:
+            self.process.wait()
+            if self.process.stdout:
+                self.process.stdout.close()
+        self.process = None
+
+    def begin(self, words, errors, environment=None):
+        """Starts it, and waits until it says that it serves."""
+        with open(errors, "ab") as file:
+            self.process = subprocess.Popen(
+                words, stdout=subprocess.PIPE, stderr=file, text=True, env=environment
+            )
+        line = self.process.stdout.readline()
+        if line != "serving\n":
+            raise SystemExit(f"{words[0]} does not serve: {line!r}")
+
+    def kill_and_start(self, pause):
+        """A kill that counts, and a start after a pause."""
+        with self.lock:
+            self.kill()
+            self.kills += 1
+            time.sleep(pause)
+            self.start()
+
+
+class Book(Killed, front.Book):
+    """radacctd over a book."""
+
+    def __init__(self, folder, clock):
+        Killed.__init__(self)
+        os.makedirs(folder)
+        self.folder, self.own_clock, self.more = folder, clock, []
+        front.Book.__init__(self, folder)
+        self.errors = os.path.join(folder, "errors")
+        self.has_clock = self.takes_clock()
+
+    def configuration(self):
+        name, address = front.FRONT
+        client = f'name = "{name}"\naddress = "{address}"\nsecret = "{front.BOOK_SECRET}"\n'
+        text = f"[[client]]\n{client}"
+        for plan, (block, unit, mode) in PLANS.items():
+            count = "in" if mode == SECONDS else mode
+            text += f'[[plan]]\nclass = "{plan.decode()}"\nblock = {block}\nunit = {unit}\n'
+            text += f'count = "{count}"\n'
+        return text + f'[[key]]\ntoken = "{CASHIER}"\ncashier = true\n'
+
+    def words(self, command, *more):
+        return [KILL.PROGRAM, command, "--config", self.config, "--db", self.book, *more]
+
+    def environment(self):
+        return self.own_clock.environment() if self.has_clock else None
+
+    def takes_clock(self):
+        """Whether the program believes such a clock: by one of next year a cutoff of yesterday is
+        not too late. One that is linked statically, or checks its addresses, does not.
+        """
+        self.own_clock.set(400 * 86_400)
+        words = self.words("forward", "--at", str(int(time.time()) - 86_400), "--yes")
+        done = subprocess.run(words, capture_output=True, env=self.own_clock.environment())
+        self.own_clock.set(0)
+        return done.returncode == 0
+
+    def start(self, *_):
+        self.put_plans()
+        words = self.words("serve", "--radius-port", str(self.radius), "--quiet")
+        words += ["--desk-port", str(self.desk), "--balances", self.balances]
+        words += ["--balances-every", "1", *self.more]
+        self.begin(words, self.errors, self.environment())
+
+    def stop(self):
+        """As systemctl does."""
+        self.kill(signal.SIGTERM)
+
+    def exported(self, what):
+        done = subprocess.run(self.words("export", what), capture_output=True, text=True)
+        if done.returncode:
+            raise SystemExit(f"export {what}: {done.stderr}")
+        return done.stdout
+
+
+class FreeRadius(Killed, front.FreeRadius):
+    """FreeRADIUS with the shipped files, whose queue is on a file system of its own."""
+
+    def __init__(self, folder, book, clock, settings):
+        Killed.__init__(self)
+        self.own_clock = clock
+        self.disk = Small(folder, os.path.join(folder, "radacct"), MEBIBYTES, INODES)
+        # Whoever looks at the files of the disk, or takes it away.
+        self.looks = threading.RLock()
+        front.FreeRadius.__init__(self, folder, book, settings=settings)
+        self.process = None
+
+    def start(self):
+        begun = os.path.getsize(self.log) if os.path.exists(self.log) else 0
+        environment = self.own_clock.environment()
+        null = subprocess.DEVNULL
+        self.process = subprocess.Popen(
+            self.words("-f"), stdout=null, stderr=null, env=environment
+        )
+        end = time.monotonic() + STARTS
+        while not self.is_ready(begun):
+            if time.monotonic() > end or self.process.poll() is not None:
+                raise SystemExit(f"FreeRADIUS does not start: {self.tail()}")
+            time.sleep(0.02)
+
+    def is_ready(self, begun):
+        if not os.path.exists(self.log):
+            return False
+        with open(self.log, "rb") as file:
+            file.seek(begun)
+            return b"Ready to process requests" in file.read()
+
+    def tail(self):
+        return "".join(self.logged().splitlines(True)[-20:])
+
+    def cut(self, how, seed, pause):
+        """The power of the queue's disk goes, whatever FreeRADIUS does just then, and comes back.
+        What it has sent by then counts as answered, and nothing later.
+        """
+        with self.lock, self.looks:
+            if self.is_up():
+                self.process.send_signal(signal.SIGSTOP)
+            time.sleep(0.02)
+            lost = self.disk.cut(how, seed)
+            self.kill()
+            time.sleep(pause)
+            self.disk.back()
+            self.start()
+        return lost
+
+    def records(self, folder):
+        """The records of the files in a folder, as the lines of each."""
+        with self.looks:
+            found = []
+            for path in front.files_in(folder):
+                with contextlib.suppress(FileNotFoundError), open(path, "rb") as file:
+                    found += [it for it in file.read().split(b"\n\n") if b"\tTimestamp" in it]
+            return found
+
+    def queued(self):
+        """How many reports wait. The mark of one that was sent on is Donestamp."""
+        return len(self.records(self.queue))
+
+
+class Outbox(Killed):
+    """The outbox of both desks."""
+
+    def __init__(self, folder, desks):
+        super().__init__()
+        self.port = KILL.free_port(socket.SOCK_STREAM)
+        self.keys = os.path.join(folder, "keys")
+        with open(os.open(self.keys, os.O_CREAT | os.O_WRONLY, 0o600), "w") as file:
+            file.write(CASHIER + "\n")
+        places = [f"127.0.0.1:{port}" for port in desks]
+        self.errors = os.path.join(folder, "outbox-errors")
+        self.command = [OUTBOX, "--listen", f"127.0.0.1:{self.port}", "--key-file", self.keys]
+        self.command += ["--db", os.path.join(folder, "outbox.db")]
+        self.command += ["--own", places[0], "--other", places[1]]
+
+    def start(self):
+        self.begin(self.command, self.errors)
+
+    def waits(self):
+        """How many vouchers wait for a desk, or None if it does not say."""
+        try:
+            caller = http.client.HTTPConnection("127.0.0.1", self.port, timeout=5)
+            caller.request("GET", "/waiting")
+            return sum(json.loads(caller.getresponse().read())["waiting"].values())
+        except (OSError, ValueError, KeyError, http.client.HTTPException):
+            return None
+
+
+class Codes:
+    """Printed codes, and the program that redeems one."""
+
+    def __init__(self, folder, key):
+        self.folder, self.key, self.kills, self.runs = os.path.join(folder, "codes"), key, 0, 0
+        self.second = os.path.join(folder, "withdrawn", "withdrawn.csv")
+        self.settings = os.path.join(folder, "settings.json")
+        os.makedirs(self.folder)
+        os.makedirs(os.path.dirname(self.second))
+        self.stock = os.path.join(self.folder, "stock.csv")
+        with open(self.settings, "w", encoding="utf-8") as file:
+            json.dump({"name": "Hotel", "currency": "EUR", "decimals": 2, "url": URL}, file)
+
+    def print(self, count, total):
+        """So many codes of a sum in units of the book, which it returns."""
+        before = set(self.codes())
+        words = [os.path.join(TOOLS, "radacctd-vouchers"), "--stock", self.stock, "--yes"]
+        words += ["--second", self.second, "--settings", self.settings, "--to", self.folder]
+        words += ["--count", str(count), "--sum", f"{total // 100}.{total % 100:02d}"]
+        done = subprocess.run(words, capture_output=True, text=True, stdin=subprocess.DEVNULL)
+        if done.returncode:
+            raise SystemExit(f"radacctd-vouchers: {done.stderr}")
+        for path in glob.glob(os.path.join(self.folder, "vouchers-*")):
+            os.remove(path)
+        return sorted(set(self.codes()) - before)
+
+    def codes(self):
+        if not os.path.exists(self.stock):
+            return []
+        with open(self.stock, encoding="ascii", newline="") as file:
+            return [row["code"] for row in csv.DictReader(file)]
+
+    def redeem(self, body, desks, kill_after=None):
+        """The status and the object that it answers, or none if it was killed before."""
+        own = {
+            "CONTENT_LENGTH": str(len(body)),
+            "REQUEST_METHOD": "POST",
+            "RADACCTD_STOCK": self.stock,
+            "RADACCTD_WITHDRAWN": self.second,
+            "RADACCTD_KEY": self.key,
+            "RADACCTD_DESKS": ",".join(f"127.0.0.1:{port}" for port in desks),
+        }
+        pipe = subprocess.PIPE
+        words = [os.path.join(TOOLS, "radacctd-redeem")]
+        process = subprocess.Popen(
+            words, stdin=pipe, stdout=pipe, stderr=subprocess.DEVNULL, env={**os.environ, **own}
+        )
+        self.runs += 1
+        try:
+            said, _ = process.communicate(body, kill_after)
+        except subprocess.TimeoutExpired:
+            process.kill()
+            said, _ = process.communicate()
+            self.kills += 1
+        found = re.match(rb"Status: (\d+) .*?\r\n\r\n(.*)", said, re.DOTALL)
+        return (int(found[1]), json.loads(found[2])) if found else (0, {})
+
+
+class Site:
+    """All of it."""
+
+    def __init__(self, folder):
+        self.folder = folder
+        self.clocks = {it: Clock(folder, it) for it in ("front", "book", "other")}
+        self.book = Book(os.path.join(folder, "a"), self.clocks["book"])
+        self.other = Book(os.path.join(folder, "b"), self.clocks["other"])
+        settings = [("oldest_report", "0"), ("time_classes", '"^hour$"')]
+        self.radius = FreeRadius(folder, self.book, self.clocks["front"], settings)
+        self.outbox = Outbox(folder, self.desks())
+        self.codes = Codes(folder, self.outbox.keys)
+
+    def desks(self):
+        return self.book.desk, self.other.desk
+
+    def start(self):
+        done = self.radius.is_right()
+        if done.returncode:
+            raise SystemExit(f"FreeRADIUS takes not the files: {done.stdout[-2000:]}")
+        for it in (self.book, self.other, self.outbox, self.radius):
+            it.start()
+        self.radius.mirrors(self.book)
+
+    def limit(self, days):
+        """From now on a report is too old after so many days."""
+        self.radius.kill()
+        self.book.stop()
+        path = os.path.join(self.radius.raddb, "radacctd", "settings.conf")
+        with open(path, encoding="utf-8") as file:
+            text = file.read().replace("oldest_report = 0", f"oldest_report = {days}")
+        front.written(path, text)
+        self.book.more = ["--oldest-report", str(days)]
+        self.book.start()
+        self.radius.start()
+
+    def end(self):
+        for it in (self.radius, self.outbox, self.book, self.other):
+            with contextlib.suppress(ProcessLookupError):
+                it.kill()
+        mirroring = self.radius.mirroring
+        if mirroring is not None and mirroring.poll() is None:
+            mirroring.kill()
+            mirroring.wait()
+        self.radius.disk.end()
+
+
