@@ -5,6 +5,7 @@ The desk is a stand-in on loopback. It goes away, loses answers, and holds them 
 them go. The model knows which answers arrived and in which shift, and nothing of the page's script.
 """
 
+import contextlib
 import json
 import os
 import random
@@ -41,6 +42,8 @@ const until = async (is) => {
 const isQuiet = (it) => {
   try { return it.timers === 2 && !it.eval("sending.size"); } catch { return false; }
 };
+// A page that is about to go is not taken for the one that comes.
+const reload = (it) => { it.timers = 0; it.location.reload(); };
 const quiet = () => until(() => both.every(isQuiet));
 const on = (it, id) => it.document.getElementById(id);
 const texts = (row) => [...row.cells].map((it) => it.textContent);
@@ -65,8 +68,8 @@ RESET = """
 for (const it of both) it.eval("store.onclose = null; store.close()");
 await new Promise((go) => { indexedDB.deleteDatabase("desk").onsuccess = go; });
 localStorage.clear();
-other.location.reload();
-location.reload();
+reload(other);
+reload(window);
 """
 SHOWN = """
 for (const it of both) { await it.readStore(); it.draw(); }
@@ -125,6 +128,8 @@ class Desk:
         self.credits = {it: {} for it in books}
         # Each request of a sale: book, number, status, whether the answer arrived, and the cashier.
         self.asked, self.held = [], threading.Event()
+        # Those whose page was left before they were answered: it got nothing.
+        self.left = []
 
     def end(self):
         self.held.set()
@@ -181,14 +186,10 @@ class Desk:
         if mode in ("lost", "dead"):
             to.close_connection = True
             return to.connection.close()
-        try:
+        # Said before it is sent: the page may show it before this thread goes on.
+        line[3] = not any(it is line for it in self.left)
+        with contextlib.suppress(OSError):
             self.send(to, status or 503, "application/json", b'{"result":"new"}')
-            # A page that was left in the meantime got nothing.
-            line[3] = mode != "held" or not self.is_left
-        except OSError:
-            pass
-
-    is_left = False
 
 
 class Model:
@@ -243,7 +244,7 @@ class Play:
         return self.browser.js(HELPERS.replace("BODY", body), *words)
 
     def reload_both(self):
-        self.browser.js("window.open('', 'second').location.reload(); location.reload()")
+        self.run("reload(other); reload(window);")
 
     def look(self):
         """What is wrong with what the windows show, if anything."""
@@ -334,11 +335,11 @@ class Play:
         return self.run(body + "await it.readStore(); return is;", self.any(), number, text)
 
     def reload(self):
-        self.run("both[words[0]].location.reload();", self.any())
+        self.run("reload(both[words[0]]);", self.any())
 
     def left(self):
         """The window is loaded again while its sale is in flight: the answer is lost."""
-        self.in_flight("other.location.reload();", is_left=True)
+        self.in_flight("reload(other);", is_left=True)
 
     def ended_meanwhile(self):
         """The other window ends the shift while a sale is in flight: it counts in the next one."""
@@ -348,12 +349,15 @@ class Play:
 
     def in_flight(self, act, is_left=False):
         was, self.desk.modes = self.desk.modes, dict.fromkeys(self.desk.books, "held")
-        self.desk.held, self.desk.is_left = threading.Event(), is_left
+        self.desk.held, before = threading.Event(), len(self.desk.asked)
         self.sent(1, "sell(other, ...words[0]);", self.sale())
+        # What the page sends from now on is another request.
+        self.desk.modes = was
+        if is_left:
+            self.desk.left += self.desk.asked[before:]
         # Not run(): that waits until nothing is in flight.
         body = HELPERS.replace("await quiet(); BODY", act)
         self.browser.js(body, None, self.model.shift)
-        self.desk.modes = was
         self.desk.held.set()
 
     def step(self):
