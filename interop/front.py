@@ -380,6 +380,8 @@ class FreeRadius:
         said = self.radclient("auth", self.auth, source, words)
         reply = said[said.find("Received") :]
         pairs = dict(re.findall(r'\t([A-Za-z0-9-]+) = "?([^"\n]*)"?', reply))
+        # FreeRADIUS 3.2.7 shows it.
+        pairs.pop("Message-Authenticator", None)
         return "Received Access-Accept" in said, pairs
 
     def waiting(self):
