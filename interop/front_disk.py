@@ -18,7 +18,17 @@ import time
 
 import front
 from front import MEBIBYTE, check, waits_for
-from front_parts import Missing, Sender, both, count_in, packet_of, part
+from front_parts import (
+    Missing,
+    Sender,
+    attribute,
+    both,
+    count_in,
+    packet_of,
+    part,
+    queue_again,
+    waited,
+)
 
 KINDS = ["ext4", "xfs", "btrfs", "overlay", "tmpfs"]
 # In MiB: the least that mkfs takes.
@@ -368,3 +378,24 @@ def tear(radius, rng):
         if rng.random() < 0.5:
             with open(path, "ab") as file:
                 file.write(HALF[: rng.randrange(1, len(HALF))])
+
+
+@part
+def filing(folder):
+    """A report is filed on the disk, or neither answered nor taken out of the queue."""
+    with both(folder, settings=[("oldest_report", "60")]) as (book, radius):
+        away = radius.unsent + "-away"
+        os.rename(radius.unsent, away)
+        front.written(radius.unsent, "no folder")
+        old = packet_of("L-1", b"bo", 1, 2) + attribute(41, (61 * 86_400).to_bytes(4, "big"))
+        check("one that is too old isn't answered", sent(radius, [("127.0.2.1", old)])[0], [])
+        queue_again(radius, waited("L-2", 61) + waited("L-3", 1))
+        time.sleep(8)
+        check("one that waited waits on", count_in(radius.queue), 2)
+        check("a mark says so", "fault" in marks(radius), True)
+        os.remove(radius.unsent)
+        os.rename(away, radius.unsent)
+        check("then the first is answered", len(sent(radius, [("127.0.2.1", old)])[0]), 1)
+        waits_for("the queue is empty", lambda: count_in(radius.queue), 0)
+        check("both are filed", count_in(radius.unsent), 2)
+        waits_for("and the third is charged", lambda: book.balance("bo"), -10)
