@@ -275,15 +275,21 @@ def certificates(folder):
         )
         check("guests need none", site.proxy.status("/me/balance", key=GUEST), 200)
         named = ("-u", "mallory:x", *body[:-1], body[-1].replace("C-1", "C-2"))
-        check("a login beside it", site.proxy.status("/desk/a/topups", *own, *named), 201)
-        head = site.proxy.curl("/desk/a/overruns", "-u", "mallory:x", *own)[1]
-        check("is not in the header", ("cn=anna" in head, "mallory" in head), (True, False))
-        check("nor one alone", site.proxy.status("/desk/a/topups", *named), 403)
-        time.sleep(0.2)
-        lines = site.proxy.log("radacctd-sales.log")
-        sold = [it["cashier"] for it in lines if it["status"] == 201]
-        check("the log names the certificate", sold, ["CN=anna", "CN=anna"])
-        lines += site.proxy.log("radacctd.log")
-        check("and nobody else", {it["cashier"] for it in lines}, {"CN=anna", ""})
+        beside_certificate(site.proxy, own, named)
     finally:
         site.end()
+
+
+def beside_certificate(proxy, own, named):
+    """A login that a request gives beside a certificate, or without one, is in no header or log."""
+    check("a login beside it", proxy.status("/desk/a/topups", *own, *named), 201)
+    head = proxy.curl("/desk/a/overruns", "-u", "mallory:x", *own)[1]
+    check("is not in the header", ("cn=anna" in head, "mallory" in head), (True, False))
+    check("nor does one alone sell", proxy.status("/desk/a/topups", *named), 403)
+    # nginx logs a request after its answer.
+    time.sleep(0.2)
+    lines = proxy.log("radacctd-sales.log")
+    sold = [it["cashier"] for it in lines if it["status"] == 201]
+    check("the log names the certificate", sold, ["CN=anna", "CN=anna"])
+    lines += proxy.log("radacctd.log")
+    check("and nobody else", {it["cashier"] for it in lines}, {"CN=anna", ""})
