@@ -45,6 +45,18 @@ def goes_on(site):
     return state_of(site) not in ("T", "") and site.asked() == 200
 
 
+def by_night(site):
+    """The unit of the night, shut in as it is, is watched by systemd, too."""
+    status = site.systemctl("start radacctd-nightly")[0]
+    told = site.box.must("journalctl --sync; journalctl -b -o cat -u radacctd-nightly")
+    check("a night's copy under its unit", (status, "is a sound copy" in told), (0, True))
+    check("is watched by systemd", "doesn't watch" in told, False)
+    if status or "doesn't watch" in told:
+        print(told[-800:])
+    started = site.box.must("journalctl -b -o cat | grep -c 'Started.*Lets radacctd go on'")
+    check("which started a guard for each", int(started) > 8, True)
+
+
 def backups(site, runs=4, seed=11):
     """Backups that are killed and stopped."""
     box, rng = site.box, random.Random(seed)
@@ -55,15 +67,18 @@ def backups(site, runs=4, seed=11):
         for number in range(runs):
             check("the server answers before it", until(lambda: goes_on(site)), True)
             begin(site, f"{how}-{number}")
-            hits += hit(site, how, rng)
+            was_hit = hit(site, how, rng)
+            hits += was_hit
             begun = time.monotonic()
             until(lambda: goes_on(site), LONGEST + 5)
             waits.append(time.monotonic() - begun)
             box.run("systemctl kill --signal=KILL copy.service; systemctl reset-failed copy.service")
             until(lambda: box.run("systemctl is-active copy.service")[1].strip() != "active")
+            has_copy = not box.run(f"test -e /var/tmp/copied-{how}-{number}")[0]
+            check("one that was cut off has no name", was_hit and has_copy, False)
         print(f"         SIG{how} of all of a backup: {hits} of {runs} in a pause; the server stood "
               f"still for {max(waits):.1f} s at most")
         check(f"SIG{how} was sent while the server was stopped", hits > 0, True)
         check(f"after SIG{how} it goes on", max(waits) < LONGEST, True)
-    check("no copy has its name", box.run("ls -d /var/tmp/copied-*[0-9]")[0], 2)
+    by_night(site)
     box.must(f"rm -rf {SLOW} /var/tmp/copied-*")
