@@ -387,10 +387,10 @@ class Chaos:
         guests = [threading.Thread(target=self.guest, args=(it,)) for it in range(4)]
         for it in guests:
             it.start()
-        half = time.monotonic() + seconds / 2
+        soon = time.monotonic() + seconds / 4
         while time.monotonic() < self.end:
             self.disturb()
-            if time.monotonic() > half and not self.withdrawn:
+            if time.monotonic() > soon and not self.withdrawn:
                 self.withdraw()
         for it in guests:
             it.join()
