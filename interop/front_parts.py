@@ -499,7 +499,7 @@ class Sender:
                     sockets[source] = self.opened(source, poller)
                 opened = sockets[source]
                 free = next(i for i in range(256) if (opened.fileno(), i) not in flying)
-                flying[opened.fileno(), free] = [opened, attributes, 0, 0]
+                flying[opened.fileno(), free] = [opened, attributes, 0, 0, b""]
             self.send_late(flying, patience, tries)
             for number, _ in poller.poll(200):
                 done += self.heard(number, flying)
@@ -518,16 +518,16 @@ class Sender:
     def send_late(self, flying, patience, tries):
         now = time.monotonic()
         for (number, identifier), entry in list(flying.items()):
-            opened, attributes, last, tried = entry
+            opened, attributes, last, tried, _ = entry
             if tried and now - last < patience:
                 continue
             if tried == tries:
                 del flying[number, identifier]
                 continue
-            entry[2:] = [now, tried + 1]
+            entry[2:] = [now, tried + 1, self.signed(identifier, attributes)]
             # The server may be down.
             with contextlib.suppress(ConnectionRefusedError):
-                opened.send(self.signed(identifier, attributes))
+                opened.send(entry[4])
 
     def heard(self, number, flying):
         count = 0
@@ -537,11 +537,17 @@ class Sender:
                 reply = opened.recv(4096)
             except (BlockingIOError, ConnectionRefusedError):
                 break
-            entry = flying.pop((number, reply[1]), None)
-            if entry is not None:
+            entry = flying.get((number, reply[1]))
+            # A late answer may be to an earlier report with this identifier.
+            if entry is not None and self.answers(reply, entry[4]):
+                del flying[number, reply[1]]
                 self.answered.add(entry[1])
                 count += 1
         return count
+
+    def answers(self, reply, sent):
+        digest = hashlib.md5(reply[:4] + sent[4:20] + reply[20:] + self.secret).digest()
+        return reply[4:20] == digest
 
 
 RADSEC = """
