@@ -1,7 +1,7 @@
 //! What is explained, and where it is written.
 use crate::config_faults::explain_config;
 use crate::files::{has_sums, why_unmade, why_unopened, why_unread};
-use crate::log_faults::{TO_DO, tell_damage};
+use crate::log_faults::{TO_DO, tell_damage, tell_lost};
 use acct_model::{LAST_MOMENT, Text};
 use acct_program::read_input;
 use acct_program_args::{
@@ -67,7 +67,9 @@ pub fn explain<R: Files, E: Write>(
             file,
             loses_commits,
         } => {
-            if loses_commits || !tell_damage(runtime, alloc, file.as_str(), TO_DO, errors) {
+            let is_told = tell_lost(runtime, alloc, file.as_str(), errors)
+                || (!loses_commits && tell_damage(runtime, alloc, file.as_str(), TO_DO, errors));
+            if !is_told {
                 let why = why_unopened(runtime, alloc, file.as_str());
                 tell(file.as_str(), why, errors);
             }
@@ -78,7 +80,9 @@ pub fn explain<R: Files, E: Write>(
             }
         }
         Explained::Unmade { file } => {
-            if !tell_damage(runtime, alloc, file.as_str(), "", errors) {
+            let is_told = tell_lost(runtime, alloc, file.as_str(), errors)
+                || tell_damage(runtime, alloc, file.as_str(), "", errors);
+            if !is_told {
                 let why = why_unmade(runtime, alloc, file.as_str());
                 tell(file.as_str(), why, errors);
             }

@@ -1,5 +1,5 @@
 //! What is known about a log that is damaged.
-use acct_sql_log::{Damage, damage_beside};
+use acct_sql_log::{Damage, damage_beside, has_lost_book, log_name};
 use std::alloc::Global;
 use std::fs::Files;
 use std::io::Write;
@@ -29,5 +29,26 @@ pub(crate) fn tell_damage<R: Files, E: Write>(
              there or behind it{to_do}"
         ),
     };
+    true
+}
+
+// If the log of a book is there without its book, writes one line that says so, and what to do.
+pub(crate) fn tell_lost<R: Files, E: Write>(
+    runtime: &R,
+    alloc: Global,
+    file: &str,
+    errors: &mut E,
+) -> bool {
+    if !has_lost_book(runtime, alloc, file) {
+        return false;
+    }
+    let Some(log) = log_name(runtime, alloc, file) else {
+        return false;
+    };
+    let _ = writeln!(
+        errors,
+        "explained: {file}: next to it is a log, {log}, of a book that is missing: put the book's \
+         file back; init would delete what the log has"
+    );
     true
 }

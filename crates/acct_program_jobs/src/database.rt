@@ -19,7 +19,9 @@ use crate::making::Making;
 use acct_model::{Plans, Text};
 use acct_program_commands::{Fault, StoreFault};
 use acct_sql::{SqlBook, SqlBookError};
-use acct_sql_log::{DATABASE_HEADER_OCTETS, LOG_HEADER_OCTETS, damage_beside};
+use acct_sql_log::{
+    DATABASE_HEADER_OCTETS, LOG_HEADER_OCTETS, damage_beside, has_lost_book, log_name,
+};
 use sqlite::{Connection, FileFrom, FileStore, Files, Start};
 use sqlite_disk::Disk;
 use std::alloc::Global;
@@ -39,10 +41,12 @@ pub type FileConnection<S> = Connection<FileStore<FileFrom<S>>>;
 /// # Errors
 ///
 /// `CannotOpen` if the file cannot be opened, or if its log is damaged, unless the commits from the
-/// damage on may be lost. `CannotOpen` too if an existing book's file is no regular one, has 1 to
-/// 99 octets, or is empty next to a log with frames. Else the error of `SqlBook::create`, `migrate`
-/// or `add_plans`. Each has what is left of the files. They hold what they held, except that a
-/// crash may leave the book that was to be made.
+/// damage on may be lost. `CannotOpen` too if a new book is to be made where none is, next to a log
+/// that has commits which no `init` made: it belongs to a book that is missing. No file is then
+/// made. `CannotOpen` too if an existing book's file is no regular one, has 1 to 99 octets, or is
+/// empty next to a log with frames. Else the error of `SqlBook::create`, `migrate` or `add_plans`.
+/// Each has what is left of the files. They hold what they held, except that a crash may leave the
+/// book that was to be made.
 pub fn made<S: Start>(
     runtime: &HostRuntime,
     making: Making,
@@ -57,10 +61,12 @@ pub fn made<S: Start>(
         HasNotMade making (image_at S.Start) plans.now e.0 e.1) }
 {
     let sums = making.sums();
-    if sums.is_none() && !may_be_database(runtime, file) {
-        return Err((Fault::CannotOpen, Left::Nothing));
-    }
-    if !is_readable(runtime, file, loses_commits) {
+    // The open of a file without a database would empty a log that belongs to a book.
+    let may_open = match sums {
+        Some(_) => !has_lost_book(runtime, runtime.alloc(), file.as_str()),
+        None => may_be_database(runtime, file),
+    };
+    if !may_open || !is_readable(runtime, file, loses_commits) {
         return Err((Fault::CannotOpen, Left::Nothing));
     }
     if sums.is_some() {
@@ -168,7 +174,7 @@ fn is_readable(runtime: &HostRuntime, file: &Text, loses_commits: bool) -> bool 
 // Whether the log of a database has a frame. If there is no memory for its name, it counts as
 // having one.
 fn has_log(runtime: &HostRuntime, file: &Text) -> bool {
-    let Ok(log) = format!(in runtime.alloc(); "{}-wal", file.as_str()) else {
+    let Some(log) = log_name(runtime, runtime.alloc(), file.as_str()) else {
         return true;
     };
     match metadata(runtime, log.as_str()) {

@@ -23,7 +23,7 @@ enum Asked {
 // What is done with which file, and what is printed.
 type Row = (Asked, &'static str, &'static str);
 
-static ROWS: [Row; 15] = [
+static ROWS: [Row; 17] = [
     (
         Asked::Config,
         "acct_explain_test/site",
@@ -80,6 +80,18 @@ static ROWS: [Row; 15] = [
          lost\n",
     ),
     (
+        Asked::Unmade,
+        "acct_explain_test/lost",
+        "explained: acct_explain_test/lost: next to it is a log, acct_explain_test/lost-wal, of a book \
+         that is missing: put the book's file back; init would delete what the log has\n",
+    ),
+    (
+        Asked::Unopened,
+        "acct_explain_test/lost",
+        "explained: acct_explain_test/lost: next to it is a log, acct_explain_test/lost-wal, of a book \
+         that is missing: put the book's file back; init would delete what the log has\n",
+    ),
+    (
         Asked::Lossy,
         "acct_explain_test/hurt",
         "explained: acct_explain_test/hurt: it is no SQLite database\n",
@@ -117,12 +129,17 @@ fn says_why_a_file_is_refused(rt: HostRuntime) -> Result<(), Fail> {
     fs::write(
         &rt,
         "acct_explain_test/hurt-wal",
-        damaged_log(rt.alloc(), [0; 8])?.as_slice(),
+        damaged_log(rt.alloc(), [0; 8], 2)?.as_slice(),
     )?;
     fs::write(
         &rt,
         "acct_explain_test/torn-wal",
-        damaged_log(rt.alloc(), SUM)?.as_slice(),
+        damaged_log(rt.alloc(), SUM, 2)?.as_slice(),
+    )?;
+    fs::write(
+        &rt,
+        "acct_explain_test/lost-wal",
+        damaged_log(rt.alloc(), SUM, 3)?.as_slice(),
     )?;
     fs::write(
         &rt,
@@ -148,14 +165,14 @@ fn is_said_of(rt: &HostRuntime, asked: Asked, file: &str, wanted: &str) -> Resul
 // The sum of the log's header, as Python computed it by SQLite's description of the format.
 const SUM: [u8; 8] = [213, 203, 3, 19, 143, 164, 218, 184];
 
-// A log of two commits of one page each, with this sum of its header. Both frames break theirs.
-fn damaged_log(alloc: Global, sum: [u8; 8]) -> Result<Vec<u8>, Fail> {
+// A log of so many commits of one page each, with this sum of its header. Each frame breaks its own.
+fn damaged_log(alloc: Global, sum: [u8; 8], commits: u8) -> Result<Vec<u8>, Fail> {
     let mut log = Vec::new(alloc);
     // The version 3007000, pages of 512 octets, and the salts 1 and 2.
     log.extend_from_slice(&[0x37, 0x7f, 6, 0x82, 0, 45, 226, 24, 0, 0, 2, 0, 0, 0, 0, 0])?;
     log.extend_from_slice(&[0, 0, 0, 1, 0, 0, 0, 2])?;
     log.extend_from_slice(&sum)?;
-    for _ in 0..2 {
+    for _ in 0..commits {
         log.extend_from_slice(&[0, 0, 0, 1, 0, 0, 0, 1, 0, 0, 0, 1, 0, 0, 0, 2])?;
         log.extend_from_slice(&[7; 520])?;
     }

@@ -17,6 +17,8 @@ mod explained_words;
 #[cfg(test)]
 mod files;
 #[cfg(test)]
+mod lost_books;
+#[cfg(test)]
 mod servers;
 #[cfg(test)]
 mod trial;

@@ -24,13 +24,15 @@
 #![tactic(auto)]
 
 mod beside;
+mod commits;
 mod damage;
 mod links;
 mod log_reader;
 mod scanner;
 mod sizes;
 
-pub use beside::damage_beside;
+pub use beside::{damage_beside, has_lost_book, log_name};
+pub use commits::{INIT_COMMITS, has_later_commits};
 pub use damage::Damage;
 pub use log_reader::{Unread, damage_in};
 pub use scanner::Scanner;

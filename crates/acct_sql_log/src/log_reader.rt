@@ -95,7 +95,7 @@ fn scan<R: Read>(
 
 // Fills a buffer from a reader, as far as that has octets. Returns how many it read. A read that
 // was interrupted is tried again.
-fn fill<R: Read>(reader: &mut R, buffer: &mut [u8]) -> Result<usize, Unread>
+pub(crate) fn fill<R: Read>(reader: &mut R, buffer: &mut [u8]) -> Result<usize, Unread>
     ensures within { IfOk result (λ count. count ≤ length buffer.new) }
     ensures taken { IfOk result (λ count.
         Consumes (R.remaining reader.old) (R.remaining reader.new) (take count buffer.new)) }

@@ -118,14 +118,14 @@ impl Scanner {
     }
 }
 
-fn both(one: bool, other: bool) -> bool
+pub(crate) fn both(one: bool, other: bool) -> bool
     ensures { result ≡ (one && other) }
 {
     one && other
 }
 
 // How many commits a frame ends.
-fn one_if(ends_commit: bool) -> u64
+pub(crate) fn one_if(ends_commit: bool) -> u64
     ensures count { result ≡ (if ends_commit then 1 else 0) }
     ensures few { result ≤ 1 }
 {
