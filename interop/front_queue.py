@@ -166,9 +166,9 @@ def kill_while_it_drains(book, radius, rng, what):
 
 
 def told(path):
-    """How many reports a server was sent, as it counts them."""
+    """How many datagrams a server was sent, as it counts them."""
     with open(path, encoding="ascii") as file:
-        found = re.search(r"^radacctd_reports_total (\d+)$", file.read(), re.MULTILINE)
+        found = re.search(r"^radacctd_datagrams_total (\d+)$", file.read(), re.MULTILINE)
     return int(found.group(1))
 
 

@@ -58,15 +58,18 @@ moments_text started_at last_event_at =
     ++ metric_text (codes "gauge") (codes "radacctd_last_event_time_seconds")
     (codes "When the last event came, in seconds since 1970, or 0.") last_event_at
 
--- how many reports and desk requests were received, and when the last ones were
-abbrev pub arrivals_text : Arrivals → Arrivals → List ℕ
-arrivals_text reports requests =
-    metric_text (codes "counter") (codes "radacctd_reports_total")
-    (codes "Datagrams that came.") reports.count
+-- how many datagrams and desk requests were received, how many of the datagrams were reports that
+-- were accepted, and when the last ones were received
+abbrev pub arrivals_text : Arrivals → ℕ → Arrivals → List ℕ
+arrivals_text datagrams reports requests =
+    metric_text (codes "counter") (codes "radacctd_datagrams_total")
+    (codes "Datagrams that came.") datagrams.count
+    ++ metric_text (codes "counter") (codes "radacctd_reports_total")
+    (codes "Reports that were accepted, new or sent again.") reports
     ++ metric_text (codes "counter") (codes "radacctd_desk_requests_total")
     (codes "Requests that came at the desk.") requests.count
     ++ metric_text (codes "gauge") (codes "radacctd_last_report_time_seconds")
-    (codes "When the last datagram came, in seconds since 1970, or 0.") reports.last_at
+    (codes "When the last datagram came, in seconds since 1970, or 0.") datagrams.last_at
     ++ metric_text (codes "gauge") (codes "radacctd_last_desk_request_time_seconds")
     (codes "When the last request came at the desk, in seconds since 1970, or 0.")
     requests.last_at
@@ -119,4 +122,4 @@ abbrev pub figures_text : Figures → List ℕ
 figures_text figures =
     tally_text figures.tally ++ drops_text figures.dropped
     ++ moments_text figures.started_at figures.last_event_at
-    ++ arrivals_text figures.reports figures.requests ++ state_text figures.state
+    ++ arrivals_text figures.datagrams figures.reports figures.requests ++ state_text figures.state

@@ -50,10 +50,10 @@ is_event (Ok None) = false
 is_event (Err fault) = false
 
 -- a turn received a datagram
-abbrev pub is_report : Result (Option Event) Fault → Bool
-is_report (Ok (Some event)) = is_datagram event.what
-is_report (Ok None) = false
-is_report (Err fault) = false
+abbrev pub has_datagram : Result (Option Event) Fault → Bool
+has_datagram (Ok (Some event)) = is_datagram event.what
+has_datagram (Ok None) = false
+has_datagram (Err fault) = false
 
 -- a turn received a request at the desk
 abbrev pub is_request : Result (Option Event) Fault → Bool
@@ -66,6 +66,12 @@ abbrev pub with_arrival : Bool → Result (Option Event) Fault → Arrivals → 
 with_arrival is_one came arrivals =
     if is_one then record { count = plus_one arrivals.count; last_at = last_event came arrivals.last_at }
     else arrivals
+
+-- The reports that were accepted, with an answer to this event. A datagram is answered exactly if it
+-- is a report that was accepted: it is in the book, or was there before.
+abbrev pub with_report : What → ℕ → ℕ
+with_report (Datagram source port bytes) reports = plus_one reports
+with_report (Desk bytes) reports = reports
 
 -- with a requested reply, which was taken or not
 abbrev pub with_reply : Bool → Tally → Tally

@@ -32,7 +32,10 @@ pub struct Figures {
     /// When the last event was received, in seconds since 1970: 0 if there was none yet.
     pub last_event_at: u64,
     /// The datagrams that were received.
-    pub reports: Arrivals,
+    pub datagrams: Arrivals,
+    /// The reports that were accepted, new or sent again: the datagrams that were answered. Each
+    /// other datagram was dropped.
+    pub reports: u64,
     /// The requests that the desk received.
     pub requests: Arrivals,
     /// What the server shows of its state.
@@ -123,7 +126,12 @@ fn write_parts<W: Write>(output: &mut W, figures: &Figures) -> io::Result<()>
     write_tally(output, &figures.tally)?;
     write_drops(output, &figures.dropped)?;
     write_moments(output, figures)?;
-    write_arrivals(output, &figures.reports, &figures.requests)?;
+    write_arrivals(
+        output,
+        &figures.datagrams,
+        figures.reports,
+        &figures.requests,
+    )?;
     write_state(output, &figures.state)?;
     Ok(())
 }
@@ -227,24 +235,29 @@ fn write_moments<W: Write>(output: &mut W, figures: &Figures) -> io::Result<()>
     write_metric(output, GAUGE, name, about, figures.last_event_at)
 }
 
-// Writes how many reports and desk requests were received, and when the last ones were.
+// Writes how many datagrams and desk requests were received, how many reports were accepted, and
+// when the last ones were received.
 fn write_arrivals<W: Write>(
     output: &mut W,
-    reports: &Arrivals,
+    datagrams: &Arrivals,
+    reports: u64,
     requests: &Arrivals,
 ) -> io::Result<()>
     ensures { OnOk result (Appends (W.contents output.old) (W.contents output.new)
-        (arrivals_text reports.now requests.now)) }
+        (arrivals_text datagrams.now reports requests.now)) }
 {
-    let name = "radacctd_reports_total";
+    let name = "radacctd_datagrams_total";
     let about = "Datagrams that came.";
-    write_metric(output, COUNTER, name, about, reports.count)?;
+    write_metric(output, COUNTER, name, about, datagrams.count)?;
+    let name = "radacctd_reports_total";
+    let about = "Reports that were accepted, new or sent again.";
+    write_metric(output, COUNTER, name, about, reports)?;
     let name = "radacctd_desk_requests_total";
     let about = "Requests that came at the desk.";
     write_metric(output, COUNTER, name, about, requests.count)?;
     let name = "radacctd_last_report_time_seconds";
     let about = "When the last datagram came, in seconds since 1970, or 0.";
-    write_metric(output, GAUGE, name, about, reports.last_at)?;
+    write_metric(output, GAUGE, name, about, datagrams.last_at)?;
     let name = "radacctd_last_desk_request_time_seconds";
     let about = "When the last request came at the desk, in seconds since 1970, or 0.";
     write_metric(output, GAUGE, name, about, requests.last_at)?;

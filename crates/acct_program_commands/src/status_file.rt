@@ -9,7 +9,7 @@ ghost use Rattle.acct_program_commands.specs.Tally.{no_tally, with_mute, with_ca
 ghost use Rattle.acct_program_commands.specs.Tally.{with_drop};
 ghost use Rattle.acct_program_commands.specs.Tally.{is_event, with_drop_for, last_event};
 ghost use Rattle.acct_program_commands.specs.Tally.{with_arrival};
-ghost use Rattle.acct_program_commands.specs.Tally.{is_report, is_request};
+ghost use Rattle.acct_program_commands.specs.Tally.{has_datagram, is_request, with_report};
 
 use crate::fault::Fault as Trouble;
 use crate::figures::{Figures, State, write_figures};
@@ -38,7 +38,8 @@ pub struct StatusFile<'r, R, E> {
     dropped: [u64; Reason::COUNT],
     started_at: u64,
     last_event_at: u64,
-    reports: Arrivals,
+    datagrams: Arrivals,
+    reports: u64,
     requests: Arrivals,
     state: StateSource<'r, R>,
     errors: E,
@@ -54,6 +55,7 @@ impl<'r, R, E: Drop> Drop for StatusFile<'r, R, E> {
             dropped: _,
             started_at: _,
             last_event_at: _,
+            datagrams: _,
             reports: _,
             requests: _,
             state: _,
@@ -140,7 +142,8 @@ impl<'r, R: Files, E: Write> StatusFile<'r, R, E> {
             dropped: [0; Reason::COUNT],
             started_at,
             last_event_at: 0,
-            reports: Arrivals::none(),
+            datagrams: Arrivals::none(),
+            reports: 0,
             requests: Arrivals::none(),
             state,
             errors,
@@ -153,6 +156,7 @@ impl<'r, R: Files, E: Write> StatusFile<'r, R, E> {
         ensures dropped { result.dropped ≡ self.now.dropped }
         ensures started { result.started_at ≡ self.now.started_at }
         ensures last { result.last_event_at ≡ self.now.last_event_at }
+        ensures datagrams { result.datagrams ≡ self.now.datagrams }
         ensures reports { result.reports ≡ self.now.reports }
         ensures requests { result.requests ≡ self.now.requests }
     {
@@ -161,6 +165,7 @@ impl<'r, R: Files, E: Write> StatusFile<'r, R, E> {
             dropped: self.dropped,
             started_at: self.started_at,
             last_event_at: self.last_event_at,
+            datagrams: self.datagrams,
             reports: self.reports,
             requests: self.requests,
             state: self.state.read(),
@@ -175,8 +180,9 @@ impl<'r, R: Files, E: Write> StatusFile<'r, R, E> {
         ensures dropped { self.new.dropped ≡ self.old.dropped }
         ensures last { self.new.last_event_at ≡ last_event came.now self.old.last_event_at }
         ensures started { self.new.started_at ≡ self.old.started_at }
-        ensures reports { self.new.reports
-            ≡ with_arrival (is_report came.now) came.now self.old.reports }
+        ensures datagrams { self.new.datagrams
+            ≡ with_arrival (has_datagram came.now) came.now self.old.datagrams }
+        ensures reports { self.new.reports ≡ self.old.reports }
         ensures requests { self.new.requests
             ≡ with_arrival (is_request came.now) came.now self.old.requests }
     {
@@ -188,19 +194,24 @@ impl<'r, R: Files, E: Write> StatusFile<'r, R, E> {
         if let Ok(Some(event)) = came {
             self.last_event_at = event.moment;
             match &event.what {
-                What::Datagram { .. } => self.reports = self.reports.and_at(event.moment),
+                What::Datagram { .. } => self.datagrams = self.datagrams.and_at(event.moment),
                 What::Desk { .. } => self.requests = self.requests.and_at(event.moment),
             }
         }
     }
 
-    // Counts a reply, which was taken or not.
-    pub(crate) fn note_reply(&mut self, is_taken: bool)
+    // Counts a reply to an event, which was taken or not.
+    pub(crate) fn note_reply(&mut self, event: &Event, is_taken: bool)
         ensures counts { self.new.meter.tally ≡ with_reply is_taken self.old.meter.tally }
         ensures answered { self.new.meter.is_unanswered ≡ false }
         ensures dropped { self.new.dropped ≡ self.old.dropped }
+        ensures reports { self.new.reports ≡ with_report event.now.what self.old.reports }
     {
         self.meter.note_reply(is_taken);
+        match &event.what {
+            What::Datagram { .. } => self.reports = self.reports.saturating_add(1),
+            What::Desk { .. } => {}
+        }
     }
 
     // Counts a drop.
@@ -208,6 +219,7 @@ impl<'r, R: Files, E: Write> StatusFile<'r, R, E> {
         ensures counts { self.new.meter.tally ≡ with_drop self.old.meter.tally }
         ensures answered { self.new.meter.is_unanswered ≡ false }
         ensures dropped { self.new.dropped ≡ with_drop_for reason self.old.dropped }
+        ensures reports { self.new.reports ≡ self.old.reports }
     {
         self.meter.note_drop();
         let place = reason.place();
@@ -220,6 +232,7 @@ impl<'r, R: Files, E: Write> StatusFile<'r, R, E> {
         ensures dropped { self.new.dropped ≡ self.old.dropped }
         ensures last { self.new.last_event_at ≡ self.old.last_event_at }
         ensures started { self.new.started_at ≡ self.old.started_at }
+        ensures datagrams { self.new.datagrams ≡ self.old.datagrams }
         ensures reports { self.new.reports ≡ self.old.reports }
         ensures requests { self.new.requests ≡ self.old.requests }
     {
@@ -240,6 +253,7 @@ impl<'r, R: Files, E: Write> StatusFile<'r, R, E> {
             dropped: _,
             started_at: _,
             last_event_at: _,
+            datagrams: _,
             reports: _,
             requests: _,
             state: _,

@@ -36,7 +36,7 @@ impl Tally {
     }
 }
 
-/// What was received of one kind: reports, or requests at the desk. The count stays at 2^64 - 1.
+/// What was received of one kind: datagrams, or requests at the desk. The count stays at 2^64 - 1.
 #[derive(Clone, Copy, PartialEq, Eq)]
 pub struct Arrivals {
     /// How many were received.

@@ -267,7 +267,7 @@ impl<'r, R: Clock + Files, X: Exchange, W: Write, E: Write + Drop> Exchange
             watch.note_reply(sent.is_ok());
         }
         if let Some(status) = &mut self.status {
-            status.note_reply(sent.is_ok());
+            status.note_reply(event, sent.is_ok());
         }
         sent
     }

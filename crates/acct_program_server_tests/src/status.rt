@@ -51,9 +51,12 @@ const TEXT: &str = "# HELP radacctd_events_total Datagrams and requests that cam
     When the last event came, in seconds since 1970, or 0.\n\
     # TYPE radacctd_last_event_time_seconds gauge\n\
     radacctd_last_event_time_seconds 1700003600\n\
-    # HELP radacctd_reports_total Datagrams that came.\n\
+    # HELP radacctd_datagrams_total Datagrams that came.\n\
+    # TYPE radacctd_datagrams_total counter\n\
+    radacctd_datagrams_total 701\n\
+    # HELP radacctd_reports_total Reports that were accepted, new or sent again.\n\
     # TYPE radacctd_reports_total counter\n\
-    radacctd_reports_total 701\n\
+    radacctd_reports_total 350\n\
     # HELP radacctd_desk_requests_total Requests that came at the desk.\n\
     # TYPE radacctd_desk_requests_total counter\n\
     radacctd_desk_requests_total 200\n\
@@ -101,7 +104,8 @@ fn writes_each_figure(rt: HostRuntime) -> Result<(), Fail> {
         dropped: [21, 22, 23, 24, 25, 26, 27, 28, 29, 30, 31, 32, 33, 35],
         started_at: 1_700_000_000,
         last_event_at: 1_700_003_600,
-        reports: arrivals(701, 1_700_003_600),
+        datagrams: arrivals(701, 1_700_003_600),
+        reports: 350,
         requests: arrivals(200, 1_700_003_500),
         state: State {
             is_current: true,
@@ -124,8 +128,8 @@ fn arrivals(count: u64, last_at: u64) -> Arrivals {
     Arrivals { count, last_at }
 }
 
-// What a server counted that started at 990, dropped nothing but datagrams that were too short, and
-// has no file of balances, and a book of five octets without a log.
+// What a server counted that started at 990, received only datagrams, dropped nothing but those that
+// were too short, and has no file of balances, and a book of five octets without a log.
 fn figures(tally: Tally, last_event_at: u64) -> Figures {
     let mut dropped = [0; Reason::COUNT];
     dropped[1] = tally.drops;
@@ -134,7 +138,8 @@ fn figures(tally: Tally, last_event_at: u64) -> Figures {
         dropped,
         started_at: 990,
         last_event_at,
-        reports: arrivals(tally.events, last_event_at),
+        datagrams: arrivals(tally.events, last_event_at),
+        reports: tally.replies,
         requests: Arrivals::none(),
         state: State {
             is_current: true,
