@@ -17,7 +17,8 @@ use std::io::Write;
 use std::time::Clock;
 
 /// Polls the text of a server's configuration, and writes the file of all balances, if it has one.
-/// Prints to a writer, and notes in gauges what it finds. Reads the clock once in each call.
+/// Prints to a writer, and notes in gauges what it finds. Reads the clock once in each call. If the
+/// text is no configuration, its source may explain why.
 pub struct FileRounds<'r, R, S: Drop, E: Drop> {
     runtime: &'r R,
     source: S,
@@ -78,6 +79,9 @@ impl<'r, R: Files + Clock, S: SiteSource + Drop, E: Write + Drop> Rounds
         let read = self.source.look(alloc, moment)?;
         let taken = take_site(alloc, read, &config.plans, &mut self.errors);
         self.gauges.note_config(taken.is_current);
+        if let Some(why) = taken.refused {
+            self.source.explain(alloc, why, &mut self.errors);
+        }
         taken.site
     }
 }

@@ -35,6 +35,8 @@ pub struct Taken {
     pub site: Option<Config>,
     /// Whether the configuration in force has everything that the text has.
     pub is_current: bool,
+    /// Why the text is no configuration, if it is none.
+    pub refused: Option<Fault>,
 }
 
 // The sizes of a configuration that is taken.
@@ -88,7 +90,8 @@ pub fn take_site<E: Write>(
     plans: &Plans,
     errors: &mut E,
 ) -> Taken
-    ensures { IsTaken plans.now read result.site result.is_current }
+    ensures taken { IsTaken plans.now read result.site result.is_current }
+    ensures refused { IfSome result.refused (λ why. IsRead read (Err why)) }
 {
     match judge(alloc, read, plans) {
         Ok((site, is_current, change)) => {
@@ -100,6 +103,7 @@ pub fn take_site<E: Write>(
             Taken {
                 site: Some(site),
                 is_current,
+                refused: None,
             }
         }
         Err(fault) => {
@@ -107,6 +111,7 @@ pub fn take_site<E: Write>(
             Taken {
                 site: None,
                 is_current: false,
+                refused: Some(fault),
             }
         }
     }

@@ -3,9 +3,11 @@ ghost use Rattle.std.specs.Prelude.{◌∷◌, [], List, Option};
 ghost use Rattle.acct_service.specs.Told.{Grows};
 ghost use Rattle.acct_program_commands.specs.Sights.{Sight};
 
+use crate::fault::Fault;
 use acct_model::Octets;
 use acct_program::InputFault;
 use std::alloc::Global;
+use std::io::Write;
 
 /// A text that is polled again and again.
 pub trait SiteSource {
@@ -16,4 +18,7 @@ pub trait SiteSource {
     /// returns all its octets, or why they cannot be read.
     fn look(&mut self, alloc: Global, moment: u64) -> Option<Result<Octets, InputFault>>
         ensures { Grows (sights self.old) (result ∷ []) (sights self.new) };
+
+    /// Prints more about why its last reading is no configuration, if it has more to say.
+    fn explain<E: Write>(&self, _alloc: Global, _why: Fault, _errors: &mut E) {}
 }

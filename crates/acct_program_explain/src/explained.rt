@@ -2,14 +2,14 @@
 use crate::config_faults::explain_config;
 use crate::files::{has_sums, why_unmade, why_unopened, why_unread};
 use crate::log_faults::{TO_DO, tell_damage, tell_lost};
+use crate::reading::octets_of;
 use acct_model::{LAST_MOMENT, Text};
-use acct_program::read_input;
 use acct_program_args::{
     EXPORT_NAMES, FEWEST_DAYS, LAST_PORT, MOST_DAYS, MOST_SECONDS, MOST_TURNS, export_named,
 };
 use acct_site_config::ConfigError;
 use std::alloc::Global;
-use std::fs::{File, Files, metadata};
+use std::fs::Files;
 use std::io::Write;
 use std::str;
 
@@ -95,8 +95,7 @@ fn tell<E: Write>(file: &str, why: &str, errors: &mut E) {
     let _ = writeln!(errors, "explained: {file}: {why}");
 }
 
-// Reads a configuration again, and writes what is wrong with it. Only a regular file is read a
-// second time, because the read of a pipe or a terminal would wait.
+// Reads a configuration again, and writes what is wrong with it.
 fn explain_file<R: Files, E: Write>(
     runtime: &R,
     alloc: Global,
@@ -104,14 +103,7 @@ fn explain_file<R: Files, E: Write>(
     error: ConfigError,
     errors: &mut E,
 ) {
-    match metadata(runtime, file) {
-        Ok(found) if found.is_file() => {}
-        _ => return,
-    }
-    let Ok(mut reader) = File::open(runtime, file) else {
-        return;
-    };
-    let Ok(octets) = read_input(alloc, &mut reader) else {
+    let Some(octets) = octets_of(runtime, alloc, file) else {
         return;
     };
     match str::from_utf8(&octets) {

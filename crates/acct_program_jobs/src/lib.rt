@@ -11,6 +11,7 @@ mod audit_job;
 mod checking;
 mod command;
 mod database;
+mod explained_site;
 mod feed_job;
 mod left;
 mod making;

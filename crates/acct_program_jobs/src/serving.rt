@@ -1,9 +1,10 @@
 //! `serve`: a server over the book of a file.
 ghost use Rattle.std.specs.Prelude.{◌≡◌, None, true, false};
 
+use crate::explained_site::ExplainedSite;
 use crate::work::Server;
 use acct_program_args::{Paths, Serving};
-use acct_program_commands::{SiteFile, note_clock};
+use acct_program_commands::note_clock;
 use acct_program_serving::{Errors, Surroundings};
 use std::io::Write;
 
@@ -18,7 +19,7 @@ pub(crate) fn server_of<'a, E: Write + Drop>(
 ) -> Server<'a, E>
     ensures { result.serving ≡ serving.entry }
 {
-    let source = SiteFile::new(runtime, &paths.config);
+    let source = ExplainedSite::new(runtime, &paths.config, errors.explains);
     let mut errors = told_to(errors, serving.telling.is_quiet);
     let file = &paths.database;
     // Before the book is opened, which may make a log.
@@ -37,10 +38,15 @@ fn told_to<E: Drop>(errors: Errors<E>, is_quiet: bool) -> Errors<E>
     ensures notices { result.notices ≡ errors.notices }
 {
     if is_quiet {
-        let Errors { drops: _, notices } = errors;
+        let Errors {
+            drops: _,
+            notices,
+            explains,
+        } = errors;
         return Errors {
             drops: None,
             notices,
+            explains,
         };
     }
     errors

@@ -16,13 +16,14 @@ ghost use Rattle.acct_program_jobs.specs.Jobs.{ClosesOrFails, WorksAndCloses, Fa
 
 use crate::command::{Ending, Outcome, config_of, with_book};
 use crate::database::{FileConnection, adopted, close};
+use crate::explained_site::ExplainedSite;
 use crate::left::Left;
 use acct_book::Book;
 use acct_model::Text;
 use acct_net::Sockets;
 use acct_program::Status;
 use acct_program_args::{Carrying, Paths, Serving};
-use acct_program_commands::{Fault, SiteFile, run_forward, run_import};
+use acct_program_commands::{Fault, run_forward, run_import};
 use acct_program_serving::{Surroundings, run_serve};
 use acct_service::Exchange;
 use acct_site::Config;
@@ -123,7 +124,7 @@ impl<W: Write, E: Write + Drop> Work<W> for Forward<'_, E> {
 pub(crate) struct Server<'a, E: Drop> {
     pub(crate) serving: &'a Serving,
     pub(crate) file: &'a Text,
-    pub(crate) around: Surroundings<SiteFile<'a, HostRuntime>, E>,
+    pub(crate) around: Surroundings<ExplainedSite<'a, HostRuntime>, E>,
 }
 
 impl<W: Write, E: Write + Drop> Work<W> for Server<'_, E> {

@@ -40,6 +40,9 @@ pub struct Errors<E: Drop> {
     pub drops: Option<E>,
     /// What happened to its files.
     pub notices: E,
+    /// Whether more is printed about a configuration that is refused while it runs. The source of
+    /// the configuration prints it.
+    pub explains: bool,
 }
 
 /// Serves a configuration over a book for so many turns, at the addresses and ports in `serving`.
@@ -131,7 +134,7 @@ fn serve_sockets<
 {
     let Surroundings {
         source,
-        errors: Errors { drops, notices },
+        errors: Errors { drops, notices, .. },
     } = around;
     let notices = RefCell::new(notices);
     let gauges = Gauges::new();

@@ -19,6 +19,8 @@ mod files;
 #[cfg(test)]
 mod lost_books;
 #[cfg(test)]
+mod sample_values;
+#[cfg(test)]
 mod servers;
 #[cfg(test)]
 mod trial;

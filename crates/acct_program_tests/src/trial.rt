@@ -54,6 +54,7 @@ pub fn came(rt: &HostRuntime, (line, input): Command<'_>) -> Result<Printed, Fai
     let errors = Errors {
         drops: Some(Vec::new(rt.alloc())),
         notices: Vec::new(rt.alloc()),
+        explains: order.explains,
     };
     let output = Vec::new(rt.alloc());
     let Outcome {

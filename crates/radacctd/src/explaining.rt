@@ -3,7 +3,7 @@ use acct_model::Text;
 use acct_program_args::{Job, Order, Paths};
 use acct_program_commands::{Fault, StoreFault, read_config};
 use acct_program_explain::{
-    Explained, Wanted, explain, explain_plans, explain_sockets, explain_tables,
+    Explained, Wanted, explain, explain_plans, explain_sockets, explain_tables, warn_of_sample,
 };
 use acct_program_jobs::{Left, Outcome};
 use acct_program_orders::{BySyncs, Ran, ended_of};
@@ -15,8 +15,21 @@ const OVERWRITTEN: &str =
     "explained: a file of --status or --balances, or the same name with .new, \
     is the book, its log, the configuration or the other file, or radacctd did not write it";
 
+/// Before a server starts, prints which secrets and tokens of its configuration are the sample's.
+pub(crate) fn warn_first(runtime: &HostRuntime, order: &Order) {
+    if let Job::Serve { paths, .. } = &order.job {
+        warn_of_sample(
+            runtime,
+            runtime.alloc(),
+            &paths.config,
+            &mut runtime.stderr(),
+        );
+    }
+}
+
 /// Prints why the job of an order ended so, if the order asks for that: more about its fault, which
-/// plan differs, or what its database has. For `check` it also describes the book. It closes the
+/// plan differs, or what its database has. For `check` it also describes the book, and names the
+/// values of its configuration that are the sample's. It closes the
 /// files of the book before it explains why they cannot be opened. Else it would find the program's
 /// own lock.
 pub(crate) fn explain_run<W: Write + Drop>(runtime: &HostRuntime, order: &Order, ran: Ran<W>) {
@@ -30,6 +43,9 @@ pub(crate) fn explain_run<W: Write + Drop>(runtime: &HostRuntime, order: &Order,
     match ran {
         BySyncs::Once(outcome) => explain_outcome(runtime, &order.job, outcome),
         BySyncs::Twice(outcome) => explain_outcome(runtime, &order.job, outcome),
+    }
+    if let (Ok(_), Job::Check { config, .. }) = (ended, &order.job) {
+        warn_of_sample(runtime, runtime.alloc(), config, &mut runtime.stderr());
     }
     if let (Ok(_), Job::Check { .. }, Some(file)) = (ended, &order.job, book_file(&order.job)) {
         let what = Explained::Opened { file };

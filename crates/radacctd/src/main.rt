@@ -8,7 +8,7 @@
 
 mod explaining;
 
-use crate::explaining::explain_run;
+use crate::explaining::{explain_run, warn_first};
 use acct_program::Status;
 use acct_program_args::{job_of, tell};
 use acct_program_explain::explain_words;
@@ -44,7 +44,12 @@ fn main(rt: HostRuntime) -> ExitCode {
         return ExitCode::from(Status::Unavailable);
     };
     let drops = Some(drops);
-    let errors = Errors { drops, notices };
+    let errors = Errors {
+        drops,
+        notices,
+        explains: order.explains,
+    };
+    warn_first(&rt, &order);
     let (status, ran) = carry_out(&rt, &order, rt.stdin(), output, errors, &mut rt.stderr());
     explain_run(&rt, &order, ran);
     ExitCode::from(status)

@@ -1,0 +1,53 @@
+//! The file of the configuration, and what `--explain` adds if a server refuses it while it runs.
+ghost use Rattle.std.specs.Prelude.{None};
+
+use acct_model::{Octets, Text};
+use acct_program::InputFault;
+use acct_program_commands::{Fault, SiteFile, SiteSource};
+use acct_program_explain::{Explained, explain};
+use std::alloc::Global;
+use std::fs::Files;
+use std::io::Write;
+
+/// The file of a configuration. It explains why its text is no configuration, if that is asked for.
+#[derive(Drop)]
+pub(crate) struct ExplainedSite<'a, R> {
+    runtime: &'a R,
+    name: &'a Text,
+    file: SiteFile<'a, R>,
+    explains: bool,
+}
+
+impl<'a, R: Files> ExplainedSite<'a, R> {
+    /// The file of this name, as `SiteFile::new` has it.
+    pub(crate) fn new(runtime: &'a R, name: &'a Text, explains: bool) -> ExplainedSite<'a, R> {
+        ExplainedSite {
+            runtime,
+            name,
+            file: SiteFile::new(runtime, name),
+            explains,
+        }
+    }
+}
+
+impl<'a, R: Files> SiteSource for ExplainedSite<'a, R> {
+    ghost sights = { λ _. None };
+
+    fn look(&mut self, alloc: Global, moment: u64) -> Option<Result<Octets, InputFault>> {
+        self.file.look(alloc, moment)
+    }
+
+    fn explain<E: Write>(&self, alloc: Global, why: Fault, errors: &mut E) {
+        if !self.explains {
+            return;
+        }
+        let file = self.name;
+        let what = match why {
+            Fault::Config(error) => Explained::Config { file, error },
+            Fault::CannotRead => Explained::Unread { file },
+            _ => return,
+        };
+        explain(self.runtime, alloc, what, errors);
+        let _ = errors.flush();
+    }
+}
