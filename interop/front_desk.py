@@ -1,5 +1,6 @@
 """Rows of interop/pages: the front desk's page, with one server behind nginx."""
 
+import contextlib
 import csv
 import json
 import os
@@ -329,6 +330,13 @@ def earlier_page(browser, proxy):
     check("nothing stays where it was", [it for it in left if it[:5] in ("sale:", "shift")], [])
 
 
+def fill(path):
+    """Writes into a file until its file system is full; programs may have freed some."""
+    with open(path, "ab", buffering=0) as file, contextlib.suppress(OSError):
+        while file.write(bytes(4096)):
+            pass
+
+
 def full_disk(folder, proxy):
     """A browser whose disk is full sells nothing, and loses nothing."""
     small = os.path.join(folder, "small")
@@ -340,18 +348,13 @@ def full_disk(folder, proxy):
         open_desk(browser, proxy)
         browser.shows("Ready.")
         letters(browser, "F1")
-        with open(os.path.join(small, "fill"), "wb", buffering=0) as file:
-            try:
-                while file.write(bytes(4096)):
-                    pass
-            except OSError:
-                pass
         # What is left of the last block of a file takes a few sales.
         for at in range(40):
+            fill(os.path.join(small, "fill"))
             sell(browser, f"full-{at}", "5")
-            if browser.shows("cannot write to its disk", "#message", 2):
+            if is_full := browser.shows("cannot write to its disk", "#message", 2):
                 break
-        check("a full disk: the page sells nothing", 0 < at < 39, True)
+        check("a full disk: the page sells nothing", is_full, True)
         before = len(proxy.log("radacctd-sales.log"))
         sell(browser, "full-no", "5")
         time.sleep(5)

@@ -339,7 +339,8 @@ class Play:
 
     def left(self):
         """The window is loaded again while its sale is in flight: the answer is lost."""
-        self.in_flight("reload(other);", is_left=True)
+        # The page that is left gets an answer for as long as it is there.
+        self.in_flight("reload(other); await until(() => isQuiet(other));", is_left=True)
 
     def ended_meanwhile(self):
         """The other window ends the shift while a sale is in flight: it counts in the next one."""
