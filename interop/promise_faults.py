@@ -135,7 +135,7 @@ class Forward(Plan):
         oldest, youngest = ages
         step = (oldest - youngest) / max(count, 1)
         self.ages = [int(oldest - step * (turn + 1)) for turn in range(count)]
-        self.carried_before, self.kills, self.said = 0, 0, []
+        self.carried_before, self.kills, self.refused = 0, 0, []
 
     def forward(self):
         """As the page says: stop, run, start. A run that was killed is given again."""
@@ -149,11 +149,11 @@ class Forward(Plan):
             if self.rng.random() < 0.3:
                 self.killed(words)
             done = subprocess.run(words, capture_output=True, text=True)
-            self.said.append(done.stdout.splitlines()[:1] or [done.stderr])
             if done.returncode:
-                raise SystemExit(f"forward: {done.returncode}, {done.stderr}")
+                self.refused.append((f"forward says: {done.stderr.strip()}", None))
+                done = subprocess.run([*words, "--yes"], capture_output=True, text=True)
             book.start()
-        self.journal.add("forward", begin, str(self.said[-1][0]))
+        self.journal.add("forward", begin, done.stdout.partition("\n")[0])
 
     def killed(self, words):
         process = subprocess.Popen(words, stdout=subprocess.DEVNULL, stderr=subprocess.DEVNULL)

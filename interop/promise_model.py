@@ -29,6 +29,8 @@ FINE, WRONG, NAMELESS = "fine", "wrong", "nameless"
 PROBE = b"radacctd-probe"
 # By how many seconds the moment of a session may be another one in the book.
 EDGE = 5
+# By how many seconds radacctd's own clock is set off at most, and a minute more.
+OFF = 15 * 86_400 + 60
 ID = re.compile(rb"[-A-Za-z0-9_.:@+,;=/]{1,150}")
 
 
@@ -196,6 +198,7 @@ class Model:
         yield from balance_faults(found)
         yield from self.sale_faults(found.topups, 0)
         yield from self.sale_faults(other.topups, 1)
+        yield from self.spent_twice(found.topups, other.topups)
         yield from ((f"answered {it}", None) for it in self.conflicts)
         yield from ((f"logged in: {it!r}", None) for it in self.intruders)
 
@@ -206,6 +209,13 @@ class Model:
         for key, row in found.sessions.items():
             if key not in keys and row["account"] != PROBE:
                 yield f"a session that nobody sent: {row}", None
+
+    def spent_twice(self, one, other):
+        """What each book has for another account, whatever was answered."""
+        for number in set(one) & set(other):
+            if one[number] != other[number]:
+                text = f"spent twice: {number}: {one[number]} and {other[number]}"
+                yield text, self.sales.get(number)
 
     def sale_faults(self, topups, desk):
         """Of the book of one desk."""
@@ -240,6 +250,7 @@ def row_faults(session, row):
         yield f"charged to {row['account']!r}", session
     else:
         yield from charge_faults(session, row, least, most)
+        yield from moment_faults(session, row)
 
 
 def charge_faults(session, row, least, most):
@@ -254,6 +265,13 @@ def charge_faults(session, row, least, most):
         yield f"charged {row['charged']}, and {session.price(sent[got])} is right", session
     elif most is None:
         yield "in the book, and never sent", session
+
+
+def moment_faults(session, row):
+    """Of when a session was, as far as a clock that was set off lets it be known."""
+    moments = [it.moment for it in session.reports]
+    if int(row["first"]) < min(moments) - OFF or int(row["last"]) > max(moments) + OFF:
+        yield f"dated {row['first']} to {row['last']}", session
 
 
 def line_faults(lines, missing):
