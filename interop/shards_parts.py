@@ -14,7 +14,6 @@ import time
 import front
 import shards_site
 from front import KILL, MEBIBYTE, check
-from front_parts import count_in
 from shards_site import (
     NEW_MACHINE,
     SHARDS,
@@ -83,8 +82,6 @@ def queued(site, model):
                         wrong.append((account, shard))
     check("each name is in a queue", count, len(model.accounts))
     check("which is that of its book", wrong, [])
-    sent(site.radius, [("S-0", b"%{User-Name}", 1, 3)])
-    check("a name that the queue would lose is filed", count_in(site.radius.unsent), 1)
     sizes = [len(it.accounts) for it in site.books.values()]
     print(f"         {min(sizes)} to {max(sizes)} accounts a book", flush=True)
     return first
