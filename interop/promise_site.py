@@ -65,6 +65,8 @@ class Killed:
 
     def __init__(self):
         self.lock, self.process, self.kills = threading.RLock(), None, 0
+        # Whether it is not to be started any more.
+        self.is_ended = False
 
     def is_up(self):
         return self.process is not None and self.process.poll() is None
@@ -80,6 +82,8 @@ class Killed:
 
     def begin(self, words, errors, environment=None):
         """Starts it, and waits until it says that it serves."""
+        if self.is_ended:
+            return
         with open(errors, "ab") as file:
             self.process = subprocess.Popen(
                 words, stdout=subprocess.PIPE, stderr=file, text=True, env=environment
@@ -87,6 +91,14 @@ class Killed:
         line = self.process.stdout.readline()
         if line != "serving\n":
             raise SystemExit(f"{words[0]} does not serve: {line!r}")
+
+    def end_it(self):
+        """Ends it for good, also if somebody starts it just now."""
+        self.is_ended = True
+        is_mine = self.lock.acquire(timeout=STARTS)
+        self.kill()
+        if is_mine:
+            self.lock.release()
 
     def kill_and_start(self, pause):
         """A kill that counts, and a start after a pause."""
@@ -165,6 +177,8 @@ class FreeRadius(Killed, front.FreeRadius):
         self.process = None
 
     def start(self):
+        if self.is_ended:
+            return
         begun = os.path.getsize(self.log) if os.path.exists(self.log) else 0
         environment = self.own_clock.environment()
         null = subprocess.DEVNULL
@@ -340,8 +354,7 @@ class Site:
 
     def end(self):
         for it in (self.radius, self.outbox, self.book, self.other):
-            with contextlib.suppress(ProcessLookupError):
-                it.kill()
+            it.end_it()
         mirroring = self.radius.mirroring
         if mirroring is not None and mirroring.poll() is None:
             mirroring.kill()
