@@ -134,6 +134,15 @@ def one_digit(account):
     return tool("of", shown(account))[1][:2]
 
 
+def file_of_known(site, model):
+    """A file of balances, as of a site whose accounts have names that the tools now refuse."""
+    path = os.path.join(site.folder, "known.csv")
+    rows = [("account", "balance", "overrun"), *((shown(it), 0, 0) for it in model.accounts)]
+    with open(path, "w", encoding="ascii", newline="") as file:
+        csv.writer(file, lineterminator="\n").writerows(rows)
+    return path
+
+
 def sells(site, one, model):
     """radacctd-shards sells a file, each voucher in its book, and once."""
     path, key = (os.path.join(site.folder, it) for it in ("vouchers.csv", "cashier.key"))
@@ -143,18 +152,19 @@ def sells(site, one, model):
     os.chmod(key, 0o600)
     count = len(model.accounts)
     wanted = f"{last - 1}: VoucherDiffers\n{last}: BadVoucher\n"
-    known = ["--key-file", key]
+    known, to_sell = ["--known", file_of_known(site, model)], ["--key-file", key]
+    total = sum(model.sold.values())
     for name, options, said in (
-        ("a dry run", ["--dry-run"], f"vouchers {count}, of {sum(model.sold.values())} together"),
-        ("the file is sold", known, f"added {count}, repeated 0"),
-        ("again: nothing", known, f"added 0, repeated {count}"),
+        ("a dry run", ["--dry-run", *known], f"vouchers {count}, of {total} together"),
+        ("the file is sold", [*to_sell, *known], f"added {count}, repeated 0"),
+        ("again: nothing", [*to_sell, *known], f"added 0, repeated {count}"),
     ):
         with open(path, "rb") as file:
             begun = time.monotonic()
             got = tool("sell", *options, table=site.table, stdin=file)
         check(name, got[:2], (1, f"{said}, refused 2\n{wanted}"))
         print(f"         in {time.monotonic() - begun:.1f} s", flush=True)
-    words = [os.path.join(TOOLS, "radacctd-sell"), "--key-file", key, "--port", str(one.book.desk)]
+    words = [os.path.join(TOOLS, "radacctd-sell"), *to_sell, *known, "--port", str(one.book.desk)]
     with open(path, "rb") as file:
         done = subprocess.run(words, stdin=file, capture_output=True, text=True)
     first = done.stdout.splitlines()[0]
