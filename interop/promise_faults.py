@@ -127,6 +127,10 @@ class Plan(threading.Thread):
         return [*FAR, int(100 - time.time())]
 
 
+# How often a run of `forward` is killed before it is let go on to its end.
+KILLS = 28
+
+
 class Forward(Plan):
     """Carries old sessions forward, a tenth of them at a time, with a clock that is right."""
 
@@ -138,7 +142,7 @@ class Forward(Plan):
         self.carried_before, self.kills, self.refused = 0, 0, []
 
     def forward(self):
-        """As the page says: stop, run, start. A run that was killed is given again."""
+        """As the page says: stop, run, start. A run that is killed is given again."""
         begin, book = time.monotonic(), self.site.book
         with book.lock:
             at = int(time.time()) - self.ages.pop(0)
@@ -146,7 +150,7 @@ class Forward(Plan):
             words += ["--oldest-report", "60", "--silent", "90"]
             book.stop()
             self.carried_before = at
-            if self.rng.random() < 0.3:
+            for _ in range(KILLS):
                 self.killed(words)
             done = subprocess.run(words, capture_output=True, text=True)
             if done.returncode:
@@ -158,7 +162,7 @@ class Forward(Plan):
     def killed(self, words):
         process = subprocess.Popen(words, stdout=subprocess.DEVNULL, stderr=subprocess.DEVNULL)
         try:
-            process.wait(self.rng.uniform(0, 0.1))
+            process.wait(self.rng.uniform(0, 0.05))
         except subprocess.TimeoutExpired:
             process.send_signal(signal.SIGKILL)
             process.wait()
