@@ -35,7 +35,6 @@ FREERADIUS = each(
     "detail.work",
     "mods-available/eap",
     "mods-enabled/radacctd-pair",
-    "queue.pl",
     "radacctd-queue.clock",
     "radacctd-queue.fault",
     "radacctd-queue.undated",
