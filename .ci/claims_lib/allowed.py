@@ -70,12 +70,6 @@ ALLOWED = {
     },
     "README.md": {"./try": "bin/try makes it"},
     "CHANGELOG.md": {
-        "access-server.conf": "a file or an option of another version",
-        "from-radacct --behind": "a file or an option of another version",
-        "is-empty": "a file or an option of another version",
-        "is-over": "a file or an option of another version",
-        "poll-overruns": "a file or an option of another version",
-        "config: read again: ...; plan gold is new; the plans stay": "an example of a line",
         "BOOK.replaced-DATE-TIME": "restore makes it",
         "radacctd 0.1.0 (schema 3)": "what --version prints",
     },
