@@ -100,7 +100,7 @@ ALLOWED = {
     "docs/FILES.md": each("a line of an example", "V-2,bo,3", "V-2,bo,300"),
     "docs/FREERADIUS.md": FREERADIUS,
     "docs/GATE.md": {
-        **each("Rust's own", "Debug", "Result", "Vec::new"),
+        **each("Rust's own", "Debug", "Vec::new"),
         "grind": "the kit's own",
         "out/incremental": "a check makes it",
     },
