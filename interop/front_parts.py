@@ -654,20 +654,20 @@ def restarted(radius, path, text):
     radius.start()
 
 
-class Port3799(threading.Thread):
-    """Takes Disconnect-Requests and acknowledges them, until it is sent an empty datagram."""
+class Answering(threading.Thread):
+    """Takes packets and answers each by a code, until it is sent an empty datagram."""
 
-    def __init__(self, address):
+    def __init__(self, address, port, code):
         super().__init__(daemon=True)
         self.opened = socket.socket(socket.AF_INET, socket.SOCK_DGRAM)
-        self.opened.bind((address, 3799))
-        self.got = []
+        self.opened.bind((address, port))
+        self.code, self.got = code, []
 
     def run(self):
         data, source = self.opened.recvfrom(4096)
         while data:
             self.got.append(data)
-            head = bytes([41, data[1], 0, 20])
+            head = bytes([self.code, data[1], 0, 20])
             digest = hashlib.md5(head + data[4:20] + SECRET.encode()).digest()
             self.opened.sendto(head + digest, source)
             data, source = self.opened.recvfrom(4096)
@@ -683,7 +683,8 @@ class Port3799(threading.Thread):
 @part
 def cut(folder):
     """An overdrawn session is disconnected, once in each pause."""
-    port = Port3799("127.0.2.1")
+    # Acknowledges each Disconnect-Request.
+    port = Answering("127.0.2.1", 3799, 41)
     port.start()
     with both(folder, settings=[("cut_pause", "6")]) as (book, radius):
         book.sell("al", 20, "V-1")
