@@ -17,7 +17,7 @@ import threading
 import time
 
 import front
-from front import MEBIBYTE, check, waits_for
+from front import MEBIBYTE, check, report, waits_for
 from front_parts import (
     Missing,
     Sender,
@@ -27,6 +27,7 @@ from front_parts import (
     packet_of,
     part,
     queue_again,
+    restarted,
     waited,
 )
 
@@ -399,3 +400,55 @@ def filing(folder):
         waits_for("the queue is empty", lambda: count_in(radius.queue), 0)
         check("both are filed", count_in(radius.unsent), 2)
         waits_for("and the third is charged", lambda: book.balance("bo"), -10)
+
+
+def move_again(radius):
+    """Moves what was filed into the queue's folder, by the page's command."""
+    with open(os.path.join(front.ROOT, "docs", "FREERADIUS.md"), encoding="utf-8") as file:
+        [command] = re.findall(r"^    (mv .*radacctd-unsent.*)$", file.read(), re.MULTILINE)
+    folder = os.path.dirname(radius.queue)
+    subprocess.run(
+        command.replace("/var/log/freeradius/radacct", folder), shell=True, check=True
+    )
+
+
+def set_right(radius):
+    """Corrects what was filed with a wrong attribute, and has two files of it."""
+    [path] = front.files_in(radius.unsent)
+    with open(path, encoding="latin-1") as file:
+        text = file.read()
+    check("the wrong one is there", text.count("\tAttr-42 = 0x0102\n"), 1)
+    text = text.replace("Attr-42 = 0x0102", f"Acct-Input-Octets = {MEBIBYTE}")
+    first, second, rest = text.split("\n\n")
+    check("with another one, and no more", rest, "")
+    front.written(path, first + "\n\n")
+    front.written(path + "-other", second + "\n\n")
+
+
+@part
+def resent(folder):
+    """Filed reports that are sent again are charged as if they had not been filed."""
+    settings = [("oldest_report", "60"), ("time_classes", '"^hour$"')]
+    with both(folder, settings=settings) as (book, radius):
+        begun, age = int(time.time()), 61 * 86_400
+        more = ["Acct-Session-Time = 301", f"Acct-Delay-Time = {age}"]
+        done = radius.reports("ap1", report("Stop", "W-1", "bo", 999, more, "hour"))
+        check("one that is too old, of a plan that counts seconds", done, True)
+        wrong = report("Stop", "W-2", "bo", 1)[:4] + ["Attr-42 = 0x0102"]
+        check("one with an attribute of a wrong size", radius.reports("ap1", wrong), True)
+        check("both are filed", count_in(radius.unsent), 2)
+        radius.kill()
+        set_right(radius)
+        path = os.path.join(radius.raddb, "radacctd", "settings.conf")
+        with open(path, encoding="utf-8") as file:
+            text = file.read()
+        book.kill()
+        restarted(radius, path, text.replace("oldest_report = 60", "oldest_report = 0"))
+        move_again(radius)
+        check("moved while radacctd is down: none is lost", count_in(radius.queue), 2)
+        book.start()
+        waits_for("5 minutes and a block are charged", lambda: book.balance("bo"), -6 - 10)
+        moments = {row["session"].split("/")[1]: row["last"] for row in book.rows("bo")}
+        off = abs(moments["W-1"] - (begun - age)), abs(moments["W-2"] - begun)
+        check("each at its moment", [it for it in off if it > 10], [])
+        check("none is filed again", count_in(radius.unsent), 0)

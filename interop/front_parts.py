@@ -226,12 +226,16 @@ def down(folder):
 def unsent(folder):
     """A report that radacctd never answers is filed, and the next one is charged."""
     with both(folder) as (book, radius):
-        nameless = ["Acct-Status-Type = Start", "User-Name = bo"]
-        check(
-            "a report without a session id isn't answered", radius.reports("ap1", nameless), False
-        )
+        lacks = lambda name: [it for it in report("Stop", "7A-1", "bo", 1) if name not in it]
+        for number, name in enumerate(("Acct-Session-Id", "User-Name"), 1):
+            check(f"a report without {name} is answered", radius.reports("ap1", lacks(name)), True)
+            check("and filed at once", count_in(radius.unsent), number)
+        # A Start often names no user yet.
+        unused = ["Acct-Status-Type = Start", "Acct-Session-Id = 7A-2"]
+        check("one without a name or octets is answered", radius.reports("ap1", unused), True)
+        check("and not filed", count_in(radius.unsent), 2)
         tunnel = ["Acct-Status-Type = Tunnel-Start", "Acct-Session-Id = 7"]
-        check("nor is a tunnel's start", radius.reports("ap1", tunnel), False)
+        check("a tunnel's start isn't answered", radius.reports("ap1", tunnel), False)
         broken = {
             "octets of two octets": ["Attr-42 = 0x0102"],
             "an address of three": ["Attr-8 = 0x0a0102"],
@@ -239,7 +243,7 @@ def unsent(folder):
             "2^62 octets": ["Acct-Input-Octets = 0", "Acct-Input-Gigawords = 1073741824"],
         }
         head = report("Stop", "7B-1", "bo", 1)[:4]
-        for number, (name, more) in enumerate(broken.items(), 1):
+        for number, (name, more) in enumerate(broken.items(), 3):
             check(f"a report with {name} is answered", radius.reports("ap1", head + more), True)
             check("and filed at once", count_in(radius.unsent), number)
         done = radius.reports("ap1", report("Start", "7C-1", "bo", 1))
@@ -249,14 +253,14 @@ def unsent(folder):
         done = radius.reports("ap2", report("Start", "7C-2", "bo", 1))
         check("and another one behind it are answered", done, True)
         begun = time.monotonic()
-        waits_for("it is filed", lambda: count_in(radius.unsent), len(broken) + 1, 120)
+        waits_for("it is filed", lambda: count_in(radius.unsent), len(broken) + 3, 120)
         waits_for("and the other one charged", lambda: book.balance("bo"), -20)
         print(f"         after {time.monotonic() - begun:.0f} seconds", flush=True)
         with open(os.path.join(radius.unsent, os.listdir(radius.unsent)[0])) as file:
             text = file.read()
         check("its octets are in the file", "Acct-Input-Gigawords = 536870912" in text, True)
         count = text.count('"127.0.2.1/7')
-        check("each is filed under the id that radacctd would know", count, len(broken) + 1)
+        check("each is filed under the id that radacctd would know", count, len(broken) + 2)
         waits_for("the queue is empty", lambda: count_in(radius.queue), 0)
 
 

@@ -129,8 +129,8 @@ class FreeRadius(front.FreeRadius):
 
     def send_filed_again(self):
         """Moves what was filed back into the queue, as docs/FREERADIUS.md says."""
-        again = os.path.join(self.queues[0], "detail-again")
         for name in os.listdir(self.unsent):
+            again = os.path.join(self.queues[0], name)
             if not os.path.exists(again):
                 os.rename(os.path.join(self.unsent, name), again)
 

@@ -291,7 +291,7 @@ def started_again(first, second):
     check("a report to it", report(first, "s5", "dan", 1 << 20), True)
     first.must("systemctl stop freeradius")
     # As if it had been filed as one that radacctd never answers.
-    name = re.search(r"radacctd-unsent/(\S+)", commands[3])[1]
+    name = "detail-20261126-x"
     files = f"find {QUEUE} -name 'detail*'"
     first.must(f"{files} -exec cat {{}} + > {QUEUE}-unsent/{name}; {files} -delete")
     first.must(f"chown freerad:freerad {QUEUE}-unsent/{name}")

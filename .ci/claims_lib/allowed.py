@@ -31,7 +31,6 @@ FREERADIUS = each(
     "access-servers/",
     "access-servers/*.conf",
     "ap1=10.0.0.1",
-    "detail-again",
     "detail.work",
     "mods-available/eap",
     "mods-enabled/radacctd-pair",
