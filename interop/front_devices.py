@@ -137,14 +137,12 @@ def steps(folder):
         check("each at its moment", {it: s for it, s in off.items() if abs(s) > NEAR}, {})
 
 
-def of_another_boot(radius, moment=None):
-    """Makes what waits that of an earlier boot, at times one whose clock was not set."""
+def of_another_boot(radius, moment):
+    """Makes what waits that of an earlier boot: it has another name, and other seconds since it."""
     for path in front.files_in(radius.queue):
         with open(path, encoding="latin-1") as file:
-            text = re.sub(r'(\tTmp-String-4 = ")[^/]*', r"\g<1>another", file.read())
-        if moment is not None:
-            text = re.sub(r"\tTimestamp = \d+", f"\tTimestamp = {moment}", text)
-        front.written(path, text)
+            text = re.sub(r'(\tTmp-String-4 = ")[^"]*', r"\g<1>another/5.000", file.read())
+        front.written(path, re.sub(r"\tTimestamp = \d+", f"\tTimestamp = {moment}", text))
 
 
 @part
@@ -152,14 +150,14 @@ def boots(folder):
     """Reports of an earlier boot are dated by the time of day; what cannot be dated waits."""
     with both(folder, settings=[("oldest_report", "60")]) as (book, radius):
         begun = int(time.time())
-        for number, moment in enumerate((None, 1000)):
+        for number, moment in enumerate((begun - 3600, 1000)):
             book.kill()
             check("a report is answered", told(radius, packet_of(f"V-{number}", b"bo", 1)), True)
             radius.kill()
             of_another_boot(radius, moment)
             radius.start()
             book.start()
-            if moment is None:
+            if number == 0:
                 waits_for("it is charged", lambda: book.balance("bo"), -10)
         mark = os.path.join(folder, "run", "radacctd-queue.undated")
         waits_for("one without a moment waits", lambda: os.path.exists(mark), True)
@@ -168,9 +166,11 @@ def boots(folder):
         check("and is neither charged nor filed", found, (-10, 0))
         check("one line says so", radius.logged().count("it waits, and so do those behind it"), 1)
         restarted_without_limit(radius)
+        sent = int(time.time())
         waits_for("without a limit it is charged", lambda: book.balance("bo"), -20)
-        late = [it for it in moments(book).values() if not begun - 1 <= it <= time.time() + 1]
-        check("each at its moment, or at that of sending", late, [])
+        off = {it: moments(book)[it] - at for it, at in {"V-0": begun - 3600, "V-1": sent}.items()}
+        late = {it: seconds for it, seconds in off.items() if abs(seconds) > NEAR}
+        check("each at its moment, or at that of sending", late, {})
 
 
 def restarted_without_limit(radius):

@@ -370,7 +370,16 @@ def torn(folder):
         all_charged(book, radius, KILLS * (REPORTS // 4))
 
 
-HALF = b"Fri Nov 27 10:00:00 2026\n\tAcct-Status-Type = Stop\n\tUser-Na"
+# A whole record: what is cut off is at least its last octet.
+RECORD = b"""Fri Nov 27 10:00:00 2026
+\tAcct-Status-Type = Stop
+\tAcct-Session-Id = "half"
+\tUser-Name = "bo"
+\tClass = 0x676f6c64
+\tAcct-Input-Octets = 1048576
+\tTimestamp = 1795773600
+
+"""
 
 
 def tear(radius, rng):
@@ -378,7 +387,7 @@ def tear(radius, rng):
     for path in front.files_in(radius.queue):
         if rng.random() < 0.5:
             with open(path, "ab") as file:
-                file.write(HALF[: rng.randrange(1, len(HALF))])
+                file.write(RECORD[: rng.randrange(1, len(RECORD))])
 
 
 @part
