@@ -1,5 +1,6 @@
 """Follows docs/FREERADIUS.md and "Add a plan" of docs/SITE.md on a Debian machine with systemd: a
-plan that waits, one that is added, the mirror after a boot, and the counts of FreeRADIUS' side.
+plan that waits, one that is added, the mirror after a boot, steps of the clock, and the counts of
+FreeRADIUS' side.
 """
 
 import re
@@ -104,6 +105,24 @@ def units(box):
     waits_for("and the mirror has all plans", has, True, 30)
 
 
+def clock(box):
+    """FreeRADIUS is restarted after each step of the clock. A machine of a test has the clock of all
+    others: so a step is a start of the service, and another moment of the boot.
+    """
+    check("the timer waits", box.run("systemctl is-active radacctd-clock.timer"), (0, "active\n"))
+    begun = lambda: int(box.must("journalctl -o cat -u freeradius | grep -c ^Started"))
+    before, turn = begun(), "systemctl start radacctd-clock"
+    for _ in range(6):
+        check("a step", box.run(turn), (0, ""))
+    check("each restarts FreeRADIUS", begun(), before + 6)
+    box.must("cp /proc/stat /run/stat; mount --bind /run/stat /proc/stat")
+    steps_on = "for it in $(seq 40); do echo btime $it > /run/stat; sleep 0.2; done"
+    check("steps for some seconds", box.run(f"{turn} & {steps_on}; wait $!"), (0, ""))
+    box.must("umount /proc/stat")
+    check("restart it again", begun() > before + 7, True)
+    check("and it runs", box.run("systemctl is-active freeradius"), (0, "active\n"))
+
+
 def boots(box):
     """After a boot without radacctd: the last balances, from a mirror that is made anew."""
     sell(box, "poor", 2)
@@ -127,4 +146,5 @@ def follow(box, staged):
     set_up(box, staged)
     plans(box)
     units(box)
+    clock(box)
     boots(box)
