@@ -329,6 +329,8 @@ def old(folder):
             lines = file.readlines()
         before = book.balance("bo"), count_in(radius.unsent)
         kinds = {"0": "\toldest_report = 0\n", "no line of it": ""}
+        # So many seconds would be no number of 32 bits.
+        kinds["five digits"] = "\toldest_report = 50000\n"
         for number, (name, line) in enumerate(kinds.items(), 1):
             text = [line if it.startswith("\toldest_report") else it for it in lines]
             front.written(path, "".join(text))
