@@ -368,6 +368,11 @@ def torn(folder):
         sent_until_answered(radius, waiting)
         book.start("--sync", "once")
         all_charged(book, radius, KILLS * (REPORTS // 4))
+        # A record behind half of one would be charged by the other's session.
+        sessions = [(turn, it) for turn in range(KILLS) for it in range(REPORTS // 4)]
+        wanted = {f"{chr(ord('A') + turn)}-{it}" for turn, it in sessions}
+        found = {"".join(row["session"].split("/")[1:2]) for row in book.rows("bo")}
+        check("each by its own session", sorted(found ^ wanted)[:9], [])
 
 
 # A whole record: what is cut off is at least its last octet.

@@ -106,8 +106,8 @@ def units(box):
 
 
 def clock(box):
-    """FreeRADIUS is restarted after each step of the clock. A machine of a test has the clock of all
-    others: so a step is a start of the service, and another moment of the boot.
+    """FreeRADIUS is restarted after each step of the clock. A machine of a test has the clock of
+    all others: so a step is a start of the service, and another moment of the boot.
     """
     check("the timer waits", box.run("systemctl is-active radacctd-clock.timer"), (0, "active\n"))
     begun = lambda: int(box.must("journalctl -o cat -u freeradius | grep -c ^Started"))

@@ -42,6 +42,7 @@ server default {{
 	}}
 }}
 """
+CLIENT = "client all {{\n\tipaddr = 127.0.0.0/8\n\tsecret = {secret}\n}}\n"
 STATUS_SERVER = "status_check = status-server\n"
 REQUEST = """status_check = request
 	username = "radacctd-probe"
@@ -71,7 +72,7 @@ class Plain(front.FreeRadius):
         own = {
             "radiusd.conf": front.RADIUSD.format(folder=self.folder, library=front.library()),
             "radacctd/settings.conf": "",
-            "access-servers.conf": f"client all {{\n\tipaddr = 127.0.0.0/8\n\tsecret = {SECRET}\n}}",
+            "access-servers.conf": CLIENT.format(secret=SECRET),
             "mods-enabled/always": front.ALWAYS,
             "policy.d/none": "",
             "sites-enabled/default": default,
@@ -80,7 +81,7 @@ class Plain(front.FreeRadius):
             front.written(os.path.join(self.raddb, name), text)
 
     def tell(self, ended):
-        """Sends reports until the event, and keeps when each was sent and whether it was answered."""
+        """Sends reports until the event, and keeps when each was sent, and whether answered."""
         while not ended.is_set():
             begun = time.monotonic()
             session = f"L-{len(self.heard)}"
@@ -94,7 +95,7 @@ class Plain(front.FreeRadius):
 
 @part
 def plain(folder):
-    """Without a queue: after an outage FreeRADIUS comes back by the page's lines, and else may not."""
+    """Without a queue: after an outage FreeRADIUS comes back by the page's lines only."""
     book = front.Book(folder)
     counts = os.path.join(folder, "counts")
     kinds = {"advised": advised(), "status-server": STATUS_SERVER, "request": REQUEST}

@@ -12,8 +12,8 @@ LINE = re.compile(r"\d+: .* ([0-9a-f]+):([0-9a-f]+):(\d+) ")
 
 @contextlib.contextmanager
 def layered(folder, below):
-    """A folder of two layers on two file systems: one below, a disk's, and one in memory. None if it
-    cannot be mounted.
+    """A folder of two layers on two file systems: one below, a disk's, and one in memory. None if
+    it cannot be mounted.
     """
     memory, both = (os.path.join(folder, it) for it in ("memory", "both"))
     upper, work = (os.path.join(memory, it) for it in ("upper", "work"))
