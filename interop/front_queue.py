@@ -123,6 +123,8 @@ def numbers(book, radius):
         book.start()
         total -= 40 * 30
         waits_for("are drained", lambda: book.balance("bo"), total)
+        # A reader removes its last file later.
+        waits_for("and empty", lambda: count_in(radius.queue), 0)
     queue_again(radius, waited("E-1", 0) + waited("E-2", 0))
     waits_for("a queue of an earlier version, too", lambda: book.balance("bo"), total - 20)
 
