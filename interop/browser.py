@@ -154,6 +154,16 @@ class Browser:
     def click(self, selector):
         self.js("document.querySelector(arguments[0]).click()", selector)
 
+    def submit(self, values):
+        """Types into the form of a page, and submits it."""
+        self.js(
+            "for (const [id, value] of Object.entries(arguments[0])) {"
+            "const it = document.getElementById(id); it.value = value;"
+            "it.dispatchEvent(new Event('input', { bubbles: true })); }"
+            "document.getElementById('form').requestSubmit()",
+            values,
+        )
+
     def size(self, width, height, scale=1):
         self.debug(
             "Emulation.setDeviceMetricsOverride",

@@ -9,6 +9,9 @@ import stat
 import subprocess
 import time
 
+import front_desk
+import names
+import web_pages
 from browser import holding
 from served import PROGRAM, ROOT, check
 
@@ -216,13 +219,8 @@ def forms(proxy, codes):
 
 def fill(browser, account, code):
     """Types account and code, and says yes to the question if there is one."""
-    browser.js(
-        "for (const [id, value] of Object.entries(arguments[0]))"
-        " document.getElementById(id).value = value;"
-        "document.getElementById('form').requestSubmit();"
-        "document.getElementById('yes').click()",
-        {"account": account, "code": code},
-    )
+    browser.submit({"account": account, "code": code})
+    browser.click("#yes")
 
 
 def question(browser, proxy, code):
@@ -248,6 +246,32 @@ def question(browser, proxy, code):
         check(f"{name} is refused", why in browser.text("#message"), True)
 
 
+def by_page(browser, codes, unknown):
+    """What a guest sees who redeems a code, a wrong one, and one that is not there."""
+    fill(browser, "Zoë & Max", codes[0])
+    check("a code is redeemed", browser.shows("Done. Zoë & Max has 5.00 EUR more."), True)
+    fill(browser, "Zoë & Max", codes[0].lower().replace("-", " "))
+    check("again it adds nothing", browser.shows("Nothing more was added."), True)
+    fill(browser, "another", codes[0])
+    check("nor for another account", browser.shows("redeemed for another account"), True)
+    fill(browser, "bo", ("A" if codes[1][0] != "A" else "C") + codes[1][1:])
+    said = browser.shows("A letter of the code is wrong")
+    check("a wrong letter is seen by the page", said, True)
+    fill(browser, "bo", unknown)
+    check("a code that is not in the stock", browser.shows("This voucher is not known"), True)
+
+
+def server_away(browser, server, restart, code):
+    """A code that the server could not take is redeemed once it is back."""
+    server.kill()
+    fill(browser, "bo", code)
+    check("the server is away", browser.shows("The accounts are away just now"), True)
+    restart()
+    time.sleep(11)
+    fill(browser, "bo", code)
+    check("it is back: the code is redeemed", browser.shows("Done. bo has 5.00 EUR more."), True)
+
+
 def redeem(browser, proxy, server, folder, restart, readable):
     """A guest redeems printed vouchers; each is credited once."""
     codes = make_vouchers(proxy, folder)
@@ -256,44 +280,19 @@ def redeem(browser, proxy, server, folder, restart, readable):
         unknown = forms(proxy, codes)
         browser.go(proxy.url(f"/redeem/#c={codes[0]}"))
         check("redeem: it asks for the account", browser.shows("Type your account"), True)
-        check(
-            "the code has left the address bar", browser.call("GET", "/url"), proxy.url("/redeem/")
-        )
+        address = browser.call("GET", "/url")
+        check("the code has left the address bar", address, proxy.url("/redeem/"))
         readable(browser, "the redeem page")
+        web_pages.check_texts(browser, "redeem", front_desk.texts_of(names.MAY_NOT))
         question(browser, proxy, codes[0])
-        fill(browser, "Zoë & Max", codes[0])
-        check("a code is redeemed", browser.shows("Done. Zoë & Max has 5.00 EUR more."), True)
-        fill(browser, "Zoë & Max", codes[0].lower().replace("-", " "))
-        check("again it adds nothing", browser.shows("Nothing more was added."), True)
-        fill(browser, "another", codes[0])
-        check("nor for another account", browser.shows("redeemed for another account"), True)
-        wrong = ("A" if codes[1][0] != "A" else "C") + codes[1][1:]
-        fill(browser, "bo", wrong)
-        check(
-            "a wrong letter is seen by the page",
-            browser.shows("A letter of the code is wrong"),
-            True,
-        )
-        fill(browser, "bo", unknown)
-        check("a code that is not in the stock", browser.shows("This voucher is not known"), True)
-        server.kill()
-        fill(browser, "bo", codes[1])
-        check("the server is away", browser.shows("The accounts are away just now"), True)
-        restart()
-        time.sleep(11)
-        fill(browser, "bo", codes[1])
-        check(
-            "it is back: the code is redeemed", browser.shows("Done. bo has 5.00 EUR more."), True
-        )
+        by_page(browser, codes, unknown)
+        server_away(browser, server, restart, codes[1])
     finally:
         process.terminate()
         os.killpg(process.pid, 15)
         process.wait(timeout=10)
     plain = [it.replace("-", "") for it in codes[:2]]
     check("no code is in a log of nginx", holding(proxy.logs, codes + plain), [])
-    check(
-        "the key and the stock are outside the pages",
-        holding(f"{ROOT}/web", [REDEEM_KEY, *codes]),
-        [],
-    )
+    found = holding(web_pages.folder(), [REDEEM_KEY, *codes])
+    check("the key and the stock are outside the pages", found, [])
     return [("W-" + codes[0], "Zo%C3%AB & Max", "500"), ("W-" + codes[1], "bo", "500")]

@@ -10,6 +10,7 @@ import time
 import urllib.parse
 
 import names as tables
+import web_pages
 from browser import Browser
 from served import check, report
 
@@ -17,13 +18,7 @@ MIB = 1 << 20
 
 
 def type_sale(browser, account, units):
-    browser.js(
-        "for (const [id, value] of Object.entries(arguments[0])) {"
-        "const it = document.getElementById(id); it.value = value;"
-        "it.dispatchEvent(new Event('input', { bubbles: true })); }"
-        "document.getElementById('form').requestSubmit()",
-        {"account": account, "sum": units},
-    )
+    browser.submit({"account": account, "sum": units})
 
 
 def sell(browser, account, units):
@@ -242,6 +237,7 @@ def names(browser):
     texts = [texts_of(it) for it in (tables.MAY, tables.MAY_NOT)]
     found = [browser.js("return arguments[0].filter((it) => whyNot(it))", it) for it in texts]
     check("the page has the rule of the tools", found, [[], texts[1]])
+    web_pages.check_texts(browser, "desk", texts[1])
 
 
 def texts_of(spelled):

@@ -9,6 +9,7 @@ import socket
 import subprocess
 import time
 
+import web_pages
 from served import ROOT, check, free_port
 
 CASHIERS = {"anna": "anna-has-a-pass", "bert": "bert-has-a-pass"}
@@ -49,7 +50,7 @@ class Proxy:
             ("listen 80;", f"listen 127.0.0.1:{self.plain};"),
             ("/etc/ssl/radacctd.pem", f"{folder}/site/cert.pem"),
             ("/etc/ssl/private/radacctd.key", f"{folder}/site/cert.key"),
-            ("/usr/local/share/radacctd/web", os.path.join(ROOT, "web")),
+            ("/usr/local/share/radacctd/web", web_pages.folder()),
             ("/usr/local/sbin/radacctd-redeem", os.path.join(folder, "redeem")),
             ("/run/radacctd-redeem.socket", self.socket),
             ("/var/log/nginx", self.logs),

@@ -7,18 +7,17 @@ them go. The model knows which answers arrived and in which shift, and nothing o
 
 import contextlib
 import json
-import os
 import random
 import re
 import threading
 import time
 from http.server import BaseHTTPRequestHandler, ThreadingHTTPServer
 
-from served import ROOT, check
+import web_pages
+from served import check
 
-PAGE = os.path.join(ROOT, "web", "desk", "index.html")
 # What each page of the test begins with: no timers, a clock that steps, and "yes" to questions.
-BEFORE = b"""<script>
+BEFORE = """<script>
 window.confirm = () => true;
 // The page sets its two timers last.
 window.timers = 0;
@@ -30,7 +29,7 @@ window.setInterval = () => { window.timers += 1; };
 </script>
 <style>"""
 # Without this a script of one window may run one in the other.
-POLICY = b"<meta http-equiv=.Content-Security-Policy.[^>]*>"
+POLICY = "<meta http-equiv=.Content-Security-Policy.[^>]*>"
 # Both windows are scripted from the first one. A script begins with these.
 HELPERS = """
 const other = window.open("", "second"), both = [window, other], words = [...arguments];
@@ -154,8 +153,8 @@ class Desk:
     def get(self, to):
         name = to.path.rsplit("/", 1)[1]
         if to.path == "/desk/":
-            with open(PAGE, "rb") as file:
-                body = re.sub(POLICY, b"", file.read(), count=1).replace(b"<style>", BEFORE)
+            page = re.sub(POLICY, "", web_pages.text_of("desk"), count=1)
+            body = page.replace("<style>", BEFORE).encode()
             return self.send(to, 200, "text/html; charset=utf-8", body)
         if name == "settings.json":
             books = {"books": self.books} if len(self.books) > 1 else {}

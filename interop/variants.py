@@ -5,6 +5,7 @@ import os
 import subprocess
 import time
 
+import front_desk
 import shards_site
 from browser import Browser
 from proxy import Proxy
@@ -72,19 +73,13 @@ def topups(server):
 
 
 def sell_by_page(browser, account, units):
-    browser.js(
-        "const d = document.getElementById('desk'); d.value = 'D2'; d.oninput();"
-        "document.getElementById('account').value = arguments[0];"
-        "document.getElementById('sum').value = arguments[1];"
-        "document.getElementById('form').requestSubmit()",
-        account,
-        units,
-    )
+    front_desk.letters(browser, "D2")
+    front_desk.type_sale(browser, account, units)
     # Among shards the page asks once it has computed the account's book.
     until = time.monotonic() + 2
     while time.monotonic() < until and not browser.js("return draft !== null"):
         time.sleep(0.05)
-    browser.js("document.getElementById('yes').click()")
+    browser.click("#yes")
 
 
 def pair(folder):

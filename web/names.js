@@ -1,0 +1,25 @@
+"use strict";
+// Names of accounts, as etc/tools/radacctd_names.py has them for the tools.
+
+// An account as the desk takes it: octets past plain characters are % and two digits.
+function spelled(name) {
+  const one = (it) => it < 32 || it === 37 || it > 126 ? "%" + it.toString(16).toUpperCase().padStart(2, "0") : String.fromCharCode(it);
+  return [...new TextEncoder().encode(name)].map(one).join("");
+}
+
+function plain(account) {
+  try { return decodeURIComponent(account); } catch { return account; }
+}
+
+// Why an account may not have this name: a text of the page, or "".
+function whyNot(name) {
+  const octets = new TextEncoder().encode(name);
+  if (!octets.length) return "nameEmpty";
+  if (octets.length > 253) return "nameLong";
+  if (/\p{Surrogate}/u.test(name)) return "nameText";
+  if (octets.some((it) => it < 32 || it === 127)) return "nameControl";
+  if (/^[\s\x85]|[\s\x85]$/.test(name)) return "nameSpace";
+  if (name.startsWith("'")) return "nameApostrophe";
+  if (name.includes("%{")) return "nameExpands";
+  return /^[0-9]+(?:[.,][0-9]+)?E\+[0-9]+$/.test(name) ? "nameRounded" : "";
+}

@@ -1,0 +1,45 @@
+"use strict";
+// What each page does in the same way: its texts, its money and its settings.
+
+// Another language is another name here and another column in the TEXTS of each page, and nothing
+// else.
+const LANGUAGES = { en: "English", de: "Deutsch" };
+const $ = (id) => document.getElementById(id);
+let language = "en", settings = null;
+
+const column = () => Object.keys(LANGUAGES).indexOf(language);
+const text = (name, ...values) => TEXTS[name][column()].replace(/\{(\d)\}/g, (_, at) => values[at]);
+
+function number(value, decimals) {
+  const form = { minimumFractionDigits: decimals, maximumFractionDigits: decimals };
+  return new Intl.NumberFormat(language, form).format(value);
+}
+
+// Units of the book in the site's money. The space does not break.
+function money(units) {
+  const shown = number(units / 10 ** settings.decimals, settings.decimals);
+  return settings.currency ? shown + "\u00a0" + settings.currency : shown;
+}
+
+function setLanguage(wanted) {
+  language = wanted in LANGUAGES ? wanted : "en";
+  $("language").value = language;
+}
+
+function listLanguages() {
+  for (const [code, name] of Object.entries(LANGUAGES)) $("language").add(new Option(name, code));
+}
+
+// The texts that stand in the page, and its title, which has the name of the house.
+function drawTexts() {
+  document.documentElement.lang = language;
+  for (const it of document.querySelectorAll("[data-text]")) it.textContent = text(it.dataset.text);
+  document.title = $("title").textContent = (settings?.name ? settings.name + ": " : "") + text("title");
+}
+
+// Throws if there is no answer (TypeError), or the file is missing or wrong.
+async function readSettings() {
+  const answer = await fetch("/settings.json"), read = answer.ok ? await answer.json() : null;
+  if (!Number.isInteger(read?.decimals) || read.decimals < 0 || read.decimals > 6) throw new Error("settings");
+  settings = read;
+}
