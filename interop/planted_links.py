@@ -1,23 +1,10 @@
-"""What interop/planted and interop/nights share: the installation, and the user who plants links."""
+"""What interop/planted and interop/nights share: the site, and the user who plants links."""
 
-import importlib.machinery
-import importlib.util
-import os
 import pwd
 
-FOLDER = os.path.dirname(os.path.abspath(__file__))
+import tool_site as TOOLS
+
 MARK = "content of root's own file"
-
-
-def load_tools():
-    """The installation and the site of interop/tools."""
-    loader = importlib.machinery.SourceFileLoader("tools", os.path.join(FOLDER, "tools"))
-    module = importlib.util.module_from_spec(importlib.util.spec_from_loader("tools", loader))
-    loader.exec_module(module)
-    return module
-
-
-TOOLS = load_tools()
 
 
 def as_user(words):

@@ -1,13 +1,16 @@
-"""Rows of interop/tools: what radacctd-report says to people, over exports that this writes."""
+"""Rows of interop/tools: radacctd-report, over nights of use, and over exports that this writes."""
 
 import csv
 import gzip
 import json
 import os
+import shutil
 import subprocess
 import time
 
 from served import check
+from tool_nightly import Nights
+from tool_site import DEBIT, INTERIM, MIB, SITE, STOP, Site, run, text_of
 
 SETTINGS = {"name": "", "url": "", "currency": "EUR", "decimals": 2}
 HEADERS = {
@@ -16,6 +19,12 @@ HEADERS = {
     "balances": ["account", "balance", "overrun"],
     "topups": ["voucher", "account", "sum", "when"],
 }
+# Lines of an export, in its order: a client's name is written as it is.
+LINES = [
+    "(caf%C3%A9),bo,bo,caf%C3%A9,5120,0,5120,15,0,1,2,stopped,0,,",
+    "(cafe),bo,bo,cafe,0,5120,5120,5,0,1,2,stopped,0,,",
+    f"(gold),al,al,gold,{300 * MIB},0,{300 * MIB},3000,0,1,2,stopped,0,,",
+]
 
 
 def moment(text):
@@ -105,7 +114,8 @@ def people(exports):
     """Sums in the site's money, names as they are, and who sold."""
     status, text, tables = exports("day", "2026-11-01")
     check("a report for people", (status, text.count("UNEXPLAINED")), (0, 0))
-    check("its sums are in the site's money", "by Class, in EUR" in text and "3,000.50" in text, True)
+    told = "by Class, in EUR" in text and "3,000.50" in text
+    check("its sums are in the site's money", told, True)
     check("its names are as they are", "Müller 7" in text and "%C3" not in text, True)
     wanted = [["", "1", "0.05"], ["anna", "1", "3000.50"], ["jörg", "1", "7.00"]]
     check("it has who sold", tables["cashiers.csv"], wanted)
@@ -137,14 +147,16 @@ def first_night(exports):
     check("which says of what", "2026-10-31 00:00:00 (reckoned from" in text, True)
     check("older sales and sessions are none of the day", [tables["vouchers.csv"],
           tables["usage.csv"]], [[], []])
-    check("but of the balance", tables["balances.csv"], [["Müller 7", "1050"] + ["0"] * 4 + ["1050"]])
+    wanted = [["Müller 7", "1050"] + ["0"] * 4 + ["1050"]]
+    check("but of the balance", tables["balances.csv"], wanted)
     status, text, tables = exports("month", "2026-10")
     check("nor is there one before the month", status, 0)
     check("whose sales they are", tables["vouchers.csv"], [["D1-", "1", "1250"]])
     wanted = [["Müller 7", "0", "1250", "200", "0", "0", "1050"]]
     check("and whose sessions", tables["balances.csv"], wanted)
     status, text, tables = exports("day", "2026-11-02")
-    check("there is one after a copy that was made by day, too", (status, tables["usage.csv"]), (0, []))
+    found = status, tables["usage.csv"]
+    check("there is one after a copy that was made by day, too", found, (0, []))
     status, text, tables = exports("month", "2026-11")
     check("a month that goes on", (status, len(tables["cashiers.csv"])), (0, 3))
 
@@ -166,10 +178,115 @@ def carried(exports):
     check("whose money is shown apart", gone, [["c", "-7", "0", "0", "0", "7", "0"]])
 
 
-def test(tool, folder):
+def test_rows(tool, folder):
     """All rows. The exports of each are in a folder of their own."""
     exports = Exports(tool, os.path.join(folder, "people"))
     put_site(exports)
     people(exports)
     first_night(exports)
     carried(Exports(tool, os.path.join(folder, "carried")))
+
+
+def nights_of_use(site, nights):
+    """Three nights with a long session, and what came between them."""
+    site.send(INTERIM, "long", 100 * MIB)
+    site.sell("DESK1-1", "al", 5000)
+    site.send(INTERIM, "gone", 2 * MIB, account="bo")
+    for odd in ("\x01", "%", "é", "A,B", "~"):
+        site.send(INTERIM, odd, 0, account="bo")
+    first = nights("2026-10-01 00:00:02")
+    site.send(INTERIM, "long", 250 * MIB)
+    site.send(STOP, "short", 10 * MIB, account="bo")
+    site.sell("DESK1-2", "al", 300)
+    site.sell("DESK2-1", "bo", 40)
+    site.send(STOP, "VOID-1", 77, plan="debit")
+    second = nights("2026-10-02 00:00:01")
+    site.send(STOP, "long", 300 * MIB)
+    site.send(INTERIM, "late", 5 * MIB, account="bo", plan="default")
+    third = nights("2026-11-01 00:00:03")
+    check("three nights", [it[0] for it in (first, second, third)], [0, 0, 0])
+
+
+def reported(nights, folder, *words):
+    """The status, the text, and the tables that radacctd-report wrote, as lines."""
+    tool = [nights.site.tool("radacctd-report"), "--folder", nights.exports, "--csv", folder]
+    # Whatever this machine's own site is.
+    tool += ["--settings", f"{folder}.none", "--sales", f"{folder}.none"]
+    status, output, errors = run([*tool, *words], env={"TZ": "UTC"})
+    tables = {}
+    if os.path.isdir(folder):
+        tables = {name: text_of(f"{folder}/{name}").splitlines()[1:] for name in os.listdir(folder)}
+    return status, output + errors, tables
+
+
+def change_export(nights, night, what, change):
+    """Writes an export of a night anew, without compression."""
+    path = os.path.join(nights.exports, night, f"{what}.csv")
+    with gzip.open(f"{path}.gz", "rt") as file:
+        rows = list(csv.reader(file))
+    os.remove(f"{path}.gz")
+    with open(path, "w", newline="", encoding="ascii") as file:
+        csv.writer(file, lineterminator="\n").writerows(change(rows))
+
+
+def report_of_gone(nights, folder):
+    """A session that vanished, as if another book was put in the place of the old one."""
+    night = os.path.join(nights.exports, "2026-11-02")
+    shutil.copytree(os.path.join(nights.exports, "2026-11-01"), night)
+    fewer = lambda rows: [it for it in rows if it[1] != "gone"]
+    change_export(nights, "2026-11-02", "sessions", fewer)
+    words = "day", "2026-11-01"
+    status, text, _ = reported(nights, f"{folder}/gone", *words)
+    check("a balance that didn't move with it is told", (status, "UNEXPLAINED" in text), (1, True))
+    more = lambda rows: [[it[0], "-90", "90"] if it[0] == "bo" else it for it in rows]
+    change_export(nights, "2026-11-02", "balances", more)
+    status, text, tables = reported(nights, f"{folder}/gone-2", *words)
+    check("a session that vanished", (status, "1 gone sessions" in text), (0, True))
+    check("is shown apart", tables["balances.csv"][1], "bo,-110,0,0,0,20,-90")
+
+
+def report_of_lines(nights, folder):
+    """Sessions that were carried forward: `long` of al, which cost 3000, and `gone` of bo, 20."""
+    for night in ("2026-12-01", "2026-12-02"):
+        shutil.copytree(os.path.join(nights.exports, "2026-11-01"), f"{nights.exports}/{night}")
+    lines = [line.split(",") for line in LINES]
+    gone = "long", "gone"
+    carry = lambda rows: [rows[0], *lines, *(it for it in rows[1:] if it[1] not in gone)]
+    change_export(nights, "2026-12-02", "sessions", carry)
+    status, text, tables = reported(nights, f"{folder}/lines", "day", "2026-12-01")
+    check("sessions that were carried forward", (status, "UNEXPLAINED" in text), (0, False))
+    check("are told", "2 sessions were carried forward into 3 lines" in text, True)
+    check("a line is no usage", (tables["usage.csv"], tables["plans.csv"]), ([], []))
+    balances = ["al,2223,0,0,0,0,2223", "bo,-110,0,0,0,0,-110"]
+    check("and no money moved", tables["balances.csv"], balances)
+
+
+def test_report(folder):
+    site = Site(folder, SITE + DEBIT)
+    site.command("init")
+    site.start()
+    nights = Nights(site)
+    try:
+        nights_of_use(site, nights)
+    finally:
+        site.kill()
+    status, text, tables = reported(nights, f"{folder}/day", "day", "2026-10-01")
+    span = "2026-10-01 00:00:02 UTC to 2026-10-02 00:00:01 UTC"
+    check("a day", (status, span in text), (0, True))
+    usage = [f"al,gold,1,0,{150 * MIB},1500", f"bo,gold,1,0,{10 * MIB},100"]
+    check("what was used in it", tables["usage.csv"], usage)
+    check("by plan", tables["plans.csv"], [f"gold,2,0,{160 * MIB},1600"])
+    check("vouchers by prefix", tables["vouchers.csv"], ["DESK1-,1,300", "DESK2-,1,40"])
+    balances = ["al,4000,300,1500,77,0,2723", "bo,-20,40,100,0,0,-80"]
+    check("and each balance", tables["balances.csv"], balances)
+    status, text, tables = reported(nights, f"{folder}/month", "month", "2026-10")
+    check("a month", (status, "sessions begun 2, ended 2; debits 1" in text), (0, True))
+    plans = [f"default,1,0,{5 * MIB},30", f"gold,2,0,{210 * MIB},2100"]
+    check("of the long session what is of the month", tables["plans.csv"], plans)
+    status, text, _ = reported(nights, f"{folder}/day", "day", "2026-10-01")
+    check("a folder that is there is not written over", (status, "cannot write" in text), (1, True))
+    status, text, _ = reported(nights, f"{folder}/none", "day", "2026-09-01")
+    check("no exports of a date", (status, "no two exports" in text), (1, True))
+    report_of_gone(nights, folder)
+    report_of_lines(nights, folder)
+    test_rows(site.tool("radacctd-report"), f"{folder}/rows")
