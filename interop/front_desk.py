@@ -234,6 +234,10 @@ def names(browser):
     browser.js("const a = document.getElementById('account'); a.value = 'b';"
                "a.dispatchEvent(new Event('input', { bubbles: true }))")
     check("typing on ends the error", browser.text("#message"), "Ready.")
+    type_sale(browser, "room\u200e 12", "5")
+    near = browser.shows("room 12", "#near")
+    check("a copied mark that nobody sees: the known name is shown", near, True)
+    browser.click("#no")
     texts = [texts_of(it) for it in (tables.MAY, tables.MAY_NOT)]
     found = [browser.js("return arguments[0].filter((it) => whyNot(it))", it) for it in texts]
     check("the page has the rule of the tools", found, [[], texts[1]])

@@ -178,12 +178,16 @@ def names_of_the_tools():
 
 # Octets of which names are made at random: parts of characters, marks, white space.
 PIECES = b" '%{1E+.,aM\t\x7f\xc2\xa0\xe2\x80\x83\xf0\x9f\xed\x8f\xbf\xc0\xf4"
+MARKS = [*range(0x200A, 0x2011), *range(0x2027, 0x2031), *range(0x205E, 0x206B), 0xAC, 0xAD, 0xAE]
 NAMES = [
     *(b"al", b"room 12, 50%", "Müller".encode(), b"AL", b"o'brien", b"a\\b", b'a"b', b"% {"),
     *(b"%{User-Name}", b"a%{", b"%%{Class}b", b"'anton", b"1.23457E+11", b"1,2E+9", b"12E+4"),
     *(b" al", b"al ", "\u2003al".encode(), "al\u00a0".encode(), "\ufeffal".encode(), b"a\nb"),
     *(b"\xff", b"\xc0\xaf", b"\xed\xa0\x80", b"\xf4\x90\x80\x80", b"a\x00b", b"x" * 253),
     *("ü".encode() * 126, b"=1+2", "😀".encode(), "a\u2003b".encode(), b"-x", b"&User-Name", b"E+4"),
+    # Marks that nobody sees, each first and last, and their neighbours.
+    *(f"{chr(it)}al".encode() for it in MARKS),
+    *(f"al{chr(it)}".encode() for it in MARKS),
 ]
 
 

@@ -31,6 +31,12 @@ MAY_NOT = {
     "al%C2%A0": "a space",
     "\u2003al": "a space",
     "%EF%BB%BFal": "a space",
+    "al\u200f": "a mark",
+    "\u200eal": "a mark",
+    "al\u200b": "a mark",
+    "al\u00ad": "a mark",
+    "\u202eal": "a mark",
+    "al\u2069": "a mark",
     "'anton": "an apostrophe",
     "''": "an apostrophe",
     "a%{User-Name}": "%{",
@@ -40,6 +46,9 @@ MAY_NOT = {
     "1,23457E+11": "rounded",
     "12E+10": "rounded",
 }
+
+
+FORMULA = tuple("=+-@\t\r")
 
 
 def faults_of_rule():
@@ -56,9 +65,12 @@ def faults_of_cells():
     """Texts that a file for people does not bring back, or that are formulas in it."""
     rests = ("", "=1", "+1", "-1", "a")
     texts = [start + rest for start in ("", "'", "''", "'''") for rest in rests]
-    for text in [*texts, "@x", "\tx", "\rx", "a=b", "Łódź", "'\t"]:
+    texts += [f"{start}{mark}{rest}" for start in ("a", "=a", "") for mark in ";|" for rest in texts]
+    for text in [*texts, "@x", "\tx", "\rx", "a=b", "Łódź", "'\t", "a;b", "a%3Bb", ";;=1"]:
         written = names.cell(text)
-        if names.text_of_cell(written) != text or written[:1] in tuple("=+-@\t\r"):
+        # A spreadsheet of another country separates fields by ; or, if it is told so, by |.
+        parts = [*written.split(";"), *written.split("|")]
+        if names.text_of_cell(written) != text or any(it[:1] in FORMULA for it in parts if it):
             yield text, written
 
 

@@ -11,6 +11,10 @@ function plain(account) {
   try { return decodeURIComponent(account); } catch { return account; }
 }
 
+// Marks that nobody sees, as of the direction of a text: they come along if a name is copied.
+const MARKS = "\\xad\\u200b-\\u200f\\u202a-\\u202e\\u2060-\\u2069";
+const EDGE = new RegExp(`^[\\s\\x85${MARKS}]|[\\s\\x85${MARKS}]$`);
+
 // Why an account may not have this name: a text of the page, or "".
 function whyNot(name) {
   const octets = new TextEncoder().encode(name);
@@ -18,7 +22,7 @@ function whyNot(name) {
   if (octets.length > 253) return "nameLong";
   if (/\p{Surrogate}/u.test(name)) return "nameText";
   if (octets.some((it) => it < 32 || it === 127)) return "nameControl";
-  if (/^[\s\x85]|[\s\x85]$/.test(name)) return "nameSpace";
+  if (EDGE.test(name)) return "nameSpace";
   if (name.startsWith("'")) return "nameApostrophe";
   if (name.includes("%{")) return "nameExpands";
   return /^[0-9]+(?:[.,][0-9]+)?E\+[0-9]+$/.test(name) ? "nameRounded" : "";

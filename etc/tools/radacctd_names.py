@@ -11,14 +11,18 @@ import re
 import urllib.parse
 
 LONGEST = 253
-# Unicode's white space, and the mark that begins some files.
-SPACES = frozenset(
-    map(chr, [*range(9, 14), 0x20, 0x85, 0xA0, 0x1680, *range(0x2000, 0x200B), 0x2028, 0x2029])
-) | frozenset("\u202f\u205f\u3000\ufeff")
+# Unicode's white space, and marks that nobody sees: they come along if a name is copied. One says
+# in which direction a text goes, say, or begins a file.
+UNSEEN = frozenset(map(chr, [*range(9, 14), 0x20, 0x85, 0xA0, 0xAD, 0x1680, 0x3000, 0xFEFF]))
+UNSEEN |= frozenset(map(chr, [*range(0x2000, 0x2010), *range(0x2028, 0x2030)]))
+UNSEEN |= frozenset(map(chr, range(0x205F, 0x206A)))
 # How Excel writes a number of more than 11 digits: with the point of English, the comma of German.
 LONG_NUMBER = re.compile(r"[0-9]+(?:[.,][0-9]+)?E\+[0-9]+")
 # What makes a field a formula, in spite of apostrophes before it.
 FORMULA = re.compile(r"'*[=+\-@\t\r]")
+# The same behind what separates fields for a spreadsheet of another country; and as it is written.
+INNER = re.compile(r"[;|](?=[=+\-@\t\r])")
+INNER_SPELLED = re.compile(r"%(?:3B|7C)(?=[=+\-@\t\r])")
 
 
 def octets_of(text):
@@ -45,8 +49,8 @@ def why_not(name):
         return "it is not UTF-8"
     if any(it < 32 or it == 127 for it in octets):
         return "it has a control character"
-    if text[0] in SPACES or text[-1] in SPACES:
-        return "it begins or ends with a space"
+    if text[0] in UNSEEN or text[-1] in UNSEEN:
+        return "it begins or ends with a space, or with a mark that nobody sees"
     if text[0] == "'":
         return "it begins with an apostrophe, as a spreadsheet marks a text"
     if "%{" in text:
@@ -57,10 +61,12 @@ def why_not(name):
 
 
 def cell(text):
-    """A field of a CSV file for people: no spreadsheet takes it for a formula."""
+    """A field of a CSV file for people: no spreadsheet takes it, or a part of it, for a formula."""
+    text = INNER.sub(lambda it: f"%{ord(it[0]):02X}", text)
     return "'" + text if FORMULA.match(text) else text
 
 
 def text_of_cell(field):
     """What a field of a CSV file for people says."""
+    field = INNER_SPELLED.sub(lambda it: urllib.parse.unquote(it[0]), field)
     return field[1:] if field[:1] == "'" and FORMULA.match(field) else field

@@ -44,8 +44,8 @@ const TEXTS = {
     "Das Konto hat ein Zeichen, das man nicht sieht. Tippen Sie es neu."
   ],
   nameSpace: [
-    "An account neither begins nor ends with a space.",
-    "Ein Konto beginnt und endet nicht mit einem Leerzeichen."
+    "An account neither begins nor ends with a space, or with a mark that cannot be seen. Type it, do not copy it.",
+    "Ein Konto beginnt und endet nicht mit einem Leerzeichen oder einem unsichtbaren Zeichen. Tippen Sie es, statt es zu kopieren."
   ],
   nameApostrophe: [
     "An account cannot begin with an apostrophe (').",
