@@ -85,12 +85,18 @@ def sale(voucher, cashier, status=201):
 
 
 def put_site(exports):
-    """A site of two nights: what was sold by whom, and accounts of all kinds of names."""
+    """A site of two nights: what was sold by whom, and accounts of all kinds of names, of which one
+    is an order for a terminal.
+    """
     with open(exports.settings, "w", encoding="utf-8") as file:
         json.dump(SETTINGS, file)
     with open(exports.sales, "w", encoding="utf-8") as file:
         file.write(sale("D1-2", "bert", 200) + sale("D1-2", "jörg", 201) + "no line of a log\n")
-        file.write(sale("D1-9", "eve", 503))
+        file.write(sale("D1-9", "eve", 503) + sale("W-9", "eve", 503) + sale("D2-1", "bert", 200))
+        file.write(sale("D2-2", "CN=J\\C3\\B6rg") + sale("D2-3", "100%25"))
+    with open(exports.sales, "ab") as file:
+        # A login in the coding of an older machine.
+        file.write(sale("D2-4", "?").replace("?", "j\xf6rg").encode("latin-1"))
     with gzip.open(exports.sales + ".2.gz", "wt", encoding="utf-8") as file:
         file.write(sale("D1-1", "anna") + sale("D1-3", "anna") + sale("D1-2", "eve", 200))
     sold = [["D1-1", "M%C3%BCller 7", 1250, moment("2026-10-30 12:00")]]
@@ -100,6 +106,7 @@ def put_site(exports):
         *sold,
         ["D1-2", "%3D1+1", 700, moment("2026-11-01 12:00")],
         ["D1-3", "M%C3%BCller 7", 300050, moment("2026-11-01 13:00")],
+        *([f"D2-{at}", "%1B[2J", 1, moment("2026-11-01 14:00")] for at in (1, 2, 3, 4)),
         ["W-9", "%FF", 5, moment("2026-11-01 14:00")],
     ]
     used = [
@@ -118,8 +125,10 @@ def people(exports):
     check("its sums are in the site's money", told, True)
     check("its names are as they are", "Müller 7" in text and "%C3" not in text, True)
     wanted = [["", "1", "0.05"], ["anna", "1", "3000.50"], ["jörg", "1", "7.00"]]
-    check("it has who sold", tables["cashiers.csv"], wanted)
+    wanted += [[it, "1", "0.01"] for it in ("bert", "CN=Jörg", "100%25", "j%F6rg")]
+    check("it has who sold", sorted(tables["cashiers.csv"]), sorted(wanted))
     wanted = [
+        ["%1B[2J", "0.00", "0.04", "0.00", "0.00", "0.00", "0.04"],
         ["%FF", "0.00", "0.05", "0.00", "0.00", "0.00", "0.05"],
         ["'=1+1", "0.00", "7.00", "0.01", "0.00", "0.00", "6.99"],
         ["Müller 7", "10.50", "3000.50", "2.05", "0.00", "0.00", "3008.95"],
@@ -158,7 +167,19 @@ def first_night(exports):
     found = status, tables["usage.csv"]
     check("there is one after a copy that was made by day, too", found, (0, []))
     status, text, tables = exports("month", "2026-11")
-    check("a month that goes on", (status, len(tables["cashiers.csv"])), (0, 3))
+    check("a month that goes on", (status, len(tables["cashiers.csv"])), (0, 7))
+    status, text, _ = exports("day", "2026-11-04")
+    check("after the last night there is none", (status, "no two exports" in text), (1, True))
+
+
+def over_midnight(exports):
+    """After the first night: a session counts on the day of its last report, with all of it."""
+    late = session("late", "a", 30, "2026-10-30 23:00", "2026-10-31 01:00")
+    exports.put("2026-11-01", [late], [])
+    status, text, tables = exports("day", "2026-10-31")
+    wanted = [["a", "0", "0", "30", "0", "0", "-30"]]
+    check("a session over midnight is of the later day", tables["balances.csv"], wanted)
+    check("which is said", (status, "counts with all that it used" in text), (0, True))
 
 
 def carried(exports):
@@ -184,6 +205,7 @@ def test_rows(tool, folder):
     put_site(exports)
     people(exports)
     first_night(exports)
+    over_midnight(Exports(tool, os.path.join(folder, "midnight")))
     carried(Exports(tool, os.path.join(folder, "carried")))
 
 
