@@ -2,6 +2,7 @@
 
 import os
 import socket
+import subprocess
 import threading
 
 from served import check, free_port
@@ -123,6 +124,30 @@ def debit_stopped(site, debit):
     check("the journal is its owner's", rights_of(debit.journal)[0], "0o600")
 
 
+def debit_unwritten(site, debit):
+    """The journal's disk is full: what was taken is never called refused, and no line is cut."""
+    before, text = site.balance(), text_of(debit.journal)
+    full = ["strace", "-qq", "-o", os.devnull]
+    for call, fault in (("fsync", "error=ENOSPC"), ("write", "retval=9")):
+        words = [*full, "-e", f"trace={call}", "-e", f"inject={call}:{fault}:when=1"]
+        status, _, errors = run([*words, *debit.words("al", "100", "FULL-1")])
+        check("the journal cannot be written", (status, "cannot be written" in errors), (1, True))
+        check("and is as it was", text_of(debit.journal), text)
+    check("nothing is taken", site.balance(), before)
+    words = [*full, "-e", "trace=fsync", "-e", "inject=fsync:error=ENOSPC:when=2"]
+    status, output, errors = run([*words, *debit.words("al", "100", "FULL-1")])
+    told = "FULL-1: 100 taken from al" in output and "FULL-1 is taken, but" in errors
+    check("once it is sent, a full disk does not make it a refused one", (status, told), (0, True))
+    check("it is taken", site.balance(), before - 100)
+    check("given again", debit("al", "100", "FULL-1")[0], 0)
+    check("it is taken once", site.balance(), before - 100)
+    with open("/dev/full", "w", encoding="ascii") as nowhere:
+        words = debit.words("al", "10", "FULL-2")
+        status = subprocess.run(words, stdout=nowhere, stderr=nowhere).returncode
+    found = status, site.balance()
+    check("nor does a full disk for what it prints", found, (0, before - 110))
+
+
 def debit_defaults(site, debit):
     """The port that the unit's file says; beside FreeRADIUS it is not 1813."""
     before, path = site.balance(), os.path.join(site.folder, "default")
@@ -197,6 +222,7 @@ def test_debit(folder):
         debit_file(site, debit)
         debit_defaults(site, debit)
         debit_names(site, debit)
+        debit_unwritten(site, debit)
         debit_stopped(site, debit)
     finally:
         site.kill()
