@@ -13,15 +13,11 @@ import re
 import signal
 import socket
 import subprocess
-import sys
 import threading
 import time
 
 from served import ROOT, check, free_port
-
-sys.path.append(os.path.join(ROOT, "etc", "tools"))
-
-import radacctd_stock as stocks
+from tool_site import until
 
 SETTINGS = {"name": "Hotel Łódź", "url": "https://localhost", "currency": "zł", "decimals": 2}
 KEY = "cash-key-00000001"
@@ -78,7 +74,9 @@ class Shop:
 
     def begin(self, account, code, desks):
         """A request to redeem a code, in flight."""
-        body = json.dumps({"account": account, "code": code}).encode()
+        return self.begin_with(json.dumps({"account": account, "code": code}).encode(), desks)
+
+    def begin_with(self, body, desks):
         env = {**os.environ, "RADACCTD_STOCK": self.stock, "RADACCTD_KEY": self.key}
         env |= {"RADACCTD_WITHDRAWN": f"{self.folder}/stock/second.csv"}
         env |= {"RADACCTD_DESKS": ",".join(desks), "CONTENT_LENGTH": str(len(body))}
@@ -271,6 +269,16 @@ def full_disk(shop, site):
     os.rename(path + ".away", path)
 
 
+def odd_bodies(shop, site):
+    """Bodies that are none: the answer says so, and the journal gets nothing."""
+    deep = "[" * 1010
+    for body in ("", "[]", "{}", '"', deep, f'{{"account":{deep}', "\xff", '{"account":"a"}'):
+        process = shop.begin_with(body.encode("latin-1"), [desk_of(site)])
+        found = process.communicate()
+        wanted = b'Status: 422 Unprocessable Entity\r\n', b""
+        check(f"a body that begins with `{body[:12]}`", (found[0][:34], found[1]), wanted)
+
+
 def key_files(shop, site):
     """A file with more than a key: no octet of it is printed."""
     _, codes = shop.make(1)
@@ -434,42 +442,81 @@ def at_random(shop, sites, seconds, seed):
 
 
 def asked(port, account, number):
-    """The status that a desk gives to a voucher of 5."""
+    """The status that a desk gives to a voucher of 5, or None if there is no answer."""
     body = json.dumps({"account": account, "sum": 5, "voucher": number})
     caller = http.client.HTTPConnection("127.0.0.1", port, timeout=30)
     caller.request("POST", "/topups", body, {"Desk-Key": KEY})
-    return caller.getresponse().status
+    try:
+        return caller.getresponse().status
+    except (OSError, http.client.HTTPException):
+        return None
+
+
+class Outbox:
+    """An outbox for the desks of two sites."""
+
+    def __init__(self, folder, sites):
+        os.mkdir(folder)
+        self.port, self.balances = free_port(socket.SOCK_STREAM), f"{folder}/balances.csv"
+        key = os.open(f"{folder}/key", os.O_WRONLY | os.O_CREAT, 0o600)
+        os.write(key, KEY.encode() + b"\n")
+        os.close(key)
+        with open(self.balances, "w", encoding="ascii") as file:
+            file.write("account,balance,overrun\n old,5,0\n")
+        self.words = [os.path.join(ROOT, "etc", "pair", "radacctd-outbox")]
+        self.words += ["--listen", f"127.0.0.1:{self.port}", "--key-file", f"{folder}/key"]
+        self.words += ["--db", f"{folder}/outbox.db", "--balances", self.balances]
+        self.words += ["--own", desk_of(sites[0]), "--other", desk_of(sites[1])]
+
+    def start(self, errors=subprocess.PIPE):
+        process = subprocess.Popen(self.words, stdout=subprocess.PIPE, stderr=errors, text=True)
+        check("the outbox serves", process.stdout.readline(), "serving\n")
+        return process
+
+    def waiting(self):
+        """How many vouchers wait for the second desk."""
+        caller = http.client.HTTPConnection("127.0.0.1", self.port, timeout=30)
+        caller.request("GET", "/waiting")
+        return json.loads(caller.getresponse().read())["waiting"]["other"]
 
 
 def outbox_names(folder, sites):
     """The outbox sells to no name that could not log in, unless it is known."""
-    os.mkdir(folder)
-    port = free_port(socket.SOCK_STREAM)
-    key = os.open(f"{folder}/key", os.O_WRONLY | os.O_CREAT, 0o600)
-    os.write(key, KEY.encode() + b"\n")
-    os.close(key)
-    with open(f"{folder}/balances.csv", "w", encoding="ascii") as file:
-        file.write("account,balance,overrun\n old,5,0\n")
-    words = [os.path.join(ROOT, "etc", "pair", "radacctd-outbox"), "--listen", f"127.0.0.1:{port}"]
-    words += ["--key-file", f"{folder}/key", "--db", f"{folder}/outbox.db"]
-    words += ["--balances", f"{folder}/balances.csv"]
-    words += ["--own", desk_of(sites[0]), "--other", desk_of(sites[1])]
-    pipe = subprocess.PIPE
-    outbox = subprocess.Popen(words, stdout=pipe, stderr=pipe, text=True)
+    outbox = Outbox(folder, sites)
+    process, port = outbox.start(), outbox.port
     try:
-        check("the outbox serves", outbox.stdout.readline(), "serving\n")
         check("it sells", asked(port, "al", "O-1"), 201)
         for account in ("'anton", " al", "1.23457E+11", "%FF", "a%25{b}"):
             check(f"but not to `{account}`", asked(port, account, "O-2"), 422)
         check("the number is free", asked(port, "=al", "O-2"), 201)
         check("it sells to one that has a balance", asked(port, " old", "O-3"), 201)
-        os.remove(f"{folder}/balances.csv")
+        os.remove(outbox.balances)
         check("and once more, without the balances", asked(port, " old", "O-4"), 201)
         check("a repeat is one", asked(port, " old", "O-3"), 200)
     finally:
-        outbox.kill()
-        errors = outbox.communicate()[1]
+        process.kill()
+        errors = process.communicate()[1]
     check("and says why it did not", errors.count(" may not enter: "), 5)
+
+
+def outbox_unheard(folder, sites):
+    """Nobody reads what the outbox prints: it sells, and sends what it keeps."""
+    outbox = Outbox(folder, sites)
+    reader, writer = os.pipe()
+    process = outbox.start(writer)
+    os.close(reader)
+    os.close(writer)
+    sites[1].kill()
+    try:
+        check("one desk is away: the outbox sells", asked(outbox.port, "al", "P-1"), 201)
+        # By then it has tried again, and could not print that either.
+        time.sleep(4)
+    finally:
+        sites[1].start()
+    check("and once it is back, nothing waits", until(lambda: not outbox.waiting(), 20), True)
+    check("that desk has the sale", asked(sites[1].ports[1], "al", "P-1"), 200)
+    process.kill()
+    process.communicate()
 
 
 def test(folder, prefix, make_site):
@@ -481,11 +528,13 @@ def test(folder, prefix, make_site):
     shop = Shop(prefix, f"{folder}/shop")
     try:
         outbox_names(f"{folder}/outbox", sites)
+        outbox_unheard(f"{folder}/unheard", sites)
         shop.make(3)
         old_stock(shop)
         withdrawing(shop, sites[0])
         stopped_tool(shop)
         full_disk(shop, sites[0])
+        odd_bodies(shop, sites[0])
         key_files(shop, sites[0])
         two_desks(shop, sites)
         books = killed_at_steps(shop, sites)
