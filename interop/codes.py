@@ -16,12 +16,14 @@ import subprocess
 import threading
 import time
 
+import names
+from names import names as rule
 from served import ROOT, check, free_port
 from tool_site import until
 
 SETTINGS = {"name": "Hotel Łódź", "url": "https://localhost", "currency": "zł", "decimals": 2}
 KEY = "cash-key-00000001"
-ANSWERED, AWAY, USED, NONE = 200, 503, 409, 404
+ANSWERED, AWAY, USED, NONE, REFUSED = 200, 503, 409, 404, 422
 ACCOUNTS = ("alice", "bob", "eve")
 
 
@@ -267,6 +269,20 @@ def full_disk(shop, site):
     check("a pipe stops nobody", shop("--list", timeout=20)[0], 1)
     os.remove(path)
     os.rename(path + ".away", path)
+
+
+def odd_accounts(shop, site):
+    """A guest's name that could not log in gets no code, and any other one does."""
+    _, codes = shop.make(1 + len(names.MAY))
+    spelled = lambda it: rule.shown(rule.octets_of(it))
+    before, desk = shop.text("stock/given/given.csv"), [desk_of(site)]
+    found = {it: shop.redeem(spelled(it), codes[0], desk) for it in names.MAY_NOT}
+    wrong = {it: said for it, said in found.items() if said != (REFUSED, "")}
+    check(f"{len(found)} accounts that could not log in are refused", wrong, {})
+    check("and nothing is written", shop.text("stock/given/given.csv"), before)
+    found = {it: shop.redeem(spelled(it), code, desk)[0] for it, code in zip(names.MAY, codes)}
+    wrong = [it for it, status in found.items() if status != ANSWERED]
+    check(f"{len(found)} others are not", wrong, [])
 
 
 def odd_bodies(shop, site):
@@ -534,6 +550,7 @@ def test(folder, prefix, make_site):
         withdrawing(shop, sites[0])
         stopped_tool(shop)
         full_disk(shop, sites[0])
+        odd_accounts(shop, sites[0])
         odd_bodies(shop, sites[0])
         key_files(shop, sites[0])
         two_desks(shop, sites)
