@@ -225,15 +225,15 @@ def fill(browser, account, code):
 
 def question(browser, proxy, code):
     """A code is redeemed for an account only after a question that names both."""
+    sent = lambda: [it["path"] for it in proxy.log("radacctd.log")].count("/redeem/code")
+    before = sent()
     browser.js("document.getElementById('account').focus()")
     browser.keys("bo 2\ue007\ue007\ue007")
     asked = browser.shows(f"Put the voucher {code} on the account bo 2?", "#question")
     found = (asked, browser.js("return draft?.account"))
     check("Enter and Enter again only ask", found, (True, "bo 2"))
-    sent = [it for it in proxy.log("radacctd.log") if it["path"] == "/redeem/code"]
     time.sleep(1)
-    again = [it for it in proxy.log("radacctd.log") if it["path"] == "/redeem/code"]
-    check("and send nothing", len(again), len(sent))
+    check("and send nothing", sent(), before)
     browser.js("own = 'room 12'; drawQuestion()")
     told = browser.shows("is for the account room 12", "#question")
     check("who has another card is told", told, True)
