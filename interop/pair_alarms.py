@@ -170,6 +170,21 @@ def used(session, account, mebibytes):
     return report("Interim-Update", session, account, mebibytes * MEBIBYTE)
 
 
+def front_desk_sells(site, first, second):
+    """Sales while both desks, one and none of them are up."""
+    check("nginx: a sale", site.sell("user4", 30, "N-1"), 201)
+    check("again", site.sell("user4", 30, "N-1"), 200)
+    check("for another account", site.sell("user5", 30, "N-1"), 409)
+    login = ("-u", "anna:anna-has-a-pass")
+    check("overruns", site.status("/desk/overruns", *login), 200)
+    status, _, body = site.curl("/desk/balances.csv", *login)
+    check("balances", (status, body.split("\n")[0]), (200, "account,balance,overrun"))
+    second.book.kill()
+    check("a sale while one desk is down", site.sell("user4", 5, "N-2"), 201)
+    first.book.kill()
+    check("while both are: kept", site.sell("user4", 5, "N-3"), 503)
+
+
 def through_nginx(test, first, second):
     """The front desk's requests, through nginx to the outbox."""
     from proxy import Proxy
@@ -192,17 +207,7 @@ def through_nginx(test, first, second):
     site.settings({})
     try:
         site.start()
-        check("nginx: a sale", site.sell("user4", 30, "N-1"), 201)
-        check("again", site.sell("user4", 30, "N-1"), 200)
-        check("for another account", site.sell("user5", 30, "N-1"), 409)
-        login = ("-u", "anna:anna-has-a-pass")
-        check("overruns", site.status("/desk/overruns", *login), 200)
-        status, _, body = site.curl("/desk/balances.csv", *login)
-        check("balances", (status, body.split("\n")[0]), (200, "account,balance,overrun"))
-        second.book.kill()
-        check("a sale while one desk is down", site.sell("user4", 5, "N-2"), 201)
-        first.book.kill()
-        check("while both are: kept", site.sell("user4", 5, "N-3"), 503)
+        front_desk_sells(site, first, second)
         for machine in test.machines:
             machine.book.begin()
     finally:
