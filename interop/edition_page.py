@@ -4,7 +4,7 @@ its commands: a session that is open during the move is charged once.
 
 import pair_page
 from front import check, waits_for
-from front_parts import FIRST_EDITION
+from front_aged import FIRST_EDITION
 from pair_page import FREERADIUS, QUEUE, RADDB, replaced, run, section, steps
 
 # As the page names it, and how the first edition's FreeRADIUS sent for it.

@@ -13,7 +13,8 @@ import time
 import books
 import front
 from front import KILL, check, waits_for
-from front_parts import Sender, attribute, count_in, packet_of
+from front_parts import count_in
+from front_sender import Sender, attribute, packet_of
 
 DAY, MIB = 86_400, 1 << 20
 # The age from which sessions are carried, and from which reports are too old, in days.

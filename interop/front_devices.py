@@ -7,7 +7,8 @@ import time
 
 import front
 from front import MEBIBYTE, check, waits_for
-from front_parts import Missing, Sender, attribute, both, count_in, packet_of, part
+from front_parts import Missing, both, count_in, part
+from front_sender import Sender, attribute, packet_of
 
 EVENT_TIMESTAMP, DELAY = 55, 41
 DEVICE = "127.0.2.1"

@@ -18,18 +18,9 @@ import time
 
 import front
 from front import MEBIBYTE, check, report, waits_for
-from front_parts import (
-    Missing,
-    Sender,
-    attribute,
-    both,
-    count_in,
-    packet_of,
-    part,
-    queue_again,
-    restarted,
-    waited,
-)
+from front_aged import queue_again, waited
+from front_parts import Missing, both, count_in, part, restarted
+from front_sender import Sender, attribute, packet_of
 
 KINDS = ["ext4", "xfs", "btrfs", "overlay", "tmpfs"]
 # In MiB: the least that mkfs takes.

@@ -12,7 +12,8 @@ import types
 
 import front
 from front import FILES, MEBIBYTE, SECRET, check, report, waits_for
-from front_parts import attribute, both, part, restarted
+from front_parts import both, part, restarted
+from front_sender import attribute
 
 SPENT = "Your allowance is spent."
 

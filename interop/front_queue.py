@@ -9,18 +9,9 @@ import time
 
 import front
 from front import MEBIBYTE, READERS, SECRET, check, waits_for
-from front_parts import (
-    Sender,
-    both,
-    count_in,
-    limit,
-    mirrored,
-    packet_of,
-    part,
-    queue_again,
-    restarted,
-    waited,
-)
+from front_aged import queue_again, waited
+from front_parts import both, count_in, limit, mirrored, part, restarted
+from front_sender import Sender, packet_of
 
 START, STOP, INTERIM = 1, 2, 3
 STATUSES = {"Start": 0, "Interim-Update": 2 * MEBIBYTE, "Stop": 3 * MEBIBYTE}

@@ -5,10 +5,10 @@ import os
 import time
 
 import front
-import front_parts
+import front_sender
 from front import MEBIBYTE, check, waits_for
 from front_devices import EVENT_TIMESTAMP
-from front_parts import attribute, packet_of
+from front_sender import attribute, packet_of
 
 BEHIND = 5
 OLDEST = 60
@@ -52,6 +52,6 @@ def report(machine, number):
     packet = packet_of(f"LATE-{number}", b"late", MEBIBYTE)
     packet += attribute(EVENT_TIMESTAMP, int(time.time()).to_bytes(4, "big"))
     packet += UNKNOWN if number == 3 else b""
-    done = front_parts.Sender(machine.radius.acct).send([("127.0.3.1", packet)])
+    done = front_sender.Sender(machine.radius.acct).send([("127.0.3.1", packet)])
     if done != 1:
         check(f"report {number} of {SESSIONS} is answered", done, 1)

@@ -16,7 +16,7 @@ import urllib.parse
 import front
 import proxy
 from front import BOOK_SECRET, KILL, MEBIBYTE, check
-from front_parts import Sender, packet_of
+from front_sender import Sender, packet_of
 
 TOOL = os.path.join(front.ROOT, "etc", "shards", "radacctd-shards")
 TOOLS = os.path.join(front.ROOT, "etc", "tools")
