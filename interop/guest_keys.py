@@ -1,20 +1,23 @@
 """Rows of interop/tools: guests' keys end when they are ended, whatever else waits.
 
 A copy that an edit left, a plan that waits, many at once, kills at each call and at random moments,
-a full disk, a wrong configuration, a server that hangs or is down, and an editor that is open.
+a full disk, a wrong configuration, a server that hangs or is down, an editor that is open or fails,
+locks and stops of the service's user, and a program that only looks like a server.
 """
 
 import collections
+import fcntl
 import os
 import random
 import re
 import signal
+import socket
 import subprocess
 import tempfile
 import time
 import tomllib
 
-from served import check
+from served import check, free_port
 
 PLAN = '\n[[plan]]\nclass = "debit"\nblock = 1\nunit = 1\n'
 KEY = re.compile(r"[a-z0-9]{5}(?:-[a-z0-9]{5}){4}")
@@ -25,6 +28,28 @@ LONGEST = 300
 ENDED = 0, "ended 1 keys\n", ""
 RIGHTS = "st_mode", "st_uid", "st_gid"
 SILENT = {it: subprocess.DEVNULL for it in ("stdin", "stdout", "stderr")}
+# Stands for radacctd: a check of it is stopped at once, as its user.
+STOPPED = """#!/bin/sh
+if [ "$1" = check ]; then
+    exec {libexec}/as-owner --as radacctd sh -c 'kill -STOP $$'
+fi
+exec {tool}.whole "$@"
+"""
+# Prints what is asked of it, and answers one octet a second.
+DESK = """
+import socket, sys, time
+with socket.create_server(("127.0.0.1", int(sys.argv[-1]))) as desk:
+    print("ready", flush=True)
+    while True:
+        caller = desk.accept()[0]
+        print(caller.recv(4096), flush=True)
+        try:
+            while True:
+                caller.send(b"H")
+                time.sleep(1)
+        except OSError:
+            pass
+"""
 
 
 def text_of(path):
@@ -265,8 +290,11 @@ def killed(keys):
     print(f"          {sum(ends.values())} kills at calls, {ends[True]} before the rename")
     check("some kills came before the rename, some after", len(ends), 2)
     pick, ends = random.Random(56), collections.Counter()
+    begun = time.monotonic()
+    killed_once(keys, before, [], None)
+    longest = 1.5 * (time.monotonic() - begun)
     for _ in range(40):
-        ends[killed_once(keys, before, [], pick.uniform(0.02, 0.9))[1]] += 1
+        ends[killed_once(keys, before, [], pick.uniform(0.02, longest))[1]] += 1
     print(f"          40 kills at random, {ends[True]} before the rename")
     check("some of these, too", len(ends), 2)
     check("the file is as before", (keys.text(), keys.left()), (before, []))
@@ -414,6 +442,134 @@ def edit_with_plan(keys, edit, folder):
     until(lambda: not keys.opens("plan-key-0000000001"))
 
 
+def as_user(keys, words, name="radacctd", **more):
+    """Starts a command as another user."""
+    words = [f"{keys.site.prefix}/libexec/radacctd/as-owner", "--as", name, *words]
+    return subprocess.Popen(words, **{**SILENT, **more})
+
+
+def end(process):
+    process.kill()
+    process.wait()
+
+
+def foreign_locks(keys, edit):
+    """The service's user locks all that it may read, for ever: keys end, and edits go on."""
+    if os.geteuid():
+        print("skipped  locks of another user: it wants root")
+        return
+    config, token, before = keys.config, keys.new("wolf-1"), keys.text()
+    lock, base = config + ".lock", config + ".edit-base"
+    put(base, before, like=config)
+    put(lock, "")
+    os.chmod(lock, 0o644)
+    holders = [as_user(keys, ["flock", it, "sleep", "600"]) for it in (config, lock, base)]
+    try:
+        for it in (config, lock, base):
+            free = lambda: run(["flock", "-n", it, "true"])[0] == 0
+            check(f"the service's user locks {it[len(config):] or 'the configuration'}",
+                  until(lambda: not free()), True)
+        begun = time.monotonic()
+        check("a key ends all the same", keys("revoke", "wolf-1"), ENDED)
+        check("at once", time.monotonic() - begun < 30, True)
+        check("for the desk, too", keys.opens(token), False)
+        check("a key is made", keys.opens(keys.new("xaver-1")), True)
+        status, said = edit("sed -i '$a # edited'", "--log", keys.site.errors)
+        check("an edit goes on", (status, "# edited" in keys.text()), (0, True))
+        check("the end of the hour's keys, too", keys("expire")[:2], (0, "no key to end\n"))
+    finally:
+        for it in holders:
+            end(it)
+    put(config, keys.text().replace("# edited\n", ""))
+    check("and a key ends", keys("revoke", "xaver-1"), ENDED)
+    check("nothing is left", keys.left(), [])
+
+
+def closed_locks(keys):
+    """While a lock is held, the service's user can neither open nor inherit it."""
+    lock = keys.config + ".lock"
+    with open(lock, "wb", opener=lambda path, way: os.open(path, way, 0o600)) as file:
+        fcntl.flock(file, fcntl.LOCK_EX)
+        waiting = keys.begin("new", "yves-1")
+        time.sleep(1)
+        check("a key waits for the lock", waiting.poll(), None)
+        if not os.geteuid():
+            status = as_user(keys, ["flock", "-n", lock, "true"]).wait()
+            check("which the service's user may not open", status not in (0, 1), True)
+        os.remove(lock)
+    check("and is made then", waiting.communicate(timeout=LONGEST)[1], "")
+    check("it ends", keys("revoke", "yves-1"), ENDED)
+    check("nothing is left", keys.left(), [])
+
+
+def stopped_check(keys):
+    """The service's user stops each check of a configuration, which is made as that user."""
+    if os.geteuid():
+        print("skipped  stops by another user: it wants root")
+        return
+    token, before, tool = keys.new("zoe-1"), keys.text(), keys.site.tool("radacctd")
+    os.rename(tool, tool + ".whole")
+    put(tool, STOPPED.format(libexec=f"{keys.site.prefix}/libexec/radacctd", tool=tool))
+    os.chmod(tool, 0o755)
+    try:
+        status, _, errors = keys("revoke", "zoe-1")
+        told = "its check did not end" in errors
+        check("a stopped check keeps no key alive", (token in keys.tokens(), told), (False, True))
+        check("and it is said", status in (0, 4), True)
+        after = keys.text()
+        status, _, errors = keys("new", "zoe-2")
+        told = "its check did not end" in errors
+        check("nor is a key made unchecked", (status, told, keys.text() == after), (1, True, True))
+    finally:
+        os.rename(tool + ".whole", tool)
+    until(lambda: not keys.opens(token), 30)
+    check("the server knows it no longer", keys.opens(token), False)
+    check("nothing is left", (keys.left(), token in before), ([], True))
+
+
+def false_servers(keys):
+    """A program of another user that looks like a server, and a desk that never ends its answer."""
+    if os.geteuid():
+        print("skipped  programs of other users: it wants root")
+        return
+    for name, wanted in (("nobody", 0), ("radacctd", 4)):
+        port = str(free_port(socket.SOCK_STREAM))
+        words = ["python3", "-c", DESK, "serve", "--config", keys.config, "--desk-port", port]
+        desk = as_user(keys, words, name, stdout=subprocess.PIPE, text=True)
+        try:
+            check(f"a program of {name} listens", desk.stdout.readline(), "ready\n")
+            begun = time.monotonic()
+            status, output, _ = Keys(keys.site, wait=20)("new", f"of-{name}")
+            check("a key is made", (status, time.monotonic() - begun < 60), (wanted, True))
+        finally:
+            end(desk)
+        asked = desk.stdout.read()
+        token = output.split(": ")[-1].strip()
+        is_told = bool(token) and token in asked
+        check(f"{'only ' if wanted else 'not '}a program of {name} is asked", is_told, bool(wanted))
+        check("the key ends", keys("revoke", f"of-{name}"), ENDED)
+
+
+def failed_editor(keys, edit, folder):
+    """An editor that is killed while it writes: what it wrote may be right, and lack keys."""
+    stays, last, before = keys.new("udo-1"), keys.new("vera-1"), keys.text()
+    editor = f"{folder}/killed-editor"
+    text = before[: before.rindex("# radacctd-key: made")]
+    put(f"{folder}/cut", text)
+    put(editor, f'#!/bin/sh\ncat {folder}/cut >"$1"\nkill -9 $$\n')
+    os.chmod(editor, 0o755)
+    status, said = edit(editor, "--log", keys.site.errors)
+    check("of an editor that fails nothing is written", (status, keys.text() == before), (1, True))
+    check("and it is said", "the editor ended with status 137" in said, True)
+    check("the copy stays", text_of(keys.config + ".edit"), text)
+    os.remove(keys.config + ".edit")
+    os.remove(keys.config + ".edit-base")
+    check("both keys are known", [keys.opens(it) for it in (stays, last)], [True, True])
+    for name in ("udo-1", "vera-1"):
+        keys("revoke", name)
+    check("nothing is left", keys.left(), [])
+
+
 def until(holds, seconds=60):
     end = time.monotonic() + seconds
     while not holds() and time.monotonic() < end:
@@ -433,5 +589,10 @@ def test(site, edit, folder):
     same_octets(keys)
     killed(keys)
     full_disk(keys)
+    foreign_locks(keys, edit)
+    closed_locks(keys)
+    stopped_check(keys)
+    false_servers(keys)
+    failed_editor(keys, edit, folder)
     open_editor(keys, edit, folder)
     edit_with_plan(keys, edit, folder)

@@ -117,7 +117,10 @@ ALLOWED = {
     },
     "man/radacctd-backup.8": {"FOLDER/book-wal": "a copy"},
     "man/radacctd-site.8": {"PLACE.replaced-DATE-TIME": "radacctd-site makes it"},
-    "man/radacctd-edit.8": {"FILE.edit-base": "radacctd-edit makes it"},
+    "man/radacctd-edit.8": {
+        "FILE.edit-base": "radacctd-edit makes it",
+        "FILE.edit-lock": "radacctd-edit makes it",
+    },
     "man/radacctd-key.8": {"FILE.key-new": "radacctd-key makes it"},
     "man/radacctd-restore.8": {"BOOK.replaced-DATE-TIME": "restore makes it"},
     "man/radacctd-pages.8": {
