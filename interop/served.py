@@ -240,3 +240,24 @@ def told(server, command):
     """How a command over the book ended, and what it printed."""
     done = subprocess.run(server.words(command), capture_output=True, text=True)
     return done.returncode, done.stdout, done.stderr
+
+
+def sums(folder):
+    """What is in a folder: each name with where it leads, or with its octets."""
+    found = {}
+    for it in os.scandir(folder):
+        if it.is_symlink():
+            found[it.name] = os.readlink(it.path)
+        elif it.is_file():
+            with open(it.path, "rb") as file:
+                found[it.name] = file.read()
+        else:
+            found[it.name] = "no file"
+    return found
+
+
+def write(path, text):
+    """Writes a file as an editor does that renames it into its place."""
+    with open(path + "~", "w", encoding="utf-8") as file:
+        file.write(text)
+    os.rename(path + "~", path)
