@@ -315,9 +315,11 @@ class FreeRadius:
             "radacctd/kept": text_of("kept"),
             "radacctd/attributes": text_of("attributes"),
             "radacctd/queue.pl": text_of("queue.pl"),
+            "radacctd/logins.pl": text_of("logins.pl"),
             "mods-enabled/radacctd": text_of("modules"),
             "mods-enabled/more": "pap {\n}\nexpr {\n}\n" + ALWAYS + EAP,
             "policy.d/radacctd": text_of("policy"),
+            "policy.d/radacctd-devices": text_of("devices"),
             "sites-enabled/radacctd": text_of("server"),
         }
         for name, text in own.items():

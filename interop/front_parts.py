@@ -232,13 +232,17 @@ def unsent(folder):
         # A Start often names no user yet.
         unused = ["Acct-Status-Type = Start", "Acct-Session-Id = 7A-2"]
         check("one without a name or octets is answered", radius.reports("ap1", unused), True)
-        check("and not filed", count_in(radius.unsent), 2)
         tunnel = ["Acct-Status-Type = Tunnel-Start", "Acct-Session-Id = 7"]
-        check("a tunnel's start isn't answered", radius.reports("ap1", tunnel), False)
+        check("and so is a tunnel's start", radius.reports("ap1", tunnel), True)
+        for number, more in enumerate(["Attr-8 = 0x0a0102", "Attr-49 = 0x01"], 3):
+            attributes = [*report("Stop", f"7A-{number}", "bo", 1), more]
+            check(f"a report with {more} is answered", radius.reports("ap1", attributes), True)
+        waits_for("and charged as if that were absent", lambda: book.balance("bo"), -20)
+        check("none of them is filed", count_in(radius.unsent), 2)
+        book.sell("bo", 20, "V-7A")
         broken = {
             "octets of two octets": ["Attr-42 = 0x0102"],
-            "an address of three": ["Attr-8 = 0x0a0102"],
-            "a cause of one": ["Attr-49 = 0x01"],
+            "gigawords of one": ["Attr-53 = 0x01"],
             "2^62 octets": ["Acct-Input-Octets = 0", "Acct-Input-Gigawords = 1073741824"],
         }
         head = report("Stop", "7B-1", "bo", 1)[:4]

@@ -6,6 +6,7 @@ import re
 import shutil
 import subprocess
 import time
+import urllib.parse
 
 import front
 from front import FILES, LISTEN, MEBIBYTE, SECRET, check
@@ -212,11 +213,16 @@ def tunnels(folder):
         radius.end()
 
 
+def stamped(name):
+    """The Class of a login, by the sample's line of a client."""
+    return f"gold;radacctd;;{urllib.parse.quote(name)};"
+
+
 def by_steps(radius):
     """The page's steps, with all methods."""
     for method in METHODS:
         name = " ".join(method)
-        wanted = (["al"], ["gold"], [10 * MEBIBYTE])
+        wanted = (["al"], [stamped("al")], [10 * MEBIBYTE])
         check(f"{name}: name, Class and quota", radius.login("al", *method), wanted)
         check(f"{name}: without money", radius.login("poor", *method), None)
         check(f"{name}: with the outer name", radius.login("al", *method, "al"), wanted)
@@ -238,7 +244,7 @@ def other_settings(radius):
         radius.start()
         for method in METHODS:
             got = radius.login(SPACED, *method)
-            wanted = ([SPACED], ["gold"], [5 * MEBIBYTE])
+            wanted = ([SPACED], [stamped(SPACED)], [5 * MEBIBYTE])
             check(f"use_tunneled_reply = {setting}, {' '.join(method)}", got, wanted)
         check("a name that ends with a space", radius.login("al ", *METHODS[0]), None)
         check("is refused with a reason", "cannot be charged" in radius.said(), True)

@@ -20,15 +20,8 @@ FREERADIUS = each(
     '"last"',
     '"refuse"',
     "%{NAS-Identifier}",
-    "ChilliSpot-Max-Total-",
-    "Input-",
-    "Mikrotik-Total-Limit",
-    "Output-Octets",
-    "Recv",
     "Session-Timeout",
     "Simultaneous-Use := 1",
-    "Xmit",
-    "access-servers/",
     "access-servers/*.conf",
     "ap1=10.0.0.1",
     "detail.work",
@@ -54,6 +47,25 @@ FREERADIUS = each(
     "radiusd.conf",
     "sites-enabled/default",
     "sites-enabled/inner-tunnel",
+)
+
+# What access servers and their dictionaries call theirs.
+VENDORS = each(
+    "a vendor's own, or FreeRADIUS'",
+    "ChilliSpot-Max-Total-",
+    "Input-",
+    "Mikrotik-Total-Limit",
+    "Output-Octets",
+    "Recv",
+    "Session-Timeout",
+    "Xmit",
+    "max_attributes",
+    "radacctd_quota = chillispot",
+    "radacctd_quota = pfsense",
+    "radius_acct_interim_interval",
+    "radius_das_port",
+    "radiusd.conf",
+    "status_server = yes",
 )
 
 ALLOWED = {
@@ -84,6 +96,12 @@ ALLOWED = {
         "and_then(word_of)": "shows what the checker does not accept",
     },
     "docs/DAMAGE.md": each("restore makes it", ".restore.*", "book.replaced-..."),
+    "docs/ACCESS-SERVERS.md": {
+        **VENDORS,
+        **each("options of interop/access-servers", "--faults", "--server"),
+        "gold;radacctd;;al;": "an example",
+        "radacctd = no": "a line of a client in FreeRADIUS",
+    },
     "docs/DESK.md": {
         **each("Debian's packages", "fcgiwrap", "fonts-dejavu-core"),
         "adm": "a group of the system",

@@ -244,7 +244,7 @@ class Checker:
         if any(word in it for it in known):
             return True
         own = {"docs/FREERADIUS.md": "etc/freeradius/", "docs/WATCHING.md": "etc/monitoring/"}
-        own |= {"docs/SHARDS.md": "etc/", "docs/PAIR.md": "etc/"}
+        own |= {"docs/SHARDS.md": "etc/", "docs/PAIR.md": "etc/", "docs/ACCESS-SERVERS.md": "etc/"}
         folder = own.get(self.page, "no folder")
         if self.page == "docs/WATCHING.md" and word.startswith("radacctd_"):
             # The counts that are not the program's.
