@@ -1,0 +1,416 @@
+"""Where interop/access-servers sends its cases, and what became of them there: radacctd alone,
+radacctd behind FreeRADIUS with the files of etc/freeradius, FreeRADIUS' own SQL, any other server.
+"""
+
+import contextlib
+import csv
+import datetime
+import io
+import os
+import re
+import socket
+import sqlite3
+import subprocess
+import urllib.parse
+
+import front
+import front_stock
+from access_cases import CLASS, LOGIN, USER, Charge, Packet, pairs_of
+from front import KILL, LISTEN, SECRET, check
+from front_parts import attribute, count_in
+from promise_model import octets
+
+MEBIBYTE = 1 << 20
+# Class, block, unit and what is counted. `hour` is one of seconds.
+PLANS = [("gold", MEBIBYTE, 1, "both"), ("silver", MEBIBYTE, 2, "both"),
+         ("default", MEBIBYTE, 1000, "both"), ("up", MEBIBYTE, 3, "in"),
+         ("down", MEBIBYTE, 4, "out"), ("hour", 60, 1, "in")]
+KNOWN = {name for name, *_ in PLANS}
+# The names that log in, and whose the Access-Accept's is then.
+USERS = """
+DEFAULT User-Name =~ "^alias-([0-9]+)$", Cleartext-Password := "right"
+	User-Name := "al-%{1}",
+	Class := "silver"
+
+DEFAULT Cleartext-Password := "right"
+	Class := "silver"
+"""
+
+
+def plan_of(shown):
+    """The plan of a Class."""
+    return shown if shown in KNOWN else "default"
+
+
+class Row:
+    """A session, as a server has it: where it was reported, its id, and what it is charged."""
+
+    def __init__(self, source, session, charge):
+        self.source, self.session, self.charge = source, session, charge
+
+
+def rows_of_radacctd(text):
+    """The rows of `radacctd export sessions`."""
+    for row in csv.DictReader(io.StringIO(text)):
+        more = {"state": row["state"], "cause": row["cause"], "time": row["seconds"],
+                "ip": row["framed"], "station": row["calling"], "last": int(row["last"])}
+        it = Charge(octets(row["account"]), plan_of(row["class"]), int(row["input"]),
+                    int(row["output"]), more)
+        it.more["charged"] = int(row["charged"])
+        session = octets(row["session"])
+        source = row["client"]
+        if source == "front":
+            source = session.split(b"/")[0].decode("latin-1")
+        yield Row(source, session, it)
+
+
+def rows_of_radacct(text):
+    """The rows of a table radacct, of FreeRADIUS' schemas, as CSV with its header."""
+    for row in csv.DictReader(io.StringIO(text)):
+        name = row.get("class") or ""
+        is_hex = re.fullmatch(r"0x([0-9a-f]{2})+", name)
+        name = bytes.fromhex(name[2:]).decode("latin-1") if is_hex else name
+        stopped = row["acctstoptime"] not in ("", None)
+        more = {"state": "stopped" if stopped else "open", "cause": row["acctterminatecause"],
+                "time": row["acctsessiontime"] or "0", "ip": row["framedipaddress"],
+                "station": unescaped(row["callingstationid"])}
+        more["last"] = moment(row["acctstoptime"] or row.get("acctupdatetime") or "")
+        account = unescaped(row["username"]).encode("latin-1", "replace")
+        it = Charge(account, plan_of(name), number(row["acctinputoctets"]),
+                    number(row["acctoutputoctets"]), more)
+        yield Row(row["nasipaddress"], row["acctsessionid"].encode(), it)
+
+
+def unescaped(text):
+    """A text that FreeRADIUS escaped for SQL."""
+    return re.sub(r"=([0-9A-F]{2})", lambda it: chr(int(it[1], 16)), text)
+
+
+def number(text):
+    return int(text) if re.fullmatch(r"\d+", text or "") else 0
+
+
+def moment(text):
+    """Seconds since 1970 of a number or of a date as databases show them."""
+    if re.fullmatch(r"\d+", text):
+        return int(text)
+    with contextlib.suppress(ValueError):
+        return int(datetime.datetime.fromisoformat(text).timestamp())
+    return 0
+
+
+class Target:
+    """A server. `charges` reads what it charged; `is_ours` whether its column may fail the test."""
+
+    secret, is_ours, can_restart = SECRET.encode(), True, True
+    auth = None
+
+    def is_local(self):
+        return True
+
+    def place(self):
+        return "127.0.0.1", self.port
+
+    def logs_in(self, case, step):
+        """The attributes of the Access-Accept, or None."""
+        if self.auth is None:
+            return None
+        packet = login_packet(case, step, self.secret)
+        with socket.socket(socket.AF_INET, socket.SOCK_DGRAM) as opened:
+            opened.bind((case.source(), 0))
+            for _ in range(4):
+                opened.settimeout(3)
+                opened.sendto(packet.octets, ("127.0.0.1", self.auth))
+                with contextlib.suppress(OSError):
+                    reply = opened.recv(4096)
+                    if packet.is_answered_by(reply):
+                        found = {USER: [], CLASS: []}
+                        for kind, value in pairs_of(reply):
+                            found.setdefault(kind, []).append(value)
+                        return found
+        check(f"{self.name}: {case.name}: the login is accepted", False, True)
+        return None
+
+    def filed(self):
+        """The sources of the reports that were filed."""
+        return []
+
+    def counted(self):
+        """What is counted of which source."""
+        return set()
+
+    def settles(self):
+        pass
+
+
+def login_packet(case, step, secret):
+    """An Access-Request with a right password."""
+    packet = Packet.__new__(Packet)
+    packet.step, packet.secret, packet.identifier = step, secret, case.number % 256
+    drawn = os.urandom(16)
+    hidden = front.KILL.hashlib.md5(secret + drawn).digest()
+    hidden = bytes(one ^ other for one, other in zip(b"right".ljust(16, b"\0"), hidden))
+    names = {"User-Name", "user"} & {name for name, _ in step.pairs}
+    body = b"" if names else attribute(USER, case.account("al"))
+    for kind, value in step.attributes({}):
+        body += attribute(kind, value)
+    body += attribute(2, hidden)
+    head = bytes([1, packet.identifier]) + (20 + len(body)).to_bytes(2, "big")
+    packet.octets = head + drawn + body
+    return packet
+
+
+class Alone(Target, front.Book):
+    """radacctd, with a client for each access server."""
+
+    name = "radacctd alone"
+
+    def __init__(self, folder, cases):
+        self.cases = cases
+        self.port = KILL.free_port(socket.SOCK_DGRAM)
+        front.Book.__init__(self, folder)
+        self.radius = self.port
+        self.start()
+
+    def configuration(self):
+        return site([(it, it, SECRET) for case in self.cases for it in case.sources()])
+
+    def restart(self):
+        self.kill()
+        self.start()
+
+    def rows(self):
+        return list(rows_of_radacctd(exported(self)))
+
+    def end(self):
+        ended(self)
+
+
+def exported(book):
+    """The sessions of a book. A server has it for itself, so it is ended before."""
+    ended(book)
+    return book.export("sessions")
+
+
+def ended(book):
+    if book.process.poll() is None:
+        book.kill()
+
+
+def site(clients):
+    """A configuration of radacctd."""
+    text = "".join(
+        f'[[client]]\nname = "{name}"\naddress = "{address}"\nsecret = "{secret}"\n'
+        for name, address, secret in clients
+    )
+    return text + "".join(
+        f'[[plan]]\nclass = "{name}"\nblock = {block}\nunit = {unit}\ncount = "{count}"\n'
+        for name, block, unit, count in PLANS
+    )
+
+
+class Behind(front.Book):
+    """radacctd, with FreeRADIUS as its one client."""
+
+    def configuration(self):
+        return site([("front", "127.0.0.1", front.BOOK_SECRET)])
+
+
+class Debian(Target):
+    """FreeRADIUS with Debian's configuration, at ports of its own."""
+
+    def __init__(self, folder, raddb):
+        self.folder, self.raddb = folder, raddb
+        self.port, self.auth = (KILL.free_port(socket.SOCK_DGRAM) for _ in range(2))
+        self.log, self.process = os.path.join(folder, "out"), None
+        for name in ("log", "run", "log/radacct"):
+            os.makedirs(os.path.join(folder, name), exist_ok=True)
+        for one, other in (
+            ("logdir = /var/log/freeradius", f"logdir = {folder}/log"),
+            ("run_dir = ${localstatedir}/run/${name}", f"run_dir = {folder}/run"),
+            ("\tuser = freerad\n", ""),
+            ("\tgroup = freerad\n", ""),
+        ):
+            front_stock.edited(raddb, "radiusd.conf", one, other)
+        self.ports()
+        front.written(os.path.join(raddb, "mods-config/files/authorize"), USERS)
+
+    def ports(self):
+        """Listens at its own ports alone."""
+        for name in (front_stock.DEFAULT, front_stock.INNER):
+            path = os.path.join(self.raddb, name)
+            with open(path, encoding="utf-8") as file:
+                text = file.read()
+            front.written(path, re.sub(r"(?m)^listen \{$(.|\n)*?^\}$", "", text))
+        listens = ""
+        for kind, port in (("auth", self.auth), ("acct", self.port)):
+            listen = LISTEN.format(kind=kind, family="ipaddr", address="127.0.0.1", port=port)
+            listens += listen.replace("type =", "virtual_server = default\n\t\ttype =", 1)
+        front.written(os.path.join(self.raddb, "sites-enabled", "port"), listens)
+
+    def said(self):
+        with open(self.log, encoding="utf-8", errors="replace") as file:
+            return file.read()
+
+    def start(self):
+        with open(self.log, "wb") as file:
+            words = ["freeradius", "-d", self.raddb, "-f", "-l", "stdout"]
+            self.process = subprocess.Popen(words, stdout=file, stderr=file)
+        ready = "Ready to process requests"
+        front.waits_for(f"{self.name}: FreeRADIUS is ready", lambda: ready in self.said(), True)
+        if ready not in self.said():
+            raise SystemExit(self.said()[-2000:])
+
+    def stop(self):
+        if self.process is not None and self.process.poll() is None:
+            self.process.kill()
+            self.process.communicate()
+
+    def restart(self):
+        self.stop()
+        self.start()
+
+    def end(self):
+        self.stop()
+
+
+class Files(Debian):
+    """radacctd behind FreeRADIUS, by the steps of docs/FREERADIUS.md."""
+
+    name = "behind FreeRADIUS"
+
+    def __init__(self, folder, cases):
+        self.cases = cases
+        self.book = Behind(folder)
+        super().__init__(folder, front_stock.debians_own(folder))
+        self.queue = os.path.join(folder, "log/radacct/radacctd")
+        self.unsent = self.queue + "-unsent"
+        for path in (self.queue, self.unsent):
+            os.makedirs(path)
+        self.clients()
+        self.mirror()
+        self.book.start()
+        self.start()
+
+    def clients(self):
+        """The sample's client for all, and one for each access server that has settings."""
+        path = os.path.join(self.raddb, "radacctd/access-servers.conf")
+        with open(path, encoding="utf-8") as file:
+            text = file.read().replace("10.0.0.0/16", "127.0.0.0/8")
+        text = text.replace("10.0.0.1", "127.3.0.1").replace("change-me-access-points", SECRET)
+        for case in self.cases:
+            if case.client:
+                own = {"ipaddr": case.source(), "secret": SECRET, "radacctd_stamp": "name"}
+                own |= dict(it.split("=") for it in case.client)
+                lines = "".join(f"\t{name} = {value}\n" for name, value in own.items())
+                text += f"client case-{case.number} {{\n{lines}}}\n"
+        front.written(path, text.replace("radacctd_cut = yes", "radacctd_cut = no"))
+
+    def mirror(self):
+        """Balances of all that log in, and the settings."""
+        names = {it.account(name) for it in self.cases for name in ("al", "bo", it.logs_in())}
+        paths = [os.path.join(self.folder, it) for it in ("sold.csv", "planned.csv", "mirror.db")]
+        balances, plans, mirror = paths
+        names = sorted(urllib.parse.quote(it) for it in names)
+        text = "".join(f"{name},1000000000,0\n" for name in names)
+        front.written(balances, "account,balance,overrun\n" + text)
+        text = "".join(",".join(map(str, it)) + "\n" for it in PLANS)
+        front.written(plans, "class,block,unit,count\n" + text)
+        words = [os.path.join(front.FILES, "balances-mirror"), balances, plans, mirror]
+        subprocess.run(words, check=True)
+        path = os.path.join(self.raddb, "radacctd/settings.conf")
+        with open(path, encoding="utf-8") as file:
+            text = file.read()
+        for name, value in (
+            ("mirror", mirror), ("port", self.book.radius), ("secret", front.BOOK_SECRET),
+            ("oldest", 86_400), ("time_classes", '"^hour$"'),
+        ):
+            text, found = re.subn(rf"(?m)^\t{name} = .*$", lambda _: f"\t{name} = {value}", text)
+            assert found == 1, name
+        front.written(path, text)
+
+    def settles(self):
+        front.waits_for("the queue is empty", lambda: count_in(self.queue), 0, 120)
+
+    def rows(self):
+        return list(rows_of_radacctd(exported(self.book)))
+
+    def filed(self):
+        found = []
+        for path in front.files_in(self.unsent):
+            with open(path, encoding="latin-1") as file:
+                found += re.findall(r"\tNAS-IP-Address = (\S+)", file.read())
+        return found
+
+    def counted(self):
+        mark = "radacctd-device."
+        names = [it for it in os.listdir(os.path.join(self.folder, "run")) if it.startswith(mark)]
+        return {tuple(it.removeprefix(mark).split(".", 1)) for it in names}
+
+    def end(self):
+        self.stop()
+        ended(self.book)
+
+
+class Sql(Debian):
+    """FreeRADIUS' own SQL, with SQLite, as Debian packages it."""
+
+    name, is_ours = "FreeRADIUS' SQL", False
+
+    def __init__(self, folder, cases):
+        raddb = os.path.join(folder, "raddb")
+        subprocess.run(["cp", "-a", front_stock.STOCK, raddb], check=True)
+        stock = f"raddbdir = {front_stock.STOCK}"
+        front_stock.edited(raddb, "radiusd.conf", stock, f"raddbdir = {raddb}")
+        super().__init__(folder, raddb)
+        self.database = os.path.join(folder, "radius.db")
+        for one, other in (
+            ('driver = "rlm_sql_null"', 'driver = "rlm_sql_sqlite"'),
+            ('filename = "/tmp/freeradius.db"', f'filename = "{self.database}"'),
+            ("busy_timeout = 200", "busy_timeout = 10000"),
+        ):
+            front_stock.edited(raddb, "mods-available/sql", one, other)
+        os.symlink("../mods-available/sql", os.path.join(raddb, "mods-enabled/sql"))
+        # As the file itself says to keep the Class.
+        for name in ("column_name", "packet_xlat", "reply_xlat"):
+            path = "mods-config/sql/main/sqlite/queries.conf"
+            front_stock.edited(raddb, path, f"\t{name} =\t# ", f"\t{name} = ")
+        text = f"client all {{\n\tipaddr = 127.0.0.0/8\n\tsecret = {SECRET}\n}}\n"
+        front.written(os.path.join(raddb, "clients.conf"), text)
+        self.start()
+
+    def rows(self):
+        words = ["sqlite3", "-csv", "-header", self.database, "SELECT * FROM radacct"]
+        done = subprocess.run(words, capture_output=True, check=True)
+        return list(rows_of_radacct(done.stdout.decode("latin-1")))
+
+
+class Other(Target):
+    """Any other server: `charges` is a command that prints its sessions as CSV."""
+
+    name, can_restart = "the server", False
+
+    def __init__(self, place, secret, charges):
+        host, _, port = place.rpartition(":")
+        self.host, self.port = host.strip("[]"), int(port)
+        with open(secret, "rb") as file:
+            self.secret = file.read().rstrip(b"\r\n")
+        self.charges = charges
+
+    def is_local(self):
+        return self.host.startswith("127.")
+
+    def place(self):
+        return self.host, self.port
+
+    def rows(self):
+        """The rows, of radacctd's export or of a table radacct."""
+        if self.charges is None:
+            return None
+        done = subprocess.run(["sh", "-c", self.charges], capture_output=True, check=True)
+        text = done.stdout.decode("latin-1")
+        is_export = text.startswith("client,session,account,class")
+        return list((rows_of_radacctd if is_export else rows_of_radacct)(text))
+
+    def end(self):
+        pass
