@@ -3,7 +3,7 @@
 import os
 import re
 
-from claims_lib import figures, reading
+from claims_lib import figures, frames, openers, reading
 from claims_lib.allowed import ALLOWED
 from claims_lib.tree import FOR_TESTS, text_of
 
@@ -278,3 +278,5 @@ def check(checker):
     check_mentions(checker)
     check_allowed(checker)
     figures.check(checker)
+    frames.check(checker)
+    openers.check(checker)

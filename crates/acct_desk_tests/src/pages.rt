@@ -117,6 +117,11 @@ fn row_of(alloc: Global, line: &Line) -> Result<Row, Fail> {
     })
 }
 
+// The row of the session with the plan gold.
+pub(crate) fn row_of_gold(alloc: Global) -> Result<Row, Fail> {
+    row_of(alloc, &LINES[1])
+}
+
 fn put_sessions(alloc: Global, book: &mut MemBook, lines: &[Line]) -> Result<(), Fail> {
     for i in 0..lines.len() {
         book.put_session(&row_of(alloc, &lines[i])?, 1)?;

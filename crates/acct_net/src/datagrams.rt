@@ -10,6 +10,7 @@ ghost use Rattle.std.specs.Prelude.{◌≡◌, ◌<◌, true, false, length, sli
 ghost use Rattle.std.specs.Prelude.{MatchOption};
 ghost use Rattle.std.specs.Prelude.{◌↔◌, IfOk, IfSome, IsErrAnd, IsOkAnd};
 ghost use Rattle.std.specs.List.{All, list_any, position};
+ghost use Rattle.acct_net.specs.Bound.{AreBoundAt};
 ghost use Rattle.acct_net.specs.inner.RadiusSockets.{MayReceiveAt};
 ghost use Rattle.std.specs.IoError.{error_kind};
 
@@ -35,10 +36,12 @@ impl Drop for Datagrams {
     }
 }
 
-// A socket for datagrams, and whether one may wait there.
+// A socket for datagrams, where it is bound, and whether a datagram may wait there.
 #[derive(Drop)]
 struct RadiusSocket {
     udp: UdpSocket,
+    address: [u8; 4],
+    port: u16,
     may_receive: bool,
 }
 
@@ -53,7 +56,9 @@ impl Datagrams {
         alloc: Global,
         addresses: &[[u8; 4]],
         port: u16,
-    ) -> io::Result<Datagrams> {
+    ) -> io::Result<Datagrams>
+        ensures bound { IfOk result (λ bound. AreBoundAt addresses.now port bound.sockets.items) }
+    {
         let mut sockets = Vec::with_capacity(alloc, addresses.len())?;
         for address in addresses {
             sockets.push(RadiusSocket::bind(runtime, *address, port)?)?;
@@ -174,11 +179,18 @@ impl Datagrams {
 }
 
 impl RadiusSocket {
-    fn bind<R: Net>(runtime: &R, address: [u8; 4], port: u16) -> io::Result<RadiusSocket> {
+    // Binds a socket, and keeps beside it where. No contract of the system says so: this is read by
+    // eye, and all above it is a clause.
+    fn bind<R: Net>(runtime: &R, address: [u8; 4], port: u16) -> io::Result<RadiusSocket>
+        ensures address { IfOk result (λ socket. socket.address ≡ address) }
+        ensures port { IfOk result (λ socket. socket.port ≡ port) }
+    {
         let udp = UdpSocket::bind(runtime, (Ipv4Addr::from(address), port))?;
         udp.set_nonblocking(true)?;
         Ok(RadiusSocket {
             udp,
+            address,
+            port,
             may_receive: true,
         })
     }

@@ -19,7 +19,7 @@ use acct_service::Fault;
 use std::alloc::Global;
 use std::io;
 use std::io::ErrorKind;
-use std::net::{Net, OpenListener};
+use std::net::{Ipv4Addr, Net, OpenListener, TcpListener};
 use std::time::Instant;
 
 /// How many callers have a place.
@@ -29,10 +29,27 @@ const ACCEPTS_OF_A_TURN: u32 = 8;
 /// The most reads and writes of callers in a turn.
 const STEPS_OF_A_TURN: u32 = 8;
 
+// What accepts callers, and where it is bound.
+struct Door<L> {
+    listener: L,
+    address: [u8; 4],
+    port: u16,
+}
+
+impl<L: Drop> Drop for Door<L> {
+    fn drop(self) {
+        let Door {
+            listener: _,
+            address: _,
+            port: _,
+        } = self;
+    }
+}
+
 /// The desk's listener, and the callers at their places.
 pub struct Desk<R: Net> {
     alloc: Global,
-    listener: R::Listener,
+    door: Door<R::Listener>,
     may_accept: bool,
     is_full: bool,
     places: Vec<Option<Caller<R::Stream>>>,
@@ -44,7 +61,7 @@ impl<R: Net> Drop for Desk<R> {
     fn drop(self) {
         let Desk {
             alloc: _,
-            listener: _,
+            door: _,
             may_accept: _,
             is_full: _,
             places: _,
@@ -55,23 +72,25 @@ impl<R: Net> Drop for Desk<R> {
 }
 
 impl<R: Net> Desk<R> {
-    /// A desk with no callers.
+    /// A desk with no callers, bound at this address and port. At port 0 the system chooses one.
     ///
     /// # Errors
     ///
     /// Those of the system, and `OutOfMemory` if there is no memory for the places.
-    pub fn new(alloc: Global, listener: R::Listener) -> io::Result<Desk<R>>
+    pub fn bind(runtime: &R, alloc: Global, address: [u8; 4], port: u16) -> io::Result<Desk<R>>
         ensures accepts { IfOk result (λ desk. desk.may_accept ≡ true) }
         ensures idle { IfOk result (λ desk. desk.unanswered ≡ None) }
+        ensures address { IfOk result (λ desk. desk.door.address ≡ address) }
+        ensures port { IfOk result (λ desk. desk.door.port ≡ port) }
     {
-        listener.set_nonblocking(true)?;
+        let door = opened(runtime, address, port)?;
         let mut places = Vec::with_capacity(alloc, PLACES)?;
         for _ in 0..PLACES {
             places.push(None)?;
         }
         Ok(Desk {
             alloc,
-            listener,
+            door,
             may_accept: true,
             is_full: false,
             places,
@@ -82,9 +101,9 @@ impl<R: Net> Desk<R> {
 
     /// The listener.
     pub fn listener(&self) -> &R::Listener
-        ensures { result.now ≡ self.now.listener }
+        ensures { result.now ≡ self.now.door.listener }
     {
-        &self.listener
+        &self.door.listener
     }
 
     /// Notes that callers may wait for a place.
@@ -118,8 +137,8 @@ impl<R: Net> Desk<R> {
         (self.may_accept && !self.is_full) || self.ready_place().is_some()
     }
 
-    /// Serves the callers until the request of one is there, and gives it. That caller then awaits
-    /// its response.
+    /// Serves the callers until the request of one is there, and gives it. That caller, which sent
+    /// it, then awaits its response.
     ///
     /// # Errors
     ///
@@ -131,8 +150,8 @@ impl<R: Net> Desk<R> {
         buffer: &mut [u8],
         now: Instant,
     ) -> Result<Option<Octets>, Fault>
-        ensures { IfOk result (λ request. IfSome request (λ _.
-            IsWaiting self.new.unanswered self.new.places.items)) }
+        ensures { IfOk result (λ request. IfSome request
+            (IsWaiting self.new.unanswered self.new.places.items)) }
     {
         if let Some(place) = self.timed_out_place(now) {
             self.close_at(place)?;
@@ -207,7 +226,7 @@ impl<R: Net> Desk<R> {
         readiness: &Readiness,
         now: Instant,
     ) -> Result<(), Fault> {
-        let stream = match self.listener.accept() {
+        let stream = match self.door.listener.accept() {
             Ok((stream, _)) => stream,
             Err(error) => return self.accept_failed(&error),
         };
@@ -246,8 +265,8 @@ impl<R: Net> Desk<R> {
 
     // Serves callers that are ready, until the request of one is there.
     fn serve_ready(&mut self, buffer: &mut [u8], now: Instant) -> Result<Option<Octets>, Fault>
-        ensures { IfOk result (λ request. IfSome request (λ _.
-            IsWaiting self.new.unanswered self.new.places.items)) }
+        ensures { IfOk result (λ request. IfSome request
+            (IsWaiting self.new.unanswered self.new.places.items)) }
     {
         for _ in 0..STEPS_OF_A_TURN {
             let Some(place) = self.ready_place() else {
@@ -268,8 +287,8 @@ impl<R: Net> Desk<R> {
         buffer: &mut [u8],
         now: Instant,
     ) -> Result<Option<Octets>, Fault>
-        ensures waiting { IfOk result (λ request. IfSome request (λ _.
-            IsWaiting self.new.unanswered self.new.places.items)) }
+        ensures waiting { IfOk result (λ request. IfSome request
+            (IsWaiting self.new.unanswered self.new.places.items)) }
         ensures received { IfOk result (λ request. IfSome request (HasReceived
             R.Stream.remaining R.Stream.contents self.new.unanswered
             self.old.places.items self.new.places.items)) }
@@ -354,4 +373,19 @@ impl<R: Net> Desk<R> {
         }
         first.map(|(place, _)| place)
     }
+}
+
+// Binds what accepts callers, and keeps beside it where. No contract of the system says so: this is
+// read by eye, and all above it is a clause.
+fn opened<R: Net>(runtime: &R, address: [u8; 4], port: u16) -> io::Result<Door<R::Listener>>
+    ensures address { IfOk result (λ door. door.address ≡ address) }
+    ensures port { IfOk result (λ door. door.port ≡ port) }
+{
+    let listener = TcpListener::bind(runtime, (Ipv4Addr::from(address), port))?;
+    listener.set_nonblocking(true)?;
+    Ok(Door {
+        listener,
+        address,
+        port,
+    })
 }

@@ -10,8 +10,10 @@
 //! 4. A reply to a datagram leaves from the address that was asked, and the sockets at several
 //!    addresses take turns.
 //! 5. The buffer for a datagram is allocated once, and not for each turn.
-ghost use Rattle.std.specs.Prelude.{◌≡◌, ◌+◌, ◌-◌, ◌<◌, ◌^◌, false, None, IfOk};
+ghost use Rattle.std.specs.Prelude.{◌≡◌, ◌+◌, ◌-◌, ◌<◌, ◌^◌, false, None, IfOk, IfSome, OnOk};
 ghost use Rattle.std.specs.List.{list_any};
+ghost use Rattle.acct_net.specs.Bound.{AreBoundAt};
+ghost use Rattle.acct_net.specs.inner.Places.{IsAnswered, IsOfUnanswered};
 
 use crate::datagrams::Datagrams;
 use crate::desk::{Desk, PLACES};
@@ -22,7 +24,7 @@ use acct_wire::Reason;
 use std::alloc::Global;
 use std::io;
 use std::io::ErrorKind;
-use std::net::{Ipv4Addr, Net, OpenListener, SocketAddrV4, TcpListener};
+use std::net::{Ipv4Addr, Net, OpenListener, SocketAddrV4};
 use std::time::{Clock, Duration, Instant};
 
 /// The most octets of a datagram.
@@ -70,14 +72,18 @@ impl<'r, R: Net + Clock> Sockets<'r, R> {
         desk_port: u16,
     ) -> io::Result<Sockets<'r, R>>
         ensures fresh { IfOk result (λ s. (s.turns ≡ 0) × (s.failures ≡ 0)) }
+        ensures datagrams { IfOk result (λ s.
+            AreBoundAt addresses.now radius_port s.event_loop.datagrams.sockets.items) }
+        ensures desk { IfOk result (λ s. (s.event_loop.desk.door.address ≡ desk_address)
+            × (s.event_loop.desk.door.port ≡ desk_port)) }
     {
         if addresses.is_empty() {
             return Err(io::Error::from(ErrorKind::InvalidInput));
         }
         let datagrams = Datagrams::bind(runtime, alloc, addresses, radius_port)?;
-        let listener = TcpListener::bind(runtime, (Ipv4Addr::from(desk_address), desk_port))?;
+        let desk = Desk::bind(runtime, alloc, desk_address, desk_port)?;
         Ok(Sockets {
-            event_loop: EventLoop::new(runtime, alloc, datagrams, Desk::new(alloc, listener)?)?,
+            event_loop: EventLoop::new(runtime, alloc, datagrams, desk)?,
             turns: 0,
             failures: 0,
         })
@@ -175,7 +181,9 @@ impl<'r, R: Net + Clock> EventLoop<'r, R> {
         datagrams: Datagrams,
         desk: Desk<R>,
     ) -> io::Result<EventLoop<'r, R>>
-        ensures { IfOk result (λ event_loop. event_loop.readiness.waits ≡ 0) }
+        ensures waits { IfOk result (λ event_loop. event_loop.readiness.waits ≡ 0) }
+        ensures datagrams { IfOk result (λ event_loop. event_loop.datagrams ≡ datagrams) }
+        ensures desk { IfOk result (λ event_loop. event_loop.desk ≡ desk) }
     {
         let watched = DATAGRAMS.saturating_add(datagrams.count());
         let readiness = Readiness::new(runtime, alloc, watched)?;
@@ -199,6 +207,8 @@ impl<'r, R: Net + Clock> EventLoop<'r, R> {
         ensures waits { self.new.readiness.waits ≡ self.old.readiness.waits + 1 }
         ensures idle { IfOk result (λ event. event ≡ None → list_any (λ socket. socket.may_receive)
             self.new.datagrams.sockets.items ≡ false) }
+        ensures asked { IfOk result (λ event. IfSome event (λ it.
+            IsOfUnanswered self.new.desk.unanswered self.new.desk.places.items it.what)) }
     {
         self.desk.close_unanswered();
         self.poll()?;
@@ -245,17 +255,24 @@ impl<'r, R: Net + Clock> EventLoop<'r, R> {
     fn next_request(&mut self) -> Result<Option<Event>, Fault>
         ensures waits { self.new.readiness.waits ≡ self.old.readiness.waits }
         ensures datagrams { self.new.datagrams ≡ self.old.datagrams }
+        ensures asked { IfOk result (λ event. IfSome event (λ it.
+            IsOfUnanswered self.new.desk.unanswered self.new.desk.places.items it.what)) }
     {
         let now = Instant::now(self.runtime).map_err(|_| Fault)?;
         let request = self
             .desk
             .serve(&self.readiness, self.buffer.as_mut_slice(), now)?;
-        Ok(request.map(|bytes| self.event(What::Desk { bytes })))
+        match request {
+            Some(bytes) => Ok(Some(self.event(What::Desk { bytes }))),
+            None => Ok(None),
+        }
     }
 
     // The datagram that waits, if one does.
     fn next_datagram(&mut self) -> Result<Option<Event>, Fault>
         ensures waits { self.new.readiness.waits ≡ self.old.readiness.waits }
+        ensures asked { IfOk result (λ event. IfSome event (λ it.
+            IsOfUnanswered self.new.desk.unanswered self.new.desk.places.items it.what)) }
         ensures idle { IfOk result (λ event. event ≡ None → list_any (λ socket. socket.may_receive)
             self.new.datagrams.sockets.items ≡ false) }
     {
@@ -277,14 +294,19 @@ impl<'r, R: Net + Clock> EventLoop<'r, R> {
     }
 
     // This as an event at the clock's moment.
-    fn event(&self, what: What) -> Event {
+    fn event(&self, what: What) -> Event
+        ensures { result.what ≡ what }
+    {
         let moment = moment_of(self.runtime);
         Event { moment, what }
     }
 
-    // Sends octets to the source of an event.
+    // Sends octets to the source of an event: a response of the desk to the unanswered caller.
     fn send(&mut self, what: &What, bytes: &[u8]) -> Result<(), Fault>
-        ensures { self.new.readiness.waits ≡ self.old.readiness.waits }
+        ensures waits { self.new.readiness.waits ≡ self.old.readiness.waits }
+        ensures answered { OnOk result (IsAnswered R.Stream.contents what.now
+            self.old.desk.unanswered self.old.desk.places.items self.new.desk.places.items
+            bytes.now) }
     {
         match what {
             What::Datagram { source, port, .. } => {

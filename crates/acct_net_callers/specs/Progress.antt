@@ -11,14 +11,14 @@ use Rattle.acct_net_callers.specs.Transfer.{Receives, Ends, Sends, IsRequestOf}
 abbrev pub IsLeft : Stage → List ℕ → Type 0
 IsLeft (stage.Writing left) octets = left ≡ octets
 IsLeft stage.Closing octets = [] ≡ octets
-IsLeft stage.Waiting octets = ⊥
+IsLeft (stage.Waiting asked) octets = ⊥
 IsLeft (stage.Reading request) octets = ⊥
 
 -- a caller of whom nothing is read yet
 abbrev pub IsFresh : Stage → Type 0
 IsFresh (stage.Reading request) = (request.octets.items ≡ []) × (request.has_ended ≡ false)
 IsFresh (stage.Writing left) = ⊥
-IsFresh stage.Waiting = ⊥
+IsFresh (stage.Waiting asked) = ⊥
 IsFresh stage.Closing = ⊥
 
 -- a step that hands out no request
@@ -27,10 +27,10 @@ HasNoRequest step.Pending = ⊤
 HasNoRequest step.Closed = ⊤
 HasNoRequest (step.Received request) = ⊥
 
--- what is read of a request has its end, and is handed out, or more of it has to be read
+-- what is read of a request has its end, and is handed out and kept, or more of it has to be read
 abbrev pub FollowsRead : RequestBuffer → Stage → Step → Type 0
 FollowsRead buffer new (step.Received request) =
-    (new ≡ stage.Waiting) × IsRequestOf buffer.octets.items buffer.has_ended request
+    (new ≡ stage.Waiting request) × IsRequestOf buffer.octets.items buffer.has_ended request
 FollowsRead buffer new step.Pending = new ≡ stage.Reading buffer
 FollowsRead buffer new step.Closed = ⊥
 
@@ -38,7 +38,7 @@ FollowsRead buffer new step.Closed = ⊥
 abbrev pub Advances : Stage → Stage → Step → Type 0
 Advances (stage.Reading buffer) new step = FollowsRead buffer new step
 Advances (stage.Writing left) new step = IsLeft new left × HasNoRequest step
-Advances stage.Waiting new step = (new ≡ stage.Waiting) × HasNoRequest step
+Advances (stage.Waiting asked) new step = (new ≡ stage.Waiting asked) × HasNoRequest step
 Advances stage.Closing new step = (new ≡ stage.Closing) × HasNoRequest step
 
 -- a read added to what is read of a request, and what follows from it
@@ -62,7 +62,7 @@ Proceeds old_left new_left old_held new_held (stage.Reading request) new step =
     Reads old_left new_left request new step
 Proceeds old_left new_left old_held new_held (stage.Writing left) new step =
     Writes old_held new_held left new × HasNoRequest step
-Proceeds old_left new_left old_held new_held stage.Waiting new step =
-    (new ≡ stage.Waiting) × HasNoRequest step
+Proceeds old_left new_left old_held new_held (stage.Waiting asked) new step =
+    (new ≡ stage.Waiting asked) × HasNoRequest step
 Proceeds old_left new_left old_held new_held stage.Closing new step =
     (new ≡ stage.Closing) × HasNoRequest step

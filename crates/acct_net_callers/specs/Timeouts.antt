@@ -19,7 +19,7 @@ milliseconds_from before now = (instant_nanos now - instant_nanos before) / 1_00
 -- its response is written, it may be silent for thirty.
 abbrev pub HasTimedOut : Stage → ℕ → ℕ → Type 0
 HasTimedOut (stage.Reading buffer) stay silence = (2 ≤ silence) ⊎ (4 ≤ stay)
-HasTimedOut stage.Waiting stay silence = 2 ≤ silence
+HasTimedOut (stage.Waiting asked) stay silence = 2 ≤ silence
 HasTimedOut (stage.Writing left) stay silence = 30 ≤ silence
 HasTimedOut stage.Closing stay silence = 2 ≤ silence
 
@@ -28,14 +28,14 @@ HasTimedOut stage.Closing stay silence = 2 ≤ silence
 -- its response was written, and at once if all of that is written.
 abbrev pub MayBeDropped : Stage → ℕ → ℕ → Type 0
 MayBeDropped (stage.Reading buffer) stay silence = 25 ≤ stay
-MayBeDropped stage.Waiting stay silence = ⊥
+MayBeDropped (stage.Waiting asked) stay silence = ⊥
 MayBeDropped (stage.Writing left) stay silence = 2 ≤ silence
 MayBeDropped stage.Closing stay silence = ⊤
 
 -- more of a request was read, its end, or all of it
 abbrev pub HasReadMore : RequestBuffer → Stage → Type 0
 HasReadMore buffer (stage.Reading more) = HasGrown buffer more
-HasReadMore buffer stage.Waiting = ⊤
+HasReadMore buffer (stage.Waiting asked) = ⊤
 HasReadMore buffer (stage.Writing left) = ⊥
 HasReadMore buffer stage.Closing = ⊥
 
@@ -43,7 +43,7 @@ HasReadMore buffer stage.Closing = ⊥
 abbrev pub HasWrittenMore : List ℕ → Stage → Type 0
 HasWrittenMore left (stage.Writing rest) = length rest < length left
 HasWrittenMore left stage.Closing = ⊤
-HasWrittenMore left stage.Waiting = ⊥
+HasWrittenMore left (stage.Waiting asked) = ⊥
 HasWrittenMore left (stage.Reading buffer) = ⊥
 
 -- An octet of a caller's request was read, or the end of what he sends, or an octet of his response
@@ -51,7 +51,7 @@ HasWrittenMore left (stage.Reading buffer) = ⊥
 abbrev pub HasMoved : Stage → Stage → Type 0
 HasMoved (stage.Reading buffer) new = HasReadMore buffer new
 HasMoved (stage.Writing left) new = HasWrittenMore left new
-HasMoved stage.Waiting new = ⊥
+HasMoved (stage.Waiting asked) new = ⊥
 HasMoved stage.Closing new = ⊥
 
 -- A step makes now the moment when a caller was last active, exactly if an octet moved. If none did

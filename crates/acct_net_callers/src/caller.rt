@@ -30,8 +30,8 @@ const SHORTEST_STAY: u128 = 25;
 pub enum Stage {
     /// Its request is being read.
     Reading(RequestBuffer),
-    /// Its request is read, and its response is awaited.
-    Waiting,
+    /// This request of it is read, and its response is awaited.
+    Waiting(Octets),
     /// Its response is being written, and this is left of it.
     Writing(ResponseBuffer),
     /// Its response is written, and the connection's sending side is closed. What else it sends is
@@ -44,8 +44,9 @@ impl Drop for Stage {
     fn drop(self) {
         match self {
             Stage::Reading(_) => {}
+            Stage::Waiting(_) => {}
             Stage::Writing(_) => {}
-            Stage::Waiting | Stage::Closing => {}
+            Stage::Closing => {}
         }
     }
 }
@@ -55,7 +56,7 @@ impl Drop for Stage {
 pub enum Step {
     /// There is more to read or to write.
     Pending,
-    /// Its request is read.
+    /// Its request is read: this. The caller keeps a copy of it until its response is there.
     Received(Octets),
     /// It has its response, and has closed the connection.
     Closed,
@@ -134,7 +135,7 @@ impl<S: Read + Write + OpenStream + Drop> Caller<S> {
                 let stay = now.duration_since(self.accepted).as_secs();
                 silence >= SECONDS_OF_SILENCE || stay >= SECONDS_TO_ASK
             }
-            Stage::Waiting | Stage::Closing => silence >= SECONDS_OF_SILENCE,
+            Stage::Waiting(_) | Stage::Closing => silence >= SECONDS_OF_SILENCE,
         }
     }
 
@@ -154,7 +155,7 @@ impl<S: Read + Write + OpenStream + Drop> Caller<S> {
             Stage::Writing(_) => {
                 now.duration_since(self.last_active).as_secs() >= SECONDS_OF_SILENCE
             }
-            Stage::Waiting => false,
+            Stage::Waiting(_) => false,
             Stage::Closing => true,
         }
     }
@@ -186,7 +187,7 @@ impl<S: Read + Write + OpenStream + Drop> Caller<S> {
                 let has_moved = response.write(&mut self.stream)?;
                 self.advance(alloc, has_moved, now)
             }
-            Stage::Waiting | Stage::Closing => Ok(self.drain(buffer)),
+            Stage::Waiting(_) | Stage::Closing => Ok(self.drain(buffer)),
         }
     }
 
@@ -209,7 +210,8 @@ impl<S: Read + Write + OpenStream + Drop> Caller<S> {
         match &self.stage {
             Stage::Reading(request) => match request.whole_request(alloc)? {
                 Some(octets) => {
-                    self.stage = Stage::Waiting;
+                    let asked = octets.copy(alloc).map_err(|_| Fault)?;
+                    self.stage = Stage::Waiting(asked);
                     Ok(Step::Received(octets))
                 }
                 None => Ok(Step::Pending),

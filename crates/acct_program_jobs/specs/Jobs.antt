@@ -22,6 +22,7 @@ use Rattle.acct_program_args.specs.declared.job.Job.{Job}
 use Rattle.acct_program_args.specs.declared.job.Job.TheVariants as job
 use Rattle.acct_program_args.specs.declared.job.Export.{Export}
 use Rattle.acct_program_args.specs.declared.job.Carrying.{Carrying}
+use Rattle.acct_program_args.specs.declared.job.Listening.{Listening}
 use Rattle.acct_program_args.specs.declared.job.Serving.{Serving}
 use Rattle.acct_program_args.specs.Orders.{seconds_of}
 use Rattle.acct_program_commands.specs.Auditing.{Audits}
@@ -266,13 +267,16 @@ module _ {D : Type 0} {g : disk.Ghosts D} where
 
     -- What a job does over the files that held the image: how it ends, and what it leaves of them.
     -- `text` is what standard input has, `before` and `after` what standard output had and has.
+    -- `IsBound` says how an exchange is bound that listens where a server is to.
     module _ {X M : Type 0} (b : book.Ghosts (Held (FileStore D g))) (x : exchange.Ghosts X)
-        (m : book.Ghosts M) (text before after : Option (List ℕ)) where
+        (IsBound : Listening → X → Type 0) (m : book.Ghosts M)
+        (text before after : Option (List ℕ)) where
       -- turns of a server, and an import at a moment, with a configuration
       abbrev pub HasServed : Serving → Config → Result Status Fault → Held (FileStore D g)
           → Held (FileStore D g) → Type 0
       HasServed serving config =
-          RunsServer b x (seconds_of serving.oldest_report) config serving.turns before after
+          RunsServer b x (IsBound serving.listening) None (seconds_of serving.oldest_report) config
+          serving.turns before after
 
       abbrev pub HasImported : ℕ → Config → Result Status Fault → Held (FileStore D g)
           → Held (FileStore D g) → Type 0

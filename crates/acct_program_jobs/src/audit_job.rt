@@ -7,11 +7,11 @@ ghost use Rattle.acct_program_jobs.specs.Commands.{Worked};
 ghost use Rattle.acct_program_jobs.specs.Files.{IsRefused};
 ghost use Rattle.acct_program_jobs.specs.Jobs.{AuditsBook, AuditsNothing, HasNoConfig};
 
+use crate::book_file::BookFile;
 use crate::command::{Outcome, config_of};
 use crate::database::{FileConnection, adopted};
 use crate::left::Left;
 use acct_book::Book;
-use acct_model::Text;
 use acct_program::Status;
 use acct_program_commands::{Fault, run_audit};
 use acct_site::Config;
@@ -24,9 +24,7 @@ use std::io::Write;
 /// read.
 pub(crate) fn audit_book<S: Start, W: Write + Drop, E: Write + Drop>(
     runtime: &HostRuntime,
-    config: &Text,
-    file: &Text,
-    loses_commits: bool,
+    files: BookFile<'_>,
     mut output: W,
     mut progress: E,
     start: S,
@@ -37,15 +35,7 @@ pub(crate) fn audit_book<S: Start, W: Write + Drop, E: Write + Drop>(
         ⊎ AuditsNothing (image_at S.Start) ⟦<SqlBook<FileStore<FileFrom<S>>> as Book>⟧
         result.ended result.left }
 {
-    match audited_from(
-        runtime,
-        config,
-        file,
-        loses_commits,
-        &mut output,
-        &mut progress,
-        start,
-    ) {
+    match audited_from(runtime, files, &mut output, &mut progress, start) {
         Ok((ended, connection)) => Outcome {
             ended,
             output: Some(output),
@@ -63,9 +53,7 @@ pub(crate) fn audit_book<S: Start, W: Write + Drop, E: Write + Drop>(
 // that ended, and the connection to the book.
 fn audited_from<S: Start, W: Write, E: Write>(
     runtime: &HostRuntime,
-    config: &Text,
-    file: &Text,
-    loses_commits: bool,
+    files: BookFile<'_>,
     output: &mut W,
     progress: &mut E,
     start: S,
@@ -77,8 +65,8 @@ fn audited_from<S: Start, W: Write, E: Write>(
     ensures refused { IfErr result (λ e. HasNoConfig e.0 e.1
         ⊎ ((config : Config) × IsRefused (image_at S.Start) config.plans e.0 e.1)) }
 {
-    let config = config_of(runtime, config)?;
-    let book = adopted(runtime, file, loses_commits, &config.plans, start)?;
+    let config = config_of(runtime, files.config)?;
+    let book = adopted(runtime, files, &config.plans, start)?;
     Ok(audited(runtime.alloc(), &config, book, output, progress))
 }
 

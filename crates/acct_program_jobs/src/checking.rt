@@ -7,6 +7,7 @@ ghost use Rattle.acct_program_jobs.specs.Jobs.{DoesCheck, ChecksBook, IsChecked,
 ghost use Rattle.acct_program_jobs.specs.Jobs.{text_of, KeepsOthers, ChecksOrAudits};
 
 use crate::audit_job::audit_book;
+use crate::book_file::BookFile;
 use crate::command::{Outcome, config_of, without_book};
 use crate::database::{FileConnection, adopted};
 use crate::left::Left;
@@ -75,15 +76,14 @@ fn check_or_audit<S: Start, W: Write + Drop, E: Write + Drop>(
         return check_files(runtime, config, database, loses_commits, output, start);
     }
     match database {
-        Some(file) => audit_book(
-            runtime,
-            config,
-            file,
-            loses_commits,
-            output,
-            progress,
-            start,
-        ),
+        Some(database) => {
+            let files = BookFile {
+                config,
+                database,
+                loses_commits,
+            };
+            audit_book(runtime, files, output, progress, start)
+        }
         None => check_files(runtime, config, None, loses_commits, output, start),
     }
 }
@@ -123,16 +123,21 @@ fn check_files<S: Start, W: Write + Drop>(
             let ended = run_check(runtime, runtime.alloc(), config, &mut output);
             without_book(ended, output)
         }
-        Some(file) => check_book(runtime, config, file, loses_commits, output, start),
+        Some(database) => {
+            let files = BookFile {
+                config,
+                database,
+                loses_commits,
+            };
+            check_book(runtime, files, output, start)
+        }
     }
 }
 
 // `check` of a configuration and a book.
 fn check_book<S: Start, W: Write + Drop>(
     runtime: &HostRuntime,
-    config: &Text,
-    file: &Text,
-    loses_commits: bool,
+    files: BookFile<'_>,
     mut output: W,
     start: S,
 ) -> Outcome<W, FileFrom<S>>
@@ -140,7 +145,7 @@ fn check_book<S: Start, W: Write + Drop>(
     ensures does { ChecksBook (image_at S.Start) (W.contents output)
         (text_of W.contents result.output) result.ended result.left }
 {
-    match checked_from(runtime, config, file, loses_commits, &mut output, start) {
+    match checked_from(runtime, files, &mut output, start) {
         Ok(connection) => Outcome {
             ended: Ok(Status::Done),
             output: Some(output),
@@ -158,9 +163,7 @@ fn check_book<S: Start, W: Write + Drop>(
 // of that configuration.
 fn checked_from<S: Start, W: Write>(
     runtime: &HostRuntime,
-    config: &Text,
-    file: &Text,
-    loses_commits: bool,
+    files: BookFile<'_>,
     output: &mut W,
     start: S,
 ) -> Result<FileConnection<S>, (Fault, Left<FileFrom<S>>)>
@@ -168,8 +171,8 @@ fn checked_from<S: Start, W: Write>(
         (W.contents output.new)) }
     ensures failed { IfErr result (λ e. FailsToCheck (image_at S.Start) e.0 e.1) }
 {
-    let config = config_of(runtime, config)?;
-    let book = adopted(runtime, file, loses_commits, &config.plans, start)?;
+    let config = config_of(runtime, files.config)?;
+    let book = adopted(runtime, files, &config.plans, start)?;
     let connection = book.into_connection();
     match write_sizes(output, &config) {
         Ok(_) => Ok(connection),

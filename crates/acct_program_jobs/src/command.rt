@@ -6,10 +6,13 @@ ghost use Rattle.std.specs.Prelude.{◌≢◌, ◌≡◌, ◌⊎◌, ℕ, Ok, Er
 ghost use Rattle.std.specs.Prelude.{true, false, None, Some, List, Option};
 ghost use Rattle.sqlite_wal.specs.Files.{image_at};
 ghost use Rattle.acct_site.specs.declared.config.Config.{Config};
+ghost use Rattle.acct_program_args.specs.declared.job.Paths.{Paths};
 ghost use Rattle.acct_program_args.specs.Orders.{HasBounds, IsBounded};
+ghost use Rattle.acct_program_commands.specs.Endings.{ended_status};
 ghost use Rattle.acct_program_jobs.specs.Commands.{Worked, WritesOut, FailsToExport, refused};
 ghost use Rattle.acct_book.specs.Step.{Looks};
 ghost use Rattle.acct_program_commands.specs.Exports.{IsExportFault};
+ghost use Rattle.acct_program_serving.specs.Serving.{IsBoundTo};
 ghost use Rattle.acct_program_jobs.specs.Jobs.{DoesJob, HasNoConfig};
 ghost use Rattle.acct_program_jobs.specs.Jobs.{ExportsBook, ExportsNothing, FeedsScript};
 ghost use Rattle.acct_program_jobs.specs.Jobs.{text_of, IsSiteOf};
@@ -17,6 +20,7 @@ ghost use Rattle.acct_program_commands.specs.Checks.{IsUnchecked};
 ghost use Rattle.acct_program_commands.specs.KeptNames.{NamesSome};
 ghost use Rattle.std.specs.Option.{option_copied};
 
+use crate::book_file::BookFile;
 use crate::checking::check;
 use crate::database::{FileConnection, adopted};
 use crate::feed_job::run_feed;
@@ -28,8 +32,8 @@ use acct_book::Book;
 use acct_model::{Plans, Text};
 use acct_net::Sockets;
 use acct_program::Status;
-use acct_program_args::{Export, Job, Paths, Serving, Telling};
-use acct_program_commands::{Fault, ServerFiles, keep_others, read_config, run_export};
+use acct_program_args::{Export, Job, Order, Serving, Telling};
+use acct_program_commands::{Fault, ServerFiles, end, keep_others, read_config, run_export};
 use acct_program_serving::Errors;
 use acct_service::{Exchange, moment_of};
 use acct_site::{Config, sample_config};
@@ -53,29 +57,34 @@ pub struct Outcome<W, D: Disk> {
 /// The end of a command that closes its book, or what a fault left.
 pub(crate) type Ending<S> = Result<(Status, Files<FileFrom<S>>), (Fault, Left<FileFrom<S>>)>;
 
-/// Does a job over these streams. The book's files held what `S` says. A book whose log is damaged
-/// is rejected, unless the commits from the damage on may be lost. What a server prints while it
-/// runs goes to `errors`: its drops and counts only if it is not quiet.
-pub fn run<S: Start, I: Read + Drop, W: Write + Drop, E: Write + Drop>(
+/// Does the job of an order over these streams. The book's files held what `S` says. A book whose
+/// log is damaged is rejected, unless the commits from the damage on may be lost. What a server
+/// prints while it runs goes to `errors`: its drops and counts only if it is not quiet. Returns the
+/// exit status, and the outcome of the job. A fault that ended it is printed on `faults`.
+pub fn carry_out<S: Start, I: Read + Drop, W: Write + Drop, E: Write + Drop, F: Write>(
     runtime: &HostRuntime,
-    job: &Job,
-    loses_commits: bool,
+    order: &Order,
     input: I,
     mut output: W,
     errors: Errors<E>,
+    faults: &mut F,
     start: S,
-) -> Outcome<W, FileFrom<S>>
-    requires { HasBounds job.now }
-    ensures other { IfOk result.ended (λ status. status ≢ Status.BadCommandLine) }
+) -> (Status, Outcome<W, FileFrom<S>>)
+    requires { HasBounds order.now.job }
+    ensures status { result.0 ≡ ended_status result.1.ended }
     ensures does { DoesJob (image_at S.Start) ⟦<SqlBook<FileStore<FileFrom<S>>> as Book>⟧
-        ⟦<Sockets<'static, HostRuntime> as Exchange>⟧ ⟦<SqlBook<MemStore> as Book>⟧
-        (I.remaining input) (W.contents output) (text_of W.contents result.output) job.now
-        result.ended result.left }
+        ⟦<Sockets<'static, HostRuntime> as Exchange>⟧
+        (λ listening s. IsBoundTo listening s.event_loop.datagrams.sockets.items
+        s.event_loop.desk.door.address s.event_loop.desk.door.port)
+        ⟦<SqlBook<MemStore> as Book>⟧
+        (I.remaining input) (W.contents output) (text_of W.contents result.1.output)
+        order.now.job result.1.ended result.1.left }
 {
-    match job {
+    let loses = order.loses_commits;
+    match &order.job {
         Job::Feed { config } => {
             let ended = feed(runtime, config.as_ref(), input, &mut output);
-            without_book(ended, output)
+            told(faults, without_book(ended, output))
         }
         Job::Check {
             config,
@@ -83,114 +92,107 @@ pub fn run<S: Start, I: Read + Drop, W: Write + Drop, E: Write + Drop>(
             kept,
             audits,
         } => {
-            let Errors { notices, .. } = errors;
-            let database = database.as_ref();
-            check(
-                runtime,
-                config,
-                database,
-                kept,
-                *audits,
-                loses_commits,
-                output,
-                notices,
-                start,
-            )
+            let (book, notices) = (database.as_ref(), errors.notices);
+            let checked = check(
+                runtime, config, book, kept, *audits, loses, output, notices, start,
+            );
+            told(faults, checked)
         }
         Job::Init { paths, has_sums } => {
-            let making = Making::New {
-                has_sums: *has_sums,
-            };
-            make(runtime, making, paths, loses_commits, output, start)
+            let (making, files) = (Making::new(*has_sums), BookFile::of(paths, loses));
+            told(faults, make(runtime, making, files, output, start))
         }
         Job::Serve { paths, serving } => {
-            run_server(
-                runtime,
-                paths,
-                serving,
-                loses_commits,
-                output,
-                errors,
-                start,
-            )
+            let files = BookFile::of(paths, loses);
+            serve_files(runtime, files, serving, output, errors, faults, start)
         }
         Job::Import { paths } => {
             let moment = moment_of(runtime);
-            let import = Import { moment, input };
-            work_on(runtime, paths, loses_commits, import, output, start)
+            let (import, files) = (Import { moment, input }, BookFile::of(paths, loses));
+            told(faults, work_on(runtime, files, import, output, start))
         }
         Job::Export { paths, what } => {
-            export(runtime, paths, loses_commits, *what, output, start)
+            let files = BookFile::of(paths, loses);
+            told(faults, export(runtime, files, *what, output, start))
         }
         Job::Migrate { paths } => {
-            make(
-                runtime,
-                Making::Migrated,
-                paths,
-                loses_commits,
-                output,
-                start,
+            let files = BookFile::of(paths, loses);
+            told(
+                faults,
+                make(runtime, Making::Migrated, files, output, start),
             )
         }
         Job::Forward { paths, carrying } => {
             let moment = moment_of(runtime);
-            let Errors { notices, .. } = errors;
             let forward = Forward {
                 carrying,
                 moment,
-                progress: notices,
+                progress: errors.notices,
             };
-            work_on(runtime, paths, loses_commits, forward, output, start)
+            let files = BookFile::of(paths, loses);
+            told(faults, work_on(runtime, files, forward, output, start))
         }
         Job::AddPlans { paths } => {
-            make(
-                runtime,
-                Making::Extended,
-                paths,
-                loses_commits,
-                output,
-                start,
+            let files = BookFile::of(paths, loses);
+            told(
+                faults,
+                make(runtime, Making::Extended, files, output, start),
             )
         }
     }
 }
 
-/// Does the job `serve`, as `run` does. A program that assumes something else about a torn write
-/// while it serves calls this, so that its other jobs are compiled only once.
-pub fn run_server<S: Start, W: Write + Drop, E: Write + Drop>(
+/// Serves the book of a file, as `carry_out` does. A program that assumes something else about a
+/// torn write while it serves calls this, so that its other jobs are compiled only once.
+pub fn serve_files<S: Start, W: Write + Drop, E: Write + Drop, F: Write>(
     runtime: &HostRuntime,
-    paths: &Paths,
+    files: BookFile<'_>,
     serving: &Serving,
-    loses_commits: bool,
     output: W,
     errors: Errors<E>,
+    faults: &mut F,
     start: S,
-) -> Outcome<W, FileFrom<S>>
+) -> (Status, Outcome<W, FileFrom<S>>)
     requires { IsBounded serving.now }
-    ensures other { IfOk result.ended (λ status. status ≢ Status.BadCommandLine) }
-    ensures does { (text : Option (List ℕ)) → DoesJob (image_at S.Start)
+    ensures status { result.0 ≡ ended_status result.1.ended }
+    ensures does { (paths : Paths) → (text : Option (List ℕ)) → DoesJob (image_at S.Start)
         ⟦<SqlBook<FileStore<FileFrom<S>>> as Book>⟧
-        ⟦<Sockets<'static, HostRuntime> as Exchange>⟧ ⟦<SqlBook<MemStore> as Book>⟧
-        text (W.contents output) (text_of W.contents result.output) (Job.Serve paths.now serving.now)
-        result.ended result.left }
+        ⟦<Sockets<'static, HostRuntime> as Exchange>⟧
+        (λ listening s. IsBoundTo listening s.event_loop.datagrams.sockets.items
+        s.event_loop.desk.door.address s.event_loop.desk.door.port)
+        ⟦<SqlBook<MemStore> as Book>⟧
+        text (W.contents output) (text_of W.contents result.1.output)
+        (Job.Serve paths serving.now) result.1.ended result.1.left }
 {
-    match keep_others(runtime, files_of_server(paths, &serving.telling)) {
+    match keep_others(runtime, files_of_server(files, &serving.telling)) {
         Ok(()) => {
-            let server = server_of(runtime, paths, serving, errors);
-            work_on(runtime, paths, loses_commits, server, output, start)
+            let server = server_of(runtime, files, serving, errors);
+            told(faults, work_on(runtime, files, server, output, start))
         }
-        Err(fault) => without_book(Err(fault), output),
+        Err(fault) => told(faults, without_book(Err(fault), output)),
     }
 }
 
+// The exit status of a job with this outcome. A fault that ended it is printed.
+fn told<W: Write, D: Disk, F: Write>(
+    faults: &mut F,
+    outcome: Outcome<W, D>,
+) -> (Status, Outcome<W, D>)
+    requires { IfOk outcome.ended (λ status. status ≢ Status.BadCommandLine) }
+    ensures status { result.0 ≡ ended_status outcome.ended }
+    ensures same { result.1 ≡ outcome }
+{
+    (end(faults, outcome.ended), outcome)
+}
+
 // The files of a server, by name.
-fn files_of_server<'a>(paths: &'a Paths, telling: &'a Telling) -> ServerFiles<'a>
+fn files_of_server<'a>(files: BookFile<'a>, telling: &'a Telling) -> ServerFiles<'a>
     ensures { NamesSome result.status result.balances
         → NamesSome telling.now.status telling.now.balances }
 {
     ServerFiles {
-        config: &paths.config,
-        database: Some(&paths.database),
+        config: files.config,
+        database: Some(files.database),
         status: telling.status.as_ref(),
         balances: match &telling.balances {
             Some(balances) => Some(&balances.file),
@@ -288,8 +290,7 @@ pub(crate) fn config_of<D: Disk>(
 // `export` of the book of a file.
 fn export<S: Start, W: Write + Drop>(
     runtime: &HostRuntime,
-    paths: &Paths,
-    loses_commits: bool,
+    files: BookFile<'_>,
     what: Export,
     output: W,
     start: S,
@@ -300,12 +301,11 @@ fn export<S: Start, W: Write + Drop>(
         ⊎ ExportsNothing (image_at S.Start) ⟦<SqlBook<FileStore<FileFrom<S>>> as Book>⟧
         result.ended result.left }
 {
-    let config = match read_config(runtime, runtime.alloc(), &paths.config) {
+    let config = match read_config(runtime, runtime.alloc(), files.config) {
         Ok(config) => config,
         Err(fault) => return without_book(Err(fault), output),
     };
-    let file = &paths.database;
-    match exported(runtime, &config, file, loses_commits, what, output, start) {
+    match exported(runtime, &config, files, what, output, start) {
         Ok((output, connection)) => Outcome {
             ended: Ok(Status::Done),
             output: Some(output),
@@ -323,8 +323,7 @@ fn export<S: Start, W: Write + Drop>(
 fn exported<S: Start, W: Write + Drop>(
     runtime: &HostRuntime,
     config: &Config,
-    file: &Text,
-    loses_commits: bool,
+    files: BookFile<'_>,
     what: Export,
     output: W,
     start: S,
@@ -335,7 +334,7 @@ fn exported<S: Start, W: Write + Drop>(
     ensures failed { IfErr result (λ e. FailsToExport
         ⟦<SqlBook<FileStore<FileFrom<S>>> as Book>⟧ (image_at S.Start) config.now.plans e.0 e.1) }
 {
-    let book = adopted(runtime, file, loses_commits, &config.plans, start)?;
+    let book = adopted(runtime, files, &config.plans, start)?;
     match written_out(runtime.alloc(), what, &config.plans, book, output) {
         Ok(done) => Ok(done),
         Err((fault, connection)) => Err((fault, Left::Open(connection))),

@@ -14,6 +14,7 @@ ghost use Rattle.acct_program_jobs.specs.Files.{IsBookOf, IsMade, IsRefused, Has
 ghost use Rattle.acct_program_jobs.specs.Files.{Copies, IsUnclosed};
 ghost use Rattle.acct_program_jobs.specs.inner.Files.{IsOpenedOn};
 
+use crate::book_file::BookFile;
 use crate::left::Left;
 use crate::making::Making;
 use acct_model::{Plans, Text};
@@ -50,8 +51,7 @@ pub type FileConnection<S> = Connection<FileStore<FileFrom<S>>>;
 pub fn made<S: Start>(
     runtime: &HostRuntime,
     making: Making,
-    file: &Text,
-    loses_commits: bool,
+    files: BookFile<'_>,
     plans: &Plans,
     start: S,
 ) -> Result<(FileConnection<S>, u64), (Fault, Left<FileFrom<S>>)>
@@ -60,13 +60,13 @@ pub fn made<S: Start>(
     ensures refused { IfErr result (λ e.
         HasNotMade making (image_at S.Start) plans.now e.0 e.1) }
 {
-    let sums = making.sums();
+    let (sums, file) = (making.sums(), files.database);
     // The open of a file without a database would empty a log that belongs to a book.
     let may_open = match sums {
         Some(_) => !has_lost_book(runtime, runtime.alloc(), file.as_str()),
         None => may_be_database(runtime, file),
     };
-    if !may_open || !is_readable(runtime, file, loses_commits) {
+    if !may_open || !is_readable(runtime, files) {
         return Err((Fault::CannotOpen, Left::Nothing));
     }
     if sums.is_some() {
@@ -86,8 +86,7 @@ pub fn made<S: Start>(
 /// left of the files, which hold what they held.
 pub fn adopted<S: Start>(
     runtime: &HostRuntime,
-    file: &Text,
-    loses_commits: bool,
+    files: BookFile<'_>,
     plans: &Plans,
     start: S,
 ) -> Result<FileBook<S>, (Fault, Left<FileFrom<S>>)>
@@ -98,10 +97,10 @@ pub fn adopted<S: Start>(
     // An open makes a file that does not exist, and a database of a text shorter than a header, and
     // it blocks on a pipe. A mistyped name must do none of this. An open also stops reading a
     // damaged log at the damage, and writes behind it.
-    if !may_be_database(runtime, file) || !is_readable(runtime, file, loses_commits) {
+    if !may_be_database(runtime, files.database) || !is_readable(runtime, files) {
         return Err((Fault::CannotOpen, Left::Nothing));
     }
-    let connection = opened(runtime, file, false, start)?;
+    let connection = opened(runtime, files.database, false, start)?;
     taken(runtime.alloc(), connection, plans)
 }
 
@@ -167,8 +166,9 @@ fn may_be_database(runtime: &HostRuntime, file: &Text) -> bool {
 
 // Whether the log of a database may be read: it is not damaged, or what is behind the damage may be
 // lost.
-fn is_readable(runtime: &HostRuntime, file: &Text, loses_commits: bool) -> bool {
-    loses_commits || damage_beside(runtime, runtime.alloc(), file.as_str()).is_none()
+fn is_readable(runtime: &HostRuntime, files: BookFile<'_>) -> bool {
+    files.loses_commits
+        || damage_beside(runtime, runtime.alloc(), files.database.as_str()).is_none()
 }
 
 // Whether the log of a database has a frame. If there is no memory for its name, it counts as

@@ -8,6 +8,7 @@
 #![tactic(auto)]
 
 mod audit_job;
+mod book_file;
 mod checking;
 mod command;
 mod database;
@@ -18,7 +19,8 @@ mod making;
 mod serving;
 mod work;
 
-pub use command::{Outcome, run, run_server};
+pub use book_file::BookFile;
+pub use command::{Outcome, carry_out, serve_files};
 pub use database::{FileBook, FileConnection, adopted, close, made};
 pub use feed_job::run_feed;
 pub use left::Left;

@@ -6,12 +6,12 @@ ghost use Rattle.sqlite_wal.specs.Files.{image_at};
 ghost use Rattle.acct_program_jobs.specs.inner.Files.{sums_of};
 ghost use Rattle.acct_program_jobs.specs.Jobs.{ClosesOrFails, Makes, FailsToMake, line_of, text_of};
 
+use crate::book_file::BookFile;
 use crate::command::{Ending, Outcome, config_of, with_book};
 use crate::database::{close, made};
 use crate::left::Left;
 use acct_book::Book;
 use acct_program::Status;
-use acct_program_args::Paths;
 use acct_program_commands::Fault;
 use acct_sql::SqlBook;
 use sqlite::{FileFrom, FileStore, Start};
@@ -33,6 +33,13 @@ pub enum Making {
 }
 
 impl Making {
+    /// A new book, each page of which ends in a sum, if that is requested.
+    pub(crate) fn new(has_sums: bool) -> Making
+        ensures { result ≡ Making.New has_sums }
+    {
+        Making::New { has_sums }
+    }
+
     /// Whether each page of a new book is to end in a sum; none if no new book is made.
     pub(crate) fn sums(self) -> Option<bool>
         ensures { result ≡ sums_of self }
@@ -48,8 +55,7 @@ impl Making {
 pub(crate) fn make<S: Start, W: Write + Drop>(
     runtime: &HostRuntime,
     making: Making,
-    paths: &Paths,
-    loses_commits: bool,
+    files: BookFile<'_>,
     mut output: W,
     start: S,
 ) -> Outcome<W, FileFrom<S>>
@@ -59,7 +65,7 @@ pub(crate) fn make<S: Start, W: Write + Drop>(
         (text_of W.contents result.output)) (FailsToMake (image_at S.Start) making)
         result.ended result.left }
 {
-    let ending = made_and_closed(runtime, making, paths, loses_commits, &mut output, start);
+    let ending = made_and_closed(runtime, making, files, &mut output, start);
     with_book(ending, output)
 }
 
@@ -67,8 +73,7 @@ pub(crate) fn make<S: Start, W: Write + Drop>(
 fn made_and_closed<S: Start, W: Write>(
     runtime: &HostRuntime,
     making: Making,
-    paths: &Paths,
-    loses_commits: bool,
+    files: BookFile<'_>,
     output: &mut W,
     start: S,
 ) -> Ending<S>
@@ -78,9 +83,8 @@ fn made_and_closed<S: Start, W: Write>(
         (W.contents output.new) done.0 done.1) }
     ensures failed { IfErr result (λ e. FailsToMake (image_at S.Start) making e.0 e.1) }
 {
-    let config = config_of(runtime, &paths.config)?;
-    let file = &paths.database;
-    let (book, count) = made(runtime, making, file, loses_commits, &config.plans, start)?;
+    let config = config_of(runtime, files.config)?;
+    let (book, count) = made(runtime, making, files, &config.plans, start)?;
     let files = close(book)?;
     match write_made(output, making, count) {
         Ok(()) => Ok((Status::Done, files)),

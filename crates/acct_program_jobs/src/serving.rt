@@ -1,9 +1,10 @@
 //! `serve`: a server over the book of a file.
 ghost use Rattle.std.specs.Prelude.{◌≡◌, None, true, false};
 
+use crate::book_file::BookFile;
 use crate::explained_site::ExplainedSite;
 use crate::work::Server;
-use acct_program_args::{Paths, Serving};
+use acct_program_args::Serving;
 use acct_program_commands::note_clock;
 use acct_program_serving::{Errors, Surroundings};
 use std::io::Write;
@@ -13,15 +14,15 @@ use std::io::Write;
 /// so that it misses no change of that.
 pub(crate) fn server_of<'a, E: Write + Drop>(
     runtime: &'a HostRuntime,
-    paths: &'a Paths,
+    files: BookFile<'a>,
     serving: &'a Serving,
     errors: Errors<E>,
 ) -> Server<'a, E>
     ensures { result.serving ≡ serving.entry }
 {
-    let source = ExplainedSite::new(runtime, &paths.config, errors.explains);
+    let source = ExplainedSite::new(runtime, files.config, errors.explains);
     let mut errors = told_to(errors, serving.telling.is_quiet);
-    let file = &paths.database;
+    let file = files.database;
     // Before the book is opened, which may make a log.
     note_clock(runtime, file, &mut errors.notices);
     Server {

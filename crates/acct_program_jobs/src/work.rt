@@ -1,6 +1,6 @@
 //! The commands that work on the book of a file, and close it at their end.
 ghost use Rattle.std.specs.Prelude.{◌≢◌, ◌≡◌, ◌<◌, ◌≤◌, ◌^◌, ℕ, List, Option, Result};
-ghost use Rattle.std.specs.Prelude.{Ok, IfOk, IfErr, IfSome};
+ghost use Rattle.std.specs.Prelude.{Ok, None, IfOk, IfErr, IfSome};
 ghost use Rattle.sqlite_wal.specs.Files.{image_at};
 ghost use Rattle.acct_book.specs.declared.book.Book as book;
 ghost use Rattle.acct_site.specs.declared.config.Config.{Config};
@@ -9,11 +9,12 @@ ghost use Rattle.acct_program_commands.specs.declared.fault.Fault.{Fault};
 ghost use Rattle.acct_program_commands.specs.Imports.{Runs};
 ghost use Rattle.acct_program_commands.specs.Forwarding.{Forwards};
 ghost use Rattle.acct_program_args.specs.Orders.{IsBounded, seconds_of};
-ghost use Rattle.acct_program_serving.specs.Serving.{RunsServer};
+ghost use Rattle.acct_program_serving.specs.Serving.{IsBoundTo, RunsServer};
 ghost use Rattle.acct_program_jobs.specs.Files.{Copies};
 ghost use Rattle.acct_program_jobs.specs.Commands.{IsNotClosed};
 ghost use Rattle.acct_program_jobs.specs.Jobs.{ClosesOrFails, WorksAndCloses, FailsAtWork, text_of};
 
+use crate::book_file::BookFile;
 use crate::command::{Ending, Outcome, config_of, with_book};
 use crate::database::{FileConnection, adopted, close};
 use crate::explained_site::ExplainedSite;
@@ -22,7 +23,7 @@ use acct_book::Book;
 use acct_model::Text;
 use acct_net::Sockets;
 use acct_program::Status;
-use acct_program_args::{Carrying, Paths, Serving};
+use acct_program_args::{Carrying, Serving};
 use acct_program_commands::{Fault, run_forward, run_import};
 use acct_program_serving::{Surroundings, run_serve};
 use acct_service::Exchange;
@@ -130,9 +131,13 @@ pub(crate) struct Server<'a, E: Drop> {
 impl<W: Write, E: Write + Drop> Work<W> for Server<'_, E> {
     ghost is_ready = { λ it. IsBounded it.serving.now };
 
+    // The file of the configuration is polled. No contract can say what it holds.
     ghost did = { λ b it config ended first last before after. RunsServer b
-        ⟦<Sockets<'static, HostRuntime> as Exchange>⟧ (seconds_of it.serving.now.oldest_report)
-        config it.serving.now.turns before after ended first last };
+        ⟦<Sockets<'static, HostRuntime> as Exchange>⟧
+        (λ s. IsBoundTo it.serving.now.listening s.event_loop.datagrams.sockets.items
+        s.event_loop.desk.door.address s.event_loop.desk.door.port)
+        None (seconds_of it.serving.now.oldest_report) config it.serving.now.turns before after
+        ended first last };
 
     fn over<B: Book>(
         self,
@@ -155,8 +160,7 @@ impl<W: Write, E: Write + Drop> Work<W> for Server<'_, E> {
 /// ends it.
 pub(crate) fn work_on<S: Start, W: Write + Drop, K: Work<W> + Drop>(
     runtime: &HostRuntime,
-    paths: &Paths,
-    loses_commits: bool,
+    files: BookFile<'_>,
     work: K,
     mut output: W,
     start: S,
@@ -171,15 +175,14 @@ pub(crate) fn work_on<S: Start, W: Write + Drop, K: Work<W> + Drop>(
         ended first last (W.contents output) (text_of W.contents result.output)))
         result.ended result.left }
 {
-    let ending = worked(runtime, paths, loses_commits, work, &mut output, start);
+    let ending = worked(runtime, files, work, &mut output, start);
     with_book(ending, output)
 }
 
 // How the work on the book in a file ended, and its files if it was closed.
 fn worked<S: Start, W: Write, K: Work<W> + Drop>(
     runtime: &HostRuntime,
-    paths: &Paths,
-    loses_commits: bool,
+    files: BookFile<'_>,
     work: K,
     output: &mut W,
     start: S,
@@ -193,14 +196,8 @@ fn worked<S: Start, W: Write, K: Work<W> + Drop>(
         (λ config ended first last. K.did ⟦<SqlBook<FileStore<FileFrom<S>>> as Book>⟧ work config
         ended first last (W.contents output.old) (W.contents output.new)) e.0 e.1) }
 {
-    let config = config_of(runtime, &paths.config)?;
-    let mut book = adopted(
-        runtime,
-        &paths.database,
-        loses_commits,
-        &config.plans,
-        start,
-    )?;
+    let config = config_of(runtime, files.config)?;
+    let mut book = adopted(runtime, files, &config.plans, start)?;
     let ended = work.over(runtime, &config, &mut book, output);
     finished(ended, book.into_connection())
 }

@@ -1,5 +1,5 @@
-//! Tests of `acct_service_run` and `acct_program_commands`, of their public calls only: what a server over an
-//! exchange counts, prints and writes, turn after turn.
+//! Tests of `acct_program_serving` and `acct_program_commands`, of their public calls only: what a
+//! server over an exchange counts, prints and writes, turn after turn.
 #![tactic(auto)]
 
 #[cfg(test)]

@@ -2,9 +2,9 @@
 use acct_book::{Book, MemBook};
 use acct_book_fakes::{FailingBook, ShutBook};
 use acct_model::Octets;
+use acct_program_serving::{Ended, serve_exchange};
 use acct_service::lists::{ListExchange, Planned};
 use acct_service::{Event, Exchange, NoRounds, Served, Until, What};
-use acct_service_run::{Ended, serve_exchange};
 use acct_site::sample_config;
 use std::alloc::Global;
 use std::io;

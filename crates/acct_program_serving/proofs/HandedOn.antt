@@ -1,18 +1,21 @@
--- An end over an exchange is one over any other that counts and records the same.
-use Rattle.std.specs.Prelude.{◌≡◌, ⊤, ℕ, List, Option}
-use Rattle.std.proofs.Common.{◌∙◌, sym, ap, refl}
+-- A run over an exchange is one over any other that counts and records the same.
+use Rattle.std.specs.Prelude.{◌≡◌, ℕ, List, [], ◌∷◌, Option}
+use Rattle.std.proofs.Common.{◌∙◌, sym, ap}
 use Rattle.acct_book.specs.declared.book.Book as book
 use Rattle.acct_book.specs.Step.{OnlyLooks}
 use Rattle.acct_site.specs.declared.config.Config.{Config}
 use Rattle.acct_service.specs.declared.exchange.Exchange as exchange
-use Rattle.acct_service.specs.Slices.{Slice, ServesInSlices}
+use Rattle.acct_service.specs.declared.rounds.Rounds as rounds
+use Rattle.acct_service.specs.Slices.{Slice, GoRounds, ServesInSlices}
 use Rattle.acct_service.specs.declared.exchange.Call.{Call}
 use Rattle.acct_service.specs.declared.server.Served.{Served}
 use Rattle.acct_service.specs.declared.slices.Until.{Until}
-use Rattle.acct_service_run.specs.declared.ended.Ended.{Ended}
-use Rattle.acct_service_run.specs.declared.ended.Ended.TheVariants as how
-use Rattle.acct_service_run.specs.Runs.{Ran, Ends}
-use Rattle.acct_program_serving.specs.Serving.{EndsOver, EndsAfresh}
+use Rattle.acct_program_commands.specs.NewSite.{LooksAndTakes}
+use Rattle.acct_program_commands.specs.Sights.{Sight}
+use Rattle.acct_program_serving.specs.declared.ended.Ended.{Ended}
+use Rattle.acct_program_serving.specs.declared.ended.Ended.TheVariants as how
+use Rattle.acct_program_serving.specs.Runs.{Ran}
+use Rattle.acct_program_serving.specs.Serving.{EndsOver, EndsAfresh, PollsAfter}
 
 -- two exchanges count and record the same
 pub record Agrees {X Y : Type 0} (x : exchange.Ghosts X) (y : exchange.Ghosts Y) (one : X)
@@ -37,74 +40,96 @@ module _ {B X Y : Type 0} (b : book.Ghosts B) (x : exchange.Ghosts X) (y : excha
     run = rw (starts.told, stops.told) ran.run;
   }
 
+-- an end over an exchange is one over any other that counts and records the same
+module _ {B X Y : Type 0} (b : book.Ghosts B) (x : exchange.Ghosts X) (y : exchange.Ghosts Y)
+    (oldest : Option ℕ) (config : Config) (turns : ℕ) (Went : List Slice → Type 0) (old new : B)
+    (first last : X)
+    (given back : Y) (starts : Agrees x y first given) (stops : Agrees x y last back) where
   pub ends_so : (before after : Option (List ℕ)) (ended : Ended)
-      → Ends b x oldest config turns Went old new first last before after ended
+      → EndsOver b x oldest config turns Went old new first last before after ended
       → EndsOver b y oldest config turns Went old new given back before after ended
-  ends_so before after (how.Told served why) (ran, printed) = (ran_so served why ran, printed)
-  ends_so before after (how.Untold served why) ran = ran_so served why ran
-  ends_so before after how.NotBegun (same_book, same_last) = (
+  ends_so before after (how.Told served why) (ran, printed) = (
+    ran_so b x y oldest config turns Went old new first last given back starts stops served why
+        ran,
+    printed,
+  )
+  ends_so before after (how.Untold served why) ran =
+      ran_so b x y oldest config turns Went old new first last given back starts stops served why ran
+  ends_so before after how.NotBegun (same_book, unasked) = (
     same_book,
     record {
-      turns = stops.turns ∙ ap x.turn_count same_last ∙ sym starts.turns;
-      failures = stops.failures ∙ ap x.failure_count same_last ∙ sym starts.failures;
-      told = stops.told ∙ ap x.told same_last ∙ sym starts.told;
+      turns = stops.turns ∙ unasked.turns ∙ sym starts.turns;
+      failures = stops.failures ∙ unasked.failures ∙ sym starts.failures;
+      told = stops.told ∙ unasked.told ∙ sym starts.told;
     },
   )
 
--- a run of slices, with no condition on its rounds
+-- rounds that each take what they take from one more poll are polls
+pub polls : {R : Type 0} (r : rounds.Ghosts R) (seen : R → Option (List Sight))
+    (each : (old : R) (config : Config) (gave : Option Config) (new : R)
+    → r.goes old config gave new → LooksAndTakes config.plans (seen old) gave (seen new))
+    (first : R) (slices : List Slice) (last : R) → GoRounds r first slices last
+    → PollsAfter (seen first) slices (seen last)
+polls r seen each first [] last same = ap seen same
+polls r seen each first (slice ∷ later) last (next, goes, rest) =
+    (seen next, each first slice.site slice.given next goes, polls r seen each next later last rest)
+
+-- a run of slices, whose rounds went another way, too
 however : {B : Type 0} (b : book.Ghosts B) (oldest : Option ℕ) (config : Config) (old new : B)
-    (told later : Option (List Call)) (Went : List Slice → Type 0) (served : Served)
+    (told later : Option (List Call)) (Went Goes : List Slice → Type 0)
+    (so : (slices : List Slice) → Went slices → Goes slices) (served : Served)
     → ServesInSlices b oldest config old new told later Went served
-    → ServesInSlices b oldest config old new told later (λ _. ⊤) served
-however b oldest config old new told later Went served run = record {
+    → ServesInSlices b oldest config old new told later Goes served
+however b oldest config old new told later Went Goes so served run = record {
   slices = run.slices;
   follow = run.follow;
   same_plans = run.same_plans;
-  went = tt;
+  went = so run.slices run.went;
   attends = run.attends;
   counts = run.counts;
 }
 
-module _ {B X : Type 0} (b : book.Ghosts B) (x : exchange.Ghosts X) (oldest : Option ℕ)
-    (config : Config) (turns : ℕ) (Went : List Slice → Type 0) (before_all old new : B) (looked : OnlyLooks b before_all old)
-    (first last : X) (fresh : x.turn_count first ≡ 0) (faultless : x.failure_count first ≡ 0) where
+module _ {B X : Type 0} (b : book.Ghosts B) (x : exchange.Ghosts X) (IsBound : X → Type 0)
+    (seen polled : Option (List Sight)) (oldest : Option ℕ) (config : Config) (turns : ℕ)
+    (Went : List Slice → Type 0)
+    (so : (slices : List Slice) → Went slices → PollsAfter seen slices polled)
+    (before_all old new : B) (looked : OnlyLooks b before_all old) (first last : X)
+    (bound : IsBound first) (fresh : x.turn_count first ≡ 0)
+    (faultless : x.failure_count first ≡ 0) where
   ran_however : (served : Served) (why : Until)
       → Ran b x oldest config turns Went old new first last served why
-      → Ran b x oldest config turns (λ _. ⊤) old new first last served why
+      → Ran b x oldest config turns (λ slices. PollsAfter seen slices polled) old new first last
+      served why
   ran_however served why ran = record {
     turns_made = ran.turns_made;
     shut = ran.shut;
     stuck = ran.stuck;
     open_is = ran.open_is;
     faults = ran.faults;
-    run = however b oldest config old new (x.told first) (x.told last) Went served ran.run;
+    run = however b oldest config old new (x.told first) (x.told last) Went
+        (λ slices. PollsAfter seen slices polled) so served ran.run;
   }
+
+  ends_however : (before after : Option (List ℕ)) (ended : Ended)
+      → EndsOver b x oldest config turns Went old new first last before after ended
+      → EndsOver b x oldest config turns (λ slices. PollsAfter seen slices polled) old new first
+      last before after ended
+  ends_however before after (how.Told served why) (ran, printed) =
+      (ran_however served why ran, printed)
+  ends_however before after (how.Untold served why) ran = ran_however served why ran
+  ends_however before after how.NotBegun same = same
 
   -- a server ended so over an exchange that had made no turn and no fault
   pub ends_afresh : (before after : Option (List ℕ)) (ended : Ended)
       → EndsOver b x oldest config turns Went old new first last before after ended
-      → EndsAfresh b x oldest config turns before_all new last before after ended
-  ends_afresh before after (how.Told served why) (ran, printed) = record {
+      → EndsAfresh b x IsBound seen oldest config turns before_all new last before after ended
+  ends_afresh before after ended ends = record {
     begun = old;
     looked = looked;
     first = first;
+    bound = bound;
     fresh = fresh;
     faultless = faultless;
-    ends = (ran_however served why ran, printed);
-  }
-  ends_afresh before after (how.Untold served why) ran = record {
-    begun = old;
-    looked = looked;
-    first = first;
-    fresh = fresh;
-    faultless = faultless;
-    ends = ran_however served why ran;
-  }
-  ends_afresh before after how.NotBegun (same_book, unasked) = record {
-    begun = old;
-    looked = looked;
-    first = last;
-    fresh = unasked.turns ∙ fresh;
-    faultless = unasked.failures ∙ faultless;
-    ends = (same_book, refl);
+    polled = polled;
+    ends = ends_however before after ended ends;
   }

@@ -1,1 +1,3 @@
+pub mod Counts
+pub mod Runs
 pub mod Serving

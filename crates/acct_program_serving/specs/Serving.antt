@@ -1,20 +1,27 @@
 -- What `serve` does, and how it ends.
-use Rattle.std.specs.Prelude.{◌≡◌, ◌⊎◌, ⊤, ℕ, List, Option, Result, Ok, Err}
+use Rattle.std.specs.Prelude.{◌≡◌, ◌⊎◌, ℕ, List, [], ◌∷◌, Option, Result, Ok, Err}
 use Rattle.std.specs.Io.KnownBytes.{Appends}
+use Rattle.std.specs.List.{AllZip}
+use Rattle.std.specs.Net.Grammar.{IsDotted}
 use Rattle.acct_book.specs.declared.book.Book as book
 use Rattle.acct_book.specs.Step.{OnlyLooks}
 use Rattle.acct_site.specs.declared.config.Config.{Config}
 use Rattle.acct_service.specs.Slices.{Slice}
 use Rattle.acct_service.specs.declared.exchange.Exchange as exchange
 use Rattle.acct_service.specs.declared.slices.Until.TheVariants as until
-use Rattle.acct_service_run.specs.Runs.{Ran, Ends, whole_text}
-use Rattle.acct_service_run.specs.declared.ended.Ended.{Ended}
-use Rattle.acct_service_run.specs.declared.ended.Ended.TheVariants as how
+use Rattle.acct_net.specs.Bound.{AreBoundAt}
+use Rattle.acct_net.specs.declared.datagrams.RadiusSocket.{RadiusSocket}
+use Rattle.acct_program_args.specs.declared.job.Listening.{Listening}
+use Rattle.acct_program_commands.specs.NewSite.{LooksAndTakes}
+use Rattle.acct_program_commands.specs.Sights.{Sight}
 use Rattle.acct_program_commands.specs.declared.fault.Fault.{Fault}
 use Rattle.acct_program_commands.specs.declared.fault.Fault.TheVariants as fault
 use Rattle.acct_program_commands.specs.declared.fault.StoreFault.TheVariants as store
 use Rattle.acct_program.specs.declared.status.Status.{Status}
 use Rattle.acct_program.specs.declared.status.Status.TheVariants as status
+use Rattle.acct_program_serving.specs.Runs.{Ran, whole_text}
+use Rattle.acct_program_serving.specs.declared.ended.Ended.{Ended}
+use Rattle.acct_program_serving.specs.declared.ended.Ended.TheVariants as how
 
 -- how the command ends: with the book's fault, if that was found shut or stuck
 abbrev pub ended_of : Ended → Result Status Fault
@@ -30,6 +37,24 @@ ended_of how.NotBegun = Err fault.CannotWrite
 abbrev pub IsUnbound : Fault → Type 0
 IsUnbound told = (told ≡ fault.CannotBind) ⊎ (told ≡ fault.NoMemory)
 
+-- The sockets are bound as the options say: one for datagrams at each address that they name, in
+-- their order, and the desk at its own; each at its port.
+pub record IsBoundTo (listening : Listening) (datagrams : List RadiusSocket) (desk : List ℕ)
+    (desk_port : ℕ) : Type 0 where
+  pub addresses : List (List ℕ)
+  pub spelt : AllZip IsDotted listening.addresses.items addresses
+  pub datagrams_are : AreBoundAt addresses listening.radius_port datagrams
+  pub desk_is : IsDotted listening.desk_address desk
+  pub desk_port_is : desk_port ≡ listening.desk_port
+
+-- After each slice the text of the configuration was polled once, and nothing else was. The turns
+-- that follow have what was taken from that poll: other clients and keys, or what was in force.
+abbrev pub PollsAfter : Option (List Sight) → List Slice → Option (List Sight) → Type 0
+PollsAfter seen [] last = seen ≡ last
+PollsAfter seen (slice ∷ later) last =
+    (next : Option (List Sight)) × LooksAndTakes slice.site.plans seen slice.given next
+    × PollsAfter next later last
+
 -- A run of a server over a book and an exchange.
 module _ {B X : Type 0} (b : book.Ghosts B) (x : exchange.Ghosts X) where
   -- an exchange made no turn and no fault, and recorded no call
@@ -41,8 +66,8 @@ module _ {B X : Type 0} (b : book.Ghosts B) (x : exchange.Ghosts X) where
   -- How a server ended over an exchange that is returned. Once it has begun, its turns are a run,
   -- even if the output fails. What it then printed is `serving` and the counts of that run, and
   -- nothing else. Before that it does nothing.
-  abbrev pub EndsOver : Option ℕ → Config → ℕ → (List Slice → Type 0) → B → B → X → X → Option (List ℕ)
-      → Option (List ℕ) → Ended → Type 0
+  abbrev pub EndsOver : Option ℕ → Config → ℕ → (List Slice → Type 0) → B → B → X → X
+      → Option (List ℕ) → Option (List ℕ) → Ended → Type 0
   EndsOver oldest config turns Went old new first last before after (how.Told served why) =
       Ran b x oldest config turns Went old new first last served why
       × Appends before after (whole_text served)
@@ -51,23 +76,27 @@ module _ {B X : Type 0} (b : book.Ghosts B) (x : exchange.Ghosts X) where
   EndsOver oldest config turns Went old new first last before after how.NotBegun =
       (new ≡ old) × IsUnasked first last
 
-  -- A server ended this way over an exchange that had made no turn and no fault. Before it began,
-  -- the book was only read, for the file of balances. How the rounds went is not stated, because
-  -- they poll a file that no contract can name.
-  pub record EndsAfresh (oldest : Option ℕ) (config : Config) (turns : ℕ) (old new : B) (last : X)
-      (before after : Option (List ℕ)) (ended : Ended) : Type 0 where
+  -- A server ended this way over an exchange that was bound so, and had made no turn and no fault.
+  -- Before it began, the book was only read, for the file of balances. Its rounds polled a text
+  -- that had shown this: each configuration is the first one, or was taken from a poll.
+  pub record EndsAfresh (IsBound : X → Type 0) (seen : Option (List Sight)) (oldest : Option ℕ)
+      (config : Config) (turns : ℕ) (old new : B) (last : X) (before after : Option (List ℕ))
+      (ended : Ended) : Type 0 where
     pub begun : B
     pub looked : OnlyLooks b old begun
     pub first : X
+    pub bound : IsBound first
     pub fresh : x.turn_count first ≡ 0
     pub faultless : x.failure_count first ≡ 0
-    pub ends : Ends b x oldest config turns (λ _. ⊤) begun new first last before after ended
+    pub polled : Option (List Sight)
+    pub ends : EndsOver oldest config turns (λ slices. PollsAfter seen slices polled) begun new
+        first last before after ended
 
   -- The command. The sockets could not be bound, and nothing was done. Or a server ended this way
-  -- over an exchange that had made no turn and no fault.
-  abbrev pub RunsServer : Option ℕ → Config → ℕ → Option (List ℕ) → Option (List ℕ) → Result Status Fault → B
-      → B → Type 0
-  RunsServer oldest config turns before after result old new =
+  -- over an exchange that was bound so, and had made no turn and no fault.
+  abbrev pub RunsServer : (X → Type 0) → Option (List Sight) → Option ℕ → Config → ℕ
+      → Option (List ℕ) → Option (List ℕ) → Result Status Fault → B → B → Type 0
+  RunsServer IsBound seen oldest config turns before after result old new =
       ((told : Fault) × (result ≡ Err told) × IsUnbound told × (new ≡ old) × (after ≡ before))
       ⊎ ((ended : Ended) × (result ≡ ended_of ended) × ((last : X)
-      × EndsAfresh oldest config turns old new last before after ended))
+      × EndsAfresh IsBound seen oldest config turns old new last before after ended))

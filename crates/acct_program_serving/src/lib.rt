@@ -1,12 +1,17 @@
 //! `serve`: access servers and callers of the desk, answered over a book.
 //!
 //! 1. `Watcher::serve` runs once the sockets are bound, over any exchange, book and rounds. What
-//!    the exchange records of its calls is what was answered.
+//!    the exchange records of its calls is what was answered, and what was printed is counted of it.
 //! 2. `run_serve` binds the sockets, and then runs that.
 #![tactic(auto)]
 
+mod counts;
+mod ended;
+mod printing;
 mod sockets_server;
 mod watcher;
 
+pub use counts::{Counts, Drops};
+pub use ended::Ended;
 pub use sockets_server::{Errors, Surroundings, run_serve};
-pub use watcher::Watcher;
+pub use watcher::{Watcher, serve_exchange};

@@ -1,9 +1,13 @@
 //! A server over sockets: binds them, and then runs a watched server over them.
-ghost use Rattle.std.specs.Prelude.{◌≡◌, ◌≤◌, ◌<◌, ◌^◌, IfOk, IfErr, IfSome, OnErr};
+ghost use Rattle.std.specs.Prelude.{◌≡◌, ◌≤◌, ◌<◌, ◌^◌, IfOk, IfErr, IfSome};
+ghost use Rattle.std.specs.List.{AllZip};
+ghost use Rattle.std.specs.Net.Grammar.{IsDotted};
 ghost use Rattle.acct_book.specs.Step.{OnlyLooks};
 ghost use Rattle.acct_program_args.specs.Orders.{seconds_of};
-ghost use Rattle.acct_program_serving.specs.Serving.{EndsAfresh, RunsServer, IsUnbound, ended_of};
+ghost use Rattle.acct_program_serving.specs.Serving.{IsBoundTo, RunsServer, IsUnbound};
+ghost use Rattle.acct_program_serving.specs.Serving.{ended_of};
 
+use crate::ended::Ended;
 use crate::watcher::Watcher;
 use acct_book::Book;
 use acct_model::{Text, address_of};
@@ -15,7 +19,6 @@ use acct_program_commands::{
     StoreFault, Watch,
 };
 use acct_service::{Exchange, Until, moment_of};
-use acct_service_run::Ended;
 use acct_site::Config;
 use std::alloc::{AllocError, Global};
 use std::cell::RefCell;
@@ -81,16 +84,47 @@ pub fn run_serve<
     requires days { IfSome serving.now.oldest_report (λ days. days ≤ 36500) }
     ensures done { IfOk result (λ status. status ≡ Status.Done) }
     ensures serves { RunsServer B.Book ⟦<Sockets<'r, R> as Exchange>⟧
-        (seconds_of serving.now.oldest_report) config.now serving.now.turns
-        (W.contents output.old) (W.contents output.new) result book.old book.new }
+        (λ s. IsBoundTo serving.now.listening s.event_loop.datagrams.sockets.items
+        s.event_loop.desk.door.address s.event_loop.desk.door.port)
+        (S.sights around.source) (seconds_of serving.now.oldest_report) config.now
+        serving.now.turns (W.contents output.old) (W.contents output.new) result book.old
+        book.new }
 {
-    let served = serve_sockets(
-        runtime, alloc, config, around, database, book, serving, output,
+    let Surroundings {
+        source,
+        errors: Errors { drops, notices, .. },
+    } = around;
+    let notices = RefCell::new(notices);
+    let (gauges, telling) = (Gauges::new(), &serving.telling);
+    let noted = Shared::new(&notices);
+    let files = files_to_write(runtime, alloc, telling, &gauges, database, noted)?;
+    let WrittenFiles {
+        mut balances,
+        counts,
+    } = files;
+    let sockets = bound(runtime, alloc, &serving.listening)?;
+    let mut noted = Shared::new(&notices);
+    write_first(
+        runtime,
+        alloc,
+        &mut balances,
+        config,
+        book,
+        &gauges,
+        &mut noted,
     );
-    match served {
-        Ok((_sockets, ended)) => status_of(ended),
-        Err(fault) => Err(fault),
-    }
+    let mut rounds = FileRounds::new(runtime, source, balances, &gauges, noted);
+    let watcher = Watcher {
+        clock: runtime,
+        drops: watch_on(drops),
+        counts,
+    };
+    let (turns, oldest) = (serving.turns, seconds_in(serving.oldest_report));
+    let rounds = &mut rounds;
+    let (_sockets, ended) = watcher.serve(
+        alloc, config, oldest, book, sockets, rounds, turns, output,
+    );
+    status_of(ended)
 }
 
 // The exit status of `serve`, or its fault.
@@ -104,76 +138,6 @@ fn status_of(ended: Ended) -> Result<Status, Fault>
             { Err(Fault::Store(StoreFault::Unavailable)) }
         Ended::Untold(_, Until::AllMade) | Ended::NotBegun => Err(Fault::CannotWrite),
     }
-}
-
-// Binds all sockets, and runs `Watcher::serve` over them. Returns them as the last turn left them.
-fn serve_sockets<
-    'r,
-    R: Net + Clock + Files,
-    S: SiteSource + Drop,
-    B: Book,
-    W: Write,
-    E: Write + Drop,
->(
-    runtime: &'r R,
-    alloc: Global,
-    config: &Config,
-    around: Surroundings<S, E>,
-    database: &Text,
-    book: &mut B,
-    serving: &Serving,
-    output: &mut W,
-) -> Result<(Sockets<'r, R>, Ended), Fault>
-    requires turns { serving.now.turns < 2 ^ 63 }
-    requires days { IfSome serving.now.oldest_report (λ days. days ≤ 36500) }
-    ensures serves { IfOk result (λ done. EndsAfresh B.Book ⟦<Sockets<'r, R> as Exchange>⟧
-        (seconds_of serving.now.oldest_report) config.now serving.now.turns book.old book.new done.0 (W.contents output.old)
-        (W.contents output.new) done.1) }
-    ensures unbound { OnErr result ((book.new ≡ book.old) × (output.new ≡ output.old)) }
-    ensures why { IfErr result IsUnbound }
-{
-    let Surroundings {
-        source,
-        errors: Errors { drops, notices, .. },
-    } = around;
-    let notices = RefCell::new(notices);
-    let gauges = Gauges::new();
-    let telling = &serving.telling;
-    let errors = Shared::new(&notices);
-    let files = files_to_write(runtime, alloc, telling, &gauges, database, errors)?;
-    let WrittenFiles {
-        mut balances,
-        counts,
-    } = files;
-    let sockets = bound(runtime, alloc, &serving.listening)?;
-    let mut errors = Shared::new(&notices);
-    write_first(
-        runtime,
-        alloc,
-        &mut balances,
-        config,
-        book,
-        &gauges,
-        &mut errors,
-    );
-    let mut rounds = FileRounds::new(runtime, source, balances, &gauges, errors);
-    let watcher = Watcher {
-        clock: runtime,
-        drops: watch_on(drops),
-        counts,
-    };
-    let (turns, oldest) = (serving.turns, seconds_in(serving.oldest_report));
-    let served = watcher.serve(
-        alloc,
-        config,
-        oldest,
-        book,
-        sockets,
-        &mut rounds,
-        turns,
-        output,
-    );
-    Ok(served)
 }
 
 // The files that a server writes, if they are named.
@@ -263,6 +227,9 @@ fn bound<'r, R: Net + Clock>(
     listening: &Listening,
 ) -> Result<Sockets<'r, R>, Fault>
     ensures fresh { IfOk result (λ s. (s.turns ≡ 0) × (s.failures ≡ 0)) }
+    ensures bound { IfOk result (λ s. IsBoundTo listening.now
+        s.event_loop.datagrams.sockets.items s.event_loop.desk.door.address
+        s.event_loop.desk.door.port) }
     ensures why { IfErr result IsUnbound }
 {
     let addresses = addresses_of(alloc, &listening.addresses)?;
@@ -279,6 +246,7 @@ fn bound<'r, R: Net + Clock>(
 
 // The addresses that these texts spell.
 fn addresses_of(alloc: Global, texts: &[Text]) -> Result<Vec<[u8; 4]>, Fault>
+    ensures spelt { IfOk result (λ addresses. AllZip IsDotted texts.now addresses.items) }
     ensures why { IfErr result IsUnbound }
 {
     let mut addresses = Vec::new(alloc);
@@ -286,9 +254,9 @@ fn addresses_of(alloc: Global, texts: &[Text]) -> Result<Vec<[u8; 4]>, Fault>
         let Some(address) = address_of(text.as_str()) else {
             return Err(Fault::CannotBind);
         };
-        if addresses.push(address).is_err() {
+        let Ok(()) = addresses.push(address) else {
             return Err(Fault::NoMemory);
-        }
+        };
     }
     Ok(addresses)
 }

@@ -3,10 +3,11 @@ ghost use Rattle.std.specs.Prelude.{◌+◌, ◌-◌, ◌≤◌, ◌^◌};
 ghost use Rattle.acct_service.specs.Slices.{GoRounds};
 ghost use Rattle.acct_program_serving.specs.Serving.{EndsOver};
 
+use crate::ended::Ended;
+use crate::printing::{write_counts, write_serving};
 use acct_book::Book;
 use acct_program_commands::{StatusFile, Watch, Watched};
-use acct_service::{Exchange, Rounds};
-use acct_service_run::{Ended, serve_exchange};
+use acct_service::{Exchange, Rounds, serve_in_slices};
 use acct_site::Config;
 use std::alloc::Global;
 use std::fs::Files;
@@ -66,5 +67,38 @@ impl<'r, R: Clock + Files, D: Write + Drop, E: Write + Drop> Watcher<'r, R, D, E
         );
         let (exchange, _drops) = watched.finish();
         (exchange, ended)
+    }
+}
+
+/// Makes this many turns of an exchange over a book, in slices, and calls `rounds` after each
+/// slice. Makes fewer only if the book is found shut or stuck. A report may be at most `oldest`
+/// seconds old when it is received, if that is limited. Returns how the run ended. Prints and
+/// flushes `serving` before the first turn, and the counts after the last one.
+///
+/// The turns answer what they receive, whatever the output does then: they are a run of
+/// `serve_in_slices`.
+pub fn serve_exchange<B: Book, X: Exchange, G: Rounds, W: Write>(
+    alloc: Global,
+    config: &Config,
+    oldest: Option<u64>,
+    book: &mut B,
+    exchange: &mut X,
+    rounds: &mut G,
+    turns: u64,
+    output: &mut W,
+) -> Ended
+    requires turns { X.turn_count exchange.old + turns ≤ 2 ^ 64 - 1 }
+    requires failures { X.failure_count exchange.old + turns ≤ 2 ^ 64 - 1 }
+    ensures { EndsOver B.Book X.Exchange oldest config.now turns
+        (λ slices. GoRounds G.Rounds rounds.old slices rounds.new) book.old book.new exchange.old
+        exchange.new (W.contents output.old) (W.contents output.new) result }
+{
+    let Ok(()) = write_serving(output) else {
+        return Ended::NotBegun;
+    };
+    let (served, until) = serve_in_slices(alloc, config, oldest, book, exchange, rounds, turns);
+    match write_counts(output, &served) {
+        Ok(()) => Ended::Told(served, until),
+        Err(_) => Ended::Untold(served, until),
     }
 }

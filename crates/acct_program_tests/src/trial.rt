@@ -1,8 +1,7 @@
 //! A command line, and its result.
 use acct_program::Status;
 use acct_program_args::job_of;
-use acct_program_commands::end;
-use acct_program_jobs::{Outcome, run};
+use acct_program_jobs::{Outcome, carry_out};
 use acct_program_serving::Errors;
 use sqlite::Wary;
 use std::alloc::Global;
@@ -57,21 +56,14 @@ pub fn came(rt: &HostRuntime, (line, input): Command<'_>) -> Result<Printed, Fai
         explains: order.explains,
     };
     let output = Vec::new(rt.alloc());
-    let Outcome {
-        ended,
-        output,
-        left: _left,
-    } = run(
-        rt,
-        &order.job,
-        order.loses_commits,
-        input.as_bytes(),
-        output,
-        errors,
-        Wary,
-    );
     let mut faults = Vec::new(rt.alloc());
-    let status = end(&mut faults, ended);
+    let input = input.as_bytes();
+    let (status, outcome) = carry_out(rt, &order, input, output, errors, &mut faults, Wary);
+    let Outcome {
+        output,
+        ended: _ended,
+        left: _left,
+    } = outcome;
     Ok(Printed {
         status,
         output: output.unwrap_or(Vec::new(rt.alloc())),

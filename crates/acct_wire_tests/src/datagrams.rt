@@ -188,6 +188,29 @@ fn totals_are_limited(rt: HostRuntime) -> Result<(), Fail> {
     Ok(())
 }
 
+// Reports of each size, from one octet up to 2^62.
+#[test]
+fn totals_of_any_size_are_charged(rt: HostRuntime) -> Result<(), Fail> {
+    let mut input: u64 = 1;
+    for bits in 1..63_u8 {
+        assert!(rt; is_charged(rt.alloc(), input)?, "{bits}");
+        input = input.saturating_mul(2).saturating_add(1);
+    }
+    Ok(())
+}
+
+// Whether a report of so many input octets, and some output octets, costs 10 for each started block
+// of 1,048,576.
+fn is_charged(alloc: Global, input: u64) -> Result<bool, Fail> {
+    let output = (input / 5).saturating_add(3);
+    let blocks = input.saturating_add(output).div_ceil(1_048_576);
+    let (inputs, outputs) = (input.to_be_bytes(), output.to_be_bytes());
+    let totals = [&inputs[4..], &inputs[..4], &outputs[4..], &outputs[..4]];
+    let (outcome, balance) = totalled(alloc, totals)?;
+    let charged = 0_i64.checked_sub_unsigned(blocks.saturating_mul(10));
+    Ok(outcome == SHORT_REPLY && Some(balance) == charged)
+}
+
 // The outcome and the balance of `al` after one report of these totals.
 fn totalled(alloc: Global, totals: [&[u8]; 4]) -> Result<(Outcome, i64), Fail> {
     let attributes = [

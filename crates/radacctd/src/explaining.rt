@@ -6,7 +6,6 @@ use acct_program_explain::{
     Explained, Wanted, explain, explain_plans, explain_sockets, explain_tables, warn_of_sample,
 };
 use acct_program_jobs::{Left, Outcome};
-use acct_program_orders::{BySyncs, Ran, ended_of};
 use sqlite_disk::Disk;
 use std::io::Write;
 
@@ -32,18 +31,19 @@ pub(crate) fn warn_first(runtime: &HostRuntime, order: &Order) {
 /// values of its configuration that are the sample's. It closes the
 /// files of the book before it explains why they cannot be opened. Else it would find the program's
 /// own lock.
-pub(crate) fn explain_run<W: Write + Drop>(runtime: &HostRuntime, order: &Order, ran: Ran<W>) {
+pub(crate) fn explain_run<W: Write + Drop, D: Disk + Drop>(
+    runtime: &HostRuntime,
+    order: &Order,
+    outcome: Outcome<W, D>,
+) {
     if !order.explains {
         return;
     }
-    let ended = ended_of(&ran);
+    let ended = outcome.ended;
     if let Err(fault) = ended {
         explain_fault(runtime, &order.job, fault, &mut runtime.stderr());
     }
-    match ran {
-        BySyncs::Once(outcome) => explain_outcome(runtime, &order.job, outcome),
-        BySyncs::Twice(outcome) => explain_outcome(runtime, &order.job, outcome),
-    }
+    explain_outcome(runtime, &order.job, outcome);
     if let (Ok(_), Job::Check { config, .. }) = (ended, &order.job) {
         warn_of_sample(runtime, runtime.alloc(), config, &mut runtime.stderr());
     }

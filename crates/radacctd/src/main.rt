@@ -2,18 +2,19 @@
 //!
 //! `radacctd serve` answers access servers and callers of the desk over a book in a file. `init`
 //! makes the book, `migrate` makes it from an older one, and `plans` adds plans to it. `import`
-//! credits vouchers, and `export` writes the book as CSV. `check` reads a configuration. `feed`
-//! answers a script.
+//! credits vouchers, `export` writes the book as CSV, and `forward` carries old sessions forward.
+//! `check` reads a configuration. `feed` answers a script.
 #![tactic(auto)]
 
 mod explaining;
 
 use crate::explaining::{explain_run, warn_first};
 use acct_program::Status;
-use acct_program_args::{job_of, tell};
+use acct_program_args::{Job, Syncs, job_of, tell};
 use acct_program_explain::explain_words;
-use acct_program_orders::carry_out;
+use acct_program_jobs::{BookFile, carry_out, serve_files};
 use acct_program_serving::Errors;
+use sqlite::{Unknown, Wary};
 use std::io::BufWriter;
 use std::process::ExitCode;
 use std::{env, io};
@@ -50,8 +51,26 @@ fn main(rt: HostRuntime) -> ExitCode {
         explains: order.explains,
     };
     warn_first(&rt, &order);
-    let (status, ran) = carry_out(&rt, &order, rt.stdin(), output, errors, &mut rt.stderr());
-    explain_run(&rt, &order, ran);
+    let faults = &mut rt.stderr();
+    // What is assumed of the files as the program begins, in one value that an open uses up: so
+    // none is opened twice. A server that syncs once assumes that each octet of a write that was
+    // cut short is the old one or the new one. All other jobs assume nothing of it.
+    let status = match &order.job {
+        Job::Serve { paths, serving } if serving.syncs == Syncs::Once => {
+            let files = BookFile::of(paths, order.loses_commits);
+            let (status, outcome) = serve_files(
+                &rt, files, serving, output, errors, faults, Unknown,
+            );
+            explain_run(&rt, &order, outcome);
+            status
+        }
+        _ => {
+            let input = rt.stdin();
+            let (status, outcome) = carry_out(&rt, &order, input, output, errors, faults, Wary);
+            explain_run(&rt, &order, outcome);
+            status
+        }
+    };
     ExitCode::from(status)
 }
 

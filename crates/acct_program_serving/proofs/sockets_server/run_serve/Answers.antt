@@ -1,16 +1,19 @@
-use Rattle.std.proofs.Common.{inl, inr, ap, refl}
+use Rattle.std.proofs.Common.{inr}
+use Rattle.acct_program_serving.proofs.HandedOn.{ends_afresh, polls}
 use Rattle.acct_program_serving.proofs.sockets_server.run_serve.Goals as goal
 
-pub returns-in-Ok-clause-serves : goal.returns-in-Ok-clause-serves
-returns-in-Ok-clause-serves g c =
-    inr (c.in-Ok.ended, c.status_of.ensures.status, (_, c.in-Ok.ensures.serves))
-
-pub returns-in-Err-clause-serves : goal.returns-in-Err-clause-serves
-returns-in-Err-clause-serves g c =
-    inl (
-      c.in-Err.fault,
-      refl,
-      c.in-Err.ensures.why,
-      c.in-Err.ensures.unbound.0,
-      ap g.W.Write.contents c.in-Err.ensures.unbound.1,
+pub returns-clause-serves : goal.returns-clause-serves
+returns-clause-serves g c =
+    let bound = c.in_ok-sockets.ensures in
+    let served = rw c.seconds_in-oldest.ensures at c.serve-sockets.ensures in
+    inr (
+      c.serve-sockets.result.1,
+      c.status_of.ensures.status,
+      (
+        c.serve-sockets.result.0,
+        ends_afresh _ _ _ _ (g.S.SiteSource.sights c.serve-sockets.new.rounds.source) _ _ _ _
+            (λ slices went. rw c.new-rounds.ensures at (polls _ (λ r. g.S.SiteSource.sights r.source)
+            (λ _ _ _ _ goes. goes) c.new-rounds.result slices c.serve-sockets.new.rounds went)) _ _ _
+            c.write_first.ensures _ _ bound.bound bound.fresh.0 bound.fresh.1 _ _ _ served,
+      ),
     )

@@ -12,12 +12,13 @@ use Rattle.acct_net.proofs.desk.Desk.serve_at.Goals as goal
 waits : (old_left new_left old_held new_held : Option (List ℕ)) (before after : Stage)
     (request : List ℕ)
     → Proceeds old_left new_left old_held new_held before after (step.Received request)
-    → after ≡ stage.Waiting
+    → after ≡ stage.Waiting request
 waits old_left new_left old_held new_held (stage.Reading buffer) after request proceeds =
     proceeds.follows.0
 waits old_left new_left old_held new_held (stage.Writing left) after request proceeds =
     absurd proceeds.1
-waits old_left new_left old_held new_held stage.Waiting after request proceeds = proceeds.0
+waits old_left new_left old_held new_held (stage.Waiting asked) after request proceeds =
+    absurd proceeds.1
 waits old_left new_left old_held new_held stage.Closing after request proceeds = absurd proceeds.1
 
 -- who was put at a place is there

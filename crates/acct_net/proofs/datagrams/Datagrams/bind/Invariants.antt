@@ -1,0 +1,7 @@
+-- The sockets so far are bound at the addresses so far.
+use Rattle.std.proofs.Common.{take}
+use Rattle.acct_net.specs.Bound.{AreBoundAt}
+use Rattle.acct_net.proofs.datagrams.Datagrams.bind.Given as goal
+
+abbrev pub invariant-loop-address : goal.invariant-loop-address
+invariant-loop-address g l = AreBoundAt (take l.address-index l.addresses) l.port l.sockets.items

@@ -1,0 +1,11 @@
+-- Where the sockets of a server are bound.
+use Rattle.std.specs.Prelude.{◌≡◌, ℕ, List, map}
+use Rattle.std.specs.List.{All}
+use Rattle.acct_net.specs.declared.datagrams.RadiusSocket.{RadiusSocket}
+
+-- the sockets for datagrams are bound at these addresses, one at each, in their order, and at this
+-- port
+abbrev pub AreBoundAt : List (List ℕ) → ℕ → List RadiusSocket → Type 0
+AreBoundAt addresses port sockets =
+    (map (λ (socket : RadiusSocket). socket.address) sockets ≡ addresses)
+    × All (λ (socket : RadiusSocket). socket.port ≡ port) sockets
