@@ -15,7 +15,7 @@ import tempfile
 import time
 
 import books
-from served import ROOT, check, free_port
+from served import PLANS, ROOT, check, free_port
 
 USER = "radacctd"
 INSIDE = "RADACCTD_TOOLS_TEST"
@@ -39,17 +39,7 @@ account = "al"
 [[key]]
 token = "cash-key-00000001"
 cashier = true
-
-[[plan]]
-class = "gold"
-block = 1048576
-unit = 10
-
-[[plan]]
-class = "default"
-block = 1000000
-unit = 5
-"""
+""" + PLANS
 DEBIT = """
 [[plan]]
 class = "debit"
