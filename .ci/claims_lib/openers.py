@@ -1,7 +1,10 @@
-"""Which sources say what the files of a book hold as the program begins, and which open a book.
+"""Which sources say what the files of a book hold as the program begins, open a book, or call the
+system on files.
 
 What is assumed of the files is one value, which an open uses up. So if one source names it, and one
-opens a book with it, no book is opened twice. A person reads those; each stands here with its reason.
+opens a book with it, no book is opened twice. And no contract of the kit says what a call on a file
+does to it: so those that change a file stand in one source, and who only looks is given no more
+than `ReadsFiles`. A person reads these sources; each stands here with its reason.
 """
 
 import os
@@ -9,24 +12,94 @@ import re
 
 from claims_lib.tree import FOR_TESTS, ROOT, text_of, without_comments
 
+READS = "crates/acct_reads/src/lib.rt"
 JOBS = "crates/acct_program_jobs/src/"
+COMMANDS = "crates/acct_program_commands/src/"
+SERVING = "crates/acct_program_serving/src/"
+CHANGES = COMMANDS + "file_changes.rt"
+MAIN = "crates/radacctd/src/main.rt"
 
 # Each rule: what it finds, how, and the sources that may have it.
 RULES = (
     (
         "what the files of a book hold as the program begins",
         r"\bWary\b|\bsqlite::(?:\w+::|\{[^;]*)?(?:Unknown\b|\*)|\buse sqlite as\b",
-        {"crates/radacctd/src/main.rt": "it says so once, and hands it down"},
+        {MAIN: "it says so once, and hands it down"},
     ),
     (
         "an open of a book",
-        r"\bConnection(?:::<[^;]*>)?::open\w*|\bopen_(?:from|in_memory)\b",
+        r"\b\w*Connection(?:::<[^;]*>)?::open\w*|\bopen_(?:from|in_memory)\b",
         {
             JOBS + "database.rt": "it opens the book in a file",
             JOBS + "feed_job.rt": "it opens an empty one in memory",
         },
     ),
+    (
+        "a call that changes a name, a length or a mode",
+        r"\b(?:remove_file|remove_dir\w*|rename|set_len|set_permissions|set_times|create_new"
+        r"|create_dir\w*|hard_link|symlink|l?chown|OpenOptions|open_file|bind_unix|libc)\b"
+        r"|\btruncate\((?:true|false)\)|\bFile::create\b|\bfs::(?:write|copy|create)\b"
+        r"|\bruntime\.copy\b|\bFiles::",
+        {
+            CHANGES: "all are here",
+            READS: "it opens for reading and writing, and lets nobody write",
+        },
+    ),
+    (
+        "a file that is made or replaced",
+        r"\b(?:open_empty|put_in_place|make_private)\b",
+        {
+            CHANGES: "it says what each call does",
+            COMMANDS + "fresh_file.rt": "it writes the files of counts and of balances",
+            JOBS + "database.rt": "it makes the two files of a new book",
+        },
+    ),
 )
+
+# What a source may name of std where files and processes are. Else all of it is only for the two.
+SYSTEM = re.compile(r"std(?:$| |::\*|::(?:fs|rt|process|os)\b)")
+NAMED = {
+    "std::fs::Metadata",
+    "std::os::fd::AsRawFd",
+    "std::os::unix::fs::MetadataExt",
+    "std::process::ExitCode",
+}
+CALLERS = {
+    READS: "it looks, for all others",
+    CHANGES: "it changes, for all others",
+}
+# Sources of which a bound names more of the system than they need, and what.
+BOUNDS = {
+    SERVING + "sockets_server.rt": {"std::fs::Files"},
+    SERVING + "watcher.rt": {"std::fs::Files"},
+}
+
+# The functions that are given the runtime itself. They open a book, or hand the runtime to one that
+# does. All others are given the traits that they need.
+GIVEN = {
+    MAIN: "main explain_wrong_words words_of",
+    JOBS + "audit_job.rt": "audit_book audited_from",
+    JOBS + "checking.rt": "check check_or_audit check_files check_book checked_from",
+    JOBS + "command.rt": "carry_out serve_files export exported",
+    JOBS + "database.rt": "made adopted opened",
+    JOBS + "making.rt": "make made_and_closed",
+    JOBS + "work.rt": "over work_on worked",
+}
+
+# What a person reads, since no clause says it: whole sources, and functions of others.
+PAGE, TITLE = "docs/PROOFS.md", "From main to the promise"
+BY_EYE = (
+    (MAIN, "main"),
+    (READS, None),
+    (CHANGES, None),
+    (JOBS + "database.rt", "opened"),
+    ("crates/acct_net/src/datagrams.rt", "RadiusSocket::bind"),
+    ("crates/acct_net/src/desk.rt", "opened"),
+)
+MOST_BY_EYE = 200
+MOST_OF_CHANGES = 120
+
+USE = re.compile(r"^\s*(?:pub(?:\([^)]*\))? )?use ([^;]+);", re.M)
 
 
 def is_of_program(path):
@@ -35,16 +108,114 @@ def is_of_program(path):
     )
 
 
+def expanded(tree):
+    """The paths of a `use`: `a::{b, c::d}` is `a::b` and `a::c::d`."""
+    before, brace, rest = " ".join(tree.split()).partition("{")
+    if not brace:
+        return [before.strip()]
+    parts, depth, begun = [], 0, 0
+    inner = rest[: rest.rindex("}")]
+    for at, letter in enumerate(inner + ","):
+        depth += {"{": 1, "}": -1}.get(letter, 0)
+        if letter == "," and not depth:
+            parts.append(inner[begun:at].strip())
+            begun = at + 1
+    paths = [it for part in parts if part for it in expanded(part)]
+    return [before if it == "self" else before + it for it in paths]
+
+
+def named_in(text):
+    """What a source names of std: each path, and where it stands."""
+    for found in USE.finditer(text):
+        for path in expanded(found[1]):
+            yield path.removesuffix("::"), found.start(1)
+    for found in re.finditer(r"\bstd(?:::\w+)+", USE.sub(lambda it: " " * len(it[0]), text)):
+        yield found[0], found.start()
+
+
+def given_in(text):
+    """Each function of a source that names the runtime itself, but in a type of its contract."""
+    for found in re.finditer(r"\bHostRuntime\b(?![^⟦⟧]*⟧)", text):
+        names = re.findall(r"\bfn (\w+)", text[: found.start()])
+        yield names[-1] if names else "", found.start()
+
+
+def found_in(path, text):
+    """What a source has that is not for it: each with its place."""
+    for what, pattern, allowed in RULES:
+        for found in re.finditer(pattern, text) if path not in allowed else ():
+            yield found.start(), " ".join(found[0].split()), what
+    for name, at in named_in(text) if path not in CALLERS else ():
+        if SYSTEM.match(name) and name not in NAMED | BOUNDS.get(path, set()):
+            yield at, name, "the system's files"
+    for name, at in given_in(text):
+        if name not in GIVEN.get(path, "").split():
+            yield at, f"{name}(.. HostRuntime ..)", "the runtime itself"
+
+
+def function_in(text, name):
+    """A function of a source, or the method of a type, up to the brace that closes it."""
+    owner, _, last = name.rpartition("::")
+    block = re.search(rf"^impl\b[^{{]*\b{owner}\b[^{{]*\{{", text, re.M) if owner else None
+    head = re.compile(rf"^( *)(?:pub(?:\(crate\))? )?fn {last}\b", re.M)
+    found = head.search(text, block.end() if block else 0)
+    return text[found.start() : text.index(f"\n{found[1]}}}", found.end()) + 2] if found else ""
+
+
+def by_eye():
+    """What a person reads: how a page names it, and its lines without comments."""
+    for path, name in BY_EYE:
+        text = without_comments(text_of(path))
+        text = function_in(text, name) if name else text
+        file = f"`{path.removeprefix('crates/')}`"
+        cell = f"`{name}` ({file})" if name else file
+        yield cell, sum(bool(it.strip()) for it in text.splitlines())
+
+
+def shown():
+    """The rows and the sentence that the page is to have."""
+    yield from (f"| {cell} | {count} | |" for cell, count in by_eye())
+    yield f"They have {sum(count for _, count in by_eye())} lines"
+
+
+def check_by_eye(checker):
+    """The page lists what a person reads, with its lines, which are not too many."""
+    checker.page, computed, line, listed = PAGE, dict(by_eye()), 1, {}
+    for block in checker.pages[PAGE]:
+        cells = block.cells() if block.kind == "row" else []
+        if block.section.title == TITLE and len(cells) == 3 and cells[1].isdigit():
+            line, listed[cells[0]] = block.line, int(cells[1])
+            if computed.get(cells[0]) != listed[cells[0]]:
+                checker.find(line, f"{cells[0]}: {computed.get(cells[0], 'not one of them')}")
+    for cell in computed.keys() - listed.keys():
+        checker.find(line, f"no row for {cell}")
+    if len(text_of(CHANGES).splitlines()) > MOST_OF_CHANGES:
+        checker.find(line, f"{CHANGES} has more than {MOST_OF_CHANGES} lines")
+    total = sum(computed.values())
+    if f"They have {total} lines" not in text_of(PAGE) or total > MOST_BY_EYE:
+        checker.find(line, f"say: They have {total} lines; at most {MOST_BY_EYE} are right")
+
+
 def check(checker):
     """No other source has what a rule finds, and each that may have it is there."""
     for path in filter(is_of_program, checker.tree.files):
         checker.page, text = path, without_comments(text_of(path))
-        for what, pattern, allowed in RULES:
-            for found in re.finditer(pattern, text) if path not in allowed else ():
-                line = text.count("\n", 0, found.start()) + 1
-                checker.find(line, f"`{' '.join(found[0].split())}`: {what} is not for this file")
+        for at, found, what in found_in(path, text):
+            line = text.count("\n", 0, at) + 1
+            checker.find(line, f"`{found}`: {what} is not for this file")
+    check_by_eye(checker)
     checker.page = ".ci/claims_lib/openers.py"
-    for what, _, allowed in RULES:
-        for path in allowed:
-            if not os.path.exists(os.path.join(ROOT, path)):
-                checker.find(1, f"{path} does not exist: take it out of the rule on {what}")
+    for path, why in allowed():
+        if not os.path.exists(os.path.join(ROOT, path)):
+            checker.find(1, f"{path} does not exist: take it out of the rule on {why}")
+    for path, names in GIVEN.items():
+        given = {name for name, _ in given_in(without_comments(text_of(path)))}
+        for name in sorted(set(names.split()) - given):
+            checker.find(1, f"`{name}` of {path} is not given the runtime: take it out")
+
+
+def allowed():
+    """Each source that a rule allows, with the rule."""
+    for what, _, sources in RULES:
+        yield from ((path, what) for path in sources)
+    yield from ((path, "the system's files") for path in (*CALLERS, *BOUNDS))

@@ -32,6 +32,15 @@ IsTaken plans reading (Some site) is_current = IsMadeOf plans reading site is_cu
 IsTaken plans reading None is_current =
     (why : Fault) × IsRead reading (Err why) × (is_current ≡ false)
 
+-- Either a configuration with these plans is made of a reading, and the reading is not refused. Or
+-- none is, the one in force is not current, and the reading is refused for what is wrong with it.
+abbrev pub TakesOrRefuses : List Plan → Reading → Option Config → Bool → Option Fault → Type 0
+TakesOrRefuses plans reading (Some site) is_current None = IsMadeOf plans reading site is_current
+TakesOrRefuses plans reading (Some site) is_current (Some why) = ⊥
+TakesOrRefuses plans reading None is_current (Some why) =
+    IsRead reading (Err why) × (is_current ≡ false)
+TakesOrRefuses plans reading None is_current None = ⊥
+
 -- What a configuration with these plans takes from a poll. It takes nothing if the text did not
 -- change, or is no configuration. Else it takes its clients and keys, and keeps these plans.
 abbrev pub Takes : List Plan → Sight → Option Config → Type 0

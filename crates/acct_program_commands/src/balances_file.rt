@@ -8,13 +8,13 @@ ghost use Rattle.acct_book.specs.Step.{OnlyLooks};
 use crate::counted_lines::CountedLines;
 use crate::exporting::run_export;
 use crate::fault::Fault;
+use crate::file_changes::ReplacesFiles;
 use crate::fresh_file::FreshFile;
 use crate::gauges::{BalancesWritten, Gauges};
 use acct_book::Book;
 use acct_model::Plans;
 use acct_program_args::{BalancesFile, Export};
 use std::alloc::{AllocError, Global};
-use std::fs::Files;
 use std::io::Write;
 
 /// The file shows who owes what: its owner may write it, its group may read it, nobody else may.
@@ -27,7 +27,7 @@ pub struct KeptBalances<'r, R> {
     file: FreshFile,
 }
 
-impl<'r, R: Files> KeptBalances<'r, R> {
+impl<'r, R: ReplacesFiles> KeptBalances<'r, R> {
     /// A file that was not written yet.
     pub fn new(
         runtime: &'r R,
@@ -72,7 +72,7 @@ impl<'r, R: Files> KeptBalances<'r, R> {
 
 // Writes all balances into a file, as `export balances` does. Returns the number of accounts and of
 // overdrawn ones.
-fn write_file<R: Files, B: Book>(
+fn write_file<R: ReplacesFiles, B: Book>(
     runtime: &R,
     alloc: Global,
     file: &FreshFile,

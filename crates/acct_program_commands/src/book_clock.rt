@@ -4,12 +4,12 @@ ghost use Rattle.std.specs.Io.KnownBytes.{Appends};
 ghost use Rattle.acct_program_commands.specs.BookClock.{late_text, late_line};
 
 use acct_model::Text;
+use acct_reads::ReadsFiles;
 use acct_service::moment_of;
 use std::alloc::AllocError;
-use std::fs::Files;
 use std::io::Write;
 use std::time::{Clock, UNIX_EPOCH};
-use std::{fmt, fs, io};
+use std::{fmt, io};
 
 // A clock that is before the last change of a book.
 #[derive(Clone, Copy)]
@@ -34,7 +34,7 @@ impl fmt::Display for LateClock {
 
 /// Prints a line on `errors` if the clock is before the last write of a book's file or of its log,
 /// `FILE-wal`. Prints nothing if these moments are not known.
-pub fn note_clock<R: Files + Clock + AllocGlobal, E: Write>(
+pub fn note_clock<R: ReadsFiles + Clock + AllocGlobal, E: Write>(
     runtime: &R,
     file: &Text,
     errors: &mut E,
@@ -59,7 +59,7 @@ fn write_late<E: Write>(errors: &mut E, moment: u64, written_at: u64) -> io::Res
 
 // When the file of a book or its log was last written, in seconds since 1970: 0 if that is not
 // known.
-fn written_at<R: Files + AllocGlobal>(runtime: &R, file: &Text) -> u64 {
+fn written_at<R: ReadsFiles + AllocGlobal>(runtime: &R, file: &Text) -> u64 {
     let written = changed_at(runtime, file);
     match log_of(runtime, file) {
         Ok(log) => written.max(changed_at(runtime, &log)),
@@ -75,8 +75,8 @@ fn log_of<R: AllocGlobal>(runtime: &R, file: &Text) -> Result<Text, AllocError> 
 }
 
 // When a file was last written, in seconds since 1970: 0 if that is not known.
-fn changed_at<R: Files>(runtime: &R, file: &Text) -> u64 {
-    let Ok(metadata) = fs::metadata(runtime, file.as_str()) else {
+fn changed_at<R: ReadsFiles>(runtime: &R, file: &Text) -> u64 {
+    let Ok(metadata) = runtime.metadata(file.as_str()) else {
         return 0;
     };
     let Ok(changed) = metadata.modified() else {

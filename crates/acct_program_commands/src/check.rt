@@ -7,9 +7,9 @@ use crate::config_file::{config_from, is_waited_for};
 use crate::fault::Fault;
 use acct_model::Text;
 use acct_program::Status;
+use acct_reads::ReadsFiles;
 use acct_site::Config;
 use std::alloc::Global;
-use std::fs::{File, Files};
 use std::io;
 use std::io::{Read, Write};
 
@@ -19,7 +19,7 @@ use std::io::{Read, Write};
 ///
 /// `CannotRead` if the file cannot be opened, or if opening it could block; and those of
 /// `check_from`.
-pub fn run_check<R: Files, W: Write>(
+pub fn run_check<R: ReadsFiles, W: Write>(
     runtime: &R,
     alloc: Global,
     file: &Text,
@@ -32,7 +32,7 @@ pub fn run_check<R: Files, W: Write>(
     if is_waited_for(runtime, file.as_str()) {
         return Err(Fault::CannotRead);
     }
-    match File::open(runtime, file.as_str()) {
+    match runtime.open(file.as_str()) {
         Ok(mut reader) => check_from(alloc, &mut reader, output),
         Err(_) => Err(Fault::CannotRead),
     }

@@ -7,12 +7,12 @@ ghost use Rattle.acct_program_commands.specs.Checks.{IsNoConfig, IsRead};
 use crate::fault::Fault;
 use acct_model::{Octets, Text};
 use acct_program::{InputFault, read_input};
+use acct_reads::ReadsFiles;
 use acct_site::Config;
 use acct_site_config::{ConfigError, ConfigKind, ConfigTable, config_of};
 use std::alloc::Global;
-use std::fs::{File, Files};
 use std::io::Read;
-use std::{fs, str};
+use std::str;
 
 /// The configuration in a file.
 ///
@@ -20,7 +20,7 @@ use std::{fs, str};
 ///
 /// `CannotRead` if the file cannot be opened or read, or has more than 16,777,216 octets. Else the
 /// first thing that is wrong with it.
-pub fn read_config<R: Files>(runtime: &R, alloc: Global, file: &Text) -> Result<Config, Fault>
+pub fn read_config<R: ReadsFiles>(runtime: &R, alloc: Global, file: &Text) -> Result<Config, Fault>
     ensures refused { IfErr result (IsNoConfig None) }
 {
     config_in(alloc, read_file(runtime, alloc, file))
@@ -44,7 +44,7 @@ pub fn config_from<R: Read>(alloc: Global, reader: &mut R) -> Result<Config, Fau
 /// # Errors
 ///
 /// `CannotRead` if it cannot be opened, or if opening it could block; and those of `read_input`.
-pub(crate) fn read_file<R: Files>(
+pub(crate) fn read_file<R: ReadsFiles>(
     runtime: &R,
     alloc: Global,
     file: &Text,
@@ -52,7 +52,7 @@ pub(crate) fn read_file<R: Files>(
     if is_waited_for(runtime, file.as_str()) {
         return Err(InputFault::CannotRead);
     }
-    match File::open(runtime, file.as_str()) {
+    match runtime.open(file.as_str()) {
         Ok(mut reader) => octets_of(alloc, &mut reader),
         Err(_) => Err(InputFault::CannotRead),
     }
@@ -61,8 +61,8 @@ pub(crate) fn read_file<R: Files>(
 /// Whether opening a file could block on another program without end, as with a named pipe. A file
 /// that the program was given open is read as data arrives: standard input, and a shell's
 /// `<(command)`.
-pub(crate) fn is_waited_for<R: Files>(runtime: &R, file: &str) -> bool {
-    match fs::metadata(runtime, file) {
+pub(crate) fn is_waited_for<R: ReadsFiles>(runtime: &R, file: &str) -> bool {
+    match runtime.metadata(file) {
         Ok(found) => !found.is_file() && !is_given_open(file),
         Err(_) => false,
     }

@@ -5,6 +5,7 @@ ghost use Rattle.acct_book.specs.Step.{OnlyLooks};
 ghost use Rattle.acct_program_commands.specs.NewSite.{LooksAndTakes};
 
 use crate::balances_file::KeptBalances;
+use crate::file_changes::ReplacesFiles;
 use crate::gauges::Gauges;
 use crate::new_site::take_site;
 use crate::site_source::SiteSource;
@@ -12,7 +13,6 @@ use acct_book::Book;
 use acct_service::{Rounds, moment_of};
 use acct_site::Config;
 use std::alloc::Global;
-use std::fs::Files;
 use std::io::Write;
 use std::time::Clock;
 
@@ -39,7 +39,7 @@ impl<'r, R, S: Drop, E: Drop> Drop for FileRounds<'r, R, S, E> {
     }
 }
 
-impl<'r, R: Files + Clock, S: SiteSource + Drop, E: Write + Drop> FileRounds<'r, R, S, E> {
+impl<'r, R: ReplacesFiles + Clock, S: SiteSource + Drop, E: Write + Drop> FileRounds<'r, R, S, E> {
     /// Nothing was polled yet.
     pub fn new(
         runtime: &'r R,
@@ -60,7 +60,7 @@ impl<'r, R: Files + Clock, S: SiteSource + Drop, E: Write + Drop> FileRounds<'r,
     }
 }
 
-impl<'r, R: Files + Clock, S: SiteSource + Drop, E: Write + Drop> Rounds
+impl<'r, R: ReplacesFiles + Clock, S: SiteSource + Drop, E: Write + Drop> Rounds
     for FileRounds<'r, R, S, E> {
     ghost goes = { λ old config gave new.
         LooksAndTakes config.plans (S.sights old.source) gave (S.sights new.source) };

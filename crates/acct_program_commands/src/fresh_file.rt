@@ -3,12 +3,11 @@ ghost use Rattle.std.specs.Prelude.{◌≡◌, ◌↔◌, ◌++◌, IsTrue, IfOk
 ghost use Rattle.acct_program_commands.specs.Fresh.{IsDue, TellsTrouble};
 
 use crate::fault::Fault;
+use crate::file_changes::ReplacesFiles;
 use acct_model::Text;
 use std::alloc::{AllocError, Global};
-use std::fs::{File, Files, OpenFile, Permissions};
+use std::io;
 use std::io::Write;
-use std::os::unix::fs::{OpenOptionsExt, PermissionsExt};
-use std::{fs, io};
 
 /// A file that is rewritten from time to time, each time as a whole. It is written under its name
 /// with `.new` appended, and then renamed, so that every reader finds a whole file.
@@ -81,16 +80,8 @@ impl FreshFile {
     /// # Errors
     ///
     /// Those of the system.
-    pub(crate) fn begin<R: Files>(&self, runtime: &R) -> io::Result<R::File> {
-        let mut options = File::options();
-        options
-            .write(true)
-            .create(true)
-            .truncate(true)
-            .mode(self.mode);
-        let file = options.open(runtime, self.new_name.as_str())?;
-        let _ = file.set_permissions(Permissions::from_mode(self.mode));
-        Ok(file)
+    pub(crate) fn begin<R: ReplacesFiles>(&self, runtime: &R) -> io::Result<R::Writer> {
+        runtime.open_empty(self.new_name.as_str(), self.mode)
     }
 
     /// Ends a write: renames the new file over the old one.
@@ -98,8 +89,8 @@ impl FreshFile {
     /// # Errors
     ///
     /// Those of the system.
-    pub(crate) fn finish<R: Files>(&self, runtime: &R) -> io::Result<()> {
-        fs::rename(runtime, self.new_name.as_str(), self.name.as_str())
+    pub(crate) fn finish<R: ReplacesFiles>(&self, runtime: &R) -> io::Result<()> {
+        runtime.put_in_place(self.new_name.as_str(), self.name.as_str())
     }
 
     /// Notes whether a write succeeded. The first failure is printed, and no further one until a

@@ -10,9 +10,8 @@ ghost use Rattle.acct_program_commands.specs.KeptNames.{Overwrites};
 
 use crate::fault::Fault;
 use acct_model::Text;
+use acct_reads::ReadsFiles;
 use std::alloc::AllocError;
-use std::fs;
-use std::fs::{File, Files};
 use std::io::Read;
 use std::os::unix::fs::MetadataExt;
 
@@ -88,7 +87,10 @@ struct Found {
 ///
 /// `WouldOverwrite` if one would overwrite another file; `NoMemory`. If none is named there is no
 /// error.
-pub fn keep_others<R: Files + AllocGlobal>(runtime: &R, files: ServerFiles<'_>) -> Result<(), Fault>
+pub fn keep_others<R: ReadsFiles + AllocGlobal>(
+    runtime: &R,
+    files: ServerFiles<'_>,
+) -> Result<(), Fault>
     ensures some { IfErr result (λ _. NamesSome files.entry.status files.entry.balances) }
     ensures why { IfErr result (λ told. (told ≡ Fault.WouldOverwrite) ⊎ (told ≡ Fault.NoMemory)) }
 {
@@ -103,7 +105,7 @@ pub fn keep_others<R: Files + AllocGlobal>(runtime: &R, files: ServerFiles<'_>) 
 }
 
 // What is found at the names of a server's files. No contract can express that.
-fn found_at<R: Files + AllocGlobal>(
+fn found_at<R: ReadsFiles + AllocGlobal>(
     runtime: &R,
     files: ServerFiles<'_>,
 ) -> Result<Found, AllocError> {
@@ -118,7 +120,7 @@ fn found_at<R: Files + AllocGlobal>(
 }
 
 // Where the files that must stay as they are lead: see `Found::kept`.
-fn kept_places<R: Files + AllocGlobal>(
+fn kept_places<R: ReadsFiles + AllocGlobal>(
     runtime: &R,
     files: ServerFiles<'_>,
 ) -> Result<[Place; 4], AllocError> {
@@ -148,7 +150,7 @@ fn would_overwrite(found: &Found) -> bool
 
 impl Spot {
     // What is found at the two names of a file that begins with `head`, if it is named.
-    fn of<R: Files + AllocGlobal>(
+    fn of<R: ReadsFiles + AllocGlobal>(
         runtime: &R,
         name: Option<&Text>,
         head: &[u8],
@@ -165,7 +167,7 @@ impl Spot {
 }
 
 // Where the log of a database leads, if there is one.
-fn place_of_log<R: Files + AllocGlobal>(
+fn place_of_log<R: ReadsFiles + AllocGlobal>(
     runtime: &R,
     database: Option<&Text>,
 ) -> Result<Place, AllocError> {
@@ -190,7 +192,7 @@ fn name_with<R: AllocGlobal>(
 }
 
 // The name of the file that a name leads to, if that is known: a book's log is next to it.
-fn real_name<R: Files + AllocGlobal>(
+fn real_name<R: ReadsFiles + AllocGlobal>(
     runtime: &R,
     name: Option<&Text>,
 ) -> Result<Option<Text>, AllocError> {
@@ -204,19 +206,22 @@ fn real_name<R: Files + AllocGlobal>(
 }
 
 // Where a name leads, if there is one.
-fn place_of<R: Files + AllocGlobal>(runtime: &R, name: Option<&Text>) -> Result<Place, AllocError> {
+fn place_of<R: ReadsFiles + AllocGlobal>(
+    runtime: &R,
+    name: Option<&Text>,
+) -> Result<Place, AllocError> {
     let Some(name) = name else {
         return Ok(Place::Unknown);
     };
     let name = name.as_str();
-    if let Ok(found) = fs::metadata(runtime, name) {
+    if let Ok(found) = runtime.metadata(name) {
         return Ok(Place::File {
             device: found.dev(),
             number: found.ino(),
         });
     }
     let (folder, last) = parts_of(name);
-    match fs::metadata(runtime, folder) {
+    match runtime.metadata(folder) {
         Ok(found) => Ok(Place::Free {
             device: found.dev(),
             number: found.ino(),
@@ -290,20 +295,20 @@ fn lead_to_one(one: &Place, other: &Place) -> bool
 // Whether something that the program did not write is at a name. It is foreign if it is not a
 // regular file, begins otherwise and is not empty, or is a link that leads nowhere. A write that
 // was cut short leaves a beginning of what the program writes.
-fn is_foreign<R: Files>(runtime: &R, name: Option<&Text>, head: &[u8]) -> bool {
+fn is_foreign<R: ReadsFiles>(runtime: &R, name: Option<&Text>, head: &[u8]) -> bool {
     let Some(name) = name else {
         return false;
     };
-    match fs::metadata(runtime, name.as_str()) {
+    match runtime.metadata(name.as_str()) {
         Ok(found) if !found.is_file() => true,
         Ok(found) => found.len() > 0 && !begins_with(runtime, name.as_str(), head),
-        Err(_) => fs::symlink_metadata(runtime, name.as_str()).is_ok(),
+        Err(_) => runtime.symlink_metadata(name.as_str()).is_ok(),
     }
 }
 
 // Whether a file begins with `head`, or is a beginning of `head`.
-fn begins_with<R: Files>(runtime: &R, name: &str, head: &[u8]) -> bool {
-    let Ok(mut reader) = File::open(runtime, name) else {
+fn begins_with<R: ReadsFiles>(runtime: &R, name: &str, head: &[u8]) -> bool {
+    let Ok(mut reader) = runtime.open(name) else {
         return false;
     };
     let mut octets = [0; MOST_HEAD];

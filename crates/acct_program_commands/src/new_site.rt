@@ -13,7 +13,7 @@ ghost use Rattle.acct_program_commands.specs.NewSite.{read_again_text, sizes_of,
 ghost use Rattle.acct_program_commands.specs.NewSite.{change_text};
 ghost use Rattle.acct_program_commands.specs.NewSite.{plan_change_text, HaveSame, HasBeyond};
 ghost use Rattle.acct_program_commands.specs.NewSite.{IsChange};
-ghost use Rattle.acct_program_commands.specs.NewSite.{NamesChange, IsTaken};
+ghost use Rattle.acct_program_commands.specs.NewSite.{NamesChange, IsTaken, TakesOrRefuses};
 
 use crate::config_file::config_in;
 use crate::fault::Fault;
@@ -91,7 +91,7 @@ pub fn take_site<E: Write>(
     errors: &mut E,
 ) -> Taken
     ensures taken { IsTaken plans.now read result.site result.is_current }
-    ensures refused { IfSome result.refused (λ why. IsRead read (Err why)) }
+    ensures one { TakesOrRefuses plans.now read result.site result.is_current result.refused }
 {
     match judge(alloc, read, plans) {
         Ok((site, is_current, change)) => {

@@ -5,9 +5,8 @@ use crate::config_file::read_file;
 use crate::site_source::SiteSource;
 use acct_model::{Octets, Text};
 use acct_program::InputFault;
+use acct_reads::ReadsFiles;
 use std::alloc::Global;
-use std::fs;
-use std::fs::Files;
 use std::time::SystemTime;
 
 /// The file of a configuration. It counts as changed if its modification time or its length
@@ -27,7 +26,7 @@ struct Seen {
     length: u64,
 }
 
-impl<'a, R: Files> SiteFile<'a, R> {
+impl<'a, R: ReadsFiles> SiteFile<'a, R> {
     /// The file of this name, with its metadata of now. Call it before the file is first read, so
     /// that no change is missed.
     pub fn new(runtime: &'a R, name: &'a Text) -> SiteFile<'a, R> {
@@ -52,7 +51,7 @@ impl<'a, R: Files> SiteFile<'a, R> {
     }
 }
 
-impl<'a, R: Files> SiteSource for SiteFile<'a, R> {
+impl<'a, R: ReadsFiles> SiteSource for SiteFile<'a, R> {
     ghost sights = { λ _. None };
 
     fn look(&mut self, alloc: Global, moment: u64) -> Option<Result<Octets, InputFault>> {
@@ -64,8 +63,8 @@ impl<'a, R: Files> SiteSource for SiteFile<'a, R> {
 }
 
 // The metadata of a file, if there is one.
-fn see<R: Files>(runtime: &R, name: &Text) -> Option<Seen> {
-    match fs::metadata(runtime, name.as_str()) {
+fn see<R: ReadsFiles>(runtime: &R, name: &Text) -> Option<Seen> {
+    match runtime.metadata(name.as_str()) {
         Ok(metadata) => Some(Seen {
             changed: metadata.modified().ok(),
             length: metadata.len(),

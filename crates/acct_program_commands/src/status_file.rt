@@ -13,15 +13,15 @@ ghost use Rattle.acct_program_commands.specs.Tally.{has_datagram, is_request, wi
 
 use crate::fault::Fault as Trouble;
 use crate::figures::{Figures, State, write_figures};
+use crate::file_changes::ReplacesFiles;
 use crate::fresh_file::FreshFile;
 use crate::gauges::Gauges;
 use crate::tally::{Arrivals, Meter};
 use acct_model::Text;
+use acct_reads::ReadsFiles;
 use acct_service::{Event, Fault, What};
 use acct_wire::Reason;
 use std::alloc::{AllocError, Global};
-use std::fs;
-use std::fs::Files;
 use std::io::{BufWriter, Write};
 
 /// For how many seconds the file stays unchanged after a write.
@@ -83,7 +83,7 @@ impl<'r, R> Drop for StateSource<'r, R> {
     }
 }
 
-impl<'r, R: Files> StateSource<'r, R> {
+impl<'r, R: ReadsFiles> StateSource<'r, R> {
     /// The state of a server that has these gauges and the book in this file.
     pub fn new(
         runtime: &'r R,
@@ -113,14 +113,14 @@ impl<'r, R: Files> StateSource<'r, R> {
 }
 
 // How many octets a file has, if that is known.
-fn octets_of<R: Files>(runtime: &R, file: &Text) -> Option<u64> {
-    match fs::metadata(runtime, file.as_str()) {
+fn octets_of<R: ReadsFiles>(runtime: &R, file: &Text) -> Option<u64> {
+    match runtime.metadata(file.as_str()) {
         Ok(found) => Some(found.len()),
         Err(_) => None,
     }
 }
 
-impl<'r, R: Files, E: Write> StatusFile<'r, R, E> {
+impl<'r, R: ReadsFiles + ReplacesFiles, E: Write> StatusFile<'r, R, E> {
     /// A file that is not written yet, of a server that starts at this moment, in seconds since
     /// 1970.
     pub fn new(
@@ -264,7 +264,7 @@ impl<'r, R: Files, E: Write> StatusFile<'r, R, E> {
 }
 
 // Writes the counts into a file.
-fn write_file<R: Files>(
+fn write_file<R: ReplacesFiles>(
     runtime: &R,
     alloc: Global,
     file: &FreshFile,

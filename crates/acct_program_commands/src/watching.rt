@@ -16,12 +16,13 @@ ghost use Rattle.acct_program_commands.specs.Tally.{with_reply, with_drop};
 ghost use Rattle.acct_program_commands.specs.inner.ToldDrops.{TellsOf};
 
 use crate::drop_log::DropLog;
+use crate::file_changes::ReplacesFiles;
 use crate::status_file::StatusFile;
 use crate::tally::{Meter, Tally};
 use crate::told::{Minute, ToldDrop};
+use acct_reads::ReadsFiles;
 use acct_service::{Event, Exchange, Fault, What, moment_of};
 use acct_wire::Reason;
-use std::fs::Files;
 use std::io;
 use std::io::Write;
 use std::time::Clock;
@@ -192,7 +193,13 @@ impl<'r, R, X: Exchange + Drop, W: Write + Drop, E: Drop> Drop for Watched<'r, R
     }
 }
 
-impl<'r, R: Clock + Files, X: Exchange, W: Write, E: Write + Drop> Watched<'r, R, X, W, E> {
+impl<'r, R: Clock + ReadsFiles + ReplacesFiles, X: Exchange, W: Write, E: Write + Drop> Watched<
+    'r,
+    R,
+    X,
+    W,
+    E,
+> {
     /// A watched exchange. If it has neither a watch nor a file, it only passes calls on.
     pub fn new(
         clock: &'r R,
@@ -238,7 +245,7 @@ impl<'r, R: Clock + Files, X: Exchange, W: Write, E: Write + Drop> Watched<'r, R
     }
 }
 
-impl<'r, R: Clock + Files, X: Exchange, W: Write, E: Write + Drop> Exchange
+impl<'r, R: Clock + ReadsFiles + ReplacesFiles, X: Exchange, W: Write, E: Write + Drop> Exchange
     for Watched<'r, R, X, W, E> {
     ghost turn_count = { λ w. X.turn_count w.exchange };
 

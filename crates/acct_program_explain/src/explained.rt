@@ -7,9 +7,9 @@ use acct_model::{LAST_MOMENT, Text};
 use acct_program_args::{
     EXPORT_NAMES, FEWEST_DAYS, LAST_PORT, MOST_DAYS, MOST_SECONDS, MOST_TURNS, export_named,
 };
+use acct_reads::ReadsFiles;
 use acct_site_config::ConfigError;
 use std::alloc::Global;
-use std::fs::Files;
 use std::io::Write;
 use std::str;
 
@@ -50,7 +50,7 @@ pub enum Explained<'a> {
 /// Writes one line that says what is known about a fault, beginning with `explained: `. Writes
 /// nothing if no more than the fault is known. It examines the file again as it is now, and changes
 /// none. A writer that fails changes nothing.
-pub fn explain<R: Files, E: Write>(
+pub fn explain<R: ReadsFiles, E: Write>(
     runtime: &R,
     alloc: Global,
     what: Explained<'_>,
@@ -96,7 +96,7 @@ fn tell<E: Write>(file: &str, why: &str, errors: &mut E) {
 }
 
 // Reads a configuration again, and writes what is wrong with it.
-fn explain_file<R: Files, E: Write>(
+fn explain_file<R: ReadsFiles, E: Write>(
     runtime: &R,
     alloc: Global,
     file: &str,

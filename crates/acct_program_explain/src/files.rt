@@ -1,9 +1,10 @@
 //! Why a file cannot be read or opened.
 use crate::locks::is_locked;
 use acct_program::MOST_OCTETS;
+use acct_reads::ReadsFiles;
 use acct_sql_log::DATABASE_HEADER_OCTETS;
 use std::alloc::Global;
-use std::fs::{File, Files, Metadata, OpenOptions, metadata};
+use std::fs::Metadata;
 use std::io::{ErrorKind, Read};
 use std::os::unix::fs::MetadataExt;
 
@@ -13,12 +14,12 @@ const LONGEST_NAME: usize = 247;
 const MAGIC: &[u8; 16] = b"SQLite format 3\0";
 
 // Why the file of a configuration cannot be read.
-pub(crate) fn why_unread<R: Files>(runtime: &R, file: &str) -> &'static str {
-    match metadata(runtime, file) {
+pub(crate) fn why_unread<R: ReadsFiles>(runtime: &R, file: &str) -> &'static str {
+    match runtime.metadata(file) {
         Err(error) => why_unseen(error.kind()),
         Ok(found) if !found.is_file() => "it is no regular file",
         Ok(found) if found.len() > MOST_OCTETS as u64 => "it has more than 16777216 octets",
-        Ok(_) => match File::open(runtime, file) {
+        Ok(_) => match runtime.open(file) {
             Err(error) if error.kind() == ErrorKind::PermissionDenied => {
                 "this user may not read it"
             }
@@ -37,8 +38,8 @@ fn why_unseen(kind: ErrorKind) -> &'static str {
 }
 
 // Why the file of a book that should exist cannot be opened.
-pub(crate) fn why_unopened<R: Files>(runtime: &R, alloc: Global, file: &str) -> &'static str {
-    match metadata(runtime, file) {
+pub(crate) fn why_unopened<R: ReadsFiles>(runtime: &R, alloc: Global, file: &str) -> &'static str {
+    match runtime.metadata(file) {
         Err(error) if is_missing(error.kind()) => "there is no such file, and init makes one",
         Err(error) => why_unseen(error.kind()),
         Ok(found) if found.is_file() && found.len() < DATABASE_HEADER_OCTETS => {
@@ -49,8 +50,8 @@ pub(crate) fn why_unopened<R: Files>(runtime: &R, alloc: Global, file: &str) -> 
 }
 
 // Why the file of a book that is to be made cannot be opened.
-pub(crate) fn why_unmade<R: Files>(runtime: &R, alloc: Global, file: &str) -> &'static str {
-    match metadata(runtime, file) {
+pub(crate) fn why_unmade<R: ReadsFiles>(runtime: &R, alloc: Global, file: &str) -> &'static str {
+    match runtime.metadata(file) {
         Err(error) if is_missing(error.kind()) => why_not_made(runtime, file),
         Err(error) => why_unseen(error.kind()),
         Ok(found) => why_shut(runtime, alloc, file, &found),
@@ -62,27 +63,32 @@ fn is_missing(kind: ErrorKind) -> bool {
 }
 
 // Whether each page of a SQLite database ends in a sum, as its header says by 8 reserved octets.
-pub(crate) fn has_sums<R: Files>(runtime: &R, file: &str) -> bool {
+pub(crate) fn has_sums<R: ReadsFiles>(runtime: &R, file: &str) -> bool {
     let mut octets = [0; 21];
-    let Ok(mut opened) = File::open(runtime, file) else {
+    let Ok(mut opened) = runtime.open(file) else {
         return false;
     };
     opened.read_exact(&mut octets).is_ok() && octets.starts_with(MAGIC) && octets[20] == 8
 }
 
 // Why a file that isn't there cannot be made.
-fn why_not_made<R: Files>(runtime: &R, file: &str) -> &'static str {
+fn why_not_made<R: ReadsFiles>(runtime: &R, file: &str) -> &'static str {
     if name_of(file).len() > LONGEST_NAME {
         return "its name has more than 247 octets";
     }
-    match metadata(runtime, folder_of(file)) {
+    match runtime.metadata(folder_of(file)) {
         Ok(found) if found.is_dir() => "this user may not make it in its folder",
         _ => "its folder is missing",
     }
 }
 
 // Why an existing file, with the metadata found, cannot be opened.
-fn why_shut<R: Files>(runtime: &R, alloc: Global, file: &str, found: &Metadata) -> &'static str {
+fn why_shut<R: ReadsFiles>(
+    runtime: &R,
+    alloc: Global,
+    file: &str,
+    found: &Metadata,
+) -> &'static str {
     if !found.is_file() {
         return "it is no regular file";
     }
@@ -92,11 +98,7 @@ fn why_shut<R: Files>(runtime: &R, alloc: Global, file: &str, found: &Metadata) 
     if found.nlink() > 1 {
         return "it has a second name (a hard link)";
     }
-    match OpenOptions::new()
-        .read(true)
-        .write(true)
-        .open(runtime, file)
-    {
+    match runtime.open_writable(file) {
         Ok(mut opened) => why_refused(runtime, alloc, &mut opened, found),
         Err(error) if error.kind() == ErrorKind::PermissionDenied => why_denied(found.uid()),
         Err(_) => "the disk refused",
@@ -104,7 +106,7 @@ fn why_shut<R: Files>(runtime: &R, alloc: Global, file: &str, found: &Metadata) 
 }
 
 // Why a file is no book that could be opened.
-fn why_refused<R: Files, F: Read>(
+fn why_refused<R: ReadsFiles, F: Read>(
     runtime: &R,
     alloc: Global,
     file: &mut F,

@@ -1,7 +1,7 @@
 //! The locks that the system lists.
 use acct_program::read_input;
+use acct_reads::ReadsFiles;
 use std::alloc::Global;
-use std::fs::{File, Files};
 use std::str;
 
 // Where Linux lists the locks of files, a line for each.
@@ -11,13 +11,13 @@ const LIST: &str = "/proc/locks";
 // the list cannot be read, as under a service manager that hides it, or it has the file's number on
 // another device without a disk. The layers of a container have such devices, and the list names
 // another one than a file's metadata.
-pub(crate) fn is_locked<R: Files>(
+pub(crate) fn is_locked<R: ReadsFiles>(
     runtime: &R,
     alloc: Global,
     device: u64,
     number: u64,
 ) -> Option<bool> {
-    let mut reader = File::open(runtime, LIST).ok()?;
+    let mut reader = runtime.open(LIST).ok()?;
     let octets = read_input(alloc, &mut reader).ok()?;
     let text = str::from_utf8(&octets).ok()?;
     if text.lines().any(|line| is_of(line, device, number)) {

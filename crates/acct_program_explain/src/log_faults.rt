@@ -1,7 +1,7 @@
 //! What is known about a log that is damaged.
+use acct_reads::ReadsFiles;
 use acct_sql_log::{Damage, damage_beside, has_lost_book, log_name};
 use std::alloc::Global;
-use std::fs::Files;
 use std::io::Write;
 
 /// What is left to do about a book whose log is damaged.
@@ -9,7 +9,7 @@ pub(crate) const TO_DO: &str = ": restore a copy, or give --lose-damaged-commits
 
 // If the log of a book is damaged, writes one line that says where, how many commits are lost by
 // that, and what to do.
-pub(crate) fn tell_damage<R: Files, E: Write>(
+pub(crate) fn tell_damage<R: ReadsFiles, E: Write>(
     runtime: &R,
     alloc: Global,
     file: &str,
@@ -33,7 +33,7 @@ pub(crate) fn tell_damage<R: Files, E: Write>(
 }
 
 // If the log of a book is there without its book, writes one line that says so, and what to do.
-pub(crate) fn tell_lost<R: Files, E: Write>(
+pub(crate) fn tell_lost<R: ReadsFiles, E: Write>(
     runtime: &R,
     alloc: Global,
     file: &str,

@@ -3,17 +3,22 @@ use crate::headers::header_line;
 use crate::reading::text_of;
 use acct_desk::DeskKey;
 use acct_model::Text;
+use acct_reads::ReadsFiles;
 use acct_site::{Config, sample_config};
 use acct_site_config::config_of;
 use acct_wire::Client;
 use std::alloc::Global;
-use std::fs::Files;
 use std::io::Write;
 
 /// Writes a line for each secret and each token of a configuration that the sample has, too: the
 /// sample is public. The line says where the value is, and not what it is. Writes nothing if the
 /// configuration is wrong, or is no regular file. A writer that fails changes nothing.
-pub fn warn_of_sample<R: Files, E: Write>(runtime: &R, alloc: Global, file: &Text, errors: &mut E) {
+pub fn warn_of_sample<R: ReadsFiles, E: Write>(
+    runtime: &R,
+    alloc: Global,
+    file: &Text,
+    errors: &mut E,
+) {
     let file = file.as_str();
     let Some(text) = text_of(runtime, alloc, file) else {
         return;

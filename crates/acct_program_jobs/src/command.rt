@@ -35,6 +35,7 @@ use acct_program::Status;
 use acct_program_args::{Export, Job, Order, Serving, Telling};
 use acct_program_commands::{Fault, ServerFiles, end, keep_others, read_config, run_export};
 use acct_program_serving::Errors;
+use acct_reads::ReadsFiles;
 use acct_service::{Exchange, moment_of};
 use acct_site::{Config, sample_config};
 use acct_sql::SqlBook;
@@ -246,8 +247,8 @@ pub(crate) fn with_book<W: Write, D: Disk>(
 }
 
 // `feed` with the configuration of a file, or that of the sample site.
-fn feed<I: Read + Drop, W: Write + Drop>(
-    runtime: &HostRuntime,
+fn feed<R: ReadsFiles + AllocGlobal, I: Read + Drop, W: Write + Drop>(
+    runtime: &R,
     file: Option<&Text>,
     input: I,
     output: &mut W,
@@ -275,8 +276,8 @@ fn feed<I: Read + Drop, W: Write + Drop>(
 }
 
 /// The configuration of a command that keeps a book, before any file of the book is opened.
-pub(crate) fn config_of<D: Disk>(
-    runtime: &HostRuntime,
+pub(crate) fn config_of<R: ReadsFiles + AllocGlobal, D: Disk>(
+    runtime: &R,
     file: &Text,
 ) -> Result<Config, (Fault, Left<D>)>
     ensures { IfErr result (λ e. HasNoConfig e.0 e.1) }

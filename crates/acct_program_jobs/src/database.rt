@@ -2,8 +2,7 @@
 //!
 //! What the files held is a parameter of each call, `S: Start`, which no code can read. An error
 //! returns what it left of them.
-ghost use Rattle.std.specs.Prelude.{◌≡◌, true, false, IfOk, IfErr};
-ghost use Rattle.std.specs.Fs.{asks_create, asks_create_new, asks_truncate};
+ghost use Rattle.std.specs.Prelude.{◌≡◌, false, IfOk, IfErr};
 ghost use Rattle.sqlite_wal.specs.Files.{image_at};
 ghost use Rattle.sqlite_wal.specs.Recovery.{Image};
 ghost use Rattle.sqlite.specs.State.{HasCleanDisk};
@@ -18,7 +17,8 @@ use crate::book_file::BookFile;
 use crate::left::Left;
 use crate::making::Making;
 use acct_model::{Plans, Text};
-use acct_program_commands::{Fault, StoreFault};
+use acct_program_commands::{Fault, ReplacesFiles, StoreFault};
+use acct_reads::ReadsFiles;
 use acct_sql::{SqlBook, SqlBookError};
 use acct_sql_log::{
     DATABASE_HEADER_OCTETS, LOG_HEADER_OCTETS, damage_beside, has_lost_book, log_name,
@@ -26,8 +26,6 @@ use acct_sql_log::{
 use sqlite::{Connection, FileFrom, FileStore, Files, Start};
 use sqlite_disk::Disk;
 use std::alloc::Global;
-use std::fs::{OpenOptions, metadata};
-use std::os::unix::fs::OpenOptionsExt;
 
 /// A book in a file that held what `S` says.
 pub type FileBook<S> = SqlBook<FileStore<FileFrom<S>>>;
@@ -124,40 +122,17 @@ pub fn close<S: Start>(
 
 // Makes the files of a new book so that no other user can read them: an open would leave that to
 // the umask. Existing files stay as they are. If one cannot be made, the open reports it.
-fn keep_private(runtime: &HostRuntime, file: &Text) {
-    make_private(runtime, file.as_str());
+fn keep_private<R: ReplacesFiles + AllocGlobal>(runtime: &R, file: &Text) {
+    runtime.make_private(file.as_str());
     if let Ok(log) = format!(in runtime.alloc(); "{}-wal", file.as_str()) {
-        make_private(runtime, &log);
+        runtime.make_private(&log);
     }
-}
-
-// Makes an empty file that only its owner can read and write, if none exists.
-fn make_private(runtime: &HostRuntime, file: &str) {
-    let _ = private_options().open(runtime, file);
-}
-
-// How to make a file that only its owner can read and write: as a new one. An existing file is not
-// opened, so it keeps what it has.
-fn private_options() -> OpenOptions
-    ensures new { asks_create_new result ≡ true }
-    ensures kept { asks_truncate result ≡ false }
-    ensures other { asks_create result ≡ false }
-{
-    let mut options = OpenOptions::new();
-    // First, because no contract says what `mode` leaves of the others.
-    options.mode(0o600);
-    options
-        .write(true)
-        .create(false)
-        .truncate(false)
-        .create_new(true);
-    options
 }
 
 // Whether a file may be a database: a regular one that is long enough for a header, or an empty one
 // without a log that would be read in its place.
-fn may_be_database(runtime: &HostRuntime, file: &Text) -> bool {
-    match metadata(runtime, file.as_str()) {
+fn may_be_database<R: ReadsFiles + AllocGlobal>(runtime: &R, file: &Text) -> bool {
+    match runtime.metadata(file.as_str()) {
         Ok(found) if found.is_file() && found.len() == 0 => !has_log(runtime, file),
         Ok(found) => found.is_file() && found.len() >= DATABASE_HEADER_OCTETS,
         Err(_) => false,
@@ -166,18 +141,18 @@ fn may_be_database(runtime: &HostRuntime, file: &Text) -> bool {
 
 // Whether the log of a database may be read: it is not damaged, or what is behind the damage may be
 // lost.
-fn is_readable(runtime: &HostRuntime, files: BookFile<'_>) -> bool {
+fn is_readable<R: ReadsFiles + AllocGlobal>(runtime: &R, files: BookFile<'_>) -> bool {
     files.loses_commits
         || damage_beside(runtime, runtime.alloc(), files.database.as_str()).is_none()
 }
 
 // Whether the log of a database has a frame. If there is no memory for its name, it counts as
 // having one.
-fn has_log(runtime: &HostRuntime, file: &Text) -> bool {
+fn has_log<R: ReadsFiles + AllocGlobal>(runtime: &R, file: &Text) -> bool {
     let Some(log) = log_name(runtime, runtime.alloc(), file.as_str()) else {
         return true;
     };
-    match metadata(runtime, log.as_str()) {
+    match runtime.metadata(log.as_str()) {
         Ok(found) => found.len() > LOG_HEADER_OCTETS,
         Err(_) => false,
     }

@@ -5,8 +5,8 @@ use acct_model::{Octets, Text};
 use acct_program::InputFault;
 use acct_program_commands::{Fault, SiteFile, SiteSource};
 use acct_program_explain::{Explained, explain};
+use acct_reads::ReadsFiles;
 use std::alloc::Global;
-use std::fs::Files;
 use std::io::Write;
 
 /// The file of a configuration. It explains why its text is no configuration, if that is asked for.
@@ -18,7 +18,7 @@ pub(crate) struct ExplainedSite<'a, R> {
     explains: bool,
 }
 
-impl<'a, R: Files> ExplainedSite<'a, R> {
+impl<'a, R: ReadsFiles> ExplainedSite<'a, R> {
     /// The file of this name, as `SiteFile::new` has it.
     pub(crate) fn new(runtime: &'a R, name: &'a Text, explains: bool) -> ExplainedSite<'a, R> {
         ExplainedSite {
@@ -30,7 +30,7 @@ impl<'a, R: Files> ExplainedSite<'a, R> {
     }
 }
 
-impl<'a, R: Files> SiteSource for ExplainedSite<'a, R> {
+impl<'a, R: ReadsFiles> SiteSource for ExplainedSite<'a, R> {
     ghost sights = { λ _. None };
 
     fn look(&mut self, alloc: Global, moment: u64) -> Option<Result<Octets, InputFault>> {

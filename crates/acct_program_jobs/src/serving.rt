@@ -7,17 +7,19 @@ use crate::work::Server;
 use acct_program_args::Serving;
 use acct_program_commands::note_clock;
 use acct_program_serving::{Errors, Surroundings};
+use acct_reads::ReadsFiles;
 use std::io::Write;
+use std::time::Clock;
 
 /// A server that will open the book of a file. While it runs it prints on `errors` what it drops,
 /// unless it is quiet, and what happens to its files. It is made before the configuration is read,
 /// so that it misses no change of that.
-pub(crate) fn server_of<'a, E: Write + Drop>(
-    runtime: &'a HostRuntime,
+pub(crate) fn server_of<'a, R: ReadsFiles + Clock + AllocGlobal, E: Write + Drop>(
+    runtime: &'a R,
     files: BookFile<'a>,
     serving: &'a Serving,
     errors: Errors<E>,
-) -> Server<'a, E>
+) -> Server<'a, R, E>
     ensures { result.serving ≡ serving.entry }
 {
     let source = ExplainedSite::new(runtime, files.config, errors.explains);

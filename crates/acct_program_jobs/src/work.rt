@@ -26,6 +26,7 @@ use acct_program::Status;
 use acct_program_args::{Carrying, Serving};
 use acct_program_commands::{Fault, run_forward, run_import};
 use acct_program_serving::{Surroundings, run_serve};
+use acct_reads::ReadsFiles;
 use acct_service::Exchange;
 use acct_site::Config;
 use acct_sql::SqlBook;
@@ -122,13 +123,13 @@ impl<W: Write, E: Write + Drop> Work<W> for Forward<'_, E> {
 
 /// `serve`, with the file of its book by name.
 #[derive(Drop)]
-pub(crate) struct Server<'a, E: Drop> {
+pub(crate) struct Server<'a, R, E: Drop> {
     pub(crate) serving: &'a Serving,
     pub(crate) file: &'a Text,
-    pub(crate) around: Surroundings<ExplainedSite<'a, HostRuntime>, E>,
+    pub(crate) around: Surroundings<ExplainedSite<'a, R>, E>,
 }
 
-impl<W: Write, E: Write + Drop> Work<W> for Server<'_, E> {
+impl<R: ReadsFiles, W: Write, E: Write + Drop> Work<W> for Server<'_, R, E> {
     ghost is_ready = { λ it. IsBounded it.serving.now };
 
     // The file of the configuration is polled. No contract can say what it holds.

@@ -15,9 +15,10 @@ use acct_net::Sockets;
 use acct_program::Status;
 use acct_program_args::{Listening, Serving, Telling, seconds_in};
 use acct_program_commands::{
-    Fault, FileRounds, Gauges, KeptBalances, Shared, SiteSource, StateSource, StatusFile,
-    StoreFault, Watch,
+    Fault, FileRounds, Gauges, KeptBalances, ReplacesFiles, Shared, SiteSource, StateSource,
+    StatusFile, StoreFault, Watch,
 };
+use acct_reads::ReadsFiles;
 use acct_service::{Exchange, Until, moment_of};
 use acct_site::Config;
 use std::alloc::{AllocError, Global};
@@ -150,7 +151,7 @@ struct WrittenFiles<'s, R, E: Drop> {
 }
 
 // The files that a server writes. None of them was written yet.
-fn files_to_write<'s, R: Clock + Files, E: Write + Drop>(
+fn files_to_write<'s, R: Clock + ReadsFiles + ReplacesFiles, E: Write + Drop>(
     runtime: &'s R,
     alloc: Global,
     telling: &Telling,
@@ -165,7 +166,7 @@ fn files_to_write<'s, R: Clock + Files, E: Write + Drop>(
 }
 
 // Writes the file of balances for the first time, if there is one.
-fn write_first<'r, R: Files + Clock, B: Book, E: Write>(
+fn write_first<'r, R: ReplacesFiles + Clock, B: Book, E: Write>(
     runtime: &'r R,
     alloc: Global,
     balances: &mut Option<KeptBalances<'r, R>>,
@@ -191,7 +192,7 @@ fn watch_on<E: Write + Drop>(drops: Option<E>) -> Option<Watch<E>> {
 }
 
 // The file of the counts, if one is named, of a server that starts now.
-fn status_file<'r, R: Clock + Files, E: Write + Drop>(
+fn status_file<'r, R: Clock + ReadsFiles + ReplacesFiles, E: Write + Drop>(
     runtime: &'r R,
     alloc: Global,
     telling: &Telling,
@@ -209,7 +210,7 @@ fn status_file<'r, R: Clock + Files, E: Write + Drop>(
 }
 
 // The file of all balances, if one is named.
-fn balances_file<'r, R: Files>(
+fn balances_file<'r, R: ReplacesFiles>(
     runtime: &'r R,
     alloc: Global,
     telling: &Telling,

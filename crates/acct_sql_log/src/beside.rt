@@ -3,12 +3,12 @@ use crate::commits::has_later_commits;
 use crate::damage::Damage;
 use crate::log_reader::damage_in;
 use crate::sizes::DATABASE_HEADER_OCTETS;
+use acct_reads::ReadsFiles;
 use std::alloc::Global;
-use std::fs::{File, Files, metadata};
 
 /// The name of the log of a book in a file. If the file's name is a link, the log is next to the
 /// file to which it leads. None if there is no memory for it.
-pub fn log_name<R: Files>(runtime: &R, alloc: Global, file: &str) -> Option<String> {
+pub fn log_name<R: ReadsFiles>(runtime: &R, alloc: Global, file: &str) -> Option<String> {
     match runtime.canonicalize(alloc, file) {
         Ok(real) => log_of(alloc, real.as_str()),
         Err(_) => log_of(alloc, file),
@@ -22,7 +22,7 @@ fn log_of(alloc: Global, file: &str) -> Option<String> {
 
 /// The damage of the log of a book in a file, if it has any. None if the log isn't there or can't
 /// be read: the open of the book reports that. It writes nothing.
-pub fn damage_beside<R: Files>(runtime: &R, alloc: Global, file: &str) -> Option<Damage> {
+pub fn damage_beside<R: ReadsFiles>(runtime: &R, alloc: Global, file: &str) -> Option<Damage> {
     let mut log = opened_log(runtime, alloc, file)?;
     damage_in(alloc, &mut log).ok()?
 }
@@ -31,8 +31,11 @@ pub fn damage_beside<R: Files>(runtime: &R, alloc: Global, file: &str) -> Option
 /// the header of a database, and its log has commits that no `init` made. If the log can't be read
 /// to its end, it counts as having some. If it isn't there or can't be opened, it counts as having
 /// none: the open of the book reports that. It writes nothing.
-pub fn has_lost_book<R: Files>(runtime: &R, alloc: Global, file: &str) -> bool {
-    if metadata(runtime, file).is_ok_and(|found| found.len() >= DATABASE_HEADER_OCTETS) {
+pub fn has_lost_book<R: ReadsFiles>(runtime: &R, alloc: Global, file: &str) -> bool {
+    let is_there = runtime
+        .metadata(file)
+        .is_ok_and(|found| found.len() >= DATABASE_HEADER_OCTETS);
+    if is_there {
         return false;
     }
     match opened_log(runtime, alloc, file) {
@@ -42,12 +45,12 @@ pub fn has_lost_book<R: Files>(runtime: &R, alloc: Global, file: &str) -> bool {
 }
 
 // The log of a book in a file, if it is a regular file that can be opened.
-fn opened_log<R: Files>(runtime: &R, alloc: Global, file: &str) -> Option<R::File> {
+fn opened_log<R: ReadsFiles>(runtime: &R, alloc: Global, file: &str) -> Option<R::Reader> {
     let name = log_name(runtime, alloc, file)?;
     // The open of a pipe would wait.
-    match metadata(runtime, name.as_str()) {
+    match runtime.metadata(name.as_str()) {
         Ok(found) if found.is_file() => {}
         _ => return None,
     }
-    File::open(runtime, name.as_str()).ok()
+    runtime.open(name.as_str()).ok()
 }

@@ -1,4 +1,4 @@
-//! What `--explain` adds to a fault.
+//! What `--explain` adds to a fault. It only looks at files.
 use acct_model::Text;
 use acct_program_args::{Job, Order, Paths};
 use acct_program_commands::{Fault, StoreFault, read_config};
@@ -6,8 +6,10 @@ use acct_program_explain::{
     Explained, Wanted, explain, explain_plans, explain_sockets, explain_tables, warn_of_sample,
 };
 use acct_program_jobs::{Left, Outcome};
+use acct_reads::ReadsFiles;
 use sqlite_disk::Disk;
 use std::io::Write;
+use std::net::Net;
 
 // What a file that would be overwritten may be.
 const OVERWRITTEN: &str =
@@ -15,14 +17,13 @@ const OVERWRITTEN: &str =
     is the book, its log, the configuration or the other file, or radacctd did not write it";
 
 /// Before a server starts, prints which secrets and tokens of its configuration are the sample's.
-pub(crate) fn warn_first(runtime: &HostRuntime, order: &Order) {
+pub(crate) fn warn_first<R: ReadsFiles + AllocGlobal, E: Write>(
+    runtime: &R,
+    order: &Order,
+    errors: &mut E,
+) {
     if let Job::Serve { paths, .. } = &order.job {
-        warn_of_sample(
-            runtime,
-            runtime.alloc(),
-            &paths.config,
-            &mut runtime.stderr(),
-        );
+        warn_of_sample(runtime, runtime.alloc(), &paths.config, errors);
     }
 }
 
@@ -31,35 +32,41 @@ pub(crate) fn warn_first(runtime: &HostRuntime, order: &Order) {
 /// values of its configuration that are the sample's. It closes the
 /// files of the book before it explains why they cannot be opened. Else it would find the program's
 /// own lock.
-pub(crate) fn explain_run<W: Write + Drop, D: Disk + Drop>(
-    runtime: &HostRuntime,
-    order: &Order,
-    outcome: Outcome<W, D>,
-) {
+pub(crate) fn explain_run<
+    R: ReadsFiles + Net + AllocGlobal,
+    W: Write + Drop,
+    D: Disk + Drop,
+    E: Write,
+>(runtime: &R, order: &Order, outcome: Outcome<W, D>, errors: &mut E) {
     if !order.explains {
         return;
     }
     let ended = outcome.ended;
     if let Err(fault) = ended {
-        explain_fault(runtime, &order.job, fault, &mut runtime.stderr());
+        explain_fault(runtime, &order.job, fault, errors);
     }
-    explain_outcome(runtime, &order.job, outcome);
+    explain_outcome(runtime, &order.job, outcome, errors);
     if let (Ok(_), Job::Check { config, .. }) = (ended, &order.job) {
-        warn_of_sample(runtime, runtime.alloc(), config, &mut runtime.stderr());
+        warn_of_sample(runtime, runtime.alloc(), config, errors);
     }
     if let (Ok(_), Job::Check { .. }, Some(file)) = (ended, &order.job, book_file(&order.job)) {
         let what = Explained::Opened { file };
-        explain(runtime, runtime.alloc(), what, &mut runtime.stderr());
+        explain(runtime, runtime.alloc(), what, errors);
     }
     if ended == Err(Fault::CannotOpen) {
         if let Some(what) = unopened(order) {
-            explain(runtime, runtime.alloc(), what, &mut runtime.stderr());
+            explain(runtime, runtime.alloc(), what, errors);
         }
     }
 }
 
 // Prints what is known about the fault that ended a job, if that is more than its text says.
-fn explain_fault<E: Write>(runtime: &HostRuntime, job: &Job, fault: Fault, errors: &mut E) {
+fn explain_fault<R: ReadsFiles + Net + AllocGlobal, E: Write>(
+    runtime: &R,
+    job: &Job,
+    fault: Fault,
+    errors: &mut E,
+) {
     match (fault, job) {
         (Fault::CannotBind, Job::Serve { serving, .. }) => {
             let wanted = Wanted {
@@ -84,10 +91,11 @@ fn explain_fault<E: Write>(runtime: &HostRuntime, job: &Job, fault: Fault, error
 }
 
 // Prints why the book of an outcome was rejected. The book is still open.
-fn explain_outcome<W: Write + Drop, D: Disk + Drop>(
-    runtime: &HostRuntime,
+fn explain_outcome<R: ReadsFiles + AllocGlobal, W: Write + Drop, D: Disk + Drop, E: Write>(
+    runtime: &R,
     job: &Job,
     outcome: Outcome<W, D>,
+    errors: &mut E,
 ) {
     let Outcome {
         ended,
@@ -103,13 +111,12 @@ fn explain_outcome<W: Write + Drop, D: Disk + Drop>(
     let Left::Open(book) = &mut rest else {
         return;
     };
-    let mut errors = runtime.stderr();
     match fault {
-        StoreFault::NotABook => explain_tables(book, file.as_str(), &mut errors),
+        StoreFault::NotABook => explain_tables(book, file.as_str(), errors),
         StoreFault::PlansDiffer => {
             let alloc = runtime.alloc();
             if let Ok(config) = read_config(runtime, alloc, config) {
-                explain_plans(alloc, book, file.as_str(), config.plans.list(), &mut errors);
+                explain_plans(alloc, book, file.as_str(), config.plans.list(), errors);
             }
         }
         StoreFault::WrongSchema | StoreFault::Unavailable => {}

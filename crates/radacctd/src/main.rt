@@ -50,7 +50,7 @@ fn main(rt: HostRuntime) -> ExitCode {
         notices,
         explains: order.explains,
     };
-    warn_first(&rt, &order);
+    warn_first(&rt, &order, &mut rt.stderr());
     let faults = &mut rt.stderr();
     // What is assumed of the files as the program begins, in one value that an open uses up: so
     // none is opened twice. A server that syncs once assumes that each octet of a write that was
@@ -61,13 +61,13 @@ fn main(rt: HostRuntime) -> ExitCode {
             let (status, outcome) = serve_files(
                 &rt, files, serving, output, errors, faults, Unknown,
             );
-            explain_run(&rt, &order, outcome);
+            explain_run(&rt, &order, outcome, &mut rt.stderr());
             status
         }
         _ => {
             let input = rt.stdin();
             let (status, outcome) = carry_out(&rt, &order, input, output, errors, faults, Wary);
-            explain_run(&rt, &order, outcome);
+            explain_run(&rt, &order, outcome, &mut rt.stderr());
             status
         }
     };

@@ -1,0 +1,69 @@
+//! Each call of the program that makes a file, or changes its name, length or mode.
+//!
+//! No contract of std says what such a call does to a file. So they are all here, for a person to
+//! read: `.ci/claims` fails if another source can make one. Only the store writes a book's two
+//! files, and the contracts on it say what it leaves of them.
+ghost use Rattle.std.specs.Prelude.{◌≡◌, true, false};
+ghost use Rattle.std.specs.Fs.{asks_create, asks_create_new, asks_truncate};
+
+use std::fs::{Files, OpenFile, OpenOptions, Permissions};
+use std::io::Write;
+use std::os::unix::fs::{OpenOptionsExt, PermissionsExt};
+use std::{fs, io};
+
+/// The files of the system, to be made and replaced.
+pub trait ReplacesFiles {
+    /// A file that is being written.
+    type Writer: Write + Drop;
+
+    /// Opens an empty file, and gives it a mode. If there is a file of this name, it is emptied.
+    fn open_empty(&self, name: &str, mode: u32) -> io::Result<Self::Writer>;
+
+    /// Gives a file the name of another one, which is gone by that. Whoever opens a file by this
+    /// name finds one of the two, and it is whole.
+    fn put_in_place(&self, new_name: &str, name: &str) -> io::Result<()>;
+
+    /// Makes an empty file that only its owner can read and write, if there is none of this name.
+    /// Else it changes nothing.
+    fn make_private(&self, name: &str);
+}
+
+impl<R: Files> ReplacesFiles for R {
+    type Writer = R::File;
+
+    fn open_empty(&self, name: &str, mode: u32) -> io::Result<R::File> {
+        let mut options = OpenOptions::new();
+        options.write(true).create(true).truncate(true).mode(mode);
+        let file = options.open(self, name)?;
+        // A new file has the mode less the program's umask, and an existing one keeps its own.
+        let _ = file.set_permissions(Permissions::from_mode(mode));
+        Ok(file)
+    }
+
+    fn put_in_place(&self, new_name: &str, name: &str) -> io::Result<()> {
+        fs::rename(self, new_name, name)
+    }
+
+    fn make_private(&self, name: &str) {
+        // Whoever needs the file opens it next, and reports what is wrong.
+        let _ = private_options().open(self, name);
+    }
+}
+
+// How to make a file that only its owner can read and write: as a new one. An existing file is not
+// opened, so it keeps what it has.
+fn private_options() -> OpenOptions
+    ensures new { asks_create_new result ≡ true }
+    ensures kept { asks_truncate result ≡ false }
+    ensures other { asks_create result ≡ false }
+{
+    let mut options = OpenOptions::new();
+    // First, because no contract says what `mode` leaves of the others.
+    options.mode(0o600);
+    options
+        .write(true)
+        .create(false)
+        .truncate(false)
+        .create_new(true);
+    options
+}
