@@ -3,7 +3,9 @@
 //!
 //! It is written after a slice of turns, at most once in so many seconds. A failed write changes
 //! nothing else. It is printed once, until a write succeeds again.
+ghost use Rattle.std.specs.Prelude.{IfOk};
 ghost use Rattle.acct_book.specs.Step.{OnlyLooks};
+ghost use Rattle.acct_program_commands.specs.Exports.{Exports};
 
 use crate::counted_lines::CountedLines;
 use crate::exporting::run_export;
@@ -70,8 +72,27 @@ impl<'r, R: ReplacesFiles> KeptBalances<'r, R> {
     }
 }
 
-// Writes all balances into a file, as `export balances` does. Returns the number of accounts and of
-// overdrawn ones.
+// Writes the header and a line for each balance to any writer, and counts the lines.
+fn write_rows<B: Book, W: Write + Drop>(
+    alloc: Global,
+    plans: &Plans,
+    book: &mut B,
+    writer: W,
+) -> Result<CountedLines<W>, Fault>
+    ensures looks { OnlyLooks B.Book book.old book.new }
+    ensures rows { IfOk result (λ counted. Exports plans.now (B.content book.old)
+        (B.is_open book.new) (W.contents writer) (W.contents counted.writer) Export.Balances) }
+{
+    run_export(
+        alloc,
+        Export::Balances,
+        plans,
+        book,
+        CountedLines::new(writer),
+    )
+}
+
+// Writes all balances into a file. Returns the number of accounts and of overdrawn ones.
 fn write_file<R: ReplacesFiles, B: Book>(
     runtime: &R,
     alloc: Global,
@@ -81,8 +102,7 @@ fn write_file<R: ReplacesFiles, B: Book>(
 ) -> Result<(u64, u64), Fault>
     ensures { OnlyLooks B.Book book.old book.new }
 {
-    let writer = CountedLines::new(file.begin(runtime)?);
-    let written = run_export(alloc, Export::Balances, plans, book, writer)?;
+    let written = write_rows(alloc, plans, book, file.begin(runtime)?)?;
     file.finish(runtime)?;
     Ok((written.accounts(), written.overdrawn()))
 }

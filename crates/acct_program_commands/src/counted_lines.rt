@@ -1,4 +1,6 @@
 //! A writer of balances that counts the accounts.
+ghost use Rattle.std.specs.Prelude.{◌≡◌};
+
 use std::io;
 use std::io::Write;
 
@@ -9,7 +11,7 @@ const NO_OVERRUN: [u8; 2] = *b",0";
 /// them, and those of overdrawn accounts.
 #[derive(Drop)]
 pub(crate) struct CountedLines<W> {
-    writer: W,
+    pub(crate) writer: W,
     lines: u64,
     overdrawn: u64,
     last: [u8; 2],
@@ -17,7 +19,9 @@ pub(crate) struct CountedLines<W> {
 
 impl<W: Write> CountedLines<W> {
     /// A writer to which nothing was written yet.
-    pub(crate) fn new(writer: W) -> CountedLines<W> {
+    pub(crate) fn new(writer: W) -> CountedLines<W>
+        ensures { result.writer ≡ writer }
+    {
         CountedLines {
             writer,
             lines: 0,
@@ -37,7 +41,9 @@ impl<W: Write> CountedLines<W> {
     }
 
     // Counts a line, if it ends here.
-    fn note(&mut self, octet: u8) {
+    fn note(&mut self, octet: u8)
+        ensures { self.new.writer ≡ self.old.writer }
+    {
         if octet == b'\n' {
             self.lines = self.lines.saturating_add(1);
             if self.last != NO_OVERRUN {
@@ -49,6 +55,8 @@ impl<W: Write> CountedLines<W> {
 }
 
 impl<W: Write> Write for CountedLines<W> {
+    ghost contents = { λ c. W.contents c.writer };
+
     fn write(&mut self, octets: &[u8]) -> io::Result<usize> {
         let written = self.writer.write(octets)?;
         for octet in octets.iter().take(written) {

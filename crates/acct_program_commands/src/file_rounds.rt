@@ -1,6 +1,6 @@
 //! What the program's server does between slices of turns. It writes the file of balances, if that
 //! is due, and takes another configuration, if its text changed.
-ghost use Rattle.std.specs.Prelude.{◌≡◌};
+ghost use Rattle.std.specs.Prelude.{◌≡◌, false};
 ghost use Rattle.acct_book.specs.Step.{OnlyLooks};
 ghost use Rattle.acct_program_commands.specs.NewSite.{LooksAndTakes};
 
@@ -65,6 +65,8 @@ impl<'r, R: ReplacesFiles + Clock, S: SiteSource + Drop, E: Write + Drop> Rounds
     ghost goes = { λ old config gave new.
         LooksAndTakes config.plans (S.sights old.source) gave (S.sights new.source) };
 
+    ghost is_over = { λ _. false };
+
     fn go_round<B: Book>(
         &mut self,
         alloc: Global,
@@ -83,5 +85,9 @@ impl<'r, R: ReplacesFiles + Clock, S: SiteSource + Drop, E: Write + Drop> Rounds
             self.source.explain(alloc, why, &mut self.errors);
         }
         taken.site
+    }
+
+    fn is_over(&self) -> bool {
+        false
     }
 }

@@ -5,7 +5,7 @@ use acct_book::MemBook;
 use acct_model::{Octets, Text};
 use acct_program_commands::{FileRounds, Gauges, SiteFile, config_from};
 use acct_service::lists::{ListExchange, Planned};
-use acct_service::{Call, Event, Rounds, Served, Until, What, serve_in_slices};
+use acct_service::{Call, Event, Rounds, Rules, Served, Until, What, serve_in_slices};
 use acct_site::Config;
 use std::alloc::Global;
 use std::fs;
@@ -95,7 +95,11 @@ fn serves_old_and_new<R: Rounds>(alloc: Global, rounds: &mut R) -> Result<bool, 
     let config = site_of(alloc, OLD)?;
     let mut exchange = ListExchange::new(alloc, turns(alloc)?);
     let mut book = MemBook::new(alloc);
-    let ended = serve_in_slices(alloc, &config, None, &mut book, &mut exchange, rounds, 300);
+    let rules = Rules {
+        config: &config,
+        oldest: None,
+    };
+    let ended = serve_in_slices(alloc, &rules, &mut book, &mut exchange, rounds, 300);
     Ok(ended == (counted(), Until::AllMade) && are_old_and_new(exchange.calls()))
 }
 

@@ -4,7 +4,7 @@ use acct_book_fakes::{FailingBook, ShutBook};
 use acct_model::Octets;
 use acct_program_serving::{Ended, serve_exchange};
 use acct_service::lists::{ListExchange, Planned};
-use acct_service::{Event, Exchange, NoRounds, Served, Until, What};
+use acct_service::{Event, Exchange, NoRounds, Rules, Served, Until, What};
 use acct_site::sample_config;
 use std::alloc::Global;
 use std::io;
@@ -38,10 +38,13 @@ fn ended<W: Write>(alloc: Global, output: &mut W) -> Result<(Ended, u64), Fail> 
     let mut book = MemBook::new(alloc);
     let mut exchange = ListExchange::new(alloc, turns(alloc)?);
     let mut rounds = NoRounds;
+    let rules = Rules {
+        config: &config,
+        oldest: None,
+    };
     let ended = serve_exchange(
         alloc,
-        &config,
-        None,
+        &rules,
         &mut book,
         &mut exchange,
         &mut rounds,
@@ -147,10 +150,13 @@ fn ends_over<B: Book>(
     let config = sample_config(alloc)?;
     let mut exchange = ListExchange::new(alloc, starts(alloc, moments)?);
     let mut output = Vec::new(alloc);
+    let rules = Rules {
+        config: &config,
+        oldest: None,
+    };
     let ended = serve_exchange(
         alloc,
-        &config,
-        None,
+        &rules,
         book,
         &mut exchange,
         &mut NoRounds,

@@ -1,5 +1,5 @@
 -- A run over an exchange is one over any other that counts and records the same.
-use Rattle.std.specs.Prelude.{◌≡◌, ℕ, List, [], ◌∷◌, Option}
+use Rattle.std.specs.Prelude.{◌≡◌, ◌-◌, ℕ, List, [], ◌∷◌, Option}
 use Rattle.std.proofs.Common.{◌∙◌, sym, ap}
 use Rattle.acct_book.specs.declared.book.Book as book
 use Rattle.acct_book.specs.Step.{OnlyLooks}
@@ -37,7 +37,7 @@ module _ {B X Y : Type 0} (b : book.Ghosts B) (x : exchange.Ghosts X) (y : excha
     stuck = ran.stuck;
     open_is = ran.open_is;
     faults = rw (starts.failures, stops.failures) ran.faults;
-    run = rw (starts.told, stops.told) ran.run;
+    run = rw (starts.told, stops.told, starts.turns, stops.turns) ran.run;
   }
 
 -- an end over an exchange is one over any other that counts and records the same
@@ -71,17 +71,20 @@ pub polls : {R : Type 0} (r : rounds.Ghosts R) (seen : R → Option (List Sight)
     (first : R) (slices : List Slice) (last : R) → GoRounds r first slices last
     → PollsAfter (seen first) slices (seen last)
 polls r seen each first [] last same = ap seen same
-polls r seen each first (slice ∷ later) last (next, goes, rest) =
+polls r seen each first (slice ∷ later) last (next, goes, on, rest) =
     (seen next, each first slice.site slice.given next goes, polls r seen each next later last rest)
 
 -- a run of slices, whose rounds went another way, too
 however : {B : Type 0} (b : book.Ghosts B) (oldest : Option ℕ) (config : Config) (old new : B)
     (told later : Option (List Call)) (Went Goes : List Slice → Type 0)
-    (so : (slices : List Slice) → Went slices → Goes slices) (served : Served)
-    → ServesInSlices b oldest config old new told later Went served
-    → ServesInSlices b oldest config old new told later Goes served
-however b oldest config old new told later Went Goes so served run = record {
+    (so : (slices : List Slice) → Went slices → Goes slices) (made : ℕ) (served : Served) (why : Until)
+    → ServesInSlices b oldest config old new told later Went made served why
+    → ServesInSlices b oldest config old new told later Goes made served why
+however b oldest config old new told later Went Goes so made served why run = record {
   slices = run.slices;
+  short = run.short;
+  made = run.made;
+  ends = run.ends;
   follow = run.follow;
   same_plans = run.same_plans;
   went = so run.slices run.went;
@@ -107,7 +110,8 @@ module _ {B X : Type 0} (b : book.Ghosts B) (x : exchange.Ghosts X) (IsBound : X
     open_is = ran.open_is;
     faults = ran.faults;
     run = however b oldest config old new (x.told first) (x.told last) Went
-        (λ slices. PollsAfter seen slices polled) so served ran.run;
+        (λ slices. PollsAfter seen slices polled) so (x.turn_count last - x.turn_count first) served why
+        ran.run;
   }
 
   ends_however : (before after : Option (List ℕ)) (ended : Ended)

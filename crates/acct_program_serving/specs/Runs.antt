@@ -1,5 +1,5 @@
 -- A run of a server over an exchange, and what is printed of it.
-use Rattle.std.specs.Prelude.{◌≡◌, ◌<◌, ℕ, List, [], ◌∷◌, ◌++◌, ◌+◌, ◌==◌, if◌then◌else◌}
+use Rattle.std.specs.Prelude.{◌≡◌, ◌<◌, ℕ, List, [], ◌∷◌, ◌++◌, ◌+◌, ◌-◌, ◌==◌, if◌then◌else◌}
 use Rattle.std.specs.Prelude.{Option, codes, flat_map}
 use Rattle.acct_book.specs.declared.book.Book as book
 use Rattle.acct_site.specs.declared.config.Config.{Config}
@@ -49,7 +49,7 @@ whole_text served = codes "serving" ++ 10 ∷ [] ++ served_text served
 -- A run of a server over a book and an exchange, from its first turn to its last.
 module _ {B X : Type 0} (b : book.Ghosts B) (x : exchange.Ghosts X) where
   -- It made so many turns of the exchange: all, or fewer if the book was found shut or failed for
-  -- each report of a slice. A steady book is never found shut. A sound book that is not open was
+  -- each report of a slice, or a round ended them. A steady book is never found shut. A sound book that is not open was
   -- found shut. The turns are a run of the machine in slices, each under its own configuration.
   -- These are the counts of that run. The rounds between the slices went this way. In all slices a
   -- report could be at most so many seconds old, if that was limited.
@@ -60,4 +60,5 @@ module _ {B X : Type 0} (b : book.Ghosts B) (x : exchange.Ghosts X) where
     pub stuck : why ≡ until.Stuck → 0 < count_for served.dropped reason.Unavailable
     pub open_is : why ≡ until.AllMade → 0 < turns → b.is_sound new → b.is_open new
     pub faults : x.failure_count last ≡ x.failure_count first + served.faults
-    pub run : ServesInSlices b oldest config old new (x.told first) (x.told last) Went served
+    pub run : ServesInSlices b oldest config old new (x.told first) (x.told last) Went
+        (x.turn_count last - x.turn_count first) served why

@@ -23,14 +23,16 @@ use Rattle.acct_program_serving.specs.Runs.{Ran, whole_text}
 use Rattle.acct_program_serving.specs.declared.ended.Ended.{Ended}
 use Rattle.acct_program_serving.specs.declared.ended.Ended.TheVariants as how
 
--- how the command ends: with the book's fault, if that was found shut or stuck
+-- how the command ends: with the book's fault, if that was found shut or stuck, or a round ended it
 abbrev pub ended_of : Ended → Result Status Fault
 ended_of (how.Told served until.AllMade) = Ok status.Done
 ended_of (how.Told served until.Shut) = Err (fault.Store store.Unavailable)
 ended_of (how.Told served until.Stuck) = Err (fault.Store store.Unavailable)
+ended_of (how.Told served until.Over) = Err (fault.Store store.Unavailable)
 ended_of (how.Untold served until.AllMade) = Err fault.CannotWrite
 ended_of (how.Untold served until.Shut) = Err (fault.Store store.Unavailable)
 ended_of (how.Untold served until.Stuck) = Err (fault.Store store.Unavailable)
+ended_of (how.Untold served until.Over) = Err (fault.Store store.Unavailable)
 ended_of how.NotBegun = Err fault.CannotWrite
 
 -- the sockets could not be bound, or there was no memory for datagrams or names

@@ -19,7 +19,7 @@ use acct_program_commands::{
     StatusFile, StoreFault, Watch,
 };
 use acct_reads::ReadsFiles;
-use acct_service::{Exchange, Until, moment_of};
+use acct_service::{Exchange, Rules, Until, moment_of};
 use acct_site::Config;
 use std::alloc::{AllocError, Global};
 use std::cell::RefCell;
@@ -120,11 +120,10 @@ pub fn run_serve<
         drops: watch_on(drops),
         counts,
     };
-    let (turns, oldest) = (serving.turns, seconds_in(serving.oldest_report));
-    let rounds = &mut rounds;
-    let (_sockets, ended) = watcher.serve(
-        alloc, config, oldest, book, sockets, rounds, turns, output,
-    );
+    let oldest = seconds_in(serving.oldest_report);
+    let rules = Rules { config, oldest };
+    let (turns, rounds) = (serving.turns, &mut rounds);
+    let (_sockets, ended) = watcher.serve(alloc, &rules, book, sockets, rounds, turns, output);
     status_of(ended)
 }
 
@@ -135,9 +134,8 @@ fn status_of(ended: Ended) -> Result<Status, Fault>
 {
     match ended {
         Ended::Told(_, Until::AllMade) => Ok(Status::Done),
-        Ended::Told(_, Until::Shut | Until::Stuck) | Ended::Untold(_, Until::Shut | Until::Stuck) =>
-            { Err(Fault::Store(StoreFault::Unavailable)) }
         Ended::Untold(_, Until::AllMade) | Ended::NotBegun => Err(Fault::CannotWrite),
+        Ended::Told(..) | Ended::Untold(..) => Err(Fault::Store(StoreFault::Unavailable)),
     }
 }
 

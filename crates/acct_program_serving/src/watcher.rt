@@ -7,8 +7,7 @@ use crate::ended::Ended;
 use crate::printing::{write_counts, write_serving};
 use acct_book::Book;
 use acct_program_commands::{StatusFile, Watch, Watched};
-use acct_service::{Exchange, Rounds, serve_in_slices};
-use acct_site::Config;
+use acct_service::{Exchange, Rounds, Rules, serve_in_slices};
 use std::alloc::Global;
 use std::fs::Files;
 use std::io::Write;
@@ -25,9 +24,8 @@ pub struct Watcher<'r, R, D: Write, E: Drop> {
 }
 
 impl<'r, R: Clock + Files, D: Write + Drop, E: Write + Drop> Watcher<'r, R, D, E> {
-    /// Serves a configuration over a book and an exchange for so many turns, and returns the
-    /// exchange. A report may be at most `oldest` seconds old when it is received, if that is
-    /// limited. It prints that it serves before the first turn, and the counts after the last one.
+    /// Serves by these rules over a book and an exchange for so many turns, and returns the
+    /// exchange. It prints that it serves before the first turn, and the counts after the last one.
     /// `serve_exchange` defines how it may end.
     ///
     /// Whatever is printed and written, the calls of the exchange are those of the run, and the
@@ -35,8 +33,7 @@ impl<'r, R: Clock + Files, D: Write + Drop, E: Write + Drop> Watcher<'r, R, D, E
     pub fn serve<B: Book, X: Exchange, G: Rounds, W: Write>(
         self,
         alloc: Global,
-        config: &Config,
-        oldest: Option<u64>,
+        rules: &Rules<'_>,
         book: &mut B,
         exchange: X,
         rounds: &mut G,
@@ -45,7 +42,7 @@ impl<'r, R: Clock + Files, D: Write + Drop, E: Write + Drop> Watcher<'r, R, D, E
     ) -> (X, Ended)
         requires turns { X.turn_count exchange + turns ≤ 2 ^ 64 - 1 }
         requires failures { X.failure_count exchange + turns ≤ 2 ^ 64 - 1 }
-        ensures { EndsOver B.Book X.Exchange oldest config.now turns
+        ensures { EndsOver B.Book X.Exchange rules.now.oldest rules.now.config.now turns
             (λ slices. GoRounds G.Rounds rounds.old slices rounds.new) book.old book.new
             exchange result.0 (W.contents output.old) (W.contents output.new) result.1 }
     {
@@ -55,32 +52,21 @@ impl<'r, R: Clock + Files, D: Write + Drop, E: Write + Drop> Watcher<'r, R, D, E
             counts,
         } = self;
         let mut watched = Watched::new(clock, exchange, drops, counts);
-        let ended = serve_exchange(
-            alloc,
-            config,
-            oldest,
-            book,
-            &mut watched,
-            rounds,
-            turns,
-            output,
-        );
+        let ended = serve_exchange(alloc, rules, book, &mut watched, rounds, turns, output);
         let (exchange, _drops) = watched.finish();
         (exchange, ended)
     }
 }
 
 /// Makes this many turns of an exchange over a book, in slices, and calls `rounds` after each
-/// slice. Makes fewer only if the book is found shut or stuck. A report may be at most `oldest`
-/// seconds old when it is received, if that is limited. Returns how the run ended. Prints and
+/// slice. Makes fewer only if the book is found shut or stuck. Returns how the run ended. Prints and
 /// flushes `serving` before the first turn, and the counts after the last one.
 ///
 /// The turns answer what they receive, whatever the output does then: they are a run of
 /// `serve_in_slices`.
 pub fn serve_exchange<B: Book, X: Exchange, G: Rounds, W: Write>(
     alloc: Global,
-    config: &Config,
-    oldest: Option<u64>,
+    rules: &Rules<'_>,
     book: &mut B,
     exchange: &mut X,
     rounds: &mut G,
@@ -89,14 +75,14 @@ pub fn serve_exchange<B: Book, X: Exchange, G: Rounds, W: Write>(
 ) -> Ended
     requires turns { X.turn_count exchange.old + turns ≤ 2 ^ 64 - 1 }
     requires failures { X.failure_count exchange.old + turns ≤ 2 ^ 64 - 1 }
-    ensures { EndsOver B.Book X.Exchange oldest config.now turns
+    ensures { EndsOver B.Book X.Exchange rules.now.oldest rules.now.config.now turns
         (λ slices. GoRounds G.Rounds rounds.old slices rounds.new) book.old book.new exchange.old
         exchange.new (W.contents output.old) (W.contents output.new) result }
 {
     let Ok(()) = write_serving(output) else {
         return Ended::NotBegun;
     };
-    let (served, until) = serve_in_slices(alloc, config, oldest, book, exchange, rounds, turns);
+    let (served, until) = serve_in_slices(alloc, rules, book, exchange, rounds, turns);
     match write_counts(output, &served) {
         Ok(()) => Ended::Told(served, until),
         Err(_) => Ended::Untold(served, until),

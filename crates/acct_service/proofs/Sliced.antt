@@ -1,7 +1,8 @@
 -- Slices of turns, one after another.
 use Rattle.std.proofs.Common.{◌≡◌, ℕ, List, [], ◌∷◌, ◌++◌, refl, sym, ◌∙◌, ap, subst, arith}
-use Rattle.std.proofs.Common.{inl, inr, Bor}
-use Rattle.std.specs.Prelude.{Option, Some, None, Contains, IfSome, unwrap_or}
+use Rattle.std.proofs.Common.{inl, inr, Bor, Bool, true, false, ◌≢◌}
+use Rattle.std.specs.Prelude.{◌+◌, ◌≤◌, ◌<◌, ◌||◌, length, Option, Some, None, Contains, IfSome, unwrap_or}
+use Rattle.std.specs.Prelude.{IsTrue, ⊤}
 use Rattle.std.specs.Option.{option_or, option_copied}
 use Rattle.std.proofs.lemmas.List.{map-append, append-nil}
 use Rattle.std.proofs.lemmas.List.Elements.{Contains-push_cases}
@@ -13,9 +14,18 @@ use Rattle.acct_site.specs.declared.config.Config.{Config}
 use Rattle.acct_service.specs.declared.exchange.Call.{Call}
 use Rattle.acct_service.specs.declared.rounds.Rounds as rounds
 use Rattle.acct_service.specs.declared.server.Served.{Served}
-use Rattle.acct_service.specs.Serving.{Attends, AreUnder, Counts, TakesTurns}
+use Rattle.acct_service.specs.declared.slices.Until.{Until}
+use Rattle.acct_service.specs.declared.slices.Until.TheVariants as until
+use Rattle.acct_service.specs.Machine.{Visit}
+use Rattle.acct_service.specs.Serving.{Attends, AreUnder, Counts, CountsMore, TakesTurns}
+use Rattle.acct_service.specs.Serving.{is_answered}
+use Rattle.acct_wire.specs.Reasons.{count_for}
+use Rattle.acct_wire.specs.declared.reason.Reason.TheVariants.{Unavailable}
 use Rattle.acct_service.specs.Slices.{Slice, site_then, Follow, visits_in, given_in}
-use Rattle.acct_service.specs.Slices.{GoRounds, ServesInSlices}
+use Rattle.acct_service.specs.Slices.{GoRounds, ServesInSlices, AreShort, AreStuck, NoneStuck}
+use Rattle.acct_service.specs.Slices.{EndsSo}
+use Rattle.std.specs.List.{list_any, sum_by}
+use Rattle.std.proofs.lemmas.List.Sums.{sum_by-append}
 use Rattle.acct_service.proofs.Visits.{attends_none, attends_join, attends_looked, counts_join}
 use Rattle.acct_service.proofs.Visits.{grows_none}
 
@@ -69,31 +79,121 @@ given_same plans site None other is all same = cc
 given_same plans site (Some this) other is all same =
     let it : this ≡ other = cc in subst (λ (c : Config). c.plans ≡ plans) it (all ∙ is)
 
+short_more : (slices : List Slice) (slice : Slice) → AreShort slices → slice.turns ≤ 256
+    → length slice.visits ≤ slice.turns → AreShort (slices ++ slice ∷ [])
+short_more [] slice all few visits = (few, visits, tt)
+short_more (first ∷ later) slice (few, seen, rest) is visits =
+    (few, seen, short_more later slice rest is visits)
+
+made_more : (slices : List Slice) (slice : Slice)
+    → sum_by (λ (s : Slice). s.turns) (slices ++ slice ∷ [])
+    ≡ sum_by (λ (s : Slice). s.turns) slices + slice.turns
+made_more slices slice =
+    omega (arith, sum_by-append (λ (s : Slice). s.turns) slices (slice ∷ []))
+
+-- how a run ends, or goes on, after turns with these visits
+abbrev pub EndsAfter : Until → List Visit → Type 0
+EndsAfter until.AllMade visits = AreStuck visits → ⊥
+EndsAfter until.Shut visits = ⊤
+EndsAfter until.Stuck visits = AreStuck visits
+EndsAfter until.Over visits = ⊤
+
+none_stuck_more : (slices : List Slice) (slice : Slice) → NoneStuck slices
+    → (AreStuck slice.visits → ⊥) → NoneStuck (slices ++ slice ∷ [])
+none_stuck_more [] slice none not = (not, tt)
+none_stuck_more (first ∷ later) slice (not, none) is =
+    (not, none_stuck_more later slice none is)
+
+ends_more : (why : Until) (slices : List Slice) (slice : Slice) → NoneStuck slices
+    → EndsAfter why slice.visits → EndsSo why (slices ++ slice ∷ [])
+ends_more until.AllMade slices slice none ends = none_stuck_more slices slice none ends
+ends_more until.Shut slices slice none ends = (slices, slice, refl, none)
+ends_more until.Stuck slices slice none ends = (slices, slice, refl, none, ends)
+ends_more until.Over slices slice none ends = (slices, slice, refl, none)
+
+or_false : (a : Bool) → (a || false) ≡ false → a ≡ false
+or_false true is = is
+or_false false is = refl
+
+or_left : (a : Bool) → a ≡ false → (a || false) ≡ false
+or_left true is = is
+or_left false is = refl
+
+-- turns are stuck as the counts and the outbox have it
+pub stuck_so : (visits : List Visit) (was is : Served) (answered : Bool)
+    → CountsMore visits was is → answered ≡ (list_any is_answered visits || false)
+    → answered ≡ false → count_for was.dropped Unavailable < count_for is.dropped Unavailable
+    → AreStuck visits
+stuck_so visits was is answered counts marks none more = (
+  omega (arith, counts.dropped Unavailable, more),
+  or_false (list_any is_answered visits) (sym marks ∙ none),
+)
+
+pub not_stuck_so : (visits : List Visit) (was is : Served) (answered : Bool)
+    → CountsMore visits was is → answered ≡ (list_any is_answered visits || false)
+    → (answered ≡ false → count_for is.dropped Unavailable ≤ count_for was.dropped Unavailable)
+    → AreStuck visits → ⊥
+not_stuck_so visits was is answered counts marks few (some, none) =
+    omega (
+      arith,
+      counts.dropped Unavailable,
+      some,
+      few (marks ∙ or_left (list_any is_answered visits) none),
+    )
+
+-- why a run ends, if it ends after a slice
+pub ends_early : (why : Until) (found : Option Until) (visits : List Visit) → found ≡ Some why
+    → found ≢ Some until.AllMade → (found ≡ Some until.Stuck → AreStuck visits)
+    → EndsAfter why visits
+ends_early until.AllMade found visits is early stuck = absurd (early is)
+ends_early until.Shut found visits is early stuck = tt
+ends_early until.Stuck found visits is early stuck = stuck is
+ends_early until.Over found visits is early stuck = tt
+
 -- one round more
 rounds_more : {R : Type 0} (r : rounds.Ghosts R) (first then last : R) (slices : List Slice)
-    (slice : Slice) → GoRounds r first slices then → r.goes then slice.site slice.given last
-    → GoRounds r first (slices ++ slice ∷ []) last
-rounds_more r first then last [] slice same goes =
-    (last, subst (λ it. r.goes it slice.site slice.given last) (sym same) goes, refl)
-rounds_more r first then last (one ∷ later) slice (next, went, rest) goes =
-    (next, went, rounds_more r next then last later slice rest goes)
+    (slice : Slice) → GoRounds r first slices then → (slices ≢ [] → r.is_over then ≡ false)
+    → r.goes then slice.site slice.given last → GoRounds r first (slices ++ slice ∷ []) last
+rounds_more r first then last [] slice same goes_on goes = (
+  last,
+  subst (λ it. r.goes it slice.site slice.given last) (sym same) goes,
+  λ none. absurd (none refl),
+  refl,
+)
+rounds_more r first then last (one ∷ []) slice (next, went, only, same) goes_on goes = (
+  next,
+  went,
+  λ more. subst (λ it. r.is_over it ≡ false) (sym same) (goes_on (λ is. cc)),
+  rounds_more r next then last [] slice same (λ none. absurd (none refl)) goes,
+)
+rounds_more r first then last (one ∷ second ∷ later) slice (next, went, on, rest) goes_on goes = (
+  next,
+  went,
+  λ more. on (λ is. cc),
+  rounds_more r next then last (second ∷ later) slice rest (λ more. goes_on (λ is. cc)) goes,
+)
 
 module _ {B R : Type 0} (b : book.Ghosts B) (r : rounds.Ghosts R) (oldest : Option ℕ)
     (config : Config) where
   -- how far the slices got: the run so far, and the configuration for the turns that follow
   pub record Reached (old new : B) (old_told new_told : Option (List Call)) (first last : R)
-      (site : Config) (served : Served) : Type 0 where
+      (site : Config) (made : ℕ) (served : Served) (why : Until) : Type 0 where
     pub so_far : ServesInSlices b oldest config old new old_told new_told
-        (λ slices. GoRounds r first slices last) served
+        (λ slices. GoRounds r first slices last) made served why
     pub site_is : site ≡ site_after config so_far.slices
+    -- no round so far has ended the run
+    pub goes_on : why ≡ until.AllMade → so_far.slices ≢ [] → r.is_over last ≡ false
     pub plans_are : site.plans ≡ config.plans
 
   -- before the first slice
   pub reached_none : (book : B) (told : Option (List Call)) (first : R) (served : Served)
-      → Counts [] served → Reached book book told told first first config served
+      → Counts [] served → Reached book book told told first first config 0 served until.AllMade
   reached_none book told first served counts = record {
     so_far = record {
       slices = [];
+      short = tt;
+      made = refl;
+      ends = tt;
       follow = tt;
       same_plans = λ site (place, within, is). absurd (omega (arith, within));
       went = refl;
@@ -101,20 +201,25 @@ module _ {B R : Type 0} (b : book.Ghosts B) (r : rounds.Ghosts R) (oldest : Opti
       counts = counts;
     };
     site_is = refl;
+    goes_on = λ is none. absurd (none refl);
     plans_are = refl;
   }
 
   -- one slice more, and the round after it
   pub reached_more : (old mid looked new : B) (told later last : Option (List Call))
-      (first before after : R) (site : Config) (was is : Served) (gave : Option Config)
-      → Reached old mid told later first before site was
-      → TakesTurns b oldest site mid looked later last was is → OnlyLooks b looked new
+      (first before after : R) (site : Config) (made turns_made : ℕ) (was is : Served)
+      (had has : Bool) (gave : Option Config) (why : Until)
+      → turns_made ≤ 256 → is.events ≤ was.events + turns_made
+      → Reached old mid told later first before site made was until.AllMade
+      → (turns : TakesTurns b oldest site mid looked later last was is had has)
+      → EndsAfter why turns.visits → (why ≡ until.AllMade → r.is_over after ≡ false)
+      → OnlyLooks b looked new
       → IfSome gave (λ other. other.plans ≡ site.plans) → r.goes before site gave after
-      → Reached old new told last first after (site_then site gave) is
-  reached_more old mid looked new told later last first before after site was is gave reached
-      turns looks plans goes =
+      → Reached old new told last first after (site_then site gave) (made + turns_made) is why
+  reached_more old mid looked new told later last first before after site made turns_made was is had
+      has gave why few events reached turns ends on looks plans goes =
       let so_far = reached.so_far in
-      let slice : Slice = record { site = site; visits = turns.visits; given = gave } in
+      let slice : Slice = record { site = site; turns = turns_made; visits = turns.visits; given = gave } in
       let visits_are : visits_in so_far.slices ++ turns.visits
       ≡ visits_in (so_far.slices ++ slice ∷ []) =
       ap (λ vs. visits_in so_far.slices ++ vs) (sym (append-nil turns.visits))
@@ -125,6 +230,10 @@ module _ {B R : Type 0} (b : book.Ghosts B) (r : rounds.Ghosts R) (oldest : Opti
       record {
         so_far = record {
           slices = so_far.slices ++ slice ∷ [];
+          short = short_more so_far.slices slice so_far.short few
+              (omega (arith, turns.counts.events, events));
+          made = omega (arith, made_more so_far.slices slice, so_far.made);
+          ends = ends_more why so_far.slices slice so_far.ends ends;
           follow = follow_more oldest config so_far.slices slice so_far.follow reached.site_is
               turns.under;
           same_plans = λ other at. elim (Contains-push_cases (given_in so_far.slices) gave
@@ -132,7 +241,8 @@ module _ {B R : Type 0} (b : book.Ghosts B) (r : rounds.Ghosts R) (oldest : Opti
                 | inl earlier ↦ so_far.same_plans other earlier
                 | inr same ↦ given_same config.plans site gave other reached.plans_are plans same
               ];
-          went = rounds_more r first before after so_far.slices slice so_far.went goes;
+          went = rounds_more r first before after so_far.slices slice so_far.went
+              (reached.goes_on refl) goes;
           attends = subst (λ vs. Attends b config.plans vs old new told last) visits_are
               (attends_looked b config.plans (visits_in so_far.slices ++ turns.visits) old looked
               new told last
@@ -145,19 +255,23 @@ module _ {B R : Type 0} (b : book.Ghosts B) (r : rounds.Ghosts R) (oldest : Opti
               turns.counts);
         };
         site_is = sym (after_more config so_far.slices slice);
+        goes_on = λ is some. on is;
         plans_are = same_then config.plans site gave reached.plans_are plans;
       }
 
   -- after a read of the book
   pub reached_looked : (old mid new : B) (told later : Option (List Call)) (first last : R)
-      (site : Config) (served : Served)
-      → Reached old mid told later first last site served → OnlyLooks b mid new
-      → Reached old new told later first last site served
-  reached_looked old mid new told later first last site served reached looks =
+      (site : Config) (made : ℕ) (served : Served) (why : Until)
+      → Reached old mid told later first last site made served why → OnlyLooks b mid new
+      → Reached old new told later first last site made served why
+  reached_looked old mid new told later first last site made served why reached looks =
       let so_far = reached.so_far in
       record {
         so_far = record {
           slices = so_far.slices;
+          short = so_far.short;
+          made = so_far.made;
+          ends = so_far.ends;
           follow = so_far.follow;
           same_plans = so_far.same_plans;
           went = so_far.went;
@@ -166,25 +280,36 @@ module _ {B R : Type 0} (b : book.Ghosts B) (r : rounds.Ghosts R) (oldest : Opti
           counts = so_far.counts;
         };
         site_is = reached.site_is;
+        goes_on = reached.goes_on;
         plans_are = reached.plans_are;
       }
 
   -- a slice, the round after it, and a read of the book after that
   pub reached_slice : (old mid turned looked new : B) (told later last : Option (List Call))
       (first before after : R) (changed gave : Option Config)
-      (site : Config) (was is : Served) → site ≡ unwrap_or changed config
-      → Reached old mid told later first before (unwrap_or changed config) was
-      → TakesTurns b oldest site mid turned later last was is → OnlyLooks b turned looked
+      (site : Config) (made turns_made all : ℕ) (was is : Served) (had has : Bool) (why : Until)
+      → all ≡ made + turns_made → site ≡ unwrap_or changed config
+      → turns_made ≤ 256 → is.events ≤ was.events + turns_made
+      → Reached old mid told later first before (unwrap_or changed config) made was until.AllMade
+      → (turns : TakesTurns b oldest site mid turned later last was is had has)
+      → EndsAfter why turns.visits → (why ≡ until.AllMade → r.is_over after ≡ false)
+      → OnlyLooks b turned looked
       → IfSome gave (λ other. other.plans ≡ site.plans) → r.goes before site gave after
       → OnlyLooks b looked new
-      → Reached old new told last first after (unwrap_or (option_or gave changed) config) is
-  reached_slice old mid turned looked new told later last first before after changed gave site was
-      is found reached turns looks plans goes again =
+      → Reached old new told last first after (unwrap_or (option_or gave changed) config) all is why
+  reached_slice old mid turned looked new told later last first before after changed gave site made
+      turns_made all was is had has why all_is found few events reached turns ends on looks plans
+      goes again =
       let now = unwrap_or changed config in
       let then = site_then now gave in
-      subst (λ c. Reached old new told last first after c is) (sym (site_kept config changed gave))
-      (reached_looked old looked new told last first after then is
-      (reached_more old mid turned looked told later last first before after now was is gave reached
-      (subst (λ c. TakesTurns b oldest c mid turned later last was is) found turns) looks
+      let (taken, ended) = subst
+      (λ c. (t : TakesTurns b oldest c mid turned later last was is had has)
+      × EndsAfter why t.visits) found (turns, ends) in
+      subst (λ c. Reached old new told last first after c all is why)
+      (sym (site_kept config changed gave))
+      (subst (λ m. Reached old new told last first after then m is why) (sym all_is)
+      (reached_looked old looked new told last first after then (made + turns_made) is why
+      (reached_more old mid turned looked told later last first before after now made turns_made was is
+      had has gave why few events reached taken ended on looks
       (subst (λ (c : Config). IfSome gave (λ other. other.plans ≡ c.plans)) found plans)
-      (subst (λ c. r.goes before c gave after) found goes)) again)
+      (subst (λ c. r.goes before c gave after) found goes)) again))

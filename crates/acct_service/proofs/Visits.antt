@@ -1,9 +1,11 @@
 -- A server's turns, one after another.
 use Rattle.std.proofs.Common.{◌≡◌, ◌≢◌, ◌⊎◌, ◌+◌, ◌≤◌, ℕ, inl, inr, Bool, List, [], ◌∷◌, ◌++◌, refl}
+use Rattle.std.proofs.Common.{true, false}
 use Rattle.std.proofs.Common.{sym}
 use Rattle.std.proofs.Common.{◌∙◌, ap, subst, arith, map, length-append, append_assoc}
-use Rattle.std.specs.Prelude.{count_by, cond, Option, Some, None, Contains}
-use Rattle.std.specs.List.{flat_map}
+use Rattle.std.specs.Prelude.{count_by, cond, Option, Some, None, Contains, ◌||◌}
+use Rattle.std.specs.List.{flat_map, list_any}
+use Rattle.std.proofs.lemmas.List.Folds.{list_any-append}
 use Rattle.std.proofs.lemmas.List.{map-append, append-nil}
 use Rattle.std.proofs.lemmas.List.Elements.{Contains-append_left, Contains-append_right}
 use Rattle.std.proofs.lemmas.List.Elements.{Contains-append_cases, Contains-push}
@@ -25,9 +27,9 @@ use Rattle.acct_service.specs.declared.event.Event.{Event}
 use Rattle.acct_service.specs.declared.exchange.Call.{Call}
 use Rattle.acct_service.specs.declared.server.Served.{Served}
 use Rattle.acct_service.specs.Machine.{Answer, replied, Visit, Run, TakesStep, IsAnswered}
-use Rattle.acct_service.specs.Machine.{AsksBalance}
+use Rattle.acct_service.specs.Machine.{AsksBalance, answers_datagram}
 use Rattle.acct_service.specs.Told.{Grows}
-use Rattle.acct_service.specs.Serving.{calls_of, is_replied, is_dropped_for, is_mute}
+use Rattle.acct_service.specs.Serving.{calls_of, is_replied, is_dropped_for, is_mute, is_answered}
 use Rattle.acct_service.specs.Serving.{Counts, CountsMore, HasFailed, MayLeave, Leads, Attends}
 use Rattle.acct_service.specs.Serving.{TakesTurn, TakesTurns, Serves, Keeps, AtMost, IsUnder}
 use Rattle.acct_service.specs.Serving.{AreUnder}
@@ -67,6 +69,26 @@ keeps_then b old mid new first second = record {
 count_by-append : {X : Type 0} (p : X → Bool) (xs ys : List X)
     → count_by p (xs ++ ys) ≡ count_by p xs + count_by p ys
 count_by-append p xs ys = sum_by-append (λ y. cond (p y) 1 0) xs ys
+
+or_join : (later first before : Bool) → (later || (first || before)) ≡ ((first || later) || before)
+or_join true true before = refl
+or_join true false before = refl
+or_join false true before = refl
+or_join false false before = refl
+
+-- a datagram of either list was answered, or one before
+answered_join : (visits more : List Visit) (before mid after : Bool)
+    → mid ≡ (list_any is_answered visits || before)
+    → after ≡ (list_any is_answered more || mid)
+    → after ≡ (list_any is_answered (visits ++ more) || before)
+answered_join visits more before mid after first second =
+    second ∙ ap (λ x. list_any is_answered more || x) first
+    ∙ or_join (list_any is_answered more) (list_any is_answered visits) before
+    ∙ ap (λ x. x || before) (sym (list_any-append is_answered visits more))
+
+or_none : (a b : Bool) → (a || b) ≡ ((a || false) || b)
+or_none true b = refl
+or_none false b = refl
 
 -- counts rise by those of more visits
 pub counts_join : (visits more : List Visit) (old new : Served) → Counts visits old
@@ -338,9 +360,9 @@ module _ {B : Type 0} (b : Ghosts B) (oldest : Option ℕ) (config : Config) whe
       }
 
   -- no turn
-  pub turns_none : (book : B) (told : Option (List Call)) (served : Served)
-      → TakesTurns b oldest config book book told told served served
-  turns_none book told served = record {
+  pub turns_none : (book : B) (told : Option (List Call)) (served : Served) (answered : Bool)
+      → TakesTurns b oldest config book book told told served served answered answered
+  turns_none book told served answered = record {
     visits = [];
     under = under_none oldest config;
     attends = attends_none b config.plans book told told (grows_none told);
@@ -350,35 +372,41 @@ module _ {B : Type 0} (b : Ghosts B) (oldest : Option ℕ) (config : Config) whe
       dropped = λ reason. omega arith;
       mute = omega arith;
     };
+    answered = refl;
   }
 
   -- one turn more
   pub turns_more : (old mid new : B) (told later last : Option (List Call)) (was now is : Served)
-      → TakesTurns b oldest config old mid told later was now
-      → TakesTurn b oldest config mid new later last now is
-      → TakesTurns b oldest config old new told last was is
-  turns_more old mid new told later last was now is turns turn = record {
+      (before between after : Bool)
+      → TakesTurns b oldest config old mid told later was now before between
+      → TakesTurn b oldest config mid new later last now is between after
+      → TakesTurns b oldest config old new told last was is before after
+  turns_more old mid new told later last was now is before between after turns turn = record {
     visits = turns.visits ++ turn.visits;
     under = under_both oldest config turns.visits turn.visits turns.under turn.under;
     attends = attends_join b config.plans turns.visits turn.visits old mid new told later last turns.attends
         turn.attends;
     counts = counts_more turns.visits turn.visits was now is turns.counts turn.counts;
+    answered = answered_join turns.visits turn.visits before between after turns.answered
+        turn.answered;
   }
 
   -- a turn in which nothing was received
-  pub turn_none : (book : B) (told later : Option (List Call)) (was is : Served)
-      → Grows told [] later → CountsMore [] was is → TakesTurn b oldest config book book told later was is
-  turn_none book told later was is grows counts = record {
+  pub turn_none : (book : B) (told later : Option (List Call)) (was is : Served) (answered : Bool)
+      → Grows told [] later → CountsMore [] was is
+      → TakesTurn b oldest config book book told later was is answered answered
+  turn_none book told later was is answered grows counts = record {
     visits = [];
     at_most_one = omega arith;
     under = under_none oldest config;
     attends = attends_none b config.plans book told later grows;
     counts = counts;
+    answered = refl;
   }
 
   -- a turn in which an event was received and answered
   pub turn_one : (old new : B) (told later : Option (List Call)) (was is : Served)
-      (event : Event) (answer : Answer) (is_taken : Bool)
+      (before after : Bool) (event : Event) (answer : Answer) (is_taken : Bool)
       (t : TakesStep b oldest config event.moment event.what old new answer)
       → (let visit : Visit = record {
         site = config;
@@ -388,9 +416,10 @@ module _ {B : Type 0} (b : Ghosts B) (oldest : Option ℕ) (config : Config) whe
         effect = t.effect;
         is_taken = is_taken;
       } in
-      Grows told (calls_of visit) later × CountsMore (visit ∷ []) was is)
-      → TakesTurn b oldest config old new told later was is
-  turn_one old new told later was is event answer is_taken t (grows, counts) =
+      Grows told (calls_of visit) later × CountsMore (visit ∷ []) was is
+      × (after ≡ (answers_datagram event.what answer || before)))
+      → TakesTurn b oldest config old new told later was is before after
+  turn_one old new told later was is before after event answer is_taken t (grows, counts, marks) =
       let visit : Visit = record {
         site = config;
         oldest = oldest;
@@ -405,6 +434,7 @@ module _ {B : Type 0} (b : Ghosts B) (oldest : Option ℕ) (config : Config) whe
         under = under_one oldest config visit (refl, refl);
         attends = attends_one old new told later event answer is_taken t grows;
         counts = counts;
+        answered = marks ∙ or_none (answers_datagram event.what answer) before;
       }
 
 module _ {B : Type 0} (b : Ghosts B) (config : Config) where
@@ -420,9 +450,10 @@ module _ {B : Type 0} (b : Ghosts B) (config : Config) where
 
   -- after more turns
   pub serves_more : (old mid new : B) (told later last : Option (List Call)) (was is : Served)
-      → Serves b config old mid told later was → TakesTurns b None config mid new later last was is
+      (before after : Bool) → Serves b config old mid told later was
+      → TakesTurns b None config mid new later last was is before after
       → Serves b config old new told last is
-  serves_more old mid new told later last was is s turns = record {
+  serves_more old mid new told later last was is before after s turns = record {
     visits = s.visits ++ turns.visits;
     under = under_both None config s.visits turns.visits s.under turns.under;
     attends = attends_join b config.plans s.visits turns.visits old mid new told later last s.attends

@@ -2,7 +2,7 @@
 -- newest first; lists of events and visits have the oldest first. A configuration's plans are those
 -- in force at the end of the history: no plans are added while events arrive. Clients and keys may
 -- change between two events, so each visit has the configuration that it was answered under.
-use Rattle.std.specs.Prelude.{◌≡◌, ◌≢◌, ℕ, Bool, List, [], ◌∷◌, Option}
+use Rattle.std.specs.Prelude.{◌≡◌, ◌≢◌, ℕ, Bool, true, false, List, [], ◌∷◌, Option}
 use Rattle.acct_model.specs.declared.plan.Plan.{Plan}
 use Rattle.acct_model.specs.History.{History}
 use Rattle.acct_book.specs.declared.book.Book.{Ghosts}
@@ -36,6 +36,17 @@ abbrev pub answer_of : Turn → List ℕ → Answer
 answer_of turn.Reply octets = replied octets
 answer_of (turn.Dropped reason) octets = dropped reason
 answer_of turn.Mute octets = mute
+
+-- it is a reply or a response
+abbrev pub is_reply : Answer → Bool
+is_reply (replied octets) = true
+is_reply (dropped reason) = false
+is_reply mute = false
+
+-- a datagram is answered with a reply
+abbrev pub answers_datagram : What → Answer → Bool
+answers_datagram (Datagram source port bytes) answer = is_reply answer
+answers_datagram (Desk bytes) answer = false
 
 -- A datagram is answered as acct_wire specifies, and is never mute. A report may be at most so many
 -- seconds old when it is received, if that is limited.

@@ -1,8 +1,8 @@
 -- What a server does in its turns: a run of the machine, over a book, recorded by the exchange, and
 -- counted.
-use Rattle.std.specs.Prelude.{◌≡◌, ◌≢◌, ◌⊎◌, ◌+◌, ◌≤◌, ℕ, Bool, true, false, ◌==◌, List, []}
+use Rattle.std.specs.Prelude.{◌≡◌, ◌≢◌, ◌⊎◌, ◌+◌, ◌≤◌, ℕ, Bool, true, false, ◌==◌, ◌||◌, List, []}
 use Rattle.std.specs.Prelude.{◌∷◌, Option, None, map, length, count_by, Contains}
-use Rattle.std.specs.List.{flat_map}
+use Rattle.std.specs.List.{flat_map, list_any}
 use Rattle.acct_model.specs.declared.plan.Plan.{Plan}
 use Rattle.acct_model.specs.declared.entry.Entry.{Entry}
 use Rattle.acct_model.specs.History.{History}
@@ -20,7 +20,7 @@ use Rattle.acct_service.specs.declared.exchange.Call.{Call}
 use Rattle.acct_service.specs.declared.exchange.Call.TheVariants as call
 use Rattle.acct_service.specs.declared.server.Served.{Served}
 use Rattle.acct_service.specs.Machine.{Answer, replied, dropped, mute, AsksBalance, IsAnswered}
-use Rattle.acct_service.specs.Machine.{Visit, Run}
+use Rattle.acct_service.specs.Machine.{Visit, Run, answers_datagram}
 use Rattle.acct_service.specs.Told.{Grows, reply_asked, drop_told}
 
 -- ---- calls
@@ -64,6 +64,10 @@ mutes mute = true
 -- there was no memory for its response
 abbrev pub is_mute : Visit → Bool
 is_mute visit = mutes visit.answer
+
+-- its datagram was answered with a reply, taken or not
+abbrev pub is_answered : Visit → Bool
+is_answered visit = answers_datagram visit.event.what visit.answer
 
 -- each count is that of the visits that it is named for
 pub record Counts (visits : List Visit) (served : Served) : Type 0 where
@@ -150,22 +154,28 @@ abbrev pub AreUnder : Option ℕ → Config → List Visit → Type 0
 AreUnder oldest config visits =
     (visit : Visit) → Contains visits visit → IsUnder oldest config visit
 
--- a turn: one visit, or none if nothing was received
+-- A turn: one visit, or none if nothing was received. It is kept whether a datagram was answered, in
+-- this turn or before.
 pub record TakesTurn {B : Type 0} (b : Ghosts B) (oldest : Option ℕ) (config : Config) (old new : B)
-    (old_told new_told : Option (List Call)) (old_served new_served : Served) : Type 0 where
+    (old_told new_told : Option (List Call)) (old_served new_served : Served)
+    (had_answered has_answered : Bool) : Type 0 where
   pub visits : List Visit
   pub at_most_one : length visits ≤ 1
   pub under : AreUnder oldest config visits
   pub attends : Attends b config.plans visits old new old_told new_told
   pub counts : CountsMore visits old_served new_served
+  pub answered : has_answered ≡ (list_any is_answered visits || had_answered)
 
--- turns, whose visits were added to the counts
+-- Turns, whose visits were added to the counts. It is kept whether a datagram was answered, in them
+-- or before.
 pub record TakesTurns {B : Type 0} (b : Ghosts B) (oldest : Option ℕ) (config : Config) (old new : B)
-    (old_told new_told : Option (List Call)) (old_served new_served : Served) : Type 0 where
+    (old_told new_told : Option (List Call)) (old_served new_served : Served)
+    (had_answered has_answered : Bool) : Type 0 where
   pub visits : List Visit
   pub under : AreUnder oldest config visits
   pub attends : Attends b config.plans visits old new old_told new_told
   pub counts : CountsMore visits old_served new_served
+  pub answered : has_answered ≡ (list_any is_answered visits || had_answered)
 
 -- turns, as many as there were, for reports of any age
 pub record Serves {B : Type 0} (b : Ghosts B) (config : Config) (old new : B)

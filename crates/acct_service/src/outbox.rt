@@ -1,8 +1,9 @@
 //! Answers datagrams and requests, and holds the octets to send.
-ghost use Rattle.std.specs.Prelude.{◌≡◌, ◌≤◌, ◌<◌, ◌^◌, [], ℕ, Option};
+ghost use Rattle.std.specs.Prelude.{◌≡◌, ◌≤◌, ◌<◌, ◌^◌, [], ℕ, Option, false, ◌||◌};
 ghost use Rattle.acct_service.specs.declared.event.What.TheVariants as what;
-ghost use Rattle.acct_service.specs.Machine.{TakesStep, answer_of};
+ghost use Rattle.acct_service.specs.Machine.{TakesStep, answer_of, is_reply};
 
+use crate::rules::Rules;
 use crate::stepping::Turn;
 use acct_book::Book;
 use acct_desk::handle;
@@ -12,12 +13,13 @@ use std::alloc::Global;
 use std::marker::Model;
 
 /// The octets of an answer. The reply to a datagram is in an array that is made once. A response of
-/// the desk is kept as the desk returned it. Contracts see it as these octets.
+/// the desk is kept as the desk returned it. It also keeps whether a datagram was answered. Contracts
+/// see it as these octets and that.
 pub struct Outbox {
     reply: [u8; LONGEST_PACKET],
     size: usize,
     response: Option<Vec<u8>>,
-    answered: u64,
+    has_answered: bool,
 }
 
 impl Drop for Outbox {
@@ -26,18 +28,18 @@ impl Drop for Outbox {
             reply: _,
             size: _,
             response: _,
-            answered: _,
+            has_answered: _,
         } = self;
     }
 }
 
 impl Model for Outbox {
-    ghost use Rattle.std.specs.Prelude.{List, ℕ, ◌≤◌};
-    ghost use Rattle.acct_service.specs.Sending.{octets_in};
+    ghost use Rattle.std.specs.Prelude.{◌≤◌};
+    ghost use Rattle.acct_service.specs.Sending.{Held, held};
 
-    ghost Value = { List ℕ };
+    ghost Value = { Held };
 
-    ghost view = { λ o. octets_in o.reply o.size o.response };
+    ghost view = { λ o. held o.reply o.size o.response o.has_answered };
 
     ghost use Rattle.acct_wire.specs.declared.answering.TheConstants.{LONGEST_PACKET};
 
@@ -47,19 +49,20 @@ impl Model for Outbox {
 impl Outbox {
     /// An empty outbox. It allocates no memory.
     pub fn new() -> Outbox
-        ensures { result ≡ [] }
+        ensures octets { result.octets ≡ [] }
+        ensures none { result.has_answered ≡ false }
     {
         Outbox {
             reply: [0; LONGEST_PACKET],
             size: 0,
             response: None,
-            answered: 0,
+            has_answered: false,
         }
     }
 
     /// The octets of the last reply or response. It allocates no memory.
     pub fn bytes(&self) -> &[u8]
-        ensures { result.now ≡ self.now }
+        ensures { result.now ≡ self.now.octets }
     {
         match &self.response {
             Some(response) => response.as_slice(),
@@ -67,30 +70,39 @@ impl Outbox {
         }
     }
 
-    // How many datagrams were answered with a reply. The count stays at 2^64 - 1.
-    pub(crate) fn answered(&self) -> u64 {
-        self.answered
+    // Whether a datagram was answered with a reply since `forget_answers`.
+    pub(crate) fn has_answered(&self) -> bool
+        ensures { result ≡ self.now.has_answered }
+    {
+        self.has_answered
     }
 
-    // Answers a datagram, and keeps the reply. A report may be at most so many seconds old, if that
-    // is limited.
+    // From now on no datagram was answered, until one is.
+    pub(crate) fn forget_answers(&mut self)
+        ensures { self.new.has_answered ≡ false }
+    {
+        self.has_answered = false;
+    }
+
+    // Answers a datagram, and keeps the reply.
     pub(crate) fn answer_datagram<B: Book>(
         &mut self,
         alloc: Global,
-        config: &Config,
-        oldest: Option<u64>,
+        rules: &Rules<'_>,
         book: &mut B,
         datagram: &Datagram<'_>,
     ) -> Turn
-        ensures { (port : ℕ) → TakesStep B.Book oldest config.now datagram.now.moment
-            (what.Datagram datagram.now.source port datagram.now.bytes.now) book.old book.new
-            (answer_of result self.new) }
+        ensures step { (port : ℕ) → TakesStep B.Book rules.now.oldest rules.now.config.now
+            datagram.now.moment (what.Datagram datagram.now.source port datagram.now.bytes.now) book.old book.new
+            (answer_of result self.new.octets) }
+        ensures answered { self.new.has_answered
+            ≡ (is_reply (answer_of result self.new.octets) || self.old.has_answered) }
     {
         let outcome = answer_within(
             alloc,
-            &config.clients,
-            &config.plans,
-            oldest,
+            &rules.config.clients,
+            &rules.config.plans,
+            rules.oldest,
             book,
             datagram,
             &mut self.reply,
@@ -99,7 +111,7 @@ impl Outbox {
             Outcome::Reply(size) => {
                 self.size = size;
                 self.response = None;
-                self.answered = self.answered.saturating_add(1);
+                self.has_answered = true;
                 Turn::Reply
             }
             Outcome::Drop(reason) => Turn::Dropped(reason),
@@ -116,8 +128,9 @@ impl Outbox {
         moment: u64,
     ) -> Turn
         requires { moment < 2 ^ 53 }
-        ensures { (oldest : Option ℕ) → TakesStep B.Book oldest config.now moment
-            (what.Desk bytes.now) book.old book.new (answer_of result self.new) }
+        ensures step { (oldest : Option ℕ) → TakesStep B.Book oldest config.now moment
+            (what.Desk bytes.now) book.old book.new (answer_of result self.new.octets) }
+        ensures answered { self.new.has_answered ≡ self.old.has_answered }
     {
         match handle(alloc, &config.keys, &config.plans, book, bytes, moment) {
             Ok(response) => {

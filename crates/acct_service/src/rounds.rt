@@ -1,5 +1,5 @@
 //! What a server does between its slices of turns.
-ghost use Rattle.std.specs.Prelude.{◌≡◌, None, Option, IfSome};
+ghost use Rattle.std.specs.Prelude.{◌≡◌, Bool, false, None, Option, IfSome};
 ghost use Rattle.acct_book.specs.Step.{OnlyLooks};
 ghost use Rattle.acct_site.specs.declared.config.Config.{Config};
 
@@ -7,12 +7,15 @@ use acct_book::Book;
 use acct_site::Config;
 use std::alloc::Global;
 
-/// Called between slices of turns. It may read the book but not change it, and may return a new
-/// configuration.
+/// Called between slices of turns. It may read the book but not change it, may return a new
+/// configuration, and may end the run.
 pub trait Rounds {
     /// Relates the value before, the configuration in force, the configuration returned, and the
     /// value after.
     ghost goes: { Self → Config → Option Config → Self → Type 0 };
+
+    /// Whether no turn may follow.
+    ghost is_over: { Self → Bool };
 
     /// Returns the configuration for the turns that follow, if it is another one: with other
     /// clients or keys, and the same plans.
@@ -20,6 +23,10 @@ pub trait Rounds {
         ensures looks { OnlyLooks B.Book book.old book.new }
         ensures plans { IfSome result (λ site. site.plans ≡ config.now.plans) }
         ensures goes { goes self.old config.now result self.new };
+
+    /// Whether the run ends here, after a round.
+    fn is_over(&self) -> bool
+        ensures { result ≡ is_over self.now };
 }
 
 /// Does nothing between slices.
@@ -29,6 +36,8 @@ pub struct NoRounds;
 impl Rounds for NoRounds {
     ghost goes = { λ _ _ gave _. gave ≡ None };
 
+    ghost is_over = { λ _. false };
+
     fn go_round<B: Book>(
         &mut self,
         _alloc: Global,
@@ -36,5 +45,9 @@ impl Rounds for NoRounds {
         _book: &mut B,
     ) -> Option<Config> {
         None
+    }
+
+    fn is_over(&self) -> bool {
+        false
     }
 }

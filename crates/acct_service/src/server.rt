@@ -7,6 +7,7 @@ ghost use Rattle.acct_service.specs.Serving.{Serves, TakesTurn, TakesTurns, Coun
 
 use crate::exchange::Exchange;
 use crate::outbox::Outbox;
+use crate::rules::Rules;
 use crate::stepping::{Turn, step_within};
 use acct_book::Book;
 use acct_site::Config;
@@ -62,9 +63,8 @@ impl Served {
     }
 }
 
-/// Makes one turn: one `next`, and at most one `step_within` and one `reply` or `note_drop`. A
-/// report may be at most `oldest` seconds old when it is received, if that is limited. An event is
-/// answered and counted. A fault is counted too. An entry that was recorded stays recorded if its
+/// Makes one turn: one `next`, and at most one `step_within` and one `reply` or `note_drop`. An event
+/// is answered and counted. A fault is counted too. An entry that was recorded stays recorded if its
 /// reply fails.
 ///
 /// Turns join (`laws::turns_join`), so all that `serve` ensures at its end holds after each of its
@@ -75,8 +75,7 @@ impl Served {
 /// It costs what `answer` or `handle` costs.
 pub fn take_turn<B: Book, X: Exchange>(
     alloc: Global,
-    config: &Config,
-    oldest: Option<u64>,
+    rules: &Rules<'_>,
     book: &mut B,
     exchange: &mut X,
     out: &mut Outbox,
@@ -90,15 +89,17 @@ pub fn take_turn<B: Book, X: Exchange>(
         ≡ X.failure_count exchange.old + served.new.faults }
     ensures few { X.failure_count exchange.new ≤ X.failure_count exchange.old + 1 }
     ensures room { (n : ℕ) → AtMost n served.old → AtMost (n + 1) served.new }
-    ensures turn { TakesTurn B.Book oldest config.now book.old book.new (X.told exchange.old)
-        (X.told exchange.new) served.old served.new }
+    ensures events { served.new.events ≤ served.old.events + 1 }
+    ensures turn { TakesTurn B.Book rules.now.oldest rules.now.config.now book.old book.new
+        (X.told exchange.old) (X.told exchange.new) served.old served.new out.old.has_answered
+        out.new.has_answered }
 {
     match exchange.next() {
         Err(_) => served.faults += 1,
         Ok(None) => {}
         Ok(Some(event)) => {
             served.events += 1;
-            match step_within(alloc, config, oldest, book, &event, out) {
+            match step_within(alloc, rules, book, &event, out) {
                 Turn::Reply => match exchange.reply(&event, out.bytes()) {
                     Ok(()) => served.replies += 1,
                     Err(_) => served.faults += 1,
@@ -116,8 +117,7 @@ pub fn take_turn<B: Book, X: Exchange>(
 /// Makes exactly `limit` turns, as `take_turn` makes one, and adds to the counts.
 pub fn take_turns<B: Book, X: Exchange>(
     alloc: Global,
-    config: &Config,
-    oldest: Option<u64>,
+    rules: &Rules<'_>,
     book: &mut B,
     exchange: &mut X,
     limit: u64,
@@ -132,11 +132,13 @@ pub fn take_turns<B: Book, X: Exchange>(
         ≡ X.failure_count exchange.old + served.new.faults }
     ensures few { X.failure_count exchange.new ≤ X.failure_count exchange.old + limit }
     ensures room { (n : ℕ) → AtMost n served.old → AtMost (n + limit) served.new }
-    ensures taken { TakesTurns B.Book oldest config.now book.old book.new (X.told exchange.old)
-        (X.told exchange.new) served.old served.new }
+    ensures events { served.new.events ≤ served.old.events + limit }
+    ensures taken { TakesTurns B.Book rules.now.oldest rules.now.config.now book.old book.new
+        (X.told exchange.old) (X.told exchange.new) served.old served.new out.old.has_answered
+        out.new.has_answered }
 {
     for turn in 0..limit {
-        take_turn(alloc, config, oldest, book, exchange, out, served);
+        take_turn(alloc, rules, book, exchange, out, served);
     }
 }
 
@@ -176,15 +178,10 @@ pub fn serve<B: Book, X: Exchange>(
 {
     let mut out = Outbox::new();
     let mut served = Served::none();
-    take_turns(
-        alloc,
+    let rules = Rules {
         config,
-        None,
-        book,
-        exchange,
-        limit,
-        &mut out,
-        &mut served,
-    );
+        oldest: None,
+    };
+    take_turns(alloc, &rules, book, exchange, limit, &mut out, &mut served);
     served
 }

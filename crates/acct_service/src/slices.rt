@@ -1,6 +1,6 @@
 //! Turns in slices. After each slice the server polls what may have changed: its clients and keys,
 //! and whether its book can still be read and written.
-ghost use Rattle.std.specs.Prelude.{◌≡◌, ◌≢◌, ◌+◌, ◌-◌, ◌^◌, ◌<◌, ◌≤◌, false, IsTrue, None, Some};
+ghost use Rattle.std.specs.Prelude.{◌≡◌, ◌≢◌, ◌+◌, ◌-◌, ◌^◌, ◌<◌, ◌≤◌, true, false, IsTrue, None, Some};
 ghost use Rattle.acct_book.specs.Step.{OnlyLooks};
 ghost use Rattle.acct_wire.specs.Reasons.{count_for};
 ghost use Rattle.acct_service.specs.Serving.{AtMost};
@@ -9,6 +9,7 @@ ghost use Rattle.acct_service.specs.Slices.{MakesTurns, ServesInSlices, GoRounds
 use crate::exchange::Exchange;
 use crate::outbox::Outbox;
 use crate::rounds::Rounds;
+use crate::rules::Rules;
 use crate::server::{Served, take_turns};
 use acct_book::Book;
 use acct_site::Config;
@@ -30,15 +31,17 @@ pub enum Until {
     /// In a slice reports were dropped because the book failed, and none was recorded. The book can
     /// be read, and not written.
     Stuck,
+    /// A round ended it.
+    Over,
 }
 
 /// Makes `limit` turns, as `serve` does, in slices, and calls `rounds` after each slice. If that
-/// returns a configuration, the turns that follow have it. A report may be at most `oldest` seconds
-/// old when it is received, if that is limited.
+/// returns a configuration, the turns that follow have it.
 ///
 /// It ends early if the book returns no balance after a slice, because a shut book answers nobody
 /// any more. It also ends early if in a slice the book failed for every report that it could have
-/// recorded, and there was one. Either book must be opened again.
+/// recorded, and there was one. Either book must be opened again. And it ends early if a round says
+/// so.
 ///
 /// What `serve` ensures for its turns holds for those that were made, each under the configuration
 /// of its slice (`ServesInSlices`). Each call of `rounds` goes as it ensures (`GoRounds`).
@@ -46,8 +49,7 @@ pub enum Until {
 /// In 256 turns it costs one call of `rounds` and one search of the book more than `serve`.
 pub fn serve_in_slices<B: Book, X: Exchange, G: Rounds>(
     alloc: Global,
-    config: &Config,
-    oldest: Option<u64>,
+    rules: &Rules<'_>,
     book: &mut B,
     exchange: &mut X,
     rounds: &mut G,
@@ -60,13 +62,17 @@ pub fn serve_in_slices<B: Book, X: Exchange, G: Rounds>(
     ensures faults { X.failure_count exchange.new
         ≡ X.failure_count exchange.old + result.0.faults }
     ensures within { AtMost limit result.0 }
-    ensures serves { ServesInSlices B.Book oldest config.now book.old book.new (X.told exchange.old)
-        (X.told exchange.new) (λ slices. GoRounds G.Rounds rounds.old slices rounds.new)
-        result.0 }
+    ensures serves { ServesInSlices B.Book rules.now.oldest rules.now.config.now book.old book.new
+        (X.told exchange.old) (X.told exchange.new)
+        (λ slices. GoRounds G.Rounds rounds.old slices rounds.new)
+        (X.turn_count exchange.new - X.turn_count exchange.old) result.0 result.1 }
     // A book that always returns a balance never ends a run this way.
     ensures shut { result.1 ≡ Until.Shut → B.is_steady book.old → ⊥ }
     // Nor does a book that failed for no report.
     ensures stuck { result.1 ≡ Until.Stuck → 0 < count_for result.0.dropped Reason.Unavailable }
+    // A round that ends the run is the last one.
+    ensures over { result.1 ≡ Until.Over → G.is_over rounds.new ≡ true }
+    ensures goes_on { result.1 ≡ Until.AllMade → 0 < limit → G.is_over rounds.new ≡ false }
     // A shut book ends a run: after all turns a sound book is open.
     ensures open { result.1 ≡ Until.AllMade → 0 < limit → B.is_sound book.new → B.is_open book.new }
 {
@@ -76,41 +82,52 @@ pub fn serve_in_slices<B: Book, X: Exchange, G: Rounds>(
     let mut left = limit;
     while left > 0 {
         let slice = left.min(SLICE);
-        let site = changed.as_ref().unwrap_or(config);
-        let (answered, refused) = (out.answered(), served.drops_for(Reason::Unavailable));
-        take_turns(
-            alloc,
-            site,
-            oldest,
-            book,
-            exchange,
-            slice,
-            &mut out,
-            &mut served,
-        );
+        let config = changed.as_ref().unwrap_or(rules.config);
+        let site = Rules {
+            config,
+            oldest: rules.oldest,
+        };
+        let refused = served.drops_for(Reason::Unavailable);
+        out.forget_answers();
+        take_turns(alloc, &site, book, exchange, slice, &mut out, &mut served);
         left -= slice;
-        let is_stuck = out.answered() == answered
-            && served.drops_for(Reason::Unavailable) > refused;
-        changed = rounds.go_round(alloc, site, book).or(changed);
-        if let Some(why) = ending(book, is_stuck) {
+        let is_stuck = are_stuck(&out, &served, refused);
+        changed = rounds.go_round(alloc, config, book).or(changed);
+        if let Some(why) = ending(book, is_stuck, rounds) {
             return (served, why);
         }
     }
     (served, Until::AllMade)
 }
 
-// Why the turns end after a slice, if they do: the book is shut, or it is stuck.
-fn ending<B: Book>(book: &mut B, is_stuck: bool) -> Option<Until>
+// Whether in a slice the book failed for a report, and no datagram was answered. Before it the book
+// had failed for so many.
+fn are_stuck(out: &Outbox, served: &Served, refused: u64) -> bool
+    ensures yes { IsTrue result → (out.now.has_answered ≡ false)
+        × (refused < count_for served.now.dropped Reason.Unavailable) }
+    ensures no { result ≡ false → out.now.has_answered ≡ false
+        → count_for served.now.dropped Reason.Unavailable ≤ refused }
+{
+    !out.has_answered() && served.drops_for(Reason::Unavailable) > refused
+}
+
+// Why the turns end after a slice, if they do: the book is shut, or it is stuck, or a round ended
+// them.
+fn ending<B: Book, G: Rounds>(book: &mut B, is_stuck: bool, rounds: &G) -> Option<Until>
     ensures looks { OnlyLooks B.Book book.old book.new }
     ensures early { result ≢ Some Until.AllMade }
     ensures shut { result ≡ Some Until.Shut → B.is_steady book.old → ⊥ }
     ensures stuck { result ≡ Some Until.Stuck → IsTrue is_stuck }
+    ensures over { result ≡ Some Until.Over → G.is_over rounds.now ≡ true }
+    ensures goes_on { result ≡ None → (is_stuck ≡ false) × (G.is_over rounds.now ≡ false) }
     ensures open { result ≡ None → B.is_sound book.new → B.is_open book.new }
 {
     if is_shut(book) {
         Some(Until::Shut)
     } else if is_stuck {
         Some(Until::Stuck)
+    } else if rounds.is_over() {
+        Some(Until::Over)
     } else {
         None
     }

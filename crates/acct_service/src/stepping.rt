@@ -1,9 +1,10 @@
 //! One event, one answer.
-ghost use Rattle.std.specs.Prelude.{None};
-ghost use Rattle.acct_service.specs.Machine.{TakesStep, answer_of};
+ghost use Rattle.std.specs.Prelude.{◌≡◌, ◌||◌, None};
+ghost use Rattle.acct_service.specs.Machine.{TakesStep, answer_of, answers_datagram};
 
 use crate::event::{Event, What};
 use crate::outbox::Outbox;
+use crate::rules::Rules;
 use acct_book::Book;
 use acct_site::Config;
 use acct_wire::{Datagram, Reason};
@@ -33,23 +34,29 @@ pub fn step<B: Book>(
     out: &mut Outbox,
 ) -> Turn
     ensures { TakesStep B.Book None config.now event.now.moment event.now.what book.old book.new
-        (answer_of result out.new) }
+        (answer_of result out.new.octets) }
 {
-    step_within(alloc, config, None, book, event, out)
+    let rules = Rules {
+        config,
+        oldest: None,
+    };
+    step_within(alloc, &rules, book, event, out)
 }
 
-/// Answers one event as `step` does, but drops a report whose own moment lies more than `oldest`
-/// seconds before the event's (`acct_wire::answer_within`). Without `oldest` no report is too old.
+/// Answers one event as `step` does, but drops a report whose own moment lies more than
+/// `rules.oldest` seconds before the event's (`acct_wire::answer_within`), if that is limited.
+/// The outbox keeps that a datagram was answered with a reply.
 pub fn step_within<B: Book>(
     alloc: Global,
-    config: &Config,
-    oldest: Option<u64>,
+    rules: &Rules<'_>,
     book: &mut B,
     event: &Event,
     out: &mut Outbox,
 ) -> Turn
-    ensures { TakesStep B.Book oldest config.now event.now.moment event.now.what book.old book.new
-        (answer_of result out.new) }
+    ensures step { TakesStep B.Book rules.now.oldest rules.now.config.now event.now.moment
+        event.now.what book.old book.new (answer_of result out.new.octets) }
+    ensures answered { out.new.has_answered ≡ (answers_datagram event.now.what
+        (answer_of result out.new.octets) || out.old.has_answered) }
 {
     match &event.what {
         What::Datagram {
@@ -62,10 +69,10 @@ pub fn step_within<B: Book>(
                 bytes: bytes.as_slice(),
                 moment: event.moment,
             };
-            out.answer_datagram(alloc, config, oldest, book, &datagram)
+            out.answer_datagram(alloc, rules, book, &datagram)
         }
         What::Desk { bytes } => {
-            out.answer_request(alloc, config, book, bytes.as_slice(), event.moment)
+            out.answer_request(alloc, rules.config, book, bytes.as_slice(), event.moment)
         }
     }
 }

@@ -1,4 +1,5 @@
-use Rattle.std.proofs.Common.{inr}
+use Rattle.std.proofs.Common.{inr, ap, subst}
+use Rattle.acct_program_serving.specs.Serving.{PollsAfter}
 use Rattle.acct_program_serving.proofs.HandedOn.{ends_afresh, polls}
 use Rattle.acct_program_serving.proofs.sockets_server.run_serve.Goals as goal
 
@@ -12,8 +13,11 @@ returns-clause-serves g c =
       (
         c.serve-sockets.result.0,
         ends_afresh _ _ _ _ (g.S.SiteSource.sights c.serve-sockets.new.rounds.source) _ _ _ _
-            (λ slices went. rw c.new-rounds.ensures at (polls _ (λ r. g.S.SiteSource.sights r.source)
-            (λ _ _ _ _ goes. goes) c.new-rounds.result slices c.serve-sockets.new.rounds went)) _ _ _
+            (λ slices went. subst
+            (λ seen. PollsAfter seen slices (g.S.SiteSource.sights c.serve-sockets.new.rounds.source))
+            (ap (λ s. g.S.SiteSource.sights s) c.new-rounds.ensures)
+            (polls _ (λ r. g.S.SiteSource.sights r.source) (λ _ _ _ _ goes. goes)
+            c.new-rounds.result slices c.serve-sockets.new.rounds went)) _ _ _
             c.write_first.ensures _ _ bound.bound bound.fresh.0 bound.fresh.1 _ _ _ served,
       ),
     )

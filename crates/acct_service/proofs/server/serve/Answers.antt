@@ -21,7 +21,8 @@ returns-clause-serves g c =
     let x = g.X.Exchange in
     serves_more b c.args.config.now c.args.book.now c.args.book.now c.take_turns.new.book
     (x.told c.args.exchange.now) (x.told c.args.exchange.now) (x.told c.take_turns.new.exchange)
-    c.none-served.result c.take_turns.new.served
+    c.none-served.result c.take_turns.new.served c.new-out.result.has_answered
+    c.take_turns.new.out.has_answered
     (serves_first b c.args.config.now c.args.book.now (x.told c.args.exchange.now)
     c.none-served.result c.none-served.ensures.counts)
     c.take_turns.ensures.taken

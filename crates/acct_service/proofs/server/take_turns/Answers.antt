@@ -9,10 +9,11 @@ loop-turn-init g c =
     record {
       turns = omega arith;
       faults = omega arith;
+      events = omega arith;
       few = omega arith;
       room = λ n most. at_most_greater n (n + 0) c.args.served.now (omega arith) most;
-      taken = turns_none b c.args.oldest c.args.config.now c.args.book.now (x.told c.args.exchange.now)
-          c.args.served.now;
+      taken = turns_none b c.args.rules.now.oldest c.args.rules.now.config.now c.args.book.now (x.told c.args.exchange.now)
+          c.args.served.now c.args.out.now.has_answered;
     }
 
 pub loop-turn-preserved : goal.loop-turn-preserved
@@ -25,13 +26,15 @@ loop-turn-preserved g c =
       turns = omega (arith, before.turns, turn.turns);
       faults = omega (arith, before.faults, turn.faults);
       few = omega (arith, before.few, turn.few);
+      events = omega (arith, before.events, turn.events);
       room = λ n most. at_most_greater (n + c.loop-turn.turn + 1) (n + (c.loop-turn.turn + 1))
           c.take_turn.new.served (omega arith)
           (turn.room (n + c.loop-turn.turn) (before.room n most));
-      taken = turns_more b c.args.oldest c.args.config.now c.args.book.now c.loop-turn.book
+      taken = turns_more b c.args.rules.now.oldest c.args.rules.now.config.now c.args.book.now c.loop-turn.book
           c.take_turn.new.book (x.told c.args.exchange.now) (x.told c.loop-turn.exchange)
           (x.told c.take_turn.new.exchange) c.args.served.now c.loop-turn.served
-          c.take_turn.new.served before.taken turn.turn;
+          c.take_turn.new.served c.args.out.now.has_answered c.loop-turn.out.has_answered
+          c.take_turn.new.out.has_answered before.taken turn.turn;
     }
 
 pub take_turn-requires-clause-failures : goal.take_turn-requires-clause-failures

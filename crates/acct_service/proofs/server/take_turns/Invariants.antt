@@ -10,8 +10,9 @@ invariant-loop-turn g l =
       turns : x.turn_count l.exchange ≡ x.turn_count l.fn.exchange + l.turn;
       faults : x.failure_count l.exchange + l.fn.served.faults
           ≡ x.failure_count l.fn.exchange + l.served.faults;
+      events : l.served.events ≤ l.fn.served.events + l.turn;
       few : x.failure_count l.exchange ≤ x.failure_count l.fn.exchange + l.turn;
       room : (n : ℕ) → AtMost n l.fn.served → AtMost (n + l.turn) l.served;
-      taken : TakesTurns b l.oldest l.config l.fn.book l.book (x.told l.fn.exchange) (x.told l.exchange)
-          l.fn.served l.served;
+      taken : TakesTurns b l.rules.oldest l.rules.config.now l.fn.book l.book (x.told l.fn.exchange) (x.told l.exchange)
+          l.fn.served l.served l.fn.out.has_answered l.out.has_answered;
     }
