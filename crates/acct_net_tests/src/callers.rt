@@ -13,8 +13,8 @@ const LOOPBACK: [u8; 4] = [127, 0, 0, 1];
 pub(crate) const REQUEST: &[u8] =
     b"GET /me/balance HTTP/1.1\r\nDesk-Key: al-key-0000000001\r\n\r\n";
 
-// Sockets on loopback, and the port of their desk.
-fn bound<'r>(rt: &'r HostRuntime) -> Result<(Sockets<'r, HostRuntime>, u16), Fail> {
+/// Sockets on loopback, and the port of their desk.
+pub fn bound<'r>(rt: &'r HostRuntime) -> Result<(Sockets<'r, HostRuntime>, u16), Fail> {
     let Ok(sockets) = Sockets::bind(rt, rt.alloc(), &[LOOPBACK], LOOPBACK, 0, 0) else {
         return Err("no sockets".into());
     };
@@ -59,8 +59,8 @@ pub fn gets<R: Read>(alloc: Global, stream: &mut R, wanted: &[u8]) -> bool {
     stream.read_to_end(&mut response).is_ok() && response.as_slice() == wanted
 }
 
-// Whether so many turns have no event, and none of them fails.
-fn is_quiet<X: Exchange>(exchange: &mut X, turns: u32) -> bool {
+/// Whether so many turns have no event, and none of them fails.
+pub fn is_quiet<X: Exchange>(exchange: &mut X, turns: u32) -> bool {
     matches!(&next(exchange, turns), Ok(None))
 }
 
@@ -258,8 +258,8 @@ fn taken_slowly<X: Exchange>(
     Err("no end".into())
 }
 
-// Whether a caller takes these octets slowly, and then the end.
-fn takes_slowly<X: Exchange>(
+/// Whether a caller takes these octets slowly, and then the end.
+pub fn takes_slowly<X: Exchange>(
     rt: &HostRuntime,
     desk: u16,
     exchange: &mut X,
@@ -270,8 +270,8 @@ fn takes_slowly<X: Exchange>(
     Ok(taken.as_slice() == wanted)
 }
 
-// Whether a request is an event, and its response is taken to be sent.
-fn is_answered<X: Exchange>(exchange: &mut X, response: &[u8]) -> bool {
+/// Whether a request is an event, and its response is taken to be sent.
+pub fn is_answered<X: Exchange>(exchange: &mut X, response: &[u8]) -> bool {
     let Ok(Some(event)) = next(exchange, 8) else {
         return false;
     };
@@ -333,13 +333,14 @@ fn waits_for_a_caller_that_takes_nothing(rt: HostRuntime) -> Result<(), Fail> {
     Ok(())
 }
 
-// The request of the caller with this number.
-fn request_of(alloc: Global, number: usize) -> Result<String, Fail> {
-    Ok(format!(in alloc; "GET /{number} HTTP/1.1\r\n\r\n")?)
+// The request of the caller with this place among the others: that of a guest with a key.
+fn request_of(alloc: Global, place: usize) -> Result<String, Fail> {
+    let number = place.saturating_add(100);
+    Ok(format!(in alloc; "GET /me/balance HTTP/1.1\r\nDesk-Key: key-of-guest-{number}\r\n\r\n")?)
 }
 
-// So many callers, each with a request of its own.
-fn callers(rt: &HostRuntime, desk: u16, count: usize) -> Result<Vec<TcpStream>, Fail> {
+/// So many callers, each with a request of its own: that of a guest from 100 on.
+pub fn callers(rt: &HostRuntime, desk: u16, count: usize) -> Result<Vec<TcpStream>, Fail> {
     let mut streams = Vec::new(rt.alloc());
     for number in 0..count {
         let request = request_of(rt.alloc(), number)?;

@@ -1,87 +1,11 @@
-//! Faults of accepts, and the moment of an event, over a runtime whose accepts fail at first and
-//! whose clock stands still.
+//! Faults of accepts, and the moment of a request, over a runtime whose accepts fail at first.
 use crate::callers::{REQUEST, caller, gets, next};
+use crate::flaky::Flaky;
 use crate::turns::{reply, turn};
 use acct_net::Sockets;
 use acct_service::{Exchange, Fault, What};
-use std::cell::Cell;
-use std::io;
 use std::io::ErrorKind;
-use std::net::{Net, OpenListener, SocketAddr, TcpListener, TcpStream, UdpSocket};
-use std::os::fd::{AsRawFd, RawFd};
 use std::test::Fail;
-use std::time::{Clock, Duration};
-
-// The machine's sockets, but that the first accept of each listener fails so, and its clock, but
-// for the date.
-#[derive(Drop)]
-struct Flaky {
-    host: HostRuntime,
-    fault: Cell<ErrorKind>,
-}
-
-impl Clock for Flaky {
-    fn monotonic(&self) -> io::Result<Duration> {
-        self.host.monotonic()
-    }
-
-    fn since_1970(&self) -> io::Result<Duration> {
-        Ok(Duration::new(1_700_000_123, 900_000_000))
-    }
-}
-
-impl Net for Flaky {
-    type Stream = TcpStream;
-
-    type Listener = FlakyListener;
-
-    fn bind(&self, addr: SocketAddr) -> io::Result<FlakyListener> {
-        Ok(FlakyListener {
-            listener: TcpListener::bind(&self.host, addr)?,
-            fault: Cell::new(Some(self.fault.get())),
-        })
-    }
-
-    fn connect(&self, addr: SocketAddr) -> io::Result<TcpStream> {
-        TcpStream::connect(&self.host, addr)
-    }
-
-    fn bind_udp(&self, addr: SocketAddr) -> io::Result<UdpSocket> {
-        UdpSocket::bind(&self.host, addr)
-    }
-}
-
-// A listener whose next accept fails so, if it is to fail.
-#[derive(Drop)]
-struct FlakyListener {
-    listener: TcpListener,
-    fault: Cell<Option<ErrorKind>>,
-}
-
-impl AsRawFd for FlakyListener {
-    fn as_raw_fd(&self) -> RawFd {
-        self.listener.as_raw_fd()
-    }
-}
-
-impl OpenListener for FlakyListener {
-    type Stream = TcpStream;
-
-    fn accept(&self) -> io::Result<(TcpStream, SocketAddr)> {
-        match self.fault.replace(None) {
-            Some(fault) => Err(io::Error::from(fault)),
-            None => self.listener.accept(),
-        }
-    }
-
-    fn local_addr(&self) -> io::Result<SocketAddr> {
-        self.listener.local_addr()
-    }
-
-    fn set_nonblocking(&self, nonblocking: bool) -> io::Result<()> {
-        self.listener.set_nonblocking(nonblocking)
-    }
-}
 
 // Accepts that fail without a fault of the machine's means: the next one is made in the next turn.
 static FAULTS: [ErrorKind; 2] = [ErrorKind::ConnectionAborted, ErrorKind::Interrupted];
@@ -117,10 +41,7 @@ fn counts(flaky: &Flaky, fault: ErrorKind) -> Result<bool, Fail> {
 
 #[test]
 fn counts_failed_accepts(rt: HostRuntime) -> Result<(), Fail> {
-    let flaky = Flaky {
-        host: rt,
-        fault: Cell::new(ErrorKind::Other),
-    };
+    let flaky = Flaky::at(rt, 1_700_000_123);
     for fault in FAULTS {
         assert!(flaky.host; counts(&flaky, fault)?);
     }

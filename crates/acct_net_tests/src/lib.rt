@@ -6,7 +6,19 @@ mod addresses;
 #[cfg(test)]
 mod callers;
 #[cfg(test)]
+mod datagrams;
+#[cfg(test)]
 mod faults;
+#[cfg(test)]
+mod flaky;
+#[cfg(test)]
+mod guests;
+#[cfg(test)]
+mod limits;
+#[cfg(test)]
+mod responses;
+#[cfg(test)]
+mod seed;
 #[cfg(test)]
 mod sizes;
 #[cfg(test)]

@@ -36,11 +36,12 @@ fn loopback_site(alloc: Global) -> Result<Config, Fail> {
     })
 }
 
-// A Start of the client and its reply, whose digests another program computed.
-const START: &[u8] = b"\x04\x07\x00\x22\xa0\x21\x9d\xa7\x81\xbf\x21\x71\x05\xbb\xdd\x1d\x2b\x3a\
+/// A Start of the client and its reply, whose digests another program computed.
+pub const START: &[u8] = b"\x04\x07\x00\x22\xa0\x21\x9d\xa7\x81\xbf\x21\x71\x05\xbb\xdd\x1d\x2b\x3a\
     \x0e\x94\x28\x06\x00\x00\x00\x01\x2c\x04\x73\x31\x01\x04\x61\x6c";
 
-const ANSWER: &[u8] = b"\x05\x07\x00\x14\x70\x85\xea\xed\x1f\x37\x21\x38\x92\xe8\x68\x15\xce\x9d\
+pub const ANSWER: &[u8] =
+    b"\x05\x07\x00\x14\x70\x85\xea\xed\x1f\x37\x21\x38\x92\xe8\x68\x15\xce\x9d\
     \xa4\xfd";
 
 // Those of a Start with 16 Proxy-States, which makes 4,096 octets, up to these.
@@ -97,9 +98,15 @@ fn receives(client: &UdpSocket, buffer: &mut [u8], wanted: &[u8]) -> bool {
     }
 }
 
-// Whether a datagram and a request that wait already are answered, the one by this answer and the
-// other by the balance, and there is no other event.
-fn serves(rt: &HostRuntime, datagram: &[u8], answer: &[u8], request: &[u8]) -> Result<bool, Fail> {
+/// Whether a datagram and a request that wait already are answered, the one by this answer and the
+/// other by this response, and there is no other event.
+pub fn serves(
+    rt: &HostRuntime,
+    datagram: &[u8],
+    answer: &[u8],
+    request: &[u8],
+    response: &[u8],
+) -> Result<bool, Fail> {
     let config = loopback_site(rt.alloc())?;
     let mut buffer = vec![in rt.alloc(); 0; 5_000]?;
     let Ok(mut sockets) = Sockets::bind(rt, rt.alloc(), &[HERE], HERE, 0, 0) else {
@@ -108,18 +115,18 @@ fn serves(rt: &HostRuntime, datagram: &[u8], answer: &[u8], request: &[u8]) -> R
     let ports = sockets.ports()?;
     let (client, mut desk_caller) = send_both(rt, ports, datagram, request)?;
     let mut book = MemBook::new(rt.alloc());
-    let served = serve(rt.alloc(), &config, &mut book, &mut sockets, 64);
+    let served = serve(rt.alloc(), &config, &mut book, &mut sockets, 24);
     let counts = (served.events, served.replies, served.faults);
     Ok(
         counts == (2, 2, 0)
             && receives(&client, buffer.as_mut_slice(), answer)
-            && gets(rt.alloc(), &mut desk_caller, RESPONSE),
+            && gets(rt.alloc(), &mut desk_caller, response),
     )
 }
 
 #[test]
 fn serves_both_sockets(rt: HostRuntime) -> Result<(), Fail> {
-    assert!(rt; serves(&rt, START, ANSWER, REQUEST)?);
+    assert!(rt; serves(&rt, START, ANSWER, REQUEST, RESPONSE)?);
     Ok(())
 }
 
@@ -137,6 +144,7 @@ fn serves_long(rt: &HostRuntime) -> Result<bool, Fail> {
                 datagram.as_slice(),
                 answer.as_slice(),
                 request.as_slice(),
+                RESPONSE,
             )?,
     )
 }

@@ -7,6 +7,16 @@ mod balances;
 #[cfg(test)]
 mod checking;
 #[cfg(test)]
+mod counts;
+#[cfg(test)]
+mod forwarding;
+#[cfg(test)]
+mod many;
+#[cfg(test)]
+mod rounds;
+#[cfg(test)]
+mod sessions;
+#[cfg(test)]
 mod site;
 #[cfg(test)]
 mod uploads;

@@ -7,8 +7,20 @@ mod rounds;
 #[cfg(test)]
 mod serving;
 #[cfg(test)]
+mod site_texts;
+#[cfg(test)]
+mod slices;
+#[cfg(test)]
+mod stage;
+#[cfg(test)]
+mod staged;
+#[cfg(test)]
 mod status;
+#[cfg(test)]
+mod stuck_book;
 #[cfg(test)]
 mod turns;
 #[cfg(test)]
 mod watching;
+#[cfg(test)]
+mod whole_server;

@@ -11,16 +11,18 @@ use std::alloc::Global;
 use std::fs;
 use std::test::Fail;
 
-const OLD: &str = "[[client]]\nname = \"ap2\"\naddress = \"10.0.0.2\"\nsecret = \"other-secret\"\n\
+pub(crate) const OLD: &str =
+    "[[client]]\nname = \"ap2\"\naddress = \"10.0.0.2\"\nsecret = \"other-secret\"\n\
     [[plan]]\nclass = \"default\"\nblock = 1000000\nunit = 5\n\
     [[key]]\ntoken = \"bo-key-0000000001\"\naccount = \"bo\"\n";
 
-const NEW: &str = "[[client]]\nname = \"ap1\"\naddress = \"10.0.0.1\"\nsecret = \"xyzzy5461\"\n\
+pub(crate) const NEW: &str =
+    "[[client]]\nname = \"ap1\"\naddress = \"10.0.0.1\"\nsecret = \"xyzzy5461\"\n\
     [[plan]]\nclass = \"default\"\nblock = 1000000\nunit = 5\n\
     [[key]]\ntoken = \"al-key-0000000001\"\naccount = \"al\"\n";
 
-// The configuration of a text.
-fn site_of(alloc: Global, text: &str) -> Result<Config, Fail> {
+/// The configuration of a text.
+pub fn site_of(alloc: Global, text: &str) -> Result<Config, Fail> {
     match config_from(alloc, &mut text.as_bytes()) {
         Ok(config) => Ok(config),
         Err(_) => Err("no configuration".into()),
@@ -28,10 +30,11 @@ fn site_of(alloc: Global, text: &str) -> Result<Config, Fail> {
 }
 
 // A Start of the client of the new configuration, whose digest another program computed.
-const START: &[u8] = b"\x04\x07\x00\x22\xa0\x21\x9d\xa7\x81\xbf\x21\x71\x05\xbb\xdd\x1d\x2b\x3a\
+pub(crate) const START: &[u8] =
+    b"\x04\x07\x00\x22\xa0\x21\x9d\xa7\x81\xbf\x21\x71\x05\xbb\xdd\x1d\x2b\x3a\
     \x0e\x94\x28\x06\x00\x00\x00\x01\x2c\x04\x73\x31\x01\x04\x61\x6c";
 
-const ASKED: &[u8] = b"GET /me/balance HTTP/1.1\r\nDesk-Key: al-key-0000000001\r\n\r\n";
+pub(crate) const ASKED: &[u8] = b"GET /me/balance HTTP/1.1\r\nDesk-Key: al-key-0000000001\r\n\r\n";
 
 // Plans a Start of the client and a request with the key of the new configuration.
 fn plan_both(alloc: Global, planned: &mut Vec<Planned>, moment: u64) -> Result<(), Fail>

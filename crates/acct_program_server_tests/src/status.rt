@@ -11,10 +11,10 @@ use acct_service::lists::{ListExchange, Planned};
 use acct_service::{Event, Exchange, What};
 use acct_wire::Reason;
 use std::alloc::Global;
-use std::fs;
 use std::io::Write;
 use std::os::unix::fs::PermissionsExt;
 use std::test::Fail;
+use std::{fs, io};
 
 const TEXT: &str = "# HELP radacctd_events_total Datagrams and requests that came.\n\
     # TYPE radacctd_events_total counter\n\
@@ -150,8 +150,8 @@ fn figures(tally: Tally, last_event_at: u64) -> Figures {
     }
 }
 
-// Whether a file has these figures, and is open to everyone.
-fn has(rt: &HostRuntime, name: &str, figures: &Figures) -> Result<bool, Fail> {
+/// Whether a file has these figures, and is open to everyone.
+pub fn has(rt: &HostRuntime, name: &str, figures: &Figures) -> io::Result<bool> {
     let mut wanted = Vec::new(rt.alloc());
     write_figures(&mut wanted, figures)?;
     let text = fs::read_to_string(rt, name)?;
