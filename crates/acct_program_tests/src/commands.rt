@@ -1,7 +1,6 @@
 //! What each command prints over files, and how it ends.
-use crate::trial::{Command, Wanted, came, comes, write_sites};
+use crate::trial::{Command, OLD_TABLES, Row, alter, came, comes, first_wrong, write_sites};
 use acct_program::Status;
-use sqlite::{Connection, FileFrom, FileStore, Wary};
 use std::test::Fail;
 
 const UPLOAD: &str = "voucher,account,sum\nV-1,al,500\nV-2,bo,300\nV-1,al,501\n";
@@ -9,7 +8,7 @@ const UPLOAD: &str = "voucher,account,sum\nV-1,al,500\nV-2,bo,300\nV-1,al,501\n"
 const BALANCES: &str = "account,balance,overrun\nal,500,0\nbo,300,0\n";
 
 // A site with its book, from its first command to the last.
-static LIFE: [(Command<'static>, Wanted<'static>); 19] = [
+static LIFE: [Row; 19] = [
     (
         ("check --config life.toml", ""),
         (Status::Done, "ok: 1 clients, 2 plans, 2 keys\n", ""),
@@ -105,18 +104,10 @@ static LIFE: [(Command<'static>, Wanted<'static>); 19] = [
     ),
 ];
 
-// Whether a row holds.
-fn holds(rt: &HostRuntime, row: &(Command<'static>, Wanted<'static>)) -> Result<bool, Fail> {
-    let (command, wanted) = *row;
-    comes(rt, command, wanted)
-}
-
 #[test]
 fn commands_say_what_they_did(rt: HostRuntime) -> Result<(), Fail> {
     write_sites(&rt, ["life.toml", "more.toml", "other.toml"])?;
-    for (number, row) in LIFE.iter().enumerate() {
-        assert!(rt; holds(&rt, row)?, "row {number}");
-    }
+    assert_eq!(rt; first_wrong(&rt, &LIFE)?, None);
     Ok(())
 }
 
@@ -148,48 +139,16 @@ fn has_moment(rt: &HostRuntime, command: Command<'_>) -> Result<bool, Fail> {
     Ok(1_700_000_000 < moment && moment < 4_102_444_800)
 }
 
-// A book of schema number 1, with a session of the plan `gold`, one of a Class that names no plan,
-// a voucher and the balances.
-const FIRST_BOOK: &str = "CREATE TABLE meta (name TEXT NOT NULL PRIMARY KEY, value INTEGER NOT \
-    NULL) STRICT; CREATE TABLE price_plan (class BLOB NOT NULL PRIMARY KEY, block INTEGER NOT \
-    NULL, unit INTEGER NOT NULL) STRICT; CREATE TABLE account (name BLOB NOT NULL PRIMARY KEY, \
-    balance INTEGER NOT NULL) STRICT; CREATE TABLE voucher (number TEXT NOT NULL PRIMARY KEY, \
-    account BLOB NOT NULL, amount INTEGER NOT NULL, moment INTEGER NOT NULL) STRICT; CREATE TABLE \
-    session (client TEXT NOT NULL, id BLOB NOT NULL, account BLOB NOT NULL, class BLOB NOT NULL, \
-    input INTEGER NOT NULL, output INTEGER NOT NULL, seconds INTEGER NOT NULL, first_seen INTEGER \
-    NOT NULL, last_seen INTEGER NOT NULL, state INTEGER NOT NULL, cause INTEGER NOT NULL, calling \
-    BLOB NOT NULL, framed BLOB NOT NULL, PRIMARY KEY (client, id)) STRICT; CREATE INDEX \
-    session_account ON session (account); CREATE INDEX voucher_account ON voucher (account); \
-    INSERT INTO meta VALUES ('schema', 1); INSERT INTO price_plan VALUES (x'676f6c64', 1048576, \
-    10), (x'64656661756c74', 1000000, 5); INSERT INTO account VALUES (x'616c', 280), (x'626f', \
+// A session of the plan `gold`, one of a Class that names no plan, a voucher and the balances.
+const FIRST_ROWS: &str = "\
+    INSERT INTO account VALUES (x'616c', 280), (x'626f', \
     -10); INSERT INTO voucher VALUES ('V-9', x'616c', 300, 1700000000); INSERT INTO session VALUES \
     ('nas-7', x'7331', x'616c', x'676f6c64', 1048577, 4, 60, 1700000000, 1700000060, 0, 0, x'61', \
     x'0a000007'), ('nas-7', x'7332', x'626f', x'73696c766572', 400000, 600001, 5, 1700000001, \
     1700000007, 2, 1, x'62', x'0a000008');";
 
-// Makes a file a database by these statements.
-fn make_database(rt: &HostRuntime, name: &str, statements: &str) -> Result<(), Fail> {
-    let opened = Connection::open_from(rt, name, false, Wary);
-    let Ok(connection) = opened else {
-        return Err("not opened".into());
-    };
-    fill(connection, statements)
-}
-
-// Gives these statements to a database, and closes it.
-fn fill(
-    mut connection: Connection<FileStore<FileFrom<Wary>>>,
-    statements: &str,
-) -> Result<(), Fail> {
-    connection.execute_batch(statements)?;
-    match connection.close_files() {
-        Ok(_files) => Ok(()),
-        Err((error, _store)) => Err(error.into()),
-    }
-}
-
 // An older book, before and after it is made one of today's.
-static OLDER: [(Command<'static>, Wanted<'static>); 17] = [
+static OLDER: [Row; 17] = [
     (
         ("check --config older.toml --db older-book", ""),
         (Status::Unavailable, "", "db: WrongSchema\n"),
@@ -346,9 +305,7 @@ static OLDER: [(Command<'static>, Wanted<'static>); 17] = [
 #[test]
 fn an_older_book_becomes_one_of_today(rt: HostRuntime) -> Result<(), Fail> {
     write_sites(&rt, ["older.toml", "older-more.toml", "older-other.toml"])?;
-    make_database(&rt, "older-book", FIRST_BOOK)?;
-    for (number, row) in OLDER.iter().enumerate() {
-        assert!(rt; holds(&rt, row)?, "row {number}");
-    }
+    alter(&rt, "older-book", &[OLD_TABLES, FIRST_ROWS])?;
+    assert_eq!(rt; first_wrong(&rt, &OLDER)?, None);
     Ok(())
 }

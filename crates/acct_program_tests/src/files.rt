@@ -1,5 +1,7 @@
 //! Files that are no book, and configurations that are long.
-use crate::trial::{Command, Wanted, came, comes, write_sites};
+use crate::trial::{
+    Command, Row, Wanted, alter_log, came, comes, first_wrong, octets_of, write_sites,
+};
 use acct_program::Status;
 use std::fs;
 use std::os::unix::fs::{PermissionsExt, symlink};
@@ -114,18 +116,102 @@ fn a_damaged_log_is_refused(rt: HostRuntime) -> Result<(), Fail> {
     let made = (Status::Done, "book made\n", "");
     assert!(rt; comes(&rt, ("init --config hurt.toml --db hurt-book", ""), made)?);
     fs::write(&rt, "hurt-book-wal", damaged_log(&rt)?.as_slice())?;
-    let refused = (Status::Unavailable, "", "db: cannot open\n");
-    for command in &OPENING {
-        assert!(rt; comes(&rt, *command, refused)?);
-    }
-    assert!(rt; has_length(&rt, "hurt-book-wal", 1104)?);
-    let lossy = "check --config hurt.toml --db hurt-book --lose-damaged-commits";
-    let sizes = (Status::Done, "ok: 1 clients, 2 plans, 2 keys\n", "");
-    assert!(rt; comes(&rt, (lossy, ""), sizes)?);
-    // The store has begun the log anew.
-    assert!(rt; comes(&rt, ("check --config hurt.toml --db hurt-book", ""), sizes)?);
+    assert!(rt; is_left_alone(&rt)?);
+    assert_eq!(rt; first_wrong(&rt, &EMPTIED)?, None);
+    alter_log(&rt, "hurt-book", &COMMITS)?;
+    hurt_second(&rt)?;
+    assert!(rt; is_left_alone(&rt)?);
+    assert_eq!(rt; first_wrong(&rt, &CUT)?, None);
+    alter_log(&rt, "hurt-book", &COMMITS[2..])?;
+    assert_eq!(rt; first_wrong(&rt, &LATEST)?, None);
     Ok(())
 }
+
+// Whether each command refuses the book, and leaves its files as they are.
+fn is_left_alone(rt: &HostRuntime) -> Result<bool, Fail> {
+    let before = octets_of(rt, "hurt-book")?;
+    let refused = (Status::Unavailable, "", "db: cannot open\n");
+    for command in &OPENING {
+        if !comes(rt, *command, refused)? || octets_of(rt, "hurt-book")? != before {
+            return Ok(false);
+        }
+    }
+    Ok(true)
+}
+
+// The log has no commit that can be read, so the book is as `init` made it. The store has begun the
+// log anew.
+static EMPTIED: [Row; 3] = [
+    (
+        (
+            "check --config hurt.toml --db hurt-book --lose-damaged-commits",
+            "",
+        ),
+        (Status::Done, "ok: 1 clients, 2 plans, 2 keys\n", ""),
+    ),
+    (
+        ("check --config hurt.toml --db hurt-book", ""),
+        (Status::Done, "ok: 1 clients, 2 plans, 2 keys\n", ""),
+    ),
+    (
+        (
+            "import --config hurt.toml --db hurt-book",
+            "voucher,account,sum\nV-1,al,500\n",
+        ),
+        (Status::Done, "added 1, repeated 0, refused 0\n", ""),
+    ),
+];
+
+// Three commits of a page each.
+static COMMITS: [&str; 3] = [
+    "UPDATE account SET balance = 507 WHERE name = x'616c';",
+    "UPDATE account SET balance = 518 WHERE name = x'616c';",
+    "UPDATE account SET balance = 531 WHERE name = x'616c';",
+];
+
+// Where the page of the second commit is in the log, behind the header and a frame of 4,120 octets.
+const SECOND_PAGE: usize = 6_224;
+
+// Damages the second of three commits in the log: flips a bit in its page.
+fn hurt_second(rt: &HostRuntime) -> Result<(), Fail> {
+    let mut log = fs::read(rt, "hurt-book-wal")?;
+    match log.as_mut_slice().get_mut(SECOND_PAGE) {
+        Some(octet) => *octet ^= 1,
+        None => return Err("no log".into()),
+    }
+    fs::write(rt, "hurt-book-wal", log.as_slice())?;
+    Ok(())
+}
+
+// The first commit is kept, and from then on the book is opened as any other.
+static CUT: [Row; 2] = [
+    (
+        (
+            "export --config hurt.toml --db hurt-book --lose-damaged-commits balances",
+            "",
+        ),
+        (Status::Done, "account,balance,overrun\nal,507,0\n", ""),
+    ),
+    (
+        ("export --config hurt.toml --db hurt-book balances", ""),
+        (Status::Done, "account,balance,overrun\nal,507,0\n", ""),
+    ),
+];
+
+// A later commit is kept, with and without the option.
+static LATEST: [Row; 2] = [
+    (
+        ("export --config hurt.toml --db hurt-book balances", ""),
+        (Status::Done, "account,balance,overrun\nal,531,0\n", ""),
+    ),
+    (
+        (
+            "export --config hurt.toml --db hurt-book --lose-damaged-commits balances",
+            "",
+        ),
+        (Status::Done, "account,balance,overrun\nal,531,0\n", ""),
+    ),
+];
 
 // A log of two commits of one page each, by the salts of its header, which breaks its own sum.
 fn damaged_log(rt: &HostRuntime) -> Result<Vec<u8>, Fail> {
@@ -155,26 +241,47 @@ fn is_private(rt: &HostRuntime, name: &str) -> Result<bool, Fail> {
     Ok(fs::metadata(rt, name)?.permissions().mode() & 0o777 == 0o600)
 }
 
-// A configuration of 600 keys is read to its end.
+// Commands that read a configuration of as many keys as one may have, each in its own way.
+static LONG: [Row; 5] = [
+    (
+        ("check --config long.toml", ""),
+        (Status::Done, "ok: 0 clients, 1 plans, 4096 keys\n", ""),
+    ),
+    (
+        ("init --config long.toml --db long-book", ""),
+        (Status::Done, "book made\n", ""),
+    ),
+    (
+        (
+            "import --config long.toml --db long-book",
+            "voucher,account,sum\nV-1,al,500\n",
+        ),
+        (Status::Done, "added 1, repeated 0, refused 0\n", ""),
+    ),
+    (
+        ("export --config long.toml --db long-book balances", ""),
+        (Status::Done, "account,balance,overrun\nal,500,0\n", ""),
+    ),
+    (
+        ("feed --config long.toml", "balance al\n"),
+        (Status::Done, "balance al 0\n", ""),
+    ),
+];
+
 #[test]
 fn a_long_configuration_is_read_whole(rt: HostRuntime) -> Result<(), Fail> {
     fs::write(&rt, "long.toml", long_site(&rt)?.as_str())?;
-    let sizes = (Status::Done, "ok: 0 clients, 1 plans, 600 keys\n", "");
-    assert!(rt; comes(&rt, ("check --config long.toml", ""), sizes)?);
-    // Commands that keep a book have a reading of their own.
-    let made = (Status::Done, "book made\n", "");
-    assert!(rt; comes(&rt, ("init --config long.toml --db long-book", ""), made)?);
+    assert_eq!(rt; first_wrong(&rt, &LONG)?, None);
     Ok(())
 }
 
-// A configuration of 600 keys, of more than 40,000 octets.
+// A configuration of 4,096 keys, of more than 262,144 octets.
 fn long_site(rt: &HostRuntime) -> Result<String, Fail> {
     let mut text = String::from_str(
         rt.alloc(),
         "[[plan]]\nclass = \"default\"\nblock = 1000000\nunit = 5\n",
     )?;
-    for number in 0..600_u32 {
-        let token = number + 100_000;
+    for token in 100_000..104_096_u32 {
         let key = format!(in rt.alloc();
             "[[key]]\ntoken = \"key-of-guest-{token}\"\naccount = \"guest {token}\"\n"
         )?;
@@ -183,7 +290,7 @@ fn long_site(rt: &HostRuntime) -> Result<String, Fail> {
     Ok(text)
 }
 
-// For an upload of 300 wrong lines each line is reported.
+// For an upload of 1,500 wrong lines each line is reported.
 #[test]
 fn each_refused_line_is_told(rt: HostRuntime) -> Result<(), Fail> {
     write_sites(&rt, ["wrong.toml", "wrong-more.toml", "wrong-other.toml"])?;
@@ -193,10 +300,10 @@ fn each_refused_line_is_told(rt: HostRuntime) -> Result<(), Fail> {
     Ok(())
 }
 
-// Whether 300 wrong lines are reported, from the first to the last.
+// Whether 1,500 wrong lines are reported, from the first to the last.
 fn tells_each(rt: &HostRuntime) -> Result<bool, Fail> {
     let mut upload = String::from_str(rt.alloc(), "voucher,account,sum\n")?;
-    for _ in 0..300_u32 {
+    for _ in 0..1_500_u32 {
         upload.push_str("V-1,al,0\n")?;
     }
     let came = came(
@@ -208,8 +315,8 @@ fn tells_each(rt: &HostRuntime) -> Result<bool, Fail> {
     )?;
     let text = came.text();
     Ok(
-        text.starts_with("added 0, repeated 0, refused 300\n2: BadSum\n3: BadSum\n")
-            && text.ends_with("\n301: BadSum\n"),
+        text.starts_with("added 0, repeated 0, refused 1500\n2: BadSum\n3: BadSum\n")
+            && text.ends_with("\n1501: BadSum\n"),
     )
 }
 

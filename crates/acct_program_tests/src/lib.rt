@@ -3,6 +3,8 @@
 #![tactic(auto)]
 
 #[cfg(test)]
+mod audits;
+#[cfg(test)]
 mod commands;
 #[cfg(test)]
 mod explained_books;
@@ -15,11 +17,17 @@ mod explained_sockets;
 #[cfg(test)]
 mod explained_words;
 #[cfg(test)]
+mod feeds;
+#[cfg(test)]
 mod files;
+#[cfg(test)]
+mod looking;
 #[cfg(test)]
 mod lost_books;
 #[cfg(test)]
 mod sample_values;
+#[cfg(test)]
+mod served;
 #[cfg(test)]
 mod servers;
 #[cfg(test)]

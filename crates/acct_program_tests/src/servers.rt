@@ -17,7 +17,7 @@ fn make_site(rt: &HostRuntime, names: [&str; 3], init: &str, import: &str) -> Re
 }
 
 // A port of 127.0.0.1 at which nobody receives datagrams.
-fn free_port(rt: &HostRuntime) -> io::Result<u16> {
+pub(crate) fn free_port(rt: &HostRuntime) -> io::Result<u16> {
     let socket = UdpSocket::bind(rt, (Ipv4Addr::from([127, 0, 0, 1]), 0))?;
     Ok(socket.local_addr()?.port())
 }

@@ -3,7 +3,7 @@ use acct_program::Status;
 use acct_program_args::job_of;
 use acct_program_jobs::{Outcome, carry_out};
 use acct_program_serving::Errors;
-use sqlite::Wary;
+use sqlite::{Connection, FileFrom, FileStore, Wary};
 use std::alloc::Global;
 use std::fs;
 use std::test::Fail;
@@ -13,6 +13,9 @@ pub type Command<'a> = (&'a str, &'a str);
 
 /// The expected result: the exit status, standard output and standard error.
 pub type Wanted<'a> = (Status, &'a str, &'a str);
+
+/// A command with the result that is expected of it.
+pub type Row = (Command<'static>, Wanted<'static>);
 
 /// The result of a command.
 pub struct Printed {
@@ -71,8 +74,8 @@ pub fn came(rt: &HostRuntime, (line, input): Command<'_>) -> Result<Printed, Fai
     })
 }
 
-// The arguments of a command line, the program's name first.
-fn words_of(alloc: Global, line: &str) -> Result<Vec<String>, Fail> {
+/// The arguments of a command line, the program's name first.
+pub fn words_of(alloc: Global, line: &str) -> Result<Vec<String>, Fail> {
     let mut words = Vec::new(alloc);
     words.push(String::from_str(alloc, "radacctd")?)?;
     for word in line.split(' ') {
@@ -84,6 +87,65 @@ fn words_of(alloc: Global, line: &str) -> Result<Vec<String>, Fail> {
 /// Whether a command has this result.
 pub fn comes(rt: &HostRuntime, command: Command<'_>, wanted: Wanted<'_>) -> Result<bool, Fail> {
     Ok(came(rt, command)?.is(wanted))
+}
+
+/// The first of these commands that has another result, if there is one.
+pub fn first_wrong(rt: &HostRuntime, rows: &[Row]) -> Result<Option<&'static str>, Fail> {
+    for (command, wanted) in rows {
+        if !comes(rt, *command, *wanted)? {
+            return Ok(Some(command.0));
+        }
+    }
+    Ok(None)
+}
+
+/// The tables of a book of schema number 1, and the plans of a site of `default` and `gold`.
+pub const OLD_TABLES: &str = "CREATE TABLE meta (name TEXT NOT NULL PRIMARY KEY, value INTEGER NOT \
+    NULL) STRICT; CREATE TABLE price_plan (class BLOB NOT NULL PRIMARY KEY, block INTEGER NOT \
+    NULL, unit INTEGER NOT NULL) STRICT; CREATE TABLE account (name BLOB NOT NULL PRIMARY KEY, \
+    balance INTEGER NOT NULL) STRICT; CREATE TABLE voucher (number TEXT NOT NULL PRIMARY KEY, \
+    account BLOB NOT NULL, amount INTEGER NOT NULL, moment INTEGER NOT NULL) STRICT; CREATE TABLE \
+    session (client TEXT NOT NULL, id BLOB NOT NULL, account BLOB NOT NULL, class BLOB NOT NULL, \
+    input INTEGER NOT NULL, output INTEGER NOT NULL, seconds INTEGER NOT NULL, first_seen INTEGER \
+    NOT NULL, last_seen INTEGER NOT NULL, state INTEGER NOT NULL, cause INTEGER NOT NULL, calling \
+    BLOB NOT NULL, framed BLOB NOT NULL, PRIMARY KEY (client, id)) STRICT; CREATE INDEX \
+    session_account ON session (account); CREATE INDEX voucher_account ON voucher (account); \
+    INSERT INTO meta VALUES ('schema', 1); INSERT INTO price_plan VALUES (x'676f6c64', 1048576, \
+    10), (x'64656661756c74', 1000000, 5);";
+
+// The database in a file, which is made if there is none.
+fn database(rt: &HostRuntime, name: &str) -> Result<Connection<FileStore<FileFrom<Wary>>>, Fail> {
+    match Connection::open_from(rt, name, false, Wary) {
+        Ok(connection) => Ok(connection),
+        Err(_) => Err("not opened".into()),
+    }
+}
+
+/// Gives statements to the database in a file, and closes it.
+pub fn alter(rt: &HostRuntime, name: &str, statements: &[&str]) -> Result<(), Fail> {
+    let mut connection = database(rt, name)?;
+    for statement in statements {
+        connection.execute_batch(statement)?;
+    }
+    match connection.close_files() {
+        Ok(_files) => Ok(()),
+        Err((error, _store)) => Err(error.into()),
+    }
+}
+
+/// Gives statements to the database in a file, and leaves what they do in its log.
+pub fn alter_log(rt: &HostRuntime, name: &str, statements: &[&str]) -> Result<(), Fail> {
+    let mut connection = database(rt, name)?;
+    for statement in statements {
+        connection.execute_batch(statement)?;
+    }
+    Ok(())
+}
+
+/// The octets of a book's file and of its log.
+pub fn octets_of(rt: &HostRuntime, name: &str) -> Result<(Vec<u8>, Vec<u8>), Fail> {
+    let log = format!(in rt.alloc(); "{name}-wal")?;
+    Ok((fs::read(rt, name)?, fs::read(rt, log.as_str())?))
 }
 
 /// The clients and keys of a site.
