@@ -13,6 +13,8 @@ from front import FILES, LISTEN, MEBIBYTE, SECRET, check
 from front_parts import Missing, part
 
 STOCK = "/etc/freeradius/3.0"
+# How long a slow machine may take for a login or a start, in seconds.
+PATIENCE = 300
 DEFAULT, INNER = "sites-available/default", "sites-available/inner-tunnel"
 
 
@@ -147,7 +149,9 @@ class Stock:
         path = os.path.join(self.raddb, "radacctd/settings.conf")
         with open(path, encoding="utf-8") as file:
             text = file.read()
-        front.written(path, re.sub(r"(?m)^\tmirror = .*$", f"\tmirror = {mirror}", text))
+        text = re.sub(r"(?m)^\tmirror = .*$", f"\tmirror = {mirror}", text)
+        # The balances are written once, and must not grow old on a slow machine.
+        front.written(path, re.sub(r"(?m)^\toldest = .*$", "\toldest = 86400", text))
         balances, plans = (os.path.join(self.folder, name) for name in ("b.csv", "plans.csv"))
         rows = f"al,105,0\n{SPACED},55,0\npoor,9,0\n{OUTER},1000000,0\n"
         front.written(balances, "account,balance,overrun\n" + rows)
@@ -166,19 +170,23 @@ class Stock:
             words = ["freeradius", "-d", self.raddb, "-fxx", "-l", "stdout"]
             self.process = subprocess.Popen(words, stdout=file, stderr=file)
         ready = "Ready to process requests"
-        front.waits_for("FreeRADIUS is ready", lambda: ready in self.said(), True)
+        front.waits_for("FreeRADIUS is ready", lambda: ready in self.said(), True, PATIENCE)
 
     def end(self):
         if self.process is not None and self.process.poll() is None:
             self.process.kill()
             self.process.communicate()
 
+    def says(self, name, text):
+        """Waits until FreeRADIUS has written a text."""
+        front.waits_for(name, lambda: text in self.said(), True, PATIENCE)
+
     def login(self, name, eap, inner, outer=OUTER):
         """The name, the Class and the quota of an Access-Accept, or None."""
         path = os.path.join(self.folder, "supplicant.conf")
         front.written(path, SUPPLICANT.format(eap=eap, inner=inner, name=name, outer=outer))
-        words = ["eapol_test", "-c", path, "-a", "127.0.0.1", "-p", str(self.port), "-r0", "-t5"]
-        words += ["-A", "127.0.2.1", "-s", SECRET]
+        words = ["eapol_test", "-c", path, "-a", "127.0.0.1", "-p", str(self.port), "-r0"]
+        words += ["-t", str(PATIENCE), "-A", "127.0.2.1", "-s", SECRET]
         done = subprocess.run(words, capture_output=True, text=True)
         text = done.stdout[done.stdout.rfind("RADIUS message: code=") :]
         if done.returncode or not text.startswith("RADIUS message: code=2"):
@@ -206,7 +214,7 @@ def tunnels(folder):
         got = [radius.login("al", *method) for method in METHODS]
         check("without the step in the inner tunnel: refused", got, len(METHODS) * [None])
         reason = "radacctd_login is missing in the inner tunnel"
-        check("with a reason", reason in radius.said(), True)
+        radius.says("with a reason", reason)
         front.written(os.path.join(radius.raddb, INNER), kept)
         other_settings(radius)
     finally:
@@ -227,7 +235,7 @@ def by_steps(radius):
         check(f"{name}: without money", radius.login("poor", *method), None)
         check(f"{name}: with the outer name", radius.login("al", *method, "al"), wanted)
     check("a name with a space", radius.login(SPACED, *METHODS[0]), None)
-    check("is refused by filter_username", "contains whitespace" in radius.said(), True)
+    radius.says("is refused by filter_username", "contains whitespace")
 
 
 def other_settings(radius):
@@ -247,4 +255,4 @@ def other_settings(radius):
             wanted = ([SPACED], [stamped(SPACED)], [5 * MEBIBYTE])
             check(f"use_tunneled_reply = {setting}, {' '.join(method)}", got, wanted)
         check("a name that ends with a space", radius.login("al ", *METHODS[0]), None)
-        check("is refused with a reason", "cannot be charged" in radius.said(), True)
+        radius.says("is refused with a reason", "cannot be charged")
