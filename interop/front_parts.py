@@ -563,6 +563,20 @@ def logged(folder, words, name):
         return subprocess.Popen(words, stdout=file, stderr=subprocess.STDOUT)
 
 
+def through_outages(book, radius):
+    """radacctd and FreeRADIUS are killed in a session, which goes on."""
+    book.kill()
+    time.sleep(5)
+    radius.kill()
+    time.sleep(5)
+    radius.start()
+    book.start()
+    begun = int(time.time())
+    # hostapd waits longer and longer between two tries.
+    newer = lambda: [row["last"] > begun for row in book.rows("al")]
+    waits_for("hostapd reports on after both were killed, the same session", newer, [True], 180)
+
+
 def by_hostapd(book, radius, folder):
     states = lambda: [row["state"] for row in book.rows("al") if "/K-9/" not in row["session"]]
     waits_for("al logs in, and hostapd reports a session", states, ["open"])
@@ -570,6 +584,7 @@ def by_hostapd(book, radius, folder):
         for name in ("hostapd.log", "supplicant.log"):
             with open(os.path.join(folder, name), encoding="utf-8") as file:
                 print("".join(file.readlines()[-15:]))
+    through_outages(book, radius)
     done = radius.reports("ap2", report("Interim-Update", "K-9", "al", 3 * MEBIBYTE))
     check("al spends all elsewhere", done, True)
     waits_for("hostapd is told, ends the session and reports its Stop", states, ["stopped"])
