@@ -11,7 +11,7 @@ import front
 from front import MEBIBYTE, READERS, SECRET, check, waits_for
 from front_aged import queue_again, waited
 from front_parts import both, count_in, limit, mirrored, part, restarted
-from front_sender import Sender, packet_of
+from front_sender import Sender, attribute, packet_of
 
 START, STOP, INTERIM = 1, 2, 3
 STATUSES = {"Start": 0, "Interim-Update": 2 * MEBIBYTE, "Stop": 3 * MEBIBYTE}
@@ -198,6 +198,60 @@ def rates(folder):
         for turn, number in enumerate((1, len(READERS))):
             restarted(radius, path, text.replace("readers = 8", f"readers = {number}"))
             queue_rates(book, radius, turn, number)
+
+
+def report_of(letter, number, kind):
+    """A report that one option has work with."""
+    packet = packet_of(f"{letter}{number}", b"bo", MEBIBYTE)
+    # A Class that a login had, and a count of packets.
+    stamped = packet.replace(attribute(25, b"gold"), attribute(25, b"gold;radacctd;;bo;"))
+    counted = attribute(47, (2000).to_bytes(4, "big"))
+    return {
+        "stamp": stamped,
+        "remember": packet.replace(attribute(25, b"gold"), b""),
+        "wraps": packet + counted,
+        "all": stamped + counted,
+    }.get(kind, packet)
+
+
+# The lines of a client, and three runs with each.
+OPTIONS = {
+    "off": "",
+    "stamp": "\tradacctd_stamp = name\n",
+    "remember": "\tradacctd_remember = yes\n",
+    "services": "\tradacctd_services = no\n",
+    "wraps": "\tradacctd_wraps = yes\n",
+}
+OPTIONS["all"] = "".join(OPTIONS.values())
+TURNS = 3
+
+
+def options(folder):
+    """How fast reports are taken and sent on, with each option of a client alone and with all."""
+    print(f"         one sync of the queue's disk: {sync_time(folder):.2f} ms", flush=True)
+    with both(folder) as (book, radius):
+        path = os.path.join(radius.raddb, "access-servers.conf")
+        with open(path, encoding="utf-8") as file:
+            text = file.read()
+        for turn in range(TURNS):
+            for name, lines in OPTIONS.items():
+                book.kill()
+                restarted(radius, path, text.replace("\tradacctd_stamp = name\n", lines))
+                option_rates(book, radius, name, f"{name}{turn}-")
+
+
+def option_rates(book, radius, name, letter):
+    """The rates of one run: into the queue, and through it."""
+    pairs = [(source_of(it), report_of(letter, it, name)) for it in range(REPORTS)]
+    taken = timed(f"{name}: into the queue", Sender(radius.acct), pairs)
+    radius.kill()
+    book.start()
+    radius.start()
+    begun, left = time.monotonic(), count_in(radius.queue)
+    waits_for("the queue drains", lambda: count_in(radius.queue), 0, max(1200, REPORTS // 10))
+    sent = left / (time.monotonic() - begun)
+    load = os.getloadavg()[0]
+    print(f"         {name}: {taken:.0f} and {sent:.0f} a second, load {load:.1f}", flush=True)
 
 
 def sync_time(folder):
