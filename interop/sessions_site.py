@@ -114,7 +114,15 @@ class Site:
             machine.radius.mirrors(machine.book)
 
     def begin_radius(self, machine):
-        pair_machines.FreeRadius.begin(machine.radius)
+        """Starts FreeRADIUS, again if need be: another program may just have its port."""
+        end = time.monotonic() + PATIENCE
+        while time.monotonic() < end:
+            try:
+                pair_machines.FreeRadius.begin(machine.radius)
+                return
+            except SystemExit:
+                time.sleep(1)
+        check("FreeRADIUS starts", machine.radius.logged()[-2000:], None)
 
     def end(self):
         for machine in self.machines:
