@@ -235,20 +235,23 @@ def options(folder):
             text = file.read()
         for turn in range(TURNS):
             for name, lines in OPTIONS.items():
+                before = book.balance("bo")
                 book.kill()
                 restarted(radius, path, text.replace("\tradacctd_stamp = name\n", lines))
-                option_rates(book, radius, name, f"{name}{turn}-")
+                option_rates(book, radius, name, f"{name}{turn}-", before)
 
 
-def option_rates(book, radius, name, letter):
-    """The rates of one run: into the queue, and through it."""
+def option_rates(book, radius, name, letter, before):
+    """The rates of one run: into the queue, and through it. Each report costs 10 by any plan."""
     pairs = [(source_of(it), report_of(letter, it, name)) for it in range(REPORTS)]
     taken = timed(f"{name}: into the queue", Sender(radius.acct), pairs)
     radius.kill()
     book.start()
     radius.start()
-    begun, left = time.monotonic(), count_in(radius.queue)
-    waits_for("the queue drains", lambda: count_in(radius.queue), 0, max(1200, REPORTS // 10))
+    waits_for("radacctd is sent the first", lambda: book.balance("bo") < before, True)
+    begun, total = time.monotonic(), before - 10 * REPORTS
+    left = (book.balance("bo") - total) / 10
+    waits_for("the queue drains", lambda: book.balance("bo"), total, max(1200, REPORTS // 10))
     sent = left / (time.monotonic() - begun)
     load = os.getloadavg()[0]
     print(f"         {name}: {taken:.0f} and {sent:.0f} a second, load {load:.1f}", flush=True)
