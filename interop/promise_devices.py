@@ -63,6 +63,8 @@ class Way:
         # Whether the delay grows. Else the same datagram is sent again.
         self.has_delay = rng.random() < 0.85
         self.says_no_delay = rng.random() < 0.5
+        # How many reports it may have on their way: some devices have few identifiers in use.
+        self.identifiers = rng.choice([4, 16, 256, 256])
 
 
 class AccessServer:
@@ -75,7 +77,7 @@ class AccessServer:
         self.socket.connect(("127.0.0.1", port))
         self.socket.setblocking(False)
         # What each identifier was last used for: a report, and its datagram.
-        self.used, self.identifiers = {}, itertools.cycle(range(256))
+        self.used, self.identifiers = {}, itertools.cycle(range(way.identifiers))
 
     def throw(self, datagram):
         try:
@@ -86,7 +88,7 @@ class AccessServer:
 
     def free(self):
         """An identifier that is not on its way, or None."""
-        for it in itertools.islice(self.identifiers, 256):
+        for it in itertools.islice(self.identifiers, self.way.identifiers):
             sending, datagram = self.used.get(it, (None, None))
             if sending is None or sending.is_done or sending.datagram is not datagram:
                 return it
@@ -140,15 +142,18 @@ class Sending:
         return b"".join(attribute(*pair) for pair in parts), delay
 
     def send(self, now):
-        """Sends it, if an identifier is free."""
+        """Sends it: with its new delay if an identifier is free for that, else as it was. If it has
+        none yet, it waits.
+        """
         server = self.server
         if self.datagram is None or server.way.has_delay:
             identifier = server.free()
-            if identifier is None:
+            if identifier is not None:
+                octets, self.delay = self.attributes(now)
+                self.datagram = signed(4, identifier, octets)
+                server.used[identifier] = self, self.datagram
+            elif self.datagram is None:
                 return False
-            octets, self.delay = self.attributes(now)
-            self.datagram = signed(4, identifier, octets)
-            server.used[identifier] = self, self.datagram
         self.count += 1
         self.report.sent.append((time.monotonic(), self.delay))
         server.throw(self.datagram)
