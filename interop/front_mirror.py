@@ -278,10 +278,13 @@ def plans(folder):
 
 
 def left_by_kill(folder, book):
-    """What plans-in-force leaves if it is killed: a second name, with which no book is served."""
+    """What plans-in-force leaves if it is killed: a second name, with which no book is served, or a
+    file that is not whole.
+    """
     left = os.path.join(folder, ".plans-of-book.left")
     os.mkdir(left)
     os.link(book, os.path.join(left, "book"))
+    front.written(os.path.join(folder, ".plans.csv.left"), "class,block\n")
 
 
 def login_of(radius, plan):
