@@ -112,18 +112,23 @@ def edit_plans(edit, folder):
     check("one that is left out, too", got, (1, True))
     os.remove(edit.copy)
     check("and the file stays", text_of(site.config), before)
-    added = script(folder, "added", f"cat >>\"$1\" <<'END'\n{DEBIT}\nEND")
+    with_key = f"{DEBIT}\n{KEY.format('ida', 'ida')}"
+    added = script(folder, "added", f"cat >>\"$1\" <<'END'\n{with_key}\nEND")
     status, said = edit(added, answers="q\n")
     check("a new plan is asked about", (status, "radacctd plans --config" in said), (1, True))
+    told = "A running server takes the clients and keys of this file at once. Its new plans wait"
+    check("and it says what does not wait", told in said, True)
     status, said = edit("true", "--log", site.errors, answers="c\nw\n")
     waits = "; plan debit is new; the plans stay"
     check("if it is written, the server says that it waits", (status, waits in said), (4, True))
+    account = site.ask("GET", "/me/balance", "ida-key-0000000001").get("account")
+    check("and it took the key of that file", account, "ida")
     site.kill()
     check("plans adds it", site.command("plans")[:2], (0, "added 1\n"))
     site.start()
     editor = script(folder, "more", f"cat >>\"$1\" <<'END'\n{KEY.format('bo', 'bo')}\nEND")
     status, said = edit(editor, "--log", site.errors)
-    check("and then a key is taken", (status, "3 plans, 5 keys" in said), (0, True))
+    check("and then a key is taken", (status, "3 plans, 6 keys" in said), (0, True))
 
 
 def edit_new(edit, folder):
