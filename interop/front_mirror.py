@@ -13,6 +13,8 @@ from front import FILES, KILL, MEBIBYTE, check, report, waits_for
 from front_logins import MIKROTIK, told
 from front_parts import both, looked_up, part
 
+# What the Class of an Access-Accept has besides the plan: who pays.
+STAMP = ";radacctd;;al;"
 PLANS = f"class,block,unit,count\ngold,{MEBIBYTE},10,both\ndefault,1000000,5,both\n"
 
 
@@ -249,7 +251,7 @@ def plans(folder):
         book.sell("al", 60, "V-1")
         quota = lambda octets: {MIKROTIK[0]: str(octets), MIKROTIK[1]: "0"}
         login = lambda: login_of(radius, "silver")
-        at_default = (True, "default", quota(12_000_000))
+        at_default = (True, f"default{STAMP}", quota(12_000_000))
         waits_for("a Class without a plan is `default` in the reply, too", login, at_default)
         with open(book.config, encoding="utf-8") as file:
             text = file.read()
@@ -257,20 +259,20 @@ def plans(folder):
         front.written(book.config, plan + text)
         time.sleep(6)
         check("while its plan waits, too", login(), at_default)
-        used = report("Interim-Update", "S-1", "al", 2_000_000, plan="default")
+        used = report("Interim-Update", "S-1", "al", 2_000_000, plan=f"default{STAMP}")
         check("the session reports that Class", radius.reports("ap1", used), True)
         waits_for("and costs what its quota was made of", lambda: book.balance("al"), 50)
         book.kill()
-        check("while the server is stopped, too", login()[1], "default")
+        check("while the server is stopped, too", login()[1], f"default{STAMP}")
         words = [KILL.PROGRAM, "plans", "--config", book.config, "--db", book.book]
         done = subprocess.run(words, capture_output=True, text=True)
         check("the plan is added", (done.returncode, done.stdout), (0, "added 1\n"))
-        check("it is in force once the server is started", login()[1], "default")
+        check("it is in force once the server is started", login()[1], f"default{STAMP}")
         left_by_kill(folder, book.book)
         book.start()
-        wanted = (True, "silver", quota(50 // 3 * MEBIBYTE))
+        wanted = (True, f"silver{STAMP}", quota(50 // 3 * MEBIBYTE))
         waits_for("then its quota is of the new plan", login, wanted)
-        used = report("Interim-Update", "S-2", "al", 2 * MEBIBYTE, plan="silver")
+        used = report("Interim-Update", "S-2", "al", 2 * MEBIBYTE, plan=f"silver{STAMP}")
         check("a session of it", radius.reports("ap1", used), True)
         waits_for("costs that", lambda: book.balance("al"), 44)
         left = [it for it in os.listdir(folder) if it.startswith(".plans")]
