@@ -171,6 +171,7 @@ def odd_attributes(rng):
         [(33, rng.randbytes(8)), (33, rng.randbytes(3))],
         [(8, rng.randbytes(4)), (31, b"02-00-00-" + rng.randbytes(3).hex("-").encode())],
         [(30, b""), (31, b"x" * 253)],
+        [(8, b"\x0a\1\2"), (49, b"\1")],
     ]
     return [pair for pair in rng.choice(kinds) if pair[1]]
 
@@ -184,7 +185,7 @@ def extended(rng):
 def wrong(rng):
     """Attributes of a wrong form, which nobody can charge."""
     return rng.choice(
-        [[(42, b"\1\2")], [(8, b"\x0a\1\2")], [(49, b"\1")], [(52, number(1 << 30))]]
+        [[(42, b"\1\2")], [(43, b"\1\2\3")], [(52, number(1 << 30))], [(53, number(1 << 31))]]
     )
 
 

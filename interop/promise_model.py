@@ -2,7 +2,8 @@
 
 It has no line in common with the program and its tools. A session is charged once: the price, by
 its plan, of the greatest total that was accepted. What was answered was accepted, what was sent and
-not answered may have been. A voucher and a code are credited once in each book, to one account.
+not answered may have been. A Start without a Class and without octets is answered and left out. A
+voucher and a code are credited once in each book, to one account.
 """
 
 import collections
@@ -50,6 +51,10 @@ class Report:
             return self.seconds, 0
         return self.input, self.output
 
+    def is_left_out(self):
+        """Whether it is a Start that moves no money and has no Class: a later report has it."""
+        return self.status == START and not self.session.plan and not self.input + self.output
+
     def counted(self):
         one, other = self.numbers()
         return {BOTH: one + other, IN: one, OUT: other, SECONDS: one}[self.session.mode()]
@@ -83,8 +88,9 @@ class Session:
         return self.is_old and self.reports[-1].moment < moment + EDGE
 
     def least(self):
-        """What was answered at most, or None."""
-        return max((it.counted() for it in self.reports if it.answered), default=None)
+        """What was answered at most, and not left out, or None."""
+        found = (it for it in self.reports if it.answered and not it.is_left_out())
+        return max((it.counted() for it in found), default=None)
 
     def most(self):
         return max((it.counted() for it in self.reports if it.sent), default=None)
