@@ -182,11 +182,12 @@ def extended(rng):
     return [(kind, bytes([rng.randrange(200, 240)]) + rng.randbytes(rng.randrange(1, 12)))]
 
 
-def wrong(rng):
-    """Attributes of a wrong form, which nobody can charge."""
-    return rng.choice(
-        [[(42, b"\1\2")], [(43, b"\1\2\3")], [(52, number(1 << 30))], [(53, number(1 << 31))]]
-    )
+def wrong(rng, plan):
+    """Attributes of a wrong form, which nobody can charge: no gigawords by a plan of seconds."""
+    forms = [[(42, b"\1\2")], [(43, b"\1\2\3")]]
+    if plan != b"hour":
+        forms += [[(52, number(1 << 30))], [(53, number(1 << 31))]]
+    return rng.choice(forms)
 
 
 class Devices(threading.Thread):
@@ -298,7 +299,7 @@ class Devices(threading.Thread):
         if chance < NO_NAME and not is_old:
             session.kind, session.account = NAMELESS, rng.choice(BAD_NAMES)
         elif chance < NO_NAME + WRONG_FORM and not is_old:
-            session.kind, session.form = WRONG, wrong(rng)
+            session.kind, session.form = WRONG, wrong(rng, plan)
         session.is_old, session.gives_up = is_old, rng.random() < GIVES_UP
         self.model.sessions.append(session)
         if not is_old:
