@@ -13,14 +13,12 @@ import time
 import urllib.parse
 
 import front
+import release
 from front import ACCESS_SERVERS, MEBIBYTE, SECRET, check, report, waits_for
 from front_sender import Sender, attribute, packet_of
+from release import Missing
 
 PARTS = {}
-
-
-class Missing(Exception):
-    """What this machine has not."""
 
 
 def part(function):
@@ -517,16 +515,17 @@ def hostapd(folder):
     if os.geteuid() != 0:
         raise Missing("root, who may make a network namespace")
     started = []
-    with wire(), both(folder, clients=CUT_HERE.format(secret=SECRET)) as (book, radius):
+    clients = CUT_HERE.format(secret=SECRET)
+    served = release.programs(["hostapd"], folder)
+    with wire(), served as before, both(folder, clients=clients) as (book, radius):
         book.sell("al", 20, "V-1")
         waits_for("al has money", lambda: mirrored(radius, "al"), 20)
         try:
             text = HOSTAPD.format(auth=radius.auth, acct=radius.acct, secret=SECRET)
             front.written(os.path.join(folder, "hostapd.conf"), text)
             front.written(os.path.join(folder, "supplicant.conf"), SUPPLICANT)
-            started.append(
-                logged(folder, ["hostapd", "-d", f"{folder}/hostapd.conf"], "hostapd.log")
-            )
+            words = [*before, "hostapd", "-d", f"{folder}/hostapd.conf"]
+            started.append(logged(folder, words, "hostapd.log"))
             time.sleep(2)
             words = ["ip", "netns", "exec", "radacctd-sta", "wpa_supplicant", "-D", "wired"]
             words += ["-i", "radacctd-sta", "-c", f"{folder}/supplicant.conf"]
