@@ -15,7 +15,6 @@ from claims_lib.tree import FOR_TESTS, ROOT, text_of, without_comments
 READS = "crates/acct_reads/src/lib.rt"
 JOBS = "crates/acct_program_jobs/src/"
 COMMANDS = "crates/acct_program_commands/src/"
-SERVING = "crates/acct_program_serving/src/"
 CHANGES = COMMANDS + "file_changes.rt"
 MAIN = "crates/radacctd/src/main.rt"
 
@@ -67,11 +66,6 @@ NAMED = {
 CALLERS = {
     READS: "it looks, for all others",
     CHANGES: "it changes, for all others",
-}
-# Sources of which a bound names more of the system than they need, and what.
-BOUNDS = {
-    SERVING + "sockets_server.rt": {"std::fs::Files"},
-    SERVING + "watcher.rt": {"std::fs::Files"},
 }
 
 # The functions that are given the runtime itself. They open a book, or hand the runtime to one that
@@ -146,7 +140,7 @@ def found_in(path, text):
         for found in re.finditer(pattern, text) if path not in allowed else ():
             yield found.start(), " ".join(found[0].split()), what
     for name, at in named_in(text) if path not in CALLERS else ():
-        if SYSTEM.match(name) and name not in NAMED | BOUNDS.get(path, set()):
+        if SYSTEM.match(name) and name not in NAMED:
             yield at, name, "the system's files"
     for name, at in given_in(text):
         if name not in GIVEN.get(path, "").split():
@@ -218,4 +212,4 @@ def allowed():
     """Each source that a rule allows, with the rule."""
     for what, _, sources in RULES:
         yield from ((path, what) for path in sources)
-    yield from ((path, "the system's files") for path in (*CALLERS, *BOUNDS))
+    yield from ((path, "the system's files") for path in CALLERS)

@@ -6,13 +6,14 @@
 ghost use Rattle.std.specs.Prelude.{◌≡◌, true, false};
 ghost use Rattle.std.specs.Fs.{asks_create, asks_create_new, asks_truncate};
 
+use acct_reads::ReadsFiles;
 use std::fs::{Files, OpenFile, OpenOptions, Permissions};
 use std::io::Write;
 use std::os::unix::fs::{OpenOptionsExt, PermissionsExt};
 use std::{fs, io};
 
-/// The files of the system, to be made and replaced.
-pub trait ReplacesFiles {
+/// The files of the system, to be made and replaced, and looked at.
+pub trait ReplacesFiles: ReadsFiles {
     /// A file that is being written.
     type Writer: Write + Drop;
 

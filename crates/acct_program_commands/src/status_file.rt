@@ -120,7 +120,7 @@ fn octets_of<R: ReadsFiles>(runtime: &R, file: &Text) -> Option<u64> {
     }
 }
 
-impl<'r, R: ReadsFiles + ReplacesFiles, E: Write> StatusFile<'r, R, E> {
+impl<'r, R: ReplacesFiles, E: Write> StatusFile<'r, R, E> {
     /// A file that is not written yet, of a server that starts at this moment, in seconds since
     /// 1970.
     pub fn new(

@@ -20,7 +20,6 @@ use crate::file_changes::ReplacesFiles;
 use crate::status_file::StatusFile;
 use crate::tally::{Meter, Tally};
 use crate::told::{Minute, ToldDrop};
-use acct_reads::ReadsFiles;
 use acct_service::{Event, Exchange, Fault, What, moment_of};
 use acct_wire::Reason;
 use std::io;
@@ -193,13 +192,7 @@ impl<'r, R, X: Exchange + Drop, W: Write + Drop, E: Drop> Drop for Watched<'r, R
     }
 }
 
-impl<'r, R: Clock + ReadsFiles + ReplacesFiles, X: Exchange, W: Write, E: Write + Drop> Watched<
-    'r,
-    R,
-    X,
-    W,
-    E,
-> {
+impl<'r, R: Clock + ReplacesFiles, X: Exchange, W: Write, E: Write + Drop> Watched<'r, R, X, W, E> {
     /// A watched exchange. If it has neither a watch nor a file, it only passes calls on.
     pub fn new(
         clock: &'r R,
@@ -245,7 +238,7 @@ impl<'r, R: Clock + ReadsFiles + ReplacesFiles, X: Exchange, W: Write, E: Write 
     }
 }
 
-impl<'r, R: Clock + ReadsFiles + ReplacesFiles, X: Exchange, W: Write, E: Write + Drop> Exchange
+impl<'r, R: Clock + ReplacesFiles, X: Exchange, W: Write, E: Write + Drop> Exchange
     for Watched<'r, R, X, W, E> {
     ghost turn_count = { λ w. X.turn_count w.exchange };
 

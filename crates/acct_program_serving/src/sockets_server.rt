@@ -18,12 +18,10 @@ use acct_program_commands::{
     Fault, FileRounds, Gauges, KeptBalances, ReplacesFiles, Shared, SiteSource, StateSource,
     StatusFile, StoreFault, Watch,
 };
-use acct_reads::ReadsFiles;
 use acct_service::{Exchange, Rules, Until, moment_of};
 use acct_site::Config;
 use std::alloc::{AllocError, Global};
 use std::cell::RefCell;
-use std::fs::Files;
 use std::io::{ErrorKind, Write};
 use std::net::Net;
 use std::time::Clock;
@@ -66,7 +64,7 @@ pub struct Errors<E: Drop> {
 /// before the first turn or after the last one.
 pub fn run_serve<
     'r,
-    R: Net + Clock + Files,
+    R: Net + Clock + ReplacesFiles,
     S: SiteSource + Drop,
     B: Book,
     W: Write,
@@ -149,7 +147,7 @@ struct WrittenFiles<'s, R, E: Drop> {
 }
 
 // The files that a server writes. None of them was written yet.
-fn files_to_write<'s, R: Clock + ReadsFiles + ReplacesFiles, E: Write + Drop>(
+fn files_to_write<'s, R: Clock + ReplacesFiles, E: Write + Drop>(
     runtime: &'s R,
     alloc: Global,
     telling: &Telling,
@@ -190,7 +188,7 @@ fn watch_on<E: Write + Drop>(drops: Option<E>) -> Option<Watch<E>> {
 }
 
 // The file of the counts, if one is named, of a server that starts now.
-fn status_file<'r, R: Clock + ReadsFiles + ReplacesFiles, E: Write + Drop>(
+fn status_file<'r, R: Clock + ReplacesFiles, E: Write + Drop>(
     runtime: &'r R,
     alloc: Global,
     telling: &Telling,

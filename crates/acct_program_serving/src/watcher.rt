@@ -6,10 +6,9 @@ ghost use Rattle.acct_program_serving.specs.Serving.{EndsOver};
 use crate::ended::Ended;
 use crate::printing::{write_counts, write_serving};
 use acct_book::Book;
-use acct_program_commands::{StatusFile, Watch, Watched};
+use acct_program_commands::{ReplacesFiles, StatusFile, Watch, Watched};
 use acct_service::{Exchange, Rounds, Rules, serve_in_slices};
 use std::alloc::Global;
-use std::fs::Files;
 use std::io::Write;
 use std::time::Clock;
 
@@ -23,7 +22,7 @@ pub struct Watcher<'r, R, D: Write, E: Drop> {
     pub counts: Option<StatusFile<'r, R, E>>,
 }
 
-impl<'r, R: Clock + Files, D: Write + Drop, E: Write + Drop> Watcher<'r, R, D, E> {
+impl<'r, R: Clock + ReplacesFiles, D: Write + Drop, E: Write + Drop> Watcher<'r, R, D, E> {
     /// Serves by these rules over a book and an exchange for so many turns, and returns the
     /// exchange. It prints that it serves before the first turn, and the counts after the last one.
     /// `serve_exchange` defines how it may end.
