@@ -183,7 +183,7 @@ fn is_taken(rt: &HostRuntime, (clients, others, keys): (u32, u32, u32)) -> Resul
 
 #[test]
 fn long_configurations_are_taken(rt: HostRuntime) -> Result<(), Fail> {
-    let keys = chosen(&rt, 3_395).saturating_add(701);
+    let keys = chosen(&rt, 3_096).saturating_add(1_000);
     assert!(rt; is_taken(&rt, (1, 1, keys))?, "{keys} keys");
     assert!(rt; is_taken(&rt, (1_024, 255, 4_096))?);
     Ok(())
