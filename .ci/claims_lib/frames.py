@@ -1,10 +1,16 @@
-"""The calls from `main` to one event, which docs/ARCHITECTURE.md lists in their order."""
+"""The calls from `main` to one event, of which docs/ARCHITECTURE.md has a table.
+
+Each function of CALLS is in one source of the program, and calls the next one.
+"""
 
 import re
 
 from claims_lib.tree import FOR_TESTS, text_of, without_comments
 
-PAGE, TITLE = "docs/ARCHITECTURE.md", "The path of a datagram"
+CALLS = (
+    "main", "carry_out", "serve_files", "work_on", "worked", "Server::over", "run_serve",
+    "Watcher::serve", "serve_exchange", "serve_in_slices", "take_turns", "take_turn",
+)
 
 
 def body_of(text, name):
@@ -22,25 +28,33 @@ def body_of(text, name):
     return text[brace : text.find(f"\n{found[1]}}}", brace)]
 
 
-def listed(checker):
-    """The rows of the page: a function, its file below crates/, and the line that names it."""
-    for block in checker.pages[PAGE]:
-        cells = block.cells() if block.kind == "row" else []
-        if block.section.title == TITLE and len(cells) == 3 and cells[0].isdigit():
-            yield cells[1].strip("`"), f"crates/{cells[2].strip('`')}", block.line
+def places_of(checker, name):
+    """Each source of the program that has a function, with its body."""
+    for path in checker.tree.files:
+        if path.endswith(".rt") and "/src/" in path and not FOR_TESTS.search(path.split("/")[1]):
+            if name.rpartition("::")[2] in checker.tree.names[path]:
+                body = body_of(without_comments(text_of(path)), name)
+                if body is not None:
+                    yield path, body
 
 
-def check(checker):
-    """Each function that is listed is in its file, and calls the next one."""
-    checker.page, rows = PAGE, list(listed(checker))
-    if len(rows) < 2:
-        checker.find(1, f"{TITLE}: no table of the calls")
-    for (name, path, line), following in zip(rows, [*rows[1:], None]):
-        known = path in checker.tree.names and not FOR_TESTS.search(path.split("/")[1])
-        body = body_of(without_comments(text_of(path)), name) if known else None
-        if body is None:
-            checker.find(line, f"`{name}` is not in {path}")
-            continue
-        called = following and following[0].rpartition("::")[2]
-        if called and not re.search(rf"\b{called}\(", body):
-            checker.find(line, f"`{name}` does not call `{called}`")
+def chain(checker):
+    """Each function with its file: the one that calls the next function."""
+    for name, following in zip(CALLS, [*CALLS[1:], None]):
+        called = following and following.rpartition("::")[2]
+        found = [path for path, body in places_of(checker, name)
+                 if not called or re.search(rf"\b{called}\(", body)]
+        if not found:
+            checker.find(1, f"`{name}` does not call `{following}`: see claims_lib/frames.py")
+        yield name, found[0] if found else "crates/"
+
+
+def calls(checker):
+    """The table of the page."""
+    yield "| # | Function | File |"
+    yield "|---|---|---|"
+    for at, (name, path) in enumerate(chain(checker), 1):
+        yield f"| {at} | `{name}` | `{path.removeprefix('crates/')}` |"
+
+
+MAKERS = {"calls": calls}

@@ -3,7 +3,7 @@
 import os
 import re
 
-from claims_lib import figures, frames, openers, reading
+from claims_lib import figures, history, made, openers, pictures, reading
 from claims_lib.allowed import ALLOWED
 from claims_lib.tree import FOR_TESTS, text_of
 
@@ -98,16 +98,14 @@ def check_inner(checker, read, text):
 
 
 def check_functions(checker):
-    """Each function that the page lists under crates is a public one of these crates."""
-    checker.page = PROOFS
-    for block in rows_of(checker, PROOFS, "Functions by crate"):
-        title = re.findall(r"\w+", block.section.title)
-        crates = [f"crates/{it}/src/" for it in title if it in checker.tree.crates]
-        first = block.cells()[0]
-        names = names_in(re.sub(r"the trait `\w+`.*|over any `\w+`", "", first)) if crates else []
-        for name in names:
+    """Each function that the page claims something of is a public one of its crate."""
+    checker.page, crates = PROOFS, []
+    for block in rows_of(checker, PROOFS, "Claims by crate"):
+        named = [it for it in names_in(block.cells()[0]) if it in checker.tree.crates]
+        crates = [f"crates/{it}/src/" for it in named] or crates
+        for name in names_in(block.cells()[1]) if crates else ():
             if not is_public(checker, crates, name):
-                checker.find(block.line, f"`{name}`: no public function of {block.section.title}")
+                checker.find(block.line, f"`{name}`: no public function of {' or '.join(crates)}")
 
 
 def is_public(checker, crates, name):
@@ -156,51 +154,17 @@ def places(checker, block):
 # ---- counts, and lists of all
 
 
-def check_edits(checker):
-    """The counts of wrong bodies are those of the folders `must-fail`."""
-    checker.page, counts = PROOFS, {}
-    for path in checker.tree.files:
-        if path.startswith("crates/") and path.endswith(".edit"):
-            counts[path.split("/")[1]] = counts.get(path.split("/")[1], 0) + 1
-    text, listed = text_of(PROOFS), {}
-    said = re.search(r"tries ([\d,]+) wrong bodies", text)
-    if not said or said[1] != str(sum(counts.values())):
-        line = text.count("\n", 0, said.start()) + 1 if said else 1
-        checker.find(line, f"say: tries {sum(counts.values())} wrong bodies")
-    for block in rows_of(checker, PROOFS, "Wrong bodies"):
-        crates, numbers = names_in(block.cells()[0]), re.findall(r"\d+", block.cells()[1])
-        if block.cells()[1].endswith("each"):
-            numbers *= len(crates)
-        for crate, number in zip(crates, numbers):
-            listed[crate] = number
-            if number != str(counts.get(crate, 0)):
-                checker.find(block.line, f"{crate} has {counts.get(crate, 0)}, not {number}")
-    for crate in sorted(set(counts) - set(listed)):
-        checker.find(1, f"{crate} has {counts[crate]} wrong bodies, and the table does not say so")
-
-
 def check_whole(checker):
-    """The list of commands has each command, and that of crates each crate of the program."""
-    lists = (
-        ("README.md", "Commands", set(checker.help), r"^ {4}(\w+) ", "the command"),
-        ("docs/ARCHITECTURE.md", "The crates",
-         {it for it in checker.tree.crates if not FOR_TESTS.search(it)}, r"\w+", "the crate"),
-    )
-    for checker.page, title, wanted, pattern, what in lists:
-        blocks = [it for it in checker.pages[checker.page] if it.section.title == title]
-        code = next((it for it in blocks if it.kind == "code"), None)
-        table = [it for it in blocks if it.kind == "row"]
-        if not code and not table:
-            checker.find(1, f"no list below the heading {title}")
-            continue
-        text = code.text if code else "\n".join(f"    {it.cells()[0].strip('`')} " for it in table)
-        found = set(re.findall(pattern, text, re.M))
-        line = (code or table[0]).line
-        for name in sorted(wanted - found):
-            checker.find(line, f"{what} {name} is not in the list")
-        for name in sorted(found - wanted) if what == "the command" else ():
-            if name != "Command":
-                checker.find(line, f"{what} {name} does not exist")
+    """The drawing of the crates has each crate of the program."""
+    checker.page = "docs/ARCHITECTURE.md"
+    blocks = [it for it in checker.pages[checker.page] if it.section.title == "The crates"]
+    code = next((it for it in blocks if it.kind == "code"), None)
+    if not code:
+        checker.find(1, "no drawing below the heading The crates")
+        return
+    wanted = {it for it in checker.tree.crates if not FOR_TESTS.search(it)}
+    for name in sorted(wanted - set(re.findall(r"\w+", code.text))):
+        checker.find(code.line, f"the crate {name} is not in the drawing")
 
 
 def check_notice(checker):
@@ -270,7 +234,6 @@ def check(checker):
     check_reading(checker)
     check_functions(checker)
     check_definitions(checker)
-    check_edits(checker)
     check_whole(checker)
     check_notice(checker)
     check_kit(checker)
@@ -278,5 +241,8 @@ def check(checker):
     check_mentions(checker)
     check_allowed(checker)
     figures.check(checker)
-    frames.check(checker)
     openers.check(checker)
+    if history.check_rows(checker):
+        made.check(checker)
+        pictures.check(checker)
+        history.check(checker)

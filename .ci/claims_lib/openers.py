@@ -81,14 +81,14 @@ GIVEN = {
 }
 
 # What a person reads, since no clause says it: whole sources, and functions of others.
-PAGE, TITLE = "docs/PROOFS.md", "From main to the promise"
+PAGE = "docs/PROOFS.md"
 BY_EYE = (
-    (MAIN, "main"),
-    (READS, None),
-    (CHANGES, None),
-    (JOBS + "database.rt", "opened"),
-    ("crates/acct_net/src/datagrams.rt", "RadiusSocket::bind"),
-    ("crates/acct_net/src/desk.rt", "opened"),
+    (MAIN, "main", "it passes the streams on, with nothing in between, and says once what is assumed of the files"),
+    (READS, None, "it looks at files, and changes none"),
+    (CHANGES, None, "it makes and replaces files as its comments say"),
+    (JOBS + "database.rt", "opened", "the file opened is the one named"),
+    ("crates/acct_net/src/datagrams.rt", "RadiusSocket::bind", "the socket is bound at the address and port that are kept beside it"),
+    ("crates/acct_net/src/desk.rt", "opened", "so is the desk's"),
 )
 MOST_BY_EYE = 200
 MOST_OF_CHANGES = 120
@@ -157,37 +157,26 @@ def function_in(text, name):
 
 
 def by_eye():
-    """What a person reads: how a page names it, and its lines without comments."""
-    for path, name in BY_EYE:
+    """What a person reads: how a page names it, its lines without comments, and why."""
+    for path, name, why in BY_EYE:
         text = without_comments(text_of(path))
         text = function_in(text, name) if name else text
         file = f"`{path.removeprefix('crates/')}`"
         cell = f"`{name}` ({file})" if name else file
-        yield cell, sum(bool(it.strip()) for it in text.splitlines())
-
-
-def shown():
-    """The rows and the sentence that the page is to have."""
-    yield from (f"| {cell} | {count} | |" for cell, count in by_eye())
-    yield f"They have {sum(count for _, count in by_eye())} lines"
+        yield cell, sum(bool(it.strip()) for it in text.splitlines()), why
 
 
 def check_by_eye(checker):
-    """The page lists what a person reads, with its lines, which are not too many."""
-    checker.page, computed, line, listed = PAGE, dict(by_eye()), 1, {}
-    for block in checker.pages[PAGE]:
-        cells = block.cells() if block.kind == "row" else []
-        if block.section.title == TITLE and len(cells) == 3 and cells[1].isdigit():
-            line, listed[cells[0]] = block.line, int(cells[1])
-            if computed.get(cells[0]) != listed[cells[0]]:
-                checker.find(line, f"{cells[0]}: {computed.get(cells[0], 'not one of them')}")
-    for cell in computed.keys() - listed.keys():
-        checker.find(line, f"no row for {cell}")
+    """What a person reads has not too many lines. The page's table is made of it."""
+    checker.page = PAGE
     if len(text_of(CHANGES).splitlines()) > MOST_OF_CHANGES:
-        checker.find(line, f"{CHANGES} has more than {MOST_OF_CHANGES} lines")
-    total = sum(computed.values())
-    if f"They have {total} lines" not in text_of(PAGE) or total > MOST_BY_EYE:
-        checker.find(line, f"say: They have {total} lines; at most {MOST_BY_EYE} are right")
+        checker.find(1, f"{CHANGES} has more than {MOST_OF_CHANGES} lines")
+    for cell, count, _ in by_eye():
+        if not count:
+            checker.find(1, f"{cell}: not there")
+    total = sum(count for _, count, _ in by_eye())
+    if total > MOST_BY_EYE:
+        checker.find(1, f"what is read by eye has {total} lines; at most {MOST_BY_EYE} are right")
 
 
 def check(checker):

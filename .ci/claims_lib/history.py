@@ -1,0 +1,172 @@
+"""Figures: the tables of docs/BENCHES.md, and the numbers that other pages round.
+
+bench/history.csv has a row for each measurement, and only grows. Rows of one id are the history of
+one question: the last one is what pages say. A page marks a number as `1.2 s <!-- large/start -->`;
+it is right if it is the row's value, or one of its range, or within a quarter of one of these.
+"""
+
+import csv
+import datetime
+import io
+import re
+import sys
+
+from claims_lib.tree import text_of
+
+PATH = "bench/history.csv"
+COLUMNS = (
+    "id date commit script what unit low value high processors load medium compared_with"
+    " compared_value note"
+).split()
+MARK = re.compile(r"<!-- ([a-z0-9]+/[a-z0-9-]+) -->")
+NUMBER = re.compile(r"\d[\d,]*(?:\.\d+)?")
+# After so many days a figure is old, which is a warning: the gate says the same on any day.
+OLD = 90
+UNITS = {"1/s": "a second", "lines/s": "lines a second"}
+
+
+def rows():
+    return list(csv.DictReader(io.StringIO(text_of(PATH))))
+
+
+def latest():
+    """The last row of each question, in the order in which the questions came."""
+    return {it["id"]: it for it in rows()}
+
+
+def number(text):
+    """A number of the file, with commas between thousands."""
+    whole, dot, rest = text.partition(".")
+    return f"{int(whole):,}{dot}{rest}" if whole.isdigit() else text
+
+
+def numbers(text):
+    return re.sub(r"\d{4,}(?:\.\d+)?", lambda it: number(it[0]), text)
+
+
+def shown(row):
+    """The value of a row with its range and its unit."""
+    low, value, high = (number(row[it]) for it in ("low", "value", "high"))
+    if value and low:
+        text = f"{value} ({low} to {high})"
+    elif value and high:
+        text = f"{value} (up to {high})"
+    else:
+        text = value or (f"{low} to {high}" if low else "")
+    return f"{text} {UNITS.get(row['unit'], row['unit'])}".strip()
+
+
+def compared(row):
+    """What a row is compared with, each with its value."""
+    names, values = (row[it].split("; ") for it in ("compared_with", "compared_value"))
+    return "; ".join(f"{one}: {numbers(two)}" for one, two in zip(names, values) if one)
+
+
+def seen(row):
+    """When and how a row was measured."""
+    load = f"load {row['load']}" if row["load"][:1].isdigit() else row["load"]
+    words = [row["date"], row["commit"], load, row["medium"]]
+    return ", ".join(it for it in words if it)
+
+
+def plain(text):
+    """A text of the file for a page: scripts and names of crates in backticks."""
+    return re.sub(r"(?<![\w/`-])(radius_codec|acct_\w+|both_books_tests|--sync \w+|\.ci/\w+)", r"`\1`",
+                  text.replace("|", "\\|"))
+
+
+def figures(checker, topics):
+    """The last figure of each question of these topics."""
+    yield "| What | Figure | Beside it | Seen |"
+    yield "|---|---|---|---|"
+    for topic in topics.split():
+        chosen = [it for it in latest().values() if it["id"].startswith(f"{topic}/")]
+        if not chosen:
+            checker.find(1, f"{PATH} has no topic {topic}")
+        for row in chosen:
+            beside = "; ".join(it for it in (compared(row), numbers(row["note"])) if it)
+            what = f"{plain(row['what'])} (`{row['script']}`)"
+            what = what if row["script"] not in ("by hand", "computed") else plain(row["what"])
+            cells = (what, shown(row), plain(beside), seen(row))
+            yield ("| " + " | ".join(cells) + " |").replace("|  |", "| |")
+
+
+# ---- whether the file and the marks are right
+
+
+def check(checker):
+    known = latest()
+    for checker.page in [it for it in checker.pages if it.endswith(".md")]:
+        text = text_of(checker.page)
+        for found in MARK.finditer(text):
+            line = text.count("\n", 0, found.start()) + 1
+            row = known.get(found[1])
+            before = re.split(r"\n\n|\|", text[: found.start()])[-1]
+            if not row:
+                checker.find(line, f"{PATH} has no row `{found[1]}`")
+            elif not is_near(before, row):
+                checker.find(line, f"`{' '.join(before.split())[-40:]}`: {found[1]} is {shown(row)}")
+    check_shown(checker, known)
+
+
+def is_near(text, row):
+    """Whether the last number of a text, or the last two, are about those of a row."""
+    given = [float(it.replace(",", "")) for it in NUMBER.findall(text)][-2:]
+    known = [float(row[it]) for it in ("low", "value", "high") if row[it]]
+    near = lambda one, two: abs(one - two) <= 0.25 * max(one, two)
+    return bool(given) and any(near(given[-1], it) for it in known)
+
+
+def check_shown(checker, known):
+    """Each topic is in a table of the page on figures."""
+    checker.page = "docs/BENCHES.md"
+    made = re.findall(r"<!-- made: figures ([^>]*) -->", text_of(checker.page))
+    topics = {it for part in made for it in part.split()}
+    for topic in sorted({it.split("/")[0] for it in known} - topics):
+        checker.find(1, f"no table has the figures of `{topic}`")
+
+
+def check_rows(checker):
+    """Each row is whole, its date is one, and its script is there. It says whether all are right."""
+    checker.page, before = PATH, len(checker.findings)
+    lines = text_of(PATH).splitlines()
+    if lines[0].split(",") != COLUMNS:
+        checker.find(1, "the head is not that of claims_lib/history.py")
+        return False
+    dates = {}
+    for at, row in enumerate(rows(), 2):
+        wrong = wrong_with(row, dates.get(row["id"], ""), checker)
+        dates[row["id"]] = row["date"] or ""
+        if wrong:
+            checker.find(at, wrong)
+    return len(checker.findings) == before
+
+
+def wrong_with(row, before, checker):
+    if None in row or None in row.values():
+        return f"it has not {len(COLUMNS)} fields"
+    if not re.fullmatch(r"20\d\d-\d\d-\d\d", row["date"]) or row["date"] < before:
+        return f"{row['date']}: no date, or earlier than the row before it of this question"
+    if not re.fullmatch(r"[a-z0-9]+/[a-z0-9-]+", row["id"]):
+        return f"{row['id']}: an id is a topic and a name"
+    script = row["script"].split(" ")[0]
+    if script not in ("by", "computed") and script not in checker.tree.paths:
+        return f"{row['script']}: no such script"
+    numeric = [row[it] for it in ("low", "value", "high") if row[it]]
+    bad = [it for it in numeric if not re.fullmatch(r"\d+(\.\d+)?", it)]
+    if not row["value"] and bool(row["low"]) != bool(row["high"]):
+        return "it has neither a value nor both ends of a range"
+    return f"{bad[0]}: no number" if bad else ""
+
+
+def warn_of_age():
+    """Says which figures are old. It changes no status."""
+    today = datetime.date.today()
+    old = [it for it in latest().values()
+           if (today - datetime.date.fromisoformat(it["date"])).days > OLD]
+    if old:
+        print(f"claims: {len(old)} figures are older than {OLD} days, such as {old[0]['id']}",
+              file=sys.stderr)
+
+
+MAKERS = {"figures": figures}

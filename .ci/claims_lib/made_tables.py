@@ -1,0 +1,160 @@
+"""Tables of pages, each made from the one place that has what it says."""
+
+import re
+
+from claims_lib import contracts, figures, openers, reading
+from claims_lib.tree import text_of, without_comments
+
+FIGURES = "crates/acct_program_commands/src/figures.rt"
+FRONT = "etc/freeradius/front-counts"
+# What the program's own line on a metric leaves open. Its text goes with the next change of that
+# source.
+NOTES = {
+    "radacctd_mute_requests_total": "memory ran out",
+    "radacctd_faults_total": "slow callers that were closed are among them",
+    "radacctd_reports_total": "restarts of access servers, too",
+    "radacctd_datagrams_total": "dropped ones, too",
+    "radacctd_last_report_time_seconds": "0: none yet",
+    "radacctd_config_is_current": "0: the changed file has a fault, or plans that wait",
+    "radacctd_balances_time_seconds": "0: not yet",
+    "radacctd_accounts": "absent without a file of balances",
+    "radacctd_overdrawn_accounts": "absent without a file of balances",
+    "radacctd_build_info": "always 1",
+    "radacctd_queue_state": "[its states](FREERADIUS.md#when-the-queue-cannot-be-written)",
+    "radacctd_device_default_sessions": "of an access server, since FreeRADIUS' start",
+    "radacctd_device_wrapped_reports": "[by symptom](ACCESS-SERVERS.md#by-symptom)",
+    "radacctd_mirror_is_readable": "0: logins have no balances",
+}
+
+
+def row(*cells):
+    return ("| " + " | ".join(cells) + " |").replace("|  |", "| |")
+
+
+def metric_rows(checker, found):
+    """The rows of metrics; a note on a metric that is not there is wrong."""
+    yield row("Name", "What it is", "Also")
+    yield "|---|---|---|"
+    for name, about in found:
+        yield row(f"`{name}`", about.rstrip("."), NOTES.get(name, ""))
+    every = dict(metrics_of_server()) | dict(metrics_of_front())
+    for name in sorted(set(NOTES) - set(every)):
+        checker.find(1, f"no source has the metric {name}: see claims_lib/made_tables.py")
+
+
+def metrics_of_server():
+    """The metrics of the program, each with its line of help, in the order in which it writes."""
+    text = without_comments(text_of(FIGURES))
+    named = r'let name = "(radacctd_\w+)";\s*let about = "([^"]+)"'
+    told = r'let about = "([^"]+)";\s*write_\w+\(output, "(radacctd_\w+)"'
+    made = r"# HELP (radacctd_\w+) ([^\\\n]+)"
+    for found in re.finditer(f"{named}|{told}|{made}", text):
+        one, two, three, four, five, six = found.groups()
+        yield one or four or five, two or three or six
+
+
+def metrics_of_front():
+    """The metrics that FreeRADIUS' side counts."""
+    block = re.search(r"^HELP = \{\n(.*?)^\}", text_of(FRONT), re.M | re.S)[1]
+    yield from re.findall(r'"(radacctd_\w+)": "([^"]+)"', block)
+
+
+def metrics(checker, side):
+    """The metrics of the server, or of FreeRADIUS' side."""
+    found = {"server": metrics_of_server, "front": metrics_of_front}[side]
+    return metric_rows(checker, list(found()))
+
+
+def commands(_checker):
+    """Each command of the program with the first sentence of the manual page on it."""
+    page = text_of("man/radacctd.8").split("The commands:\n")[1].split("The options:\n")[0]
+    yield row("Command", "What it does")
+    yield "|---|---|"
+    for name, text in re.findall(r"^\.It Cm (\w+)\n(.*?)(?=^\.It|^\.El)", page, re.M | re.S):
+        plain = " ".join(re.sub(r"^\.\w+ ", "", text, flags=re.M).split())
+        yield row(f"`{name}`", contracts.first_of(plain).rstrip("."))
+
+
+# A limit of the site, in words, with the constants that it has in the order of the words.
+LIMITS = (
+    ("a site", "{} access servers, {} plans, {} keys", ("MOST_CLIENTS", "MOST_PLANS", "MOST_KEYS")),
+    ("reports", "IPv4, at {} addresses; datagrams of {} octets", ("MOST_ADDRESSES", "LONGEST_PACKET")),
+    ("the desk", "{} connected callers; others wait for a place", ("PLACES",)),
+    ("an import", "{} vouchers", ("MOST_RECORDS",)),
+)
+
+
+def limits(_checker):
+    """The limits of a site, with the numbers of the sources."""
+    yield row("Limit", "")
+    yield "|---|---|"
+    for what, words, names in LIMITS:
+        yield row(what, words.format(*(f"{figures.constant(it):,}" for it in names)))
+    yield row("a balance", "-2^62 to 2^62")
+
+
+def crates(_checker):
+    """The crates of the program, the lowest first, each with what it is."""
+    yield row("Crate", "What it is")
+    yield "|---|---|"
+    for name in contracts.crates():
+        top = f"crates/{name}/src/{'main' if name == 'radacctd' else 'lib'}.rt"
+        about = re.match(r"(?://!.*\n)+", text_of(top))[0]
+        about = contracts.first_of(contracts.comment_before(about, len(about)))
+        yield row(f"`{name}`", about.rstrip("."))
+
+
+def read_of(checker):
+    from claims_lib import lists
+
+    page, read = checker.page, lists.reading_of(checker)
+    checker.page = page
+    return read
+
+
+def definitions(checker):
+    """What an auditor reads of definitions: a row for each contract and folder, and the sum."""
+    *rows, total = reading.shown(read_of(checker))
+    return [*rows, "", f"{total}: each file that the contracts name, or that such a file names."]
+
+
+def wrong_bodies(checker):
+    """How many wrong bodies each crate has."""
+    counts = edits_of(checker.tree.files)
+    yield f"The gate tries {sum(counts.values())} wrong bodies, and each must be refused:"
+    yield ""
+    yield row("Wrong bodies", "Crates")
+    yield "|---|---|"
+    for number in sorted(set(counts.values()), reverse=True):
+        names = sorted(it for it in counts if counts[it] == number)
+        yield row(str(number), ", ".join(f"`{it}`" for it in names))
+
+
+def edits_of(files):
+    counts = {}
+    for path in files:
+        if path.startswith("crates/") and path.endswith(".edit"):
+            counts[path.split("/")[1]] = counts.get(path.split("/")[1], 0) + 1
+    return counts
+
+
+def by_eye(_checker):
+    """What a person reads of code, with why."""
+    yield row("Source", "Lines", "What it is to do")
+    yield "|---|---|---|"
+    for cell, count, why in openers.by_eye():
+        yield row(cell, str(count), why)
+    total = sum(count for _, count, _ in openers.by_eye())
+    yield ""
+    yield f"They have {total} lines without comments; above {openers.MOST_BY_EYE} `.ci/claims` fails."
+
+
+MAKERS = {
+    "metrics": metrics,
+    "commands": commands,
+    "limits": limits,
+    "crates": crates,
+    "definitions": definitions,
+    "wrong-bodies": wrong_bodies,
+    "by-eye": by_eye,
+}
