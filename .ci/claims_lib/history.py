@@ -71,8 +71,8 @@ def seen(row):
 
 def plain(text):
     """A text of the file for a page: scripts and names of crates in backticks."""
-    return re.sub(r"(?<![\w/`-])(radius_codec|acct_\w+|both_books_tests|--sync \w+|\.ci/\w+)", r"`\1`",
-                  text.replace("|", "\\|"))
+    names = r"(?<![\w/`-])(radius_codec|acct_\w+|both_books_tests|--sync \w+|\.ci/\w+)"
+    return re.sub(names, r"`\1`", text.replace("|", "\\|"))
 
 
 def figures(checker, topics):
@@ -105,7 +105,8 @@ def check(checker):
             if not row:
                 checker.find(line, f"{PATH} has no row `{found[1]}`")
             elif not is_near(before, row):
-                checker.find(line, f"`{' '.join(before.split())[-40:]}`: {found[1]} is {shown(row)}")
+                said = " ".join(before.split())[-40:]
+                checker.find(line, f"`{said}`: {found[1]} is {shown(row)}")
     check_shown(checker, known)
 
 
@@ -127,7 +128,7 @@ def check_shown(checker, known):
 
 
 def check_rows(checker):
-    """Each row is whole, its date is one, and its script is there. It says whether all are right."""
+    """Whether each row is whole, has a date, and its script is there."""
     checker.page, before = PATH, len(checker.findings)
     lines = text_of(PATH).splitlines()
     if lines[0].split(",") != COLUMNS:

@@ -77,8 +77,16 @@ def commands(_checker):
 
 # A limit of the site, in words, with the constants that it has in the order of the words.
 LIMITS = (
-    ("a site", "{} access servers, {} plans, {} keys", ("MOST_CLIENTS", "MOST_PLANS", "MOST_KEYS")),
-    ("reports", "IPv4, at {} addresses; datagrams of {} octets", ("MOST_ADDRESSES", "LONGEST_PACKET")),
+    (
+        "a site",
+        "{} access servers, {} plans, {} keys",
+        ("MOST_CLIENTS", "MOST_PLANS", "MOST_KEYS"),
+    ),
+    (
+        "reports",
+        "IPv4, at {} addresses; datagrams of {} octets",
+        ("MOST_ADDRESSES", "LONGEST_PACKET"),
+    ),
     ("the desk", "{} connected callers; others wait for a place", ("PLACES",)),
     ("an import", "{} vouchers", ("MOST_RECORDS",)),
 )
@@ -146,7 +154,8 @@ def by_eye(_checker):
         yield row(cell, str(count), why)
     total = sum(count for _, count, _ in openers.by_eye())
     yield ""
-    yield f"They have {total} lines without comments; above {openers.MOST_BY_EYE} `.ci/claims` fails."
+    most = openers.MOST_BY_EYE
+    yield f"They have {total} lines without comments; above {most} `.ci/claims` fails."
 
 
 MAKERS = {

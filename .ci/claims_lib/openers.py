@@ -83,11 +83,20 @@ GIVEN = {
 # What a person reads, since no clause says it: whole sources, and functions of others.
 PAGE = "docs/PROOFS.md"
 BY_EYE = (
-    (MAIN, "main", "it passes the streams on, with nothing in between, and says once what is assumed of the files"),
+    (
+        MAIN,
+        "main",
+        "it passes the streams on, with nothing in between, and says once what is assumed of the"
+        " files",
+    ),
     (READS, None, "it looks at files, and changes none"),
     (CHANGES, None, "it makes and replaces files as its comments say"),
     (JOBS + "database.rt", "opened", "the file opened is the one named"),
-    ("crates/acct_net/src/datagrams.rt", "RadiusSocket::bind", "the socket is bound at the address and port that are kept beside it"),
+    (
+        "crates/acct_net/src/datagrams.rt",
+        "RadiusSocket::bind",
+        "the socket is bound at the address and port that are kept beside it",
+    ),
     ("crates/acct_net/src/desk.rt", "opened", "so is the desk's"),
 )
 MOST_BY_EYE = 200
