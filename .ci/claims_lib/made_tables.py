@@ -3,7 +3,7 @@
 import re
 
 from claims_lib import contracts, figures, openers, reading
-from claims_lib.tree import text_of, without_comments
+from claims_lib.tree import FOR_TESTS, text_of, without_comments
 
 FIGURES = "crates/acct_program_commands/src/figures.rt"
 FRONT = "etc/freeradius/front-counts"
@@ -158,7 +158,23 @@ def by_eye(_checker):
     yield f"They have {total} lines without comments; above {most} `.ci/claims` fails."
 
 
+def files_with(checker, word):
+    """How many files have a word: of the program, of its tests, and of what is run by hand."""
+    counts = {"crates": 0, "tests": 0, "by hand": 0}
+    for path in checker.tree.files:
+        crate = path.split("/")[1] if "/" in path else ""
+        kind = "crates" if path.startswith("crates/") and path.endswith((".rt", ".antt")) else None
+        kind = "tests" if kind and FOR_TESTS.search(crate) else kind
+        kind = "by hand" if path.startswith(("bench/", "interop/")) else kind
+        if kind and re.search(rf"\b{word}\b", text_of(path)):
+            counts[kind] += 1
+    yield (f"For example `{word}`: {counts['crates']} files of source, definitions and proofs,"
+           f" {counts['tests']} of tests,")
+    yield f"and {counts['by hand']} of `bench` and `interop`."
+
+
 MAKERS = {
+    "files-with": files_with,
     "metrics": metrics,
     "commands": commands,
     "limits": limits,
