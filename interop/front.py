@@ -273,6 +273,8 @@ class FreeRadius:
         self.process = self.mirroring = None
         # By how much its clock differs, or the file that says so.
         self.clock = 0
+        # What else its environment has.
+        self.environment = {}
         for name in ("log", "run", "radacct", "radacct/radacctd", "radacct/radacctd-unsent"):
             os.makedirs(os.path.join(folder, name), exist_ok=True)
         self.clients, self.sites, self.authorize = clients, sites, authorize
@@ -341,7 +343,8 @@ class FreeRadius:
 
     def start(self):
         begun = len(self.logged())
-        how = {"stdout": subprocess.DEVNULL, "env": with_clock(self.clock)}
+        environment = {**with_clock(self.clock), **self.environment}
+        how = {"stdout": subprocess.DEVNULL, "env": environment}
         self.process = subprocess.Popen(self.words("-f"), **how)
         ready = "Ready to process requests"
         waits_for("FreeRADIUS is ready", lambda: ready in self.logged()[begun:], True)
