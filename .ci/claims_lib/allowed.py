@@ -79,7 +79,6 @@ ALLOWED = {
         "book-wal": "the kit's SQLite names a log after its book",
         **each("TOML's own word", "false"),
     },
-    "README.md": {"./try": "bin/try makes it"},
     "CHANGELOG.md": {
         "BOOK.replaced-DATE-TIME": "restore makes it",
         "radacctd 0.1.0 (schema 3)": "what --version prints",

@@ -3,7 +3,7 @@
 import os
 import re
 
-from claims_lib import figures, history, made, openers, pictures, reading
+from claims_lib import faults, figures, followed, history, made, openers, pictures, promises, reading, style
 from claims_lib.allowed import ALLOWED
 from claims_lib.tree import FOR_TESTS, text_of
 
@@ -82,6 +82,9 @@ def check_reading(checker):
         line = text.count("\n", 0, said.start()) + 1 if said else 1
         checker.find(line, f"say: These are {len(read.own)} files of {count:,} lines")
     check_inner(checker, read, text)
+    checker.page = "README.md"
+    if f"{count:,} lines of definitions" not in text_of("README.md"):
+        checker.find(1, f"say: {count:,} lines of definitions")
 
 
 def check_inner(checker, read, text):
@@ -242,6 +245,10 @@ def check(checker):
     check_allowed(checker)
     figures.check(checker)
     openers.check(checker)
+    faults.check(checker)
+    style.check(checker)
+    promises.check(checker)
+    followed.check(checker)
     if history.check_rows(checker):
         made.check(checker)
         pictures.check(checker)

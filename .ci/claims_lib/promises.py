@@ -1,0 +1,86 @@
+"""Each promise on a page for operators names what holds it.
+
+A sentence with a word such as "never", "always" or "charged once" is followed by a comment:
+
+    A reply means recorded, always. <!-- held: interop/kill: nothing answered is lost -->
+
+The words after the path stand in that file, as the name of a row or in a clause. So a promise whose
+test or clause goes, or is renamed, is found. An instruction ("Never copy one file alone") is no
+promise. If a sentence only looks like one, `<!-- no promise -->` follows it.
+"""
+
+import os
+import re
+
+from claims_lib.style import made_lines
+from claims_lib.tree import ROOT, text_of
+
+OPERATORS = (
+    "README ACCESS-SERVERS BOOK DAMAGE DESK FILES FORWARD FREERADIUS FRONTDESK GONE INSTALL PAIR"
+    " SEMANTICS SHARDS SITE SIZING START TROUBLE VOUCHERS WATCHING"
+).split()
+# Those whose promises are named.
+NAMED = "README TROUBLE".split()
+PROMISE = re.compile(
+    r"\b(?:never|always|charged once|credited once|exactly once|acts? once|counts once"
+    r"|(?:nothing|none|no \w+) is lost|loses nothing|nobody else gets|not lost)\b",
+    re.I,
+)
+# A sentence that says what to do begins so.
+ADVICE = re.compile(r"(?:^|[.:;] |\| |\*\*|- )(?:\*\*)?Never\b")
+MARK = re.compile(r"<!-- (?:held: ([^:>]+): ([^>]+?)|(no promise)) -->")
+
+
+def page_of(name):
+    return "README.md" if name == "README" else f"docs/{name}.md"
+
+
+def found_in(text):
+    """The promises of a block: where each begins, and where the next one does."""
+    # The name of a heading or a file promises nothing.
+    bare = re.sub(r"`[^`]*`|\]\([^)]*\)|<!--.*?-->", lambda it: "_" * len(it[0]), text, flags=re.S)
+    places = []
+    for found in PROMISE.finditer(bare):
+        begun = max(bare.rfind(it, 0, found.start()) for it in (". ", ": ", "; ", "| ", ".\n", "\n- "))
+        if not ADVICE.search(bare[max(begun, 0) : found.end()]) and not re.match(
+            r"[-*\d. ]*(?:\*\*)?Never\b", bare[max(begun + 1, 0) : found.end()].lstrip("| ")
+        ):
+            places.append((begun, found.start()))
+    whole = [place for at, place in enumerate(places) if not at or place[0] != places[at - 1][0]]
+    for at, (_, start) in enumerate(whole):
+        yield start, whole[at + 1][1] if at + 1 < len(whole) else len(text)
+
+
+def fault_of(mark, tree):
+    """What is wrong with a mark, or nothing."""
+    if mark[3]:
+        return ""
+    path = mark[1] if os.path.exists(os.path.join(ROOT, mark[1])) else f"crates/{mark[1]}"
+    if path not in tree.paths:
+        return f"{mark[1]}: no such file"
+    has = " ".join(text_of(path).replace('"\n', "").split())
+    words = " ".join(mark[2].split())
+    joined = re.sub(r'" *f?"', "", has)
+    return "" if words in has or words in joined else f"{path} has no `{words}`"
+
+
+def check(checker):
+    for checker.page in map(page_of, NAMED):
+        blocks = checker.pages.get(checker.page, [])
+        kept = made_lines(text_of(checker.page)) if blocks else ()
+        for block in blocks:
+            if block.kind in ("text", "row") and block.line not in kept:
+                check_block(checker, block)
+
+
+def check_block(checker, block):
+    marks = list(MARK.finditer(block.text))
+    for start, end in found_in(block.text):
+        of_it = [it for it in marks if start <= it.start() < end]
+        if not of_it:
+            said = " ".join(block.text[start : start + 60].split())
+            checker.find(block.line_at(start), f"`{said}`: which script or clause holds it?")
+    for mark in marks:
+        wrong = fault_of(mark, checker.tree)
+        if wrong:
+            checker.find(block.line_at(mark.start()), wrong)

@@ -1,0 +1,178 @@
+"""How pages are written: how long they are, their sentences and cells, and words of this house.
+
+Only what a hand wrote counts: made parts, code, comments and links' targets do not.
+"""
+
+import re
+
+from claims_lib import made
+from claims_lib.tree import text_of
+
+# The most words of a page by hand, and of all pages together.
+MOST = {
+    "CHANGELOG.md": 1550,
+    "README.md": 800,
+    "docs/ACCESS-SERVERS.md": 1500,
+    "docs/ARCHITECTURE.md": 1060,
+    "docs/BENCHES.md": 980,
+    "docs/BOOK.md": 3150,
+    "docs/CHANGE.md": 1040,
+    "docs/CODEC.md": 1430,
+    "docs/CONTRACTS.md": 110,
+    "docs/DAMAGE.md": 1130,
+    "docs/DECISIONS.md": 3000,
+    "docs/DEFINITIONS.md": 4900,
+    "docs/DESK.md": 2500,
+    "docs/FEED.md": 310,
+    "docs/FILES.md": 1400,
+    "docs/FORWARD.md": 1400,
+    "docs/FREERADIUS.md": 3100,
+    "docs/FRONTDESK.md": 640,
+    "docs/GATE.md": 1070,
+    "docs/GONE.md": 970,
+    "docs/INSTALL.md": 1950,
+    "docs/PAIR.md": 2600,
+    "docs/PROOFS.md": 2600,
+    "docs/SEMANTICS.md": 1190,
+    "docs/SHARDS.md": 1950,
+    "docs/SITE.md": 1700,
+    "docs/SIZING.md": 810,
+    "docs/TROUBLE.md": 2830,
+    "docs/VOUCHERS.md": 1720,
+    "docs/WATCHING.md": 760,
+}
+MOST_IN_ALL = 50000
+# A page that no other work has bounded yet.
+NEW_PAGE = 1500
+MOST_IN_SENTENCE, MOST_IN_CELL = 35, 25
+# Words of this house, which a reader does not know: how often a page may still have them.
+HOUSE = re.compile(
+    r"\b(?:told|tells|what came|is said of|are said of|want of memory|of which|in any case)\b"
+)
+# Pages that need one, each with the reason.
+KEPT_HOUSE = {
+    "docs/DEFINITIONS.md": 1,  # a notion has this name: plans are told
+}
+# What is plainly not done yet.
+DRAFT = re.compile(r"\[CHECK|\bTODO\b|\bFIXME\b")
+
+
+def pages(checker):
+    return [it for it in checker.pages if it.endswith(".md")]
+
+
+def words_of(text):
+    """The words of a page that a hand wrote and a reader sees, as `wc -w` counts them."""
+    return len(re.sub(r"<!--.*?-->", "", made.by_hand(text), flags=re.S).split())
+
+
+def check_words(checker):
+    """No page is longer than its bound, and all together are not."""
+    total = 0
+    for checker.page in pages(checker):
+        count = words_of(text_of(checker.page))
+        total += count
+        most = MOST.get(checker.page, NEW_PAGE)
+        if count > most:
+            checker.find(1, f"{count} words by hand, at most {most}: see claims_lib/style.py")
+    checker.page = ".ci/claims_lib/style.py"
+    if total > MOST_IN_ALL:
+        checker.find(1, f"all pages have {total} words by hand, at most {MOST_IN_ALL}")
+    for page in sorted(set(MOST) - set(pages(checker))):
+        checker.find(1, f"{page} is not there: take its bound out")
+
+
+def plain(text):
+    """A text as it is read: links by what they show, without comments."""
+    text = re.sub(r"<!--.*?-->", "", text, flags=re.S)
+    return re.sub(r"!?\[([^\]]*)\]\([^()\s]+\)", r"\1", text)
+
+
+def made_lines(text):
+    """The lines of a page that are in a made part."""
+    lines = set()
+    for found in made.PART.finditer(text):
+        first = text.count("\n", 0, found.start()) + 1
+        lines.update(range(first, first + found[0].count("\n") + 1))
+    return lines
+
+
+def sentences(text):
+    return re.split(r"(?<=[.!?;:])\s+", " ".join(plain(text).split()))
+
+
+def check_block(checker, block):
+    """The sentences of a paragraph, and the cells of a row."""
+    if block.kind == "row":
+        for cell in block.cells():
+            count = len(plain(cell).split())
+            if count > MOST_IN_CELL:
+                checker.find(block.line, f"a cell of {count} words, at most {MOST_IN_CELL}")
+    elif block.kind == "text":
+        for sentence in sentences(block.text):
+            count = len(sentence.split())
+            if count > MOST_IN_SENTENCE:
+                first = " ".join(sentence.split()[:6])
+                checker.find(block.line, f"a sentence of {count} words, at most {MOST_IN_SENTENCE}:"
+                                         f" {first} ...")
+
+
+def check_text(checker):
+    for checker.page in pages(checker):
+        text = text_of(checker.page)
+        kept, count = made_lines(text), 0
+        for block in checker.pages[checker.page]:
+            if block.line not in kept and block.kind != "code":
+                check_block(checker, block)
+                count += len(HOUSE.findall(re.sub(r"`[^`]*`", "", plain(block.text))))
+        if count > KEPT_HOUSE.get(checker.page, 0):
+            checker.find(1, f"{count} words of this house, at most {KEPT_HOUSE.get(checker.page, 0)}:"
+                            " see HOUSE in claims_lib/style.py")
+        for found in DRAFT.finditer(text):
+            line = text.count("\n", 0, found.start()) + 1
+            checker.find(line, f"{found[0]}: a page speaks of what is there")
+
+
+# ---- what two pages say
+
+WINDOW = 12
+# Runs that may be on two pages, by how they begin.
+REPEATED = (
+    # A premise, and the notion that it is of.
+    "one user and class for each session",
+    # What is promised, for operators and for auditors.
+    "vouchers less the price of each",
+    # A note on where each kind of installation has its files.
+    "with the debian package write usr share",
+    # The columns of a file and of a table.
+    "acct-terminate-cause of the first stop",
+    "octets from and to the user",
+    "voucher 1 to 32 of a to z",
+)
+
+
+def windows(text):
+    """Each run of so many words of a page that a hand wrote, with its line."""
+    text = re.sub(r"^(?: {4}|\t).*$", "", made.by_hand(text), flags=re.M)
+    words = [(it[0].lower(), it.start()) for it in re.finditer(r"[\w'%.-]+", plain(text))]
+    for at in range(len(words) - WINDOW + 1):
+        yield " ".join(word for word, _ in words[at : at + WINDOW])
+
+
+def check_repeated(checker):
+    """No page says at length what another one says."""
+    first = {}
+    for checker.page in pages(checker):
+        met, left = None, 0
+        for window in windows(text_of(checker.page)):
+            other, left = first.setdefault(window, checker.page), left - 1
+            left = WINDOW if window.startswith(REPEATED) else left
+            if other != checker.page and met != other and left < 0:
+                checker.find(1, f'"{window}" is also on {other}')
+                met = other
+
+
+def check(checker):
+    check_words(checker)
+    check_text(checker)
+    check_repeated(checker)
