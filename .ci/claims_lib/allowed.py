@@ -84,7 +84,6 @@ ALLOWED = {
         "radacctd 0.1.0 (schema 3)": "what --version prints",
     },
     "docs/BOOK.md": {
-        "'unixepoch', 'localtime'": "sqlite3's own words",
         "restored; what was there is in /var/lib/radacctd/book.replaced-20261126-114636": (
             "an example of a line"
         ),

@@ -20,7 +20,7 @@ OPERATORS = (
     " SEMANTICS SHARDS SITE SIZING START TROUBLE VOUCHERS WATCHING"
 ).split()
 # Those whose promises are named.
-NAMED = "README TROUBLE".split()
+NAMED = "BOOK README TROUBLE".split()
 PROMISE = re.compile(
     r"\b(?:never|always|charged once|credited once|exactly once|acts? once|counts once"
     r"|(?:nothing|none|no \w+) is lost|loses nothing|nobody else gets|not lost)\b",
