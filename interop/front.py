@@ -351,8 +351,8 @@ class FreeRadius:
 
     def mirrors(self, book):
         """Keeps the mirror, as the unit does."""
-        words = [os.path.join(FILES, "balances-mirror"), book.balances, book.plans, self.mirror]
-        words.append("0.2")
+        words = [os.path.join(FILES, "balances-mirror"), "--queue", self.queue]
+        words += [book.balances, book.plans, self.mirror, "0.2"]
         # It says once that radacctd has written no balances yet.
         self.mirroring = subprocess.Popen(words, stderr=subprocess.DEVNULL)
 

@@ -2,11 +2,13 @@
 
 import base64
 import concurrent.futures
+import contextlib
 import csv
 import json
 import os
 import re
 import signal
+import sqlite3
 import subprocess
 import threading
 import time
@@ -268,6 +270,26 @@ def logins(site, model):
     check("the counts name each book", found, SHARDS)
     heads = re.findall(r"^# TYPE (\S+)", text, re.M)
     check("and each metric once", len(heads), len(set(heads)))
+    waiting(site)
+
+
+def waiting(site):
+    """A report that waits for one book makes all balances as old as it is."""
+    process, ago = site.radius.process, 300
+    process.send_signal(signal.SIGSTOP)
+    path = f"{site.radius.queue}/s7/detail-1"
+    moment = int(time.time()) - ago
+    head = 'Fri Nov 27 10:00:00 2026\n\tUser-Name = "a"\n'
+    front.written(path, f"{head}\tTimestamp = {moment}\n\n")
+    as_of = lambda: abs(as_of_in(site.radius.mirror) - moment) < 5
+    front.waits_for("a report waits for s7: balances are as old as it", as_of, True)
+    os.remove(path)
+    process.send_signal(signal.SIGCONT)
+
+
+def as_of_in(path):
+    with contextlib.closing(sqlite3.connect(path)) as opened:
+        return opened.execute("SELECT as_of FROM mirror").fetchone()[0]
 
 
 class Traffic:

@@ -24,6 +24,7 @@ NOTES = {
     "radacctd_device_default_sessions": "of an access server, since FreeRADIUS' start",
     "radacctd_device_wrapped_reports": "[by symptom](ACCESS-SERVERS.md#by-symptom)",
     "radacctd_mirror_is_readable": "0: logins have no balances",
+    "radacctd_mirror_as_of_time_seconds": "[how old](FREERADIUS.md#how-old-a-balance-is)",
 }
 
 
