@@ -96,7 +96,6 @@ ALLOWED = {
     "docs/DAMAGE.md": each("restore makes it", ".restore.*", "book.replaced-..."),
     "docs/ACCESS-SERVERS.md": {
         **VENDORS,
-        **each("options of interop/access-servers", "--faults", "--server"),
         "gold;radacctd;;al;": "an example",
         "radacctd = no": "a line of a client in FreeRADIUS",
     },
@@ -129,7 +128,6 @@ ALLOWED = {
         **each("stands for all that begin so", "/etc/radacctd*", "/etc/default/radacctd*"),
         **each("a folder of root's, as in the steps", "/root", "/root/copy"),
         "radacctd_0.1.0_amd64.deb": "bin/package makes it",
-        "rsync": "a program of Debian's",
     },
     "man/radacctd-backup.8": {"FOLDER/book-wal": "a copy"},
     "man/radacctd-site.8": {"PLACE.replaced-DATE-TIME": "radacctd-site makes it"},
@@ -164,7 +162,6 @@ ALLOWED = {
         "OnFailure=": "systemd's own",
         "settings.json": "radacctd-pages makes it",
         "radacctd/pair.conf": "a copy of a file of etc/pair",
-        "interop/pair [SECONDS]": "a number in the place of the word",
     },
     "man/radacctd-outbox.8": {"/waiting": "a path of radacctd-outbox' own"},
     "man/radacctd-shards.8": {"shard,address,radius,desk": "the columns of its table"},

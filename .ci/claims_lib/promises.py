@@ -19,16 +19,14 @@ OPERATORS = (
     "README ACCESS-SERVERS BOOK DAMAGE DESK FILES FORWARD FREERADIUS FRONTDESK GONE INSTALL PAIR"
     " SEMANTICS SHARDS SITE SIZING START TROUBLE VOUCHERS WATCHING"
 ).split()
-# Those whose promises are named.
-NAMED = "BOOK README TROUBLE".split()
 PROMISE = re.compile(
-    r"\b(?:never|always|charged once|credited once|exactly once|acts? once|counts once"
-    r"|(?:nothing|none|no \w+) is lost|loses nothing|nobody else gets|not lost)\b",
+    r"\b(?:never|always|charged\s+once|credited\s+once|exactly\s+once|acts?\s+once|counts\s+once"
+    r"|(?:nothing|none|no\s\w+)\b[^.;|]{0,40}?\bis\s+lost|loses\s+nothing|nobody\s+else\s+gets|not\s+lost)\b",
     re.I,
 )
 # A sentence that says what to do begins so.
 ADVICE = re.compile(r"(?:^|[.:;] |\| |\*\*|- )(?:\*\*)?Never\b")
-MARK = re.compile(r"<!-- (?:held: ([^:>]+): ([^>]+?)|(no promise)) -->")
+MARK = re.compile(r"<!-- (?:held: ([^:>]+): ((?:(?!-->).)+?)|(no promise)) -->", re.S)
 
 
 def page_of(name):
@@ -65,7 +63,7 @@ def fault_of(mark, tree):
 
 
 def check(checker):
-    for checker.page in map(page_of, NAMED):
+    for checker.page in map(page_of, OPERATORS):
         blocks = checker.pages.get(checker.page, [])
         kept = made_lines(text_of(checker.page)) if blocks else ()
         for block in blocks:
