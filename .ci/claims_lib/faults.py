@@ -35,7 +35,8 @@ def faults():
 def status_of(variant):
     """The exit status of a variant, by the arms of `status`."""
     arms = text_of(FAULT).split("pub fn status(self)")[1]
-    for names, status in re.findall(r"((?:\s*\|?\s*Fault::\w+(?:\(_\))?)+)\s*=> Status::(\w+)", arms):
+    arm = r"((?:\s*\|?\s*Fault::\w+(?:\(_\))?)+)\s*=> Status::(\w+)"
+    for names, status in re.findall(arm, arms):
         if re.search(rf"Fault::{variant}\b", names):
             return statuses().get(status, "")
     return ""

@@ -24,8 +24,8 @@ RUN = {
 }
 # Pages whose commands a person types, and why no script does.
 BY_HAND = {
-    "ACCESS-SERVERS": "each setting is of another maker's device; interop/access-servers sends theirs",
-    "BOOK": "interop/backup, interop/flips and interop/run use the same commands over their own books",
+    "ACCESS-SERVERS": "each setting is of another maker's device: interop/access-servers",
+    "BOOK": "interop/backup, flips and run use the same commands over their own books",
     "DAMAGE": "each way needs damage of its own; interop/flips and interop/telling make some of it",
     "FRONTDESK": "a clerk's page: no command",
     "README": "bin/try and bin/build run it",

@@ -3,7 +3,8 @@
 import os
 import re
 
-from claims_lib import faults, figures, followed, history, made, openers, pictures, promises, reading, style
+from claims_lib import faults, figures, followed, history, made, openers, pictures, promises
+from claims_lib import reading, style
 from claims_lib.allowed import ALLOWED
 from claims_lib.tree import FOR_TESTS, text_of
 

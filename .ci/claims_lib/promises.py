@@ -21,11 +21,14 @@ OPERATORS = (
 ).split()
 PROMISE = re.compile(
     r"\b(?:never|always|charged\s+once|credited\s+once|exactly\s+once|acts?\s+once|counts\s+once"
-    r"|(?:nothing|none|no\s\w+)\b[^.;|]{0,40}?\bis\s+lost|loses\s+nothing|nobody\s+else\s+gets|not\s+lost)\b",
+    r"|(?:nothing|none|no\s\w+)\b[^.;|]{0,40}?\bis\s+lost|loses\s+nothing|not\s+lost"
+    r"|nobody\s+else\s+gets)\b",
     re.I,
 )
 # A sentence that says what to do begins so.
 ADVICE = re.compile(r"(?:^|[.:;] |\| |\*\*|- )(?:\*\*)?Never\b")
+# How a sentence begins, or a cell.
+BEGINS = (". ", ": ", "; ", "| ", ".\n", "\n- ")
 MARK = re.compile(r"<!-- (?:held: ([^:>]+): ((?:(?!-->).)+?)|(no promise)) -->", re.S)
 
 
@@ -39,7 +42,7 @@ def found_in(text):
     bare = re.sub(r"`[^`]*`|\]\([^)]*\)|<!--.*?-->", lambda it: "_" * len(it[0]), text, flags=re.S)
     places = []
     for found in PROMISE.finditer(bare):
-        begun = max(bare.rfind(it, 0, found.start()) for it in (". ", ": ", "; ", "| ", ".\n", "\n- "))
+        begun = max(bare.rfind(it, 0, found.start()) for it in BEGINS)
         if not ADVICE.search(bare[max(begun, 0) : found.end()]) and not re.match(
             r"[-*\d. ]*(?:\*\*)?Never\b", bare[max(begun + 1, 0) : found.end()].lstrip("| ")
         ):

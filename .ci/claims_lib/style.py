@@ -10,38 +10,38 @@ from claims_lib.tree import text_of
 
 # The most words of a page by hand, and of all pages together.
 MOST = {
-    "CHANGELOG.md": 1550,
-    "README.md": 800,
-    "docs/ACCESS-SERVERS.md": 1500,
-    "docs/ARCHITECTURE.md": 1060,
-    "docs/BENCHES.md": 1350,
-    "docs/BOOK.md": 3150,
-    "docs/CHANGE.md": 1040,
-    "docs/CODEC.md": 1430,
+    "CHANGELOG.md": 1640,
+    "README.md": 820,
+    "docs/ACCESS-SERVERS.md": 1380,
+    "docs/ARCHITECTURE.md": 1100,
+    "docs/BENCHES.md": 1420,
+    "docs/BOOK.md": 2710,
+    "docs/CHANGE.md": 1080,
+    "docs/CODEC.md": 1490,
     "docs/CONTRACTS.md": 110,
-    "docs/DAMAGE.md": 1130,
-    "docs/DECISIONS.md": 3000,
-    "docs/DEFINITIONS.md": 4900,
-    "docs/DESK.md": 2500,
-    "docs/FEED.md": 310,
-    "docs/FILES.md": 1400,
-    "docs/FORWARD.md": 1400,
-    "docs/FREERADIUS.md": 3100,
-    "docs/FRONTDESK.md": 640,
-    "docs/GATE.md": 1070,
-    "docs/GONE.md": 970,
-    "docs/INSTALL.md": 1950,
-    "docs/PAIR.md": 2600,
-    "docs/PROOFS.md": 2600,
-    "docs/SEMANTICS.md": 1190,
-    "docs/SHARDS.md": 1950,
-    "docs/SITE.md": 1700,
-    "docs/SIZING.md": 810,
-    "docs/TROUBLE.md": 2830,
-    "docs/VOUCHERS.md": 1720,
-    "docs/WATCHING.md": 760,
+    "docs/DAMAGE.md": 1140,
+    "docs/DECISIONS.md": 3140,
+    "docs/DEFINITIONS.md": 5140,
+    "docs/DESK.md": 2550,
+    "docs/FEED.md": 320,
+    "docs/FILES.md": 1420,
+    "docs/FORWARD.md": 1360,
+    "docs/FREERADIUS.md": 3470,
+    "docs/FRONTDESK.md": 650,
+    "docs/GATE.md": 1090,
+    "docs/GONE.md": 920,
+    "docs/INSTALL.md": 1860,
+    "docs/PAIR.md": 2590,
+    "docs/PROOFS.md": 2680,
+    "docs/SEMANTICS.md": 1220,
+    "docs/SHARDS.md": 1930,
+    "docs/SITE.md": 1750,
+    "docs/SIZING.md": 830,
+    "docs/TROUBLE.md": 2970,
+    "docs/VOUCHERS.md": 1700,
+    "docs/WATCHING.md": 750,
 }
-MOST_IN_ALL = 50000
+MOST_IN_ALL = 50200
 # A page that no other work has bounded yet.
 NEW_PAGE = 1500
 MOST_IN_SENTENCE, MOST_IN_CELL = 35, 25
@@ -126,8 +126,8 @@ def check_text(checker):
                 check_block(checker, block)
                 count += len(HOUSE.findall(re.sub(r"`[^`]*`", "", plain(block.text))))
         if count > KEPT_HOUSE.get(checker.page, 0):
-            checker.find(1, f"{count} words of this house, at most {KEPT_HOUSE.get(checker.page, 0)}:"
-                            " see HOUSE in claims_lib/style.py")
+            most = KEPT_HOUSE.get(checker.page, 0)
+            checker.find(1, f"{count} words of this house, at most {most}: see claims_lib/style.py")
         for found in DRAFT.finditer(text):
             line = text.count("\n", 0, found.start()) + 1
             checker.find(line, f"{found[0]}: a page speaks of what is there")
