@@ -3,8 +3,8 @@
 import os
 import re
 
-from claims_lib import faults, figures, followed, history, made, openers, pictures, promises
-from claims_lib import reading, style
+from claims_lib import faults, figures, followed, hazards, history, made, openers, pictures
+from claims_lib import promises, reading, style
 from claims_lib.allowed import ALLOWED
 from claims_lib.tree import FOR_TESTS, text_of
 
@@ -250,6 +250,7 @@ def check(checker):
     style.check(checker)
     promises.check(checker)
     followed.check(checker)
+    hazards.check(checker)
     if history.check_rows(checker):
         made.check(checker)
         pictures.check(checker)

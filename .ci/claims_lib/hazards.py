@@ -1,0 +1,151 @@
+"""Hazards, premises and limits that pages must not lose: each page with the words that say them.
+
+Who shortens a page finds here what has to stay. If the program or its files change so that a hazard
+is gone, its row goes with the sentence.
+"""
+
+from claims_lib.style import plain
+from claims_lib.tree import text_of
+
+KEPT = {
+    "README.md": (
+        "unless its session was carried forward",
+        "Reports are signed, not encrypted",
+    ),
+    "docs/BOOK.md": (
+        "Change nothing by hand",
+        "The file without its log is the whole book only",
+        "`cp` of the two files from a running server gives no book",
+        "no other program may write such a book",
+        "A copy that needs a pause of more than 30 seconds is abandoned",
+        "It cannot see a change that leaves every sum right",
+    ),
+    "docs/DAMAGE.md": (
+        "The book is `book` **and** `book-wal`",
+        "those commits, for good",
+        "If a device garbled the header as power failed, way 1 may lose nothing",
+        "a lost block of the log",
+        "damage of the octet that seals a frame, the first of its salts",
+        "A server that runs over a removed file goes on answering",
+        "damage of the last commit in the log",
+    ),
+    "docs/DESK.md": (
+        "Anyone who can watch the network reads keys and answers",
+        "and else empty",
+        "an access server that gives one session id to two guests",
+        "With two desks in `RADACCTD_DESKS` both must take a code",
+        "the withdrawals since the copy of the night are lost",
+        "So end keys at check-out",
+    ),
+    "docs/FILES.md": ("Import from a file, not from a pipe that may break",),
+    "docs/FORWARD.md": (
+        "A report of a session that was carried forward opens it anew, and charges it again in whole",
+        "as long as the clocks of the server and of FreeRADIUS were right all the while",
+        "A report that came while the clock was ahead hides that",
+        "If an open session that `--silent` took reports again, credit what it was charged before",
+        "An old report without it is taken for one of now",
+        "These stay for ever",
+    ),
+    "docs/FREERADIUS.md": (
+        "it is not answered, and sent again",
+        "the time in the queue is measured by one that nobody sets",
+        "tmpfs does not",
+        "If the queue's folder vanished, no report is answered",
+        "an outage costs less than twice `last_quota`",
+        "hides how long it kept a report",
+        "Two sessions at once",
+        "Without `radacctd_login` in the inner tunnel the login is refused",
+        "whatever Debian's `use_tunneled_reply` is",
+    ),
+    "docs/FRONTDESK.md": (
+        "Do not sell it a second time",
+        "They count in the next shift, once the book has them",
+        "The totals count what was sold in this browser; the operator sees all sales",
+        "Do not clear the browser's data while a sale is not confirmed",
+    ),
+    "docs/GONE.md": (
+        "What happened after the copy is lost",
+        "live again",
+        "it goes on",
+        "the login and the key are back",
+        "A copy has every secret of the site",
+    ),
+    "docs/INSTALL.md": (
+        "that group reads every secret and the cashiers' keys",
+        "The secrets and keys of the sample are public",
+        "never with `cp` while the server runs",
+        "Of 16 books restart each server by name",
+    ),
+    "docs/PAIR.md": (
+        "Never skip step 3",
+        "Never repeat a debit from before FreeRADIUS had this client",
+        "A power cut alone loses none",
+        "a user may spend at both machines what is there once",
+        "An older backup of the lost book lacks all later reports",
+        "End a key on **both**",
+        "Restart radacctd on a machine that serves already",
+    ),
+    "docs/PROOFS.md": (
+        "No theorem joins `serve --oldest-report` with `forward --oldest-report`",
+        "the octets of a sector that were not being written stay",
+        "an argument (parametricity), not a proof",
+        "What a start finds is taken as written",
+    ),
+    "docs/SEMANTICS.md": (
+        "of a session that was carried forward: again",
+        "at most one more",
+        "If an access server uses an id again, the two sessions are one here",
+        "Whoever chooses the User-Name chooses who pays",
+        "All of this rests on a disk that keeps what it took",
+    ),
+    "docs/SHARDS.md": (
+        "Never run a book on two machines",
+        "does not log in. A report of one is charged, as of any other name",
+        "Not back to one book",
+        "A voucher's number is known to its book only",
+        "No redeem page",
+    ),
+    "docs/SITE.md": (
+        "a restart fails",
+        "a key that `radacctd-key` ends between steps 1 and 3 comes back",
+        "its sessions are priced by `default` until then",
+        "or the next start fails",
+        "If you run the server without the unit, give `plans-in-force` yourself",
+    ),
+    "docs/SIZING.md": (
+        "nothing of what was written; other octets of the sector stay",
+        "If one stops trying, that report is lost until the session's next report",
+        "the kernel drops the rest",
+    ),
+    "docs/TROUBLE.md": (
+        "Delete nothing in `/var/lib/radacctd`",
+        "A restart fails",
+        "FreeRADIUS keeps them in its queue",
+        "look for the book first, then give `init` again",
+        "do not sell it again",
+        "Moments will be wrong, balances not",
+        "the server blocks",
+    ),
+    "docs/VOUCHERS.md": (
+        "A debit that comes before is priced by the plan `default`, for ever",
+        "A name that is misspelled becomes a new account with a debt",
+        "a debit acts once only while it is in the book",
+        "Let no access server send the Class `debit`",
+        "A restart without step 3 fails",
+        "the copy is sound",
+    ),
+    "docs/WATCHING.md": ("each report there is money that nobody was charged",),
+}
+
+
+def said(text):
+    """A page as its words, without marks of bold text, so that a hazard may be in bold or not."""
+    return " ".join(plain(text).replace("**", "").split())
+
+
+def check(checker):
+    for checker.page, kept in KEPT.items():
+        text = said(text_of(checker.page))
+        for words in kept:
+            if words.replace("**", "") not in text:
+                checker.find(1, f"it no longer says: {words}")
