@@ -5,7 +5,8 @@ A sentence with a word such as "never", "always" or "charged once" is followed b
     A reply means recorded, always. <!-- held: interop/kill: nothing answered is lost -->
 
 The words after the path stand in that file, as the name of a row or in a clause. So a promise whose
-test or clause goes, or is renamed, is found. An instruction ("Never copy one file alone") is no
+test or clause goes, or is renamed, is found. Each row of docs/PROOFS.md on what is only tested
+names its test in the same way. An instruction ("Never copy one file alone") is no
 promise. If a sentence only looks like one, `<!-- no promise -->` follows it.
 """
 
@@ -65,7 +66,23 @@ def fault_of(mark, tree):
     return "" if words in has or words in joined else f"{path} has no `{words}`"
 
 
+def check_tested(checker):
+    """What is only tested names a test that has it."""
+    checker.page = "docs/PROOFS.md"
+    for block in checker.pages[checker.page]:
+        if block.kind != "row" or block.section.title != "What is only tested":
+            continue
+        marks = list(MARK.finditer(block.text))
+        if not marks and not re.match(r"\|(?:-| What \|)", block.text):
+            checker.find(block.line, "which test has it?")
+        for mark in marks:
+            wrong = fault_of(mark, checker.tree)
+            if wrong:
+                checker.find(block.line, wrong)
+
+
 def check(checker):
+    check_tested(checker)
     for checker.page in map(page_of, OPERATORS):
         blocks = checker.pages.get(checker.page, [])
         kept = made_lines(text_of(checker.page)) if blocks else ()
