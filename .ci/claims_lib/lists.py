@@ -192,7 +192,14 @@ def check_kit(checker):
 
 
 # Blocks of code that show what a program prints: the page and the heading.
-OUTPUTS = (("README.md", "A first run"), ("docs/TROUBLE.md", "What the server prints"))
+OUTPUTS = (
+    ("README.md", "A first run"),
+    ("docs/BOOK.md", "Audit a book"),
+    ("docs/FORWARD.md", "Run it"),
+    ("docs/TROUBLE.md", "What the server prints"),
+)
+# What is typed stands in the same sections.
+TYPED = re.compile(r"(?:\$ )?(?:radacctd|systemctl|find|install|mv|journalctl|/usr/|--db)\b")
 
 
 def check_outputs(checker):
@@ -202,14 +209,15 @@ def check_outputs(checker):
         for block in (it for it in blocks if it.kind == "code"):
             for line, text in block.lines():
                 text = text.split("{")[0].strip()
-                wrong = " " in text and checker.printed(text, block)
+                is_told = " " in text and not TYPED.match(text)
+                wrong = is_told and checker.printed(text, block)
                 if wrong:
                     checker.find(line, wrong)
 
 
 def check_mentions(checker):
     """A page, and a heading in quotes after it, that a script or a source names."""
-    tree, pattern = checker.tree, r'(?<![\w$}/])docs/([A-Z]+\.md)(?:,[\s#]+"([^"]+)")?'
+    tree, pattern = checker.tree, r'(?<![\w$}/])docs/([A-Z-]+\.md)(?:,[\s#]+"([^"]+)")?'
     for checker.page in [*tree.scripts, *tree.names]:
         text = tree.scripts.get(checker.page) or text_of(checker.page)
         for found in re.finditer(pattern, text):
