@@ -58,12 +58,28 @@ def functions(text):
         )
 
 
+def contract_of(text, found):
+    """What stands between the name of a function and its body: its signature and its contract.
+
+    A contract is indented deeper than its function. So it ends before the first line that is not,
+    but for the end of the arguments.
+    """
+    first, *lines = text[found.end() :].split("\n")
+    head = [first]
+    for line in [] if re.search(r"\{\}?$", first) else filter(str.strip, lines):
+        is_deeper = len(line) - len(line.lstrip()) > len(found[1])
+        if not is_deeper and line.lstrip()[0] not in ")>w":
+            break
+        head.append(line)
+        if not is_deeper and re.search(r"\{\}?$", line):
+            break
+    return "\n".join(head)
+
+
 def clauses_of(text, found):
-    """The names of the clauses of a function, up to where its body or the next item begins."""
-    rest = text[found.end() :]
-    end = re.search(rf"^{found[1]}\{{|^ *(?:///|pub fn|fn|ghost) |^\}}|;$", rest, re.M)
-    head = rest[: end.start() if end else 0]
-    return [it or "result" for it in re.findall(r"\bensures(?: (\w+))? *\{", head)]
+    """The names of the clauses of a function."""
+    named = re.findall(r"^\s*ensures(?: (\w+))? *\{", contract_of(text, found), re.M)
+    return [it or "result" for it in named]
 
 
 def rows_of(crate):
