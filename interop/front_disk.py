@@ -457,3 +457,6 @@ def resent(folder):
         off = abs(moments["W-1"] - (begun - age)), abs(moments["W-2"] - begun)
         check("each at its moment", [it for it in off if it > 10], [])
         check("none is filed again", count_in(radius.unsent), 0)
+        done = radius.reports("ap1", report("Stop", "W-3", "bo", 999, plan="hour"))
+        check("a session of seconds that ends without them is answered", done, True)
+        check("and filed", count_in(radius.unsent), 1)

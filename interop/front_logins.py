@@ -135,6 +135,7 @@ def ages(radius):
         ("old balances, accept: no quota", accept, (True, {})),
         ("old balances, no line of it: the same", last.replace(line, ""), (True, {})),
         ("old balances, refuse", refuse, (False, WAIT)),
+        ("old balances, a slip", last.replace(line, '\tif_old = "lsat"\n'), (False, WAIT)),
         ("share 2: half of what is left", share, (True, half)),
     ]
     for name, changed, wanted in changes:

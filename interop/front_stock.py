@@ -1,5 +1,5 @@
 """The parts of interop/freeradius on Debian's own configuration: the page's steps, and logins by
-PEAP and TTLS."""
+PEAP, TTLS, EAP-TLS and EAP-PWD."""
 
 import os
 import re
@@ -182,8 +182,12 @@ class Stock:
 
     def login(self, name, eap, inner, outer=OUTER):
         """The name, the Class and the quota of an Access-Accept, or None."""
+        return self.tries(SUPPLICANT.format(eap=eap, inner=inner, name=name, outer=outer))
+
+    def tries(self, settings):
+        """The same by the settings of a supplicant."""
         path = os.path.join(self.folder, "supplicant.conf")
-        front.written(path, SUPPLICANT.format(eap=eap, inner=inner, name=name, outer=outer))
+        front.written(path, settings)
         words = ["eapol_test", "-c", path, "-a", "127.0.0.1", "-p", str(self.port), "-r0"]
         words += ["-t", str(PATIENCE), "-A", "127.0.2.1", "-s", SECRET]
         done = subprocess.run(words, capture_output=True, text=True)
@@ -255,3 +259,80 @@ def other_settings(radius):
             check(f"use_tunneled_reply = {setting}, {' '.join(method)}", got, wanted)
         check("a name that ends with a space", radius.login("al ", *METHODS[0]), None)
         radius.says("is refused with a reason", "cannot be charged")
+
+
+CERTIFIED = """network={{
+	ssid="tried"
+	key_mgmt=WPA-EAP
+	eap=TLS
+	identity="{name}"
+	client_cert="{path}.pem"
+	private_key="{path}.key"
+}}
+"""
+# Whose certificate, the names that it has besides, and by which name the login is: whether it is one.
+CERTIFICATES = [
+    ("al", "email:a@example.org", "al", True),
+    ("poor", "email:p@example.org", "al", False),
+    ("somebody", "email:al", "al", True),
+    ("somebody", "DNS:example.org,email:al2", "al", False),
+    ("somebody", "otherName:1.3.6.1.4.1.311.20.2.3;UTF8:al", "al", True),
+]
+
+
+def certified(folder, name, others):
+    """A certificate by the authority of the folder: its path without an ending."""
+    path = os.path.join(folder, "client")
+    front.written(path + ".ext", f"extendedKeyUsage=clientAuth\nsubjectAltName={others}\n")
+    words = ["req", "-newkey", "rsa:2048", "-nodes", "-subj", f"/CN={name}"]
+    openssl(folder, *words, "-keyout", path + ".key", "-out", path + ".csr")
+    words = ["x509", "-req", "-in", path + ".csr", "-CA", "ca.pem", "-CAkey", "ca.key"]
+    words += ["-CAcreateserial", "-days", "2", "-extfile", path + ".ext", "-out", path + ".pem"]
+    openssl(folder, *words)
+    return path
+
+
+def openssl(folder, *words):
+    subprocess.run(["openssl", *words], cwd=folder, check=True, capture_output=True)
+
+
+BY_PASSWORD = """network={{
+	ssid="tried"
+	key_mgmt=WPA-EAP
+	eap=PWD
+	identity="{name}"
+	anonymous_identity="{outer}"
+	password="right"
+}}
+"""
+# What Debian's eap has as comments.
+PWD = "\tpwd {\n\t\tgroup = 19\n\t\tserver_id = it\n\t\tvirtual_server = inner-tunnel\n\t}\n"
+
+
+@part
+def certificates(folder):
+    """EAP-TLS with Debian's eap: who pays is a name that the certificate has. EAP-PWD proves none."""
+    for tool, package in (("eapol_test", "eapoltest"), ("openssl", "openssl")):
+        if shutil.which(tool) is None:
+            raise Missing(f"{tool}: the package {package} has it")
+    radius = Stock(folder, debians_own(folder))
+    words = ["req", "-x509", "-newkey", "rsa:2048", "-nodes", "-days", "2", "-subj", "/CN=Authority"]
+    openssl(folder, *words, "-keyout", "ca.key", "-out", "ca.pem")
+    path = os.path.join(radius.raddb, "mods-available/eap")
+    with open(path, encoding="utf-8") as file:
+        text = file.read()
+    text = re.sub(r"(?m)^\t\tca_file = .*$", f"\t\tca_file = {folder}/ca.pem", text)
+    front.written(path, text.replace("\t#pwd {\n", PWD + "\t#pwd {\n"))
+    try:
+        radius.start()
+        wanted = (["al"], [stamped("al")], [10 * MEBIBYTE])
+        for name, others, login, is_one in CERTIFICATES:
+            settings = CERTIFIED.format(name=login, path=certified(folder, name, others))
+            said = f"the certificate of {name} ({others}), as {login}"
+            check(said, radius.tries(settings), wanted if is_one else None)
+        for name in ("poor", "al"):
+            settings = BY_PASSWORD.format(name=name, outer="al")
+            check(f"EAP-PWD by {name}, as al", radius.tries(settings), None)
+        radius.says("with a reason", "radacctd: nothing proves the name")
+    finally:
+        radius.end()
