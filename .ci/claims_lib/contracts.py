@@ -103,19 +103,4 @@ def contracts(_checker):
     return lines[:-1]
 
 
-def signatures(text):
-    """Each public function of a source as it is called: its head without its contract."""
-    found = {}
-    for at in re.finditer(r"^( *)pub fn (\w+)", text, re.M):
-        rest = text[at.start() :]
-        end = re.search(r"\n *(?:requires|ensures|\{)|\s*\{\n", rest)
-        found.setdefault(at[2], set()).add(flat(rest[: end.start() if end else 0]))
-    return found
-
-
-def flat(code):
-    """Code without what differs by how it is broken into lines."""
-    return re.sub(r",? *([()\[\]]) *", r"\1", " ".join(code.split()))
-
-
 MAKERS = {"contracts": contracts}
