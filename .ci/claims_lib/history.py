@@ -108,12 +108,28 @@ def check(checker):
                 said = " ".join(before.split())[-40:]
                 checker.find(line, f"`{said}`: {found[1]} is {shown(row)}")
     check_shown(checker, known)
+    check_marked(checker)
+
+
+# Pages whose tables give figures: each cell that begins with one has its mark.
+MARKED = ("README.md", "docs/SIZING.md")
+MEASURED = re.compile(r"^(?:about |under )?\d[\d,.]* (?:s|ms|us|min|MB|GB|to)\b")
+
+
+def check_marked(checker):
+    for checker.page in MARKED:
+        for block in checker.pages[checker.page]:
+            for cell in block.cells() if block.kind == "row" else ():
+                if MEASURED.match(cell) and not MARK.search(cell):
+                    checker.find(block.line, f"`{cell}`: of which row of {PATH}?")
 
 
 def is_near(text, row):
-    """Whether the last number of a text, or the last two, are about those of a row."""
-    given = [float(it.replace(",", "")) for it in NUMBER.findall(text)][-2:]
+    """Whether the last number of a text is about one of a row."""
+    given = [float(it.replace(",", "")) for it in NUMBER.findall(MARK.sub("", text))]
     known = [float(row[it]) for it in ("low", "value", "high") if row[it]]
+    if re.search(r"\bunder [\d.,]+ \w+\s*$", text):
+        return bool(known) and max(known) <= given[-1]
     near = lambda one, two: abs(one - two) <= 0.25 * max(one, two)
     return bool(given) and any(near(given[-1], it) for it in known)
 
