@@ -12,8 +12,15 @@ import front
 from front import KILL, check
 from pair_machines import PAIR
 
-RECORD = 'Fri Nov 27 10:00:00 2026\n\tUser-Name = "al"\n\tTimestamp = {}\n\n'
+RECORD = 'Fri Nov 27 10:00:00 2026\n\tUser-Name = "al"\n{}\t{}stamp = {}\n\n'
 AGO = 300
+
+
+def record(ago, mark="Time", there=None):
+    """A report that was answered so long ago, here or at the other machine."""
+    now = int(time.time())
+    more = "" if there is None else f"\tTmp-Integer-7 = {now - there}\n"
+    return RECORD.format(more, mark, now - ago)
 
 
 class Alone:
@@ -53,9 +60,17 @@ def run():
         path = os.path.join(it.queues[0], "detail-1")
         it.write()
         check("nothing waits: the balances are new", it.is_about(0), True)
-        front.written(path, RECORD.format(int(time.time()) - AGO))
+        front.written(path, record(AGO))
         it.write()
         check("a report waits: they are as old as it", it.is_about(AGO), True)
+        more = record(900, "Done", 950) + record(10, "Done") + record(100, there=400) + record(50)
+        front.written(path, more + record(990)[:-1])
+        check("one of the other machine: from there on", it.is_about(400), True)
+        front.written(path, record(AGO))
+        for _ in range(2):
+            time.sleep(2)
+            it.write()
+            it.age()
         os.remove(path)
         time.sleep(2)
         check("it is sent: those of before lack it", it.is_about(AGO), True)
