@@ -9,7 +9,6 @@ from claims_lib.allowed import ALLOWED
 from claims_lib.tree import FOR_TESTS, text_of
 
 PROOFS = reading.PAGE
-DEFINITIONS = "docs/DEFINITIONS.md"
 
 
 def rows_of(checker, page, title):
@@ -127,34 +126,6 @@ def is_public(checker, crates, name):
     return False
 
 
-def check_definitions(checker):
-    """Each name of the page's last column is in the file before it, or that of its section."""
-    checker.page, section, above = DEFINITIONS, None, None
-    for block in checker.pages[DEFINITIONS]:
-        if block.kind != "row" or len(block.cells()) != 3:
-            continue
-        above = above if block.section is section else None
-        section = block.section
-        for group in block.cells()[2].split(";"):
-            found = [(it, checker.place_of(it, block)) for it in names_in(group)]
-            named = [place for _, place in found if place]
-            above = named[0] if named else above
-            for text in [it for it, place in found if not place and re.match(r"\w+$", it)]:
-                near = named or places(checker, block) + [above or "crates/none"]
-                if not any(checker.tree.defines(it, text) for it in near):
-                    checker.find(block.line, f"`{text}`: not in {' or '.join(near)}")
-
-
-def places(checker, block):
-    """Where the names of a row without a file are: the first files that its section names."""
-    for section in block.section.chain():
-        for other in section.blocks:
-            files = [checker.place_of(text, other) for _, text in other.spans()]
-            if other.kind == "text" and any(files):
-                return [it for it in files if it]
-    return [f"crates/{it}" for it in checker.tree.crates]
-
-
 # ---- counts, and lists of all
 
 
@@ -245,7 +216,6 @@ def check_allowed(checker):
 def check(checker):
     check_reading(checker)
     check_functions(checker)
-    check_definitions(checker)
     check_whole(checker)
     check_notice(checker)
     check_kit(checker)

@@ -10,7 +10,7 @@ from claims_lib.tree import text_of
 
 # The most words of a page by hand, and of all pages together.
 MOST = {
-    "CHANGELOG.md": 1640,
+    "CHANGELOG.md": 1510,
     "README.md": 820,
     "docs/ACCESS-SERVERS.md": 1380,
     "docs/ARCHITECTURE.md": 1100,
@@ -18,30 +18,30 @@ MOST = {
     "docs/BOOK.md": 2710,
     "docs/CHANGE.md": 1080,
     "docs/CODEC.md": 1490,
-    "docs/CONTRACTS.md": 110,
+    "docs/CONTRACTS.md": 100,
     "docs/DAMAGE.md": 1140,
     "docs/DECISIONS.md": 3140,
-    "docs/DEFINITIONS.md": 5140,
-    "docs/DESK.md": 2550,
+    "docs/DEFINITIONS.md": 1990,
+    "docs/DESK.md": 2350,
     "docs/FEED.md": 320,
     "docs/FILES.md": 1420,
-    "docs/FORWARD.md": 1360,
-    "docs/FREERADIUS.md": 3470,
+    "docs/FORWARD.md": 1240,
+    "docs/FREERADIUS.md": 3310,
     "docs/FRONTDESK.md": 650,
-    "docs/GATE.md": 1090,
+    "docs/GATE.md": 1120,
     "docs/GONE.md": 920,
     "docs/INSTALL.md": 1860,
-    "docs/PAIR.md": 2590,
+    "docs/PAIR.md": 2550,
     "docs/PROOFS.md": 2680,
-    "docs/SEMANTICS.md": 1220,
-    "docs/SHARDS.md": 1930,
+    "docs/SEMANTICS.md": 1130,
+    "docs/SHARDS.md": 1850,
     "docs/SITE.md": 1750,
     "docs/SIZING.md": 830,
     "docs/TROUBLE.md": 2970,
-    "docs/VOUCHERS.md": 1700,
+    "docs/VOUCHERS.md": 1600,
     "docs/WATCHING.md": 750,
 }
-MOST_IN_ALL = 50200
+MOST_IN_ALL = 46300
 # A page that no other work has bounded yet.
 NEW_PAGE = 1500
 MOST_IN_SENTENCE, MOST_IN_CELL = 35, 25

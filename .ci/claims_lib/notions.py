@@ -1,0 +1,65 @@
+"""The notions of docs/DEFINITIONS.md: each definition with what its comment says and its file.
+
+A mark names files, each with definitions of it: `notions CRATE/specs/FILE: name name; FILE: name`. A
+file without a folder is in the folder of the file before it. A definition has its comment directly
+above it, in lines that begin with `--`, or `///` in a source of the code.
+"""
+
+import os
+import re
+
+from claims_lib.tree import text_of
+
+HEAD = r"^ *(?:(?:abbrev|unfoldable|data|record|pub|ghost|struct|enum|trait)\s+)+{}(?![\w'])"
+
+
+def comment_of(text, name):
+    """The comment of a definition, or None if there is no such definition."""
+    found = re.search(HEAD.format(re.escape(name)), text, re.M)
+    if not found:
+        return None
+    lines = []
+    for line in reversed(text[: found.start()].split("\n")[:-1]):
+        line = line.strip()
+        if line.startswith("#["):
+            continue
+        if not line.startswith(("-- ", "--", "///")):
+            break
+        lines.insert(0, line.lstrip("-/ "))
+    return " ".join(lines).split("  # ")[0]
+
+
+def named(words):
+    """Each file of a mark with the names after it."""
+    folder = ""
+    for part in words.split(";"):
+        path, names = part.split(":")
+        folder, file = os.path.split(path.strip())[0] or folder, os.path.basename(path.strip())
+        file += "" if "." in file else ".antt"
+        yield f"crates/{folder}/{file}", names.split()
+
+
+def shown(comment):
+    """A comment as a cell: it begins in small letters and has no full stop, as the others do."""
+    comment = comment.rstrip(".")
+    is_word = re.match(r"[A-Z][a-z']*\b(?!-)", comment) and not comment.startswith("Acct")
+    comment = comment[0].lower() + comment[1:] if is_word else comment
+    return comment.replace("|", "\\|")
+
+
+def notions(checker, words):
+    """A row for each definition."""
+    yield "| Definition | What it is | File |"
+    yield "|---|---|---|"
+    for path, names in named(words):
+        text = text_of(path) if path in checker.tree.paths else ""
+        for name in names:
+            comment = comment_of(text, name)
+            if not comment:
+                checker.find(1, f"{path} has no `{name}` with a comment")
+                continue
+            link = f"[{os.path.basename(path)}](../{path})"
+            yield f"| `{name}` | {shown(comment)} | {link} |"
+
+
+MAKERS = {"notions": notions}
