@@ -66,6 +66,34 @@ def metrics(checker, side):
     return metric_rows(checker, list(found()))
 
 
+RULES = "etc/monitoring/radacctd.rules.yml"
+
+
+def alert_of(part):
+    """A rule: its name, its severity, what to do first, and the page with its heading."""
+    name = re.search(r"alert: (\w+)", part)[1]
+    severity = re.search(r"severity: (\w+)", part)[1]
+    about = re.search(r"description: (?:>-\n)?(.*?)(?=\n\s*\n|\n  [a-z-]|\Z)", part, re.S)[1]
+    about = " ".join(about.split())
+    first = re.search(r"First: (.*?)(?:\. (?=[A-Z`{])|\.$|$)", about)
+    first = re.sub(r"\{\{ \$labels\.(\w+) \}\}", lambda it: it[1].upper(), first[1] if first else "")
+    page = re.search(r'docs/([A-Z-]+)\.md, "([^"]+)"', about)
+    return name, severity, first.replace("|", "\\|"), page[1], page[2]
+
+
+def alerts(_checker):
+    """The alerts, the critical ones first."""
+    found = [alert_of(it) for it in re.split(r"\n(?= +- alert: )", text_of(RULES))[1:]]
+    yield row("Alert", "Severity", "What to do first", "Read")
+    yield "|---|---|---|---|"
+    for wanted in ("critical", "warning", "info"):
+        for name, severity, first, page, heading in found:
+            if severity == wanted:
+                anchor = re.sub(r"[^\w\- ]", "", heading.lower()).replace(" ", "-")
+                link = f"[{page}]({page}.md#{anchor})"
+                yield row(f"`{name}`", severity, first or "in the morning", link)
+
+
 def commands(_checker):
     """Each command of the program with the first sentence of the manual page on it."""
     page = text_of("man/radacctd.8").split("The commands:\n")[1].split("The options:\n")[0]
@@ -175,6 +203,7 @@ def files_with(checker, word):
 
 
 MAKERS = {
+    "alerts": alerts,
     "files-with": files_with,
     "metrics": metrics,
     "commands": commands,
