@@ -152,7 +152,8 @@ def read_of(checker):
 def definitions(checker):
     """What an auditor reads of definitions: a row for each contract and folder, and the sum."""
     *rows, total = reading.shown(read_of(checker))
-    return [*rows, "", f"{total}: each file that the contracts name, or that such a file names."]
+    why = "each file that the contracts name, or that such a file names in turn."
+    return [*rows, "", f"{total}: {why} `.ci/claims` computes the list."]
 
 
 def wrong_bodies(checker):
