@@ -73,7 +73,7 @@ ALLOWED = {
         "site.tar.gz": "radacctd-site makes it in a night's copy",
         "rattle-kit-13f logic dac8208d650f15bf": "the kit's own name of its version",
         **each("sqlite3's own words", ".backup", ".dump"),
-        **each("sqlite3's own words", "-readonly", "no_ckpt_on_close", "PRAGMA journal_mode=DELETE"),
+        **each("sqlite3's own words", "-readonly", "PRAGMA journal_mode=DELETE"),
         **each("systemd's and chrony's own", "chrony-wait", "time-sync.target"),
         **each("the kit's clap prints it", "error: invalid data"),
         "book-wal": "the kit's SQLite names a log after its book",
