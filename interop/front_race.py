@@ -3,6 +3,7 @@ or takes long, and meanwhile another thread adds a record.
 """
 
 import contextlib
+import fcntl
 import os
 import shutil
 import subprocess
@@ -15,12 +16,15 @@ from front import KILL, MEBIBYTE, SECRET, check, report, waits_for
 from front_disk import marks
 from front_parts import Answering, Missing, count_in, part
 
-# A file `fail` in the folder RACE fails the next sync of a queue's file, and `slow` holds it up, until
-# there is a file `go`. Its thread is then where it would be if it had lost the processor.
+# A file `fail` in the folder RACE fails the next sync of a queue's file, and `slow` holds it up,
+# until there is a file `go`. `held` holds up the next wait for a lock, until three seconds after
+# that. Their threads are then where they would be if they had lost the processor.
 SHIM = r"""
 #define _GNU_SOURCE
 #include <dlfcn.h>
 #include <errno.h>
+#include <fcntl.h>
+#include <stdarg.h>
 #include <stdio.h>
 #include <stdlib.h>
 #include <string.h>
@@ -56,6 +60,29 @@ int fsync(int number)
 	}
 	return real(number);
 }
+
+static int locked(const char *name, int number, int command, void *argument)
+{
+	int (*real)(int, int, ...) = dlsym(RTLD_NEXT, name);
+	if (command == F_OFD_SETLKW && takes("held")) {
+		wait_for_go();
+		sleep(3);
+	}
+	return real(number, command, argument);
+}
+
+#define LOCKED(name) \
+	int name(int number, int command, ...) \
+	{ \
+		va_list rest; \
+		va_start(rest, command); \
+		void *argument = va_arg(rest, void *); \
+		va_end(rest); \
+		return locked(#name, number, command, argument); \
+	}
+
+LOCKED(fcntl)
+LOCKED(fcntl64)
 """
 
 
@@ -83,8 +110,8 @@ class Race:
         return os.path.exists(os.path.join(self.folder, name))
 
     def clear(self):
-        for name in os.listdir(self.folder):
-            os.remove(os.path.join(self.folder, name))
+        shutil.rmtree(self.folder)
+        os.mkdir(self.folder)
 
     def sends(self, octets):
         """One report of the session in a thread of its own: whether it is answered, in the end."""
@@ -143,6 +170,7 @@ def races(folder):
         radius.start()
         failing(race, radius)
         slow(race, radius)
+        reading(race)
     finally:
         radius.end()
 
@@ -192,3 +220,62 @@ def slow(race, radius):
     first.join()
     second.join()
     check("and both are once it is done", (told, other), ([True], [True]))
+
+
+# Two processes that share the writer's name for its files, as threads do: one's sync is slow, and
+# the other one's wait for it is held up.
+WRITERS = r"""
+package radiusd;
+sub radlog { }
+package main;
+my ($folder, $program) = @ARGV;
+our %RAD_PERLCONF = map { $_ => "$folder/$_" } qw(queue unsent state);
+do $program or die "$program: $@";
+for my $seen ("", "slow-taken") {
+	select undef, undef, undef, 0.01 until -e "$ENV{RACE}/$seen";
+	next if fork;
+	print xlat("put in=reader-0 Acct-Status-Type=00000003 Acct-Session-Id=41"), "\n";
+	exit;
+}
+1 until wait == -1;
+"""
+
+
+def reading(race):
+    """The reader takes a file that somebody waits for, and would keep it while radacctd is down."""
+    race.clear()
+    for name in ("slow", "held"):
+        race.put(name)
+    folder = os.path.join(race.folder, "queue", "reader-0")
+    os.makedirs(folder)
+    words = ["perl", "-e", WRITERS, race.folder, os.path.join(front.FILES, "queue.pl")]
+    environment = {**os.environ, **race.radius.environment}
+    writers = subprocess.Popen(words, stdout=subprocess.PIPE, text=True, env=environment)
+    waits_for("one waits for the other one's sync", lambda: race.has("held-taken"), True)
+    work = os.path.join(folder, "detail.work")
+    [name] = os.listdir(folder)
+    os.rename(os.path.join(folder, name), work)
+    with open(work, "r+b") as file:
+        race.put("go")
+        waits_for("the reader gets the file", lambda: is_locked(file), True)
+        told = text_within(writers, 1)
+        check("once both are done", told, "ok\nok\n")
+        check("and has both records", file.read().count(b"Acct-Session-Id"), 2)
+    writers.communicate()
+
+
+def is_locked(file):
+    """Whether the reader's kind of lock is had."""
+    try:
+        fcntl.lockf(file, fcntl.LOCK_EX | fcntl.LOCK_NB)
+        return True
+    except BlockingIOError:
+        return False
+
+
+def text_within(process, seconds):
+    """What a process has printed at its end, if it ends within some seconds."""
+    try:
+        return process.communicate(timeout=seconds)[0]
+    except subprocess.TimeoutExpired:
+        return None
