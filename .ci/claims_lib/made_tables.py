@@ -1,5 +1,6 @@
 """Tables of pages, each made from the one place that has what it says."""
 
+import ast
 import re
 
 from claims_lib import contracts, figures, openers, reading
@@ -188,6 +189,21 @@ def by_eye(_checker):
     yield f"They have {total} lines without comments; above {most} `.ci/claims` fails."
 
 
+def by_hand(checker):
+    """Each script of interop and bench with the first sentence of what it says of itself."""
+    yield row("Run", "What it does")
+    yield "|---|---|"
+    for path in sorted(checker.tree.scripts):
+        folder, _, name = path.rpartition("/")
+        if folder in ("interop", "bench") and "." not in name:
+            about = ast.get_docstring(ast.parse(text_of(path)))
+            if not about:
+                checker.find(1, f"{path} does not say what it does")
+                continue
+            about = " ".join(about.split("\n\n")[0].split())
+            yield row(f"`{path}`", contracts.first_of(about).rstrip(".").replace("|", "\\|"))
+
+
 def files_with(checker, word):
     """How many files have a word: of the program, of its tests, and of what is run by hand."""
     counts = {"crates": 0, "tests": 0, "by hand": 0}
@@ -213,4 +229,5 @@ MAKERS = {
     "definitions": definitions,
     "wrong-bodies": wrong_bodies,
     "by-eye": by_eye,
+    "by-hand": by_hand,
 }

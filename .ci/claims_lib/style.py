@@ -133,6 +133,25 @@ def check_text(checker):
             checker.find(line, f"{found[0]}: a page speaks of what is there")
 
 
+# ---- how a page begins and ends
+
+# A sheet for clerks, who read no other page.
+ALONE = ("docs/FRONTDESK.md",)
+
+
+def check_frame(checker):
+    """A page begins with its reader and a question, and ends with the page to read next."""
+    for checker.page in pages(checker):
+        if not checker.page.startswith("docs/") or checker.page in ALONE:
+            continue
+        texts = [it for it in checker.pages[checker.page] if it.kind != "heading"]
+        first, last = " ".join(plain(texts[0].text).split()), texts[-1]
+        if not first.startswith("For ") or "?" not in first:
+            checker.find(texts[0].line, "it does not begin with its reader and a question")
+        if not re.fullmatch(r"Next: \[([A-Z-]+)\]\(\1\.md\)\.", last.text.strip()):
+            checker.find(last.line, "it does not end with the page to read next")
+
+
 # ---- what two pages say
 
 WINDOW = 12
@@ -175,4 +194,5 @@ def check_repeated(checker):
 def check(checker):
     check_words(checker)
     check_text(checker)
+    check_frame(checker)
     check_repeated(checker)
