@@ -186,6 +186,27 @@ def check_outputs(checker):
                     checker.find(line, wrong)
 
 
+def check_branches(checker):
+    """A tree of what is printed: each text is printed, and each branch leads to a heading."""
+    for checker.page in checker.pages:
+        for block in checker.pages[checker.page]:
+            for line, text in block.lines() if block.kind == "code" else ():
+                found = re.fullmatch(r"[|`]-- (.+?) -+> (.+)", text)
+                if found:
+                    check_branch(checker, block, line, *found.groups())
+
+
+def check_branch(checker, block, line, texts, target):
+    for text in texts.split("; "):
+        wrong = checker.printed(text, block) if not text.startswith("ok") else ""
+        if wrong or wrong is None:
+            checker.find(line, wrong or f"`{text}`: the sources have no such text")
+    page, _, heading = target.rpartition(", ")
+    page = f"docs/{page}.md" if page else checker.page
+    if heading not in [it.section.title for it in checker.pages.get(page, ())]:
+        checker.find(line, f"{page} has no heading {heading}")
+
+
 def check_mentions(checker):
     """A page, and a heading in quotes after it, that a script or a source names."""
     tree, pattern = checker.tree, r'(?<![\w$}/])docs/([A-Z-]+\.md)(?:,[\s#]+"([^"]+)")?'
@@ -220,6 +241,7 @@ def check(checker):
     check_notice(checker)
     check_kit(checker)
     check_outputs(checker)
+    check_branches(checker)
     check_mentions(checker)
     check_allowed(checker)
     figures.check(checker)
