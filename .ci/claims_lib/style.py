@@ -10,38 +10,38 @@ from claims_lib.tree import text_of
 
 # The most words of a page by hand, and of all pages together.
 MOST = {
-    "CHANGELOG.md": 1510,
-    "README.md": 820,
+    "CHANGELOG.md": 1530,
+    "README.md": 780,
     "docs/ACCESS-SERVERS.md": 1380,
     "docs/ARCHITECTURE.md": 1100,
-    "docs/BENCHES.md": 1420,
-    "docs/BOOK.md": 2710,
+    "docs/BENCHES.md": 1050,
+    "docs/BOOK.md": 2610,
     "docs/CHANGE.md": 1080,
     "docs/CODEC.md": 1490,
     "docs/CONTRACTS.md": 100,
     "docs/DAMAGE.md": 1140,
-    "docs/DECISIONS.md": 3140,
+    "docs/DECISIONS.md": 2720,
     "docs/DEFINITIONS.md": 1990,
     "docs/DESK.md": 2350,
     "docs/FEED.md": 320,
-    "docs/FILES.md": 1420,
+    "docs/FILES.md": 1300,
     "docs/FORWARD.md": 1240,
     "docs/FREERADIUS.md": 3310,
     "docs/FRONTDESK.md": 650,
     "docs/GATE.md": 1120,
     "docs/GONE.md": 920,
-    "docs/INSTALL.md": 1860,
-    "docs/PAIR.md": 2550,
+    "docs/INSTALL.md": 1680,
+    "docs/PAIR.md": 2530,
     "docs/PROOFS.md": 2680,
     "docs/SEMANTICS.md": 1130,
     "docs/SHARDS.md": 1850,
-    "docs/SITE.md": 1750,
+    "docs/SITE.md": 1640,
     "docs/SIZING.md": 830,
-    "docs/TROUBLE.md": 2970,
-    "docs/VOUCHERS.md": 1600,
-    "docs/WATCHING.md": 750,
+    "docs/TROUBLE.md": 2890,
+    "docs/VOUCHERS.md": 1580,
+    "docs/WATCHING.md": 370,
 }
-MOST_IN_ALL = 46300
+MOST_IN_ALL = 44500
 # A page that no other work has bounded yet.
 NEW_PAGE = 1500
 MOST_IN_SENTENCE, MOST_IN_CELL = 35, 25
