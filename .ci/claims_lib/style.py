@@ -128,6 +128,9 @@ def check_text(checker):
         if count > KEPT_HOUSE.get(checker.page, 0):
             most = KEPT_HOUSE.get(checker.page, 0)
             checker.find(1, f"{count} words of this house, at most {most}: see claims_lib/style.py")
+        for found in re.finditer(r"^ *<!-- (?!made: |end -->)", text, re.M):
+            line = text.count("\n", 0, found.start()) + 1
+            checker.find(line, "a comment at the beginning of a line ends its paragraph")
         for found in DRAFT.finditer(text):
             line = text.count("\n", 0, found.start()) + 1
             checker.find(line, f"{found[0]}: a page speaks of what is there")
