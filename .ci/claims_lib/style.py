@@ -44,7 +44,7 @@ MOST = {
 MOST_IN_ALL = 44500
 # A page that no other work has bounded yet.
 NEW_PAGE = 1500
-MOST_IN_SENTENCE, MOST_IN_CELL = 35, 25
+MOST_IN_SENTENCE, MOST_IN_CELL = 30, 25
 # Words of this house, which a reader does not know: how often a page may still have them.
 HOUSE = re.compile(
     r"\b(?:told|tells|what came|is said of|are said of|want of memory|of which|in any case)\b"
@@ -98,7 +98,8 @@ def made_lines(text):
 
 
 def sentences(text):
-    return re.split(r"(?<=[.!?;:])\s+", " ".join(plain(text).split()))
+    words = " ".join(plain(text).replace("**", "").split())
+    return re.split(r"(?<=[.!?;:])\s+", re.sub(r"^(?:-|\d+\.) ", "", words))
 
 
 def check_block(checker, block):
