@@ -28,7 +28,7 @@ MOST = {
     "docs/FORWARD.md": 1240,
     "docs/FREERADIUS.md": 3310,
     "docs/FRONTDESK.md": 650,
-    "docs/GATE.md": 1120,
+    "docs/GATE.md": 1150,
     "docs/GONE.md": 920,
     "docs/INSTALL.md": 1680,
     "docs/PAIR.md": 2530,
