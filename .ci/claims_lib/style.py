@@ -41,7 +41,7 @@ MOST = {
     "docs/VOUCHERS.md": 1580,
     "docs/WATCHING.md": 370,
 }
-MOST_IN_ALL = 44500
+MOST_IN_ALL = 46500
 # A page that no other work has bounded yet.
 NEW_PAGE = 1500
 MOST_IN_SENTENCE, MOST_IN_CELL = 30, 25
