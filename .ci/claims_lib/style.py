@@ -144,8 +144,10 @@ ALONE = ("docs/FRONTDESK.md",)
 
 
 def check_frame(checker):
-    """A page begins with its reader and a question, and ends with the page to read next."""
+    """A page is in a journey, begins with its reader and a question, and ends with the next one."""
     for checker.page in pages(checker):
+        if checker.page.startswith("docs/") and f"]({checker.page})" not in text_of("README.md"):
+            checker.find(1, "README.md does not lead to it")
         if not checker.page.startswith("docs/") or checker.page in ALONE:
             continue
         texts = [it for it in checker.pages[checker.page] if it.kind != "heading"]
