@@ -37,9 +37,25 @@ BY_HAND = {
 # A path of the repository in a command: on these pages it is meant so.
 FROM_REPOSITORY = {"README": "A first run, Install", "INSTALL": "From the repository"}
 OF_REPOSITORY = re.compile(r"^\s*(?:sudo )?((?:bin|interop|bench|crates|\.ci)/[\w.-]+)", re.M)
+# A secret or a key that a page shows, and those that the program and the doctor warn of.
+SHOWN = re.compile(r"(?:secret|token) = \"?([^\s\"]+)|Desk-Key: ([\w-]+)")
+PLAIN = re.compile(r"change-me\b.*|\.\.\.|[A-Z]+")
+
+
+def check_secrets(checker):
+    """What a page shows as a secret is plainly none: the public sample's, or change-me."""
+    sample = set(re.findall(r'^(?:secret|token) = "([^"]+)"', text_of("etc/radacctd.toml"), re.M))
+    for checker.page in map(page_of, OPERATORS):
+        for block in checker.pages.get(checker.page, ()):
+            for found in SHOWN.finditer(block.text):
+                value = found[1] or found[2]
+                if value not in sample and not PLAIN.fullmatch(value):
+                    line = block.line_at(found.start())
+                    checker.find(line, f"{value}: no secret of the sample, and not change-me")
 
 
 def check(checker):
+    check_secrets(checker)
     for name in OPERATORS:
         checker.page = page_of(name)
         blocks = [it for it in checker.pages.get(checker.page, []) if it.kind == "code"]
