@@ -58,8 +58,8 @@ def panel(rows, title, first, days, at):
     yield f'<polyline points="{path}"/>'
     for at, (x, y, row) in enumerate(points):
         yield f'<circle cx="{x:.0f}" cy="{y:.0f}" r="3"/>'
-        label = history.number(row["value"]) or f"{history.number(row['low'])} to " + (
-            history.number(row["high"]))
+        ends = (history.number(row[it]) for it in ("low", "high"))
+        label = history.number(row["value"]) or "\u2013".join(ends)
         y += 16 if at % 2 else -7
         yield f'<text class="s" x="{x:.0f}" y="{y:.0f}" text-anchor="middle">{label}</text>'
     for day in range(days):
