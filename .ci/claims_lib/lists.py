@@ -151,6 +151,23 @@ def check_notice(checker):
         checker.find(1, f"no licence of the kit's crate {name}")
 
 
+# The commands and the options of 0.1.0. Later ones are in the changelog.
+FIRST = (
+    "check export feed import init serve --bind --config --db --desk-port --help --radius-port"
+    " --turns"
+).split()
+
+
+def check_changelog(checker):
+    """Each later command, and each later option of an earlier one, is in the changelog."""
+    checker.page, text = "CHANGELOG.md", text_of("CHANGELOG.md")
+    for command, options in checker.help.items():
+        wanted = options if command in FIRST else [command]
+        for word in sorted(set(wanted) - set(FIRST)):
+            if not re.search(rf"(?<![\w-]){word}(?![\w-])", text):
+                checker.find(1, f"`{word}` of `{command}` is not in it")
+
+
 def check_kit(checker):
     """Each page that gives the kit's version gives the same."""
     found = {}
@@ -240,6 +257,7 @@ def check(checker):
     check_whole(checker)
     check_notice(checker)
     check_kit(checker)
+    check_changelog(checker)
     check_outputs(checker)
     check_branches(checker)
     check_mentions(checker)
