@@ -171,8 +171,8 @@ def by_last_balances(radius, path, text):
 
 def names_of_the_tools():
     """The module of the rule that radacctd's tools have."""
-    path = os.path.join(front.ROOT, "etc", "tools", "radacctd_names.py")
-    spec = importlib.util.spec_from_file_location("radacctd_names", path)
+    path = os.path.join(front.ROOT, "etc", "radacctl", "names.py")
+    spec = importlib.util.spec_from_file_location("names_of_the_tools", path)
     module = importlib.util.module_from_spec(spec)
     spec.loader.exec_module(module)
     return module

@@ -1,16 +1,15 @@
 """Names of accounts that may enter, and names that may not, for each place that tests names."""
 
-import importlib.machinery
-import importlib.util
 import os
 import subprocess
 import sys
 
 from served import PROGRAM, ROOT, check
 
-sys.path.append(os.path.join(ROOT, "etc", "tools"))
+sys.path.append(os.path.join(ROOT, "etc"))
 
-import radacctd_names as names
+from radacctl import names
+from radacctl.commands import shards
 
 # As a file of vouchers spells them: % and two digits are one octet.
 MAY = ["al", "Al", "Mueller-1127", "anna maria", "-x", "=x", "+49 170 1", "@home", "a'b", "a,b"]
@@ -85,11 +84,6 @@ def test_rule():
 
 def test_parts():
     """A file for 16 books: a field with a formula's apostrophe goes to the book of its name."""
-    loader = importlib.machinery.SourceFileLoader(
-        "radacctd_shards", os.path.join(ROOT, "etc", "shards", "radacctd-shards")
-    )
-    shards = importlib.util.module_from_spec(importlib.util.spec_from_loader(loader.name, loader))
-    loader.exec_module(shards)
     spelled = [f"'={at}" for at in range(40)]
     parts = shards.Parts([[f"V-{it[2:]}", it, "5"] for it in spelled])
     wanted = {it: shards.shard_of(it[1:].encode()) for it in spelled}

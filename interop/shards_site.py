@@ -18,7 +18,7 @@ import proxy
 from front import BOOK_SECRET, KILL, MEBIBYTE, check
 from front_sender import Sender, packet_of
 
-TOOL = os.path.join(front.ROOT, "etc", "shards", "radacctd-shards")
+TOOL = os.path.join(front.ROOT, "etc", "tools", "radacctd-shards")
 TOOLS = os.path.join(front.ROOT, "etc", "tools")
 SHARDS = [f"s{digit:x}" for digit in range(16)]
 # The machines, four books each, and the one that is added.

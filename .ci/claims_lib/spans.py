@@ -129,6 +129,10 @@ class Checker:
         short = name.removeprefix("radacctd-")
         if short == name:
             return ""
+        commands = self.tree.scripts["etc/radacctl/main.py"]
+        command = re.search(rf'"(\w+)": \(.*"{name}"\),$', commands, re.M)
+        if command and (module := f"etc/radacctl/commands/{command[1]}.py") in self.tree.scripts:
+            return self.tree.scripts[module]
         folders = ("etc/tools", "etc/shards", "etc/pair")
         places = [f"{it}/{name}" for it in folders] + [f"etc/{short}", f"interop/{short}"]
         return next((self.tree.scripts[it] for it in places if it in self.tree.scripts), "")

@@ -1,4 +1,4 @@
-"""Draws sheets of printed vouchers as PDF. radacctd-vouchers imports it; it needs qrencode.
+"""Draws sheets of printed vouchers as PDF. It needs qrencode.
 
 A text of Windows-1252 is in the fonts that each reader has. One with other letters, Polish ones
 say, is in DejaVu Sans Bold, which is then a part of the file.

@@ -1,7 +1,6 @@
-#!/usr/bin/env python3
 """Works with 16 books, each of which has a part of the accounts.
 
-    radacctd-shards [--table FILE] ACT
+    radacctl shards [--table FILE] ACT
 
 An account's book is `s` and the first digit of a digest of its name: s0 to s9 and sa to sf. FILE is
 a CSV file of the header shard,address,radius,desk with a record for each book: where its server
@@ -50,12 +49,8 @@ import sys
 import time
 import urllib.parse
 
-# The rule of names is in a folder of the repository, and in libexec where it is installed.
-sys.dont_write_bytecode = True
-HERE = os.path.dirname(os.path.realpath(__file__))
-sys.path += [os.path.join(HERE, "..", it) for it in ("tools", os.path.join("libexec", "radacctd"))]
-
-import radacctd_names as names
+from radacctl import names, program, site
+from radacctl.names import octets_of, shown
 
 SHARDS = [f"s{digit}" for digit in "0123456789abcdef"]
 HEADER = ["shard", "address", "radius", "desk"]
@@ -99,9 +94,9 @@ RADACCTD_DESK_BIND={address}
 RADACCTD_DESK_PORT={desk}
 """
 BOOK = ["--config", "/etc/radacctd-{shard}.toml", "--db", "/var/lib/radacctd/{shard}/book"]
-DEBIT = ["radacctd-debit", *BOOK, "--host", "{address}", "--port", "{radius}"]
+DEBIT = ["radacctl", "debit", *BOOK, "--host", "{address}", "--port", "{radius}"]
 DEBIT += ["--journal", "/var/lib/radacctd-books/{shard}.csv"]
-KEY = ["radacctd-key", *BOOK, "--prefix", "{shard}-"]
+KEY = ["radacctl", "key", *BOOK, "--prefix", "{shard}-"]
 # What radacctd-sell prints at its end, of a sale and of a dry run.
 SUMMARY = re.compile(r"(added|vouchers) (\d+)(, repeated|, of) (\d+)( together)?, refused (\d+)")
 MADE = "# Made by radacctd-shards of its table: change that, and make this again.\n"
@@ -111,10 +106,6 @@ class Wrong(Exception):
     """Why nothing was done, or not all."""
 
 
-def octets_of(text):
-    return urllib.parse.unquote_to_bytes(text.encode("utf-8", "surrogateescape"))
-
-
 def shard_of(account):
     """The book of an account, as FreeRADIUS' policy radacctd_shard finds it."""
     if account.count(b"\\") > 1:
@@ -122,11 +113,6 @@ def shard_of(account):
     else:
         digest = hashlib.sha256(b"=" + account.lower().replace(b"\\", b"/"))
     return "s" + digest.hexdigest()[0]
-
-
-def shown(octets):
-    """An account as exports print it."""
-    return "".join(chr(it) if 32 <= it < 127 and it != 37 else f"%{it:02X}" for it in octets)
 
 
 def place_of(path, row):
@@ -187,8 +173,8 @@ def begin_command(place):
     """Sets what a tool for one book needs: itself, and the unit whose journal it reads."""
     os.environ["RADACCTD_UNIT"] = f"radacctd@{place['shard']}"
     path = os.environ.get("PATH", os.defpath)
-    if HERE not in path.split(":"):
-        os.environ["PATH"] = f"{HERE}:{path}"
+    if site.SBIN not in path.split(":"):
+        os.environ["PATH"] = f"{site.SBIN}:{path}"
 
 
 def run_each(words, table):
@@ -274,18 +260,10 @@ class Parts:
         return made.getvalue().encode("latin-1")
 
 
-def seller():
-    """The tool radacctd-sell: next to this one, or in its place in the repository."""
-    for folder in (HERE, os.path.join(HERE, "..", "tools")):
-        path = os.path.join(folder, "radacctd-sell")
-        if os.access(path, os.X_OK):
-            return path
-    raise Wrong("radacctd-sell is missing: install it next to this tool")
-
-
 def sell_part(place, octets, options):
-    """What radacctd-sell said of a part, and its status."""
-    words = [seller(), "--host", place["address"], "--port", str(place["desk"]), *options]
+    """What the tool that sells said of a part, and its status."""
+    words = [f"{site.SBIN}/radacctl", "sell", "--host", place["address"]]
+    words += ["--port", str(place["desk"]), *options]
     done = subprocess.run(words, input=octets, capture_output=True)
     for line in done.stderr.decode().splitlines():
         print(f"{place['shard']}: {line}", file=sys.stderr)
@@ -333,12 +311,9 @@ def tell_sale(parts, answers):
 def balances_in(folder, shard):
     """The balances of a book by its accounts, and when they were written."""
     path = os.path.join(folder, f"{shard}.csv")
-    with open(path, encoding="ascii", newline="") as file:
-        rows = list(csv.reader(file))
-        written = os.fstat(file.fileno()).st_mtime
-    if not rows or rows[0] != BALANCES or any(len(row) != 3 for row in rows):
-        raise ValueError(f"{path} has no balances")
-    return {octets_of(row[0]): int(row[1]) for row in rows[1:]}, written
+    # The time first: of a file that is replaced meanwhile it is too old, and never too new.
+    written = os.stat(path).st_mtime
+    return names.balances_in(path), written
 
 
 def faults_of(shard, rows, oldest):
@@ -480,22 +455,21 @@ def join(words, _table):
                 act(folder)
                 said = None
             except (OSError, ValueError) as fault:
-                said = f"radacctd-shards: {fault}"
+                said = str(fault)
             if said and said != told.get(act):
-                print(said, file=sys.stderr, flush=True)
+                program.say(said)
             told[act] = said
         if words.seconds is None:
             return 1 if any(told.values()) else 0
         time.sleep(words.seconds)
 
 
-def parsed():
-    how = {"formatter_class": argparse.RawDescriptionHelpFormatter, "allow_abbrev": False}
-    parser = argparse.ArgumentParser(prog="radacctd-shards", description=__doc__, **how)
-    parser.add_argument("--table", default=TABLE, metavar="FILE")
-    parser.add_argument("--balances", default="/var/lib/radacctd-balances", metavar="FOLDER")
-    parser.add_argument("--counts", default="/var/lib/radacctd-counts", metavar="FOLDER")
-    acts = parser.add_subparsers(dest="act", required=True, metavar="ACT")
+def parser():
+    top = program.parser(__doc__)
+    top.add_argument("--table", default=TABLE, metavar="FILE")
+    top.add_argument("--balances", default="/var/lib/radacctd-balances", metavar="FOLDER")
+    top.add_argument("--counts", default="/var/lib/radacctd-counts", metavar="FOLDER")
+    acts = top.add_subparsers(dest="act", required=True, metavar="ACT")
     acts.add_parser("of").add_argument("account", nargs="*")
     acts.add_parser("on").add_argument("address")
     it = acts.add_parser("each")
@@ -515,11 +489,16 @@ def parsed():
     it = acts.add_parser("check")
     it.add_argument("--topups", nargs="+", metavar="FILE")
     it.add_argument("--oldest", type=float, default=60, metavar="SECONDS")
-    words, more = parser.parse_known_args()
+    return top
+
+
+def parsed(words):
+    it = parser()
+    words, more = it.parse_known_args(words)
     if words.act == "sell":
         words.option = more
     elif more:
-        parser.error(f"unrecognized arguments: {' '.join(more)}")
+        it.error(f"unrecognized arguments: {' '.join(more)}")
     return words
 
 
@@ -530,15 +509,11 @@ ACTS |= dict.fromkeys(("defaults", "freeradius", "nginx"), show_settings)
 WITHOUT_TABLE = ("of", "join", "check")
 
 
-def main():
-    words = parsed()
+def main(words):
+    words = parsed(words)
     try:
         table = None if words.act in WITHOUT_TABLE else table_of(words.table)
         return ACTS[words.act](words, table)
     except (Wrong, OSError, ValueError, KeyError) as fault:
-        print(f"radacctd-shards: {fault}", file=sys.stderr)
+        program.say(fault)
         return 1
-
-
-if __name__ == "__main__":
-    sys.exit(main())

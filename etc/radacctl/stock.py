@@ -1,6 +1,6 @@
 """The stock of printed vouchers: which codes are live, which are withdrawn, and who got one.
 
-radacctd-vouchers and radacctd-redeem import it. In the stock's folder are
+In the stock's folder are
 
     stock.csv         code,sum,sheet: root writes it. Older ones have no sheet.
     withdrawn.csv     moment,code,sheet: root adds to it. What is in it cannot be redeemed.
@@ -22,7 +22,7 @@ import stat
 import time
 import zlib
 
-import radacctd_names as names
+from radacctl import files, names
 
 FOLDER = "/var/lib/radacctd-vouchers"
 SECOND = "/var/lib/radacctd-withdrawn/withdrawn.csv"
@@ -167,7 +167,7 @@ class Log:
             os.ftruncate(self.handle, whole)
             self.write(octets if whole else self.header + octets)
             if not whole:
-                sync_folder(os.path.dirname(self.path))
+                files.sync_folder(os.path.dirname(self.path))
         except OSError as fault:
             with contextlib.suppress(OSError):
                 os.ftruncate(self.handle, whole)
@@ -180,14 +180,6 @@ class Log:
 
     def close(self):
         os.close(self.handle)
-
-
-def sync_folder(path):
-    handle = os.open(path or ".", os.O_RDONLY | os.O_DIRECTORY | os.O_CLOEXEC)
-    try:
-        os.fsync(handle)
-    finally:
-        os.close(handle)
 
 
 def events_in(text, code=None):

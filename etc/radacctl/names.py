@@ -1,16 +1,19 @@
 """Which names an account may have, and how tools write names and read them.
 
-The tools import it: it lies next to them in the repository, and in libexec/radacctd where
-bin/install puts it. FreeRADIUS and the pages have the same rule (docs/FILES.md).
+FreeRADIUS and the pages have the same rule (docs/FILES.md).
 
 A name is octets, and two names are one only if each octet is the same. A text spells an octet as
 itself, or as % and two hexadecimal digits.
 """
 
+import csv
 import re
+import string
 import urllib.parse
 
 LONGEST = 253
+# What the desk takes as itself; any other octet is % and two digits there.
+PLAIN = frozenset(string.printable[:95].encode()) - frozenset(b'%"\\')
 # Unicode's white space, and marks that nobody sees: they come along if a name is copied. One says
 # in which direction a text goes, say, or begins a file.
 UNSEEN = frozenset(map(chr, [*range(9, 14), 0x20, 0x85, 0xA0, 0xAD, 0x1680, 0x3000, 0xFEFF]))
@@ -33,6 +36,20 @@ def octets_of(text):
 def shown(octets):
     """Octets as exports spell them: % and whatever is not plain as % and two digits."""
     return "".join(chr(it) if 32 <= it < 127 and it != 37 else f"%{it:02X}" for it in octets)
+
+
+def for_desk(octets):
+    """An account as a request to the desk spells it."""
+    return "".join(chr(it) if it in PLAIN else f"%{it:02X}" for it in octets)
+
+
+def balances_in(path):
+    """The balance of each account of a file that radacctd wrote."""
+    with open(path, encoding="ascii", newline="") as file:
+        header, *rows = list(csv.reader(file)) or [[]]
+    if header != ["account", "balance", "overrun"] or any(len(row) != 3 for row in rows):
+        raise ValueError(f"{path} has no balances")
+    return {octets_of(row[0]): int(row[1]) for row in rows}
 
 
 def why_not(name):

@@ -1,0 +1,8 @@
+"""Unit tests of the package of radacctl: .ci/tools runs them, in seconds and without the program."""
+
+import os
+import sys
+
+sys.dont_write_bytecode = True
+ROOT = os.path.dirname(os.path.dirname(os.path.dirname(os.path.abspath(__file__))))
+sys.path.insert(0, os.path.join(ROOT, "etc"))

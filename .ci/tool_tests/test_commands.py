@@ -1,0 +1,141 @@
+"""What commands do with texts: keys in a configuration, files of vouchers, stock, shards."""
+
+import os
+import re
+import subprocess
+import tomllib
+import unittest
+
+from radacctl import desk, stock
+from radacctl.commands import key, sell, shards
+from tool_tests import ROOT
+
+CONFIG = '''# A site.
+[[plan]]
+class = "default"   # all
+block = 1000000
+unit = 5
+
+[[key]]
+token = "al-key-0000000001"
+account = "al"
+
+# radacctd-key: made 2026-11-27, until 2026-11-28T12:00
+[[key]]
+token = "bo-key-0000000001"
+account = "bo"
+
+# The next one is a cashier.
+[[key]]
+token = "cash-key-00000001"
+cashier = true
+'''
+
+
+class Keys(unittest.TestCase):
+    """No octet outside of a key changes."""
+
+    def test_a_key_goes_with_its_mark_alone(self):
+        after = key.without(CONFIG, {"bo-key-0000000001"})
+        begin = CONFIG.index("\n# radacctd-key")
+        end = CONFIG.index("\n# The next one")
+        self.assertEqual(after, CONFIG[:begin] + CONFIG[end:])
+
+    def test_the_comment_of_the_next_key_stays(self):
+        after = key.without(CONFIG, {"al-key-0000000001", "bo-key-0000000001"})
+        self.assertIn("# The next one is a cashier.\n[[key]]", after)
+        self.assertEqual(len(tomllib.loads(after)["key"]), 1)
+
+    def test_ends_of_lines_stay(self):
+        text = CONFIG.replace("\n", "\r\n")
+        after = key.with_more(key.without(text, {"al-key-0000000001"}), "[[key]]\ntoken = 1\n")
+        self.assertNotIn("\n", after.replace("\r\n", ""))
+
+    def test_what_is_made_and_ended_again_is_as_it_was(self):
+        block = '# radacctd-key: made 2026-11-27\n[[key]]\ntoken = "t"\naccount = "x"\n'
+        self.assertEqual(key.without(key.with_more(CONFIG, block), {"t"}), CONFIG)
+
+
+class Vouchers(unittest.TestCase):
+    def read(self, rows, known=frozenset()):
+        return sell.read(("voucher,account,sum\n" + rows).encode(), known)
+
+    def test_causes(self):
+        rows = "v-1,al,5\nV-1,%00,5\nV-2,al,0\nV-3,al\nV-4,al,5\n"
+        vouchers, refused, _, is_cut = self.read(rows)
+        self.assertEqual([it.voucher for it in vouchers], ["V-4"])
+        wanted = {2: "BadVoucher", 3: "BadAccount", 4: "BadSum", 5: "FieldCount"}
+        self.assertEqual((refused, is_cut), (wanted, False))
+
+    def test_an_account_of_the_book_is_credited(self):
+        vouchers, refused, said, _ = self.read("V-1, al ,5\n", frozenset({b" al "}))
+        self.assertEqual((vouchers[0].account, refused), (b" al ", {}))
+        self.assertIn("is in the book, and credited", said[0])
+
+    def test_causes_of_the_desk_are_an_imports(self):
+        found = [sell.judged(it, 0, b"") for it in (desk.NEW, desk.DIFFERS, desk.LIMIT)]
+        self.assertEqual(found, ["new", "VoucherDiffers", "BalanceLimit"])
+        for it in (desk.NO_KEY, desk.STRANGE):
+            self.assertRaises(sell.Stop, sell.judged, it, 401, b"")
+
+
+class Stock(unittest.TestCase):
+    CODE = "ACDEF-HJKMN-PQRT"
+
+    def test_a_wrong_letter_or_two_in_another_order_is_no_code(self):
+        code = self.CODE.replace("-", "")
+        code += stock.check_letter(code)
+        self.assertIsNotNone(stock.code_of(code))
+        for at in range(len(code) - 1):
+            for other in stock.LETTERS:
+                if other != code[at]:
+                    self.assertIsNone(stock.code_of(code[:at] + other + code[at + 1 :]))
+            swapped = code[:at] + code[at + 1] + code[at] + code[at + 2 :]
+            if swapped != code:
+                self.assertIsNone(stock.code_of(swapped))
+
+    def test_a_code_is_for_the_first_account(self):
+        state = stock.after(stock.FREE, stock.GIVEN, "al", "a b")
+        self.assertEqual(stock.after(state, stock.GIVEN, "bo", "a b").account, "al")
+        taken = stock.after(state, stock.TAKEN, "al", "a")
+        self.assertEqual(stock.after(taken, stock.REFUSED, "al", "b").account, "al")
+        self.assertEqual(stock.after(state, stock.REFUSED, "al", "a"), stock.FREE)
+
+
+class Shards(unittest.TestCase):
+    def test_case_is_ignored_and_the_book_is_known(self):
+        self.assertEqual(shards.shard_of(b"Al"), shards.shard_of(b"al"))
+        self.assertEqual({shards.shard_of(b"%d" % it) for it in range(999)}, set(shards.SHARDS))
+
+
+class Program(unittest.TestCase):
+    TOOL = os.path.join(ROOT, "etc", "tools", "radacctl")
+
+    def run_it(self, *words, name="radacctl"):
+        path = os.path.join(os.path.dirname(self.TOOL), name)
+        return subprocess.run([path, *words], capture_output=True, text=True, input="")
+
+    def test_each_older_name_is_its_command(self):
+        from radacctl.main import COMMANDS, SCRIPTS
+
+        for command, (_, older) in COMMANDS.items():
+            if older and command not in SCRIPTS:
+                said = self.run_it("--help", name=older)
+                self.assertEqual(said.returncode, 0, older)
+                own = self.run_it(command, "--help").stdout
+                self.assertGreater(len(own), 200)
+                options = [re.findall(r"--[a-z-]+", it) for it in (said.stdout, own)]
+                self.assertEqual(*options)
+
+    def test_a_bad_command_line(self):
+        for words in ((), ("no-such",), ("--no-such",), ("sell", "--dry")):
+            self.assertEqual(self.run_it(*words).returncode, 2, words)
+
+    def test_nothing_is_left_next_to_the_package(self):
+        self.run_it("sell", "--dry-run")
+        found = [it for _, it, _ in os.walk(os.path.join(ROOT, "etc", "radacctl"))]
+        self.assertNotIn("__pycache__", [name for names in found for name in names])
+
+
+if __name__ == "__main__":
+    unittest.main()

@@ -1,0 +1,127 @@
+"""The facts that tools share: names, money, the desk's answers and keys, files."""
+
+import json
+import os
+import stat
+import tempfile
+import unittest
+
+from radacctl import desk, files, money, names
+
+
+class Names(unittest.TestCase):
+    def test_spellings_come_back(self):
+        for octets in (b"al", b"a,b", b"50%", b'"', b"\\", "Łódź".encode(), bytes(range(256))):
+            self.assertEqual(names.octets_of(names.shown(octets)), octets)
+            self.assertEqual(names.octets_of(names.for_desk(octets)), octets)
+
+    def test_desk_takes_no_quotation_mark_as_itself(self):
+        self.assertEqual(names.for_desk(b'a "b\\c%d'), "a %22b%5Cc%25d")
+        self.assertEqual(names.shown(b'a "b\\c%d'), 'a "b\\c%25d')
+
+    def test_cells_are_no_formula_and_come_back(self):
+        for text in ("=1", "'=1", "+49", "a;=1", "a|-b", "al", "@x", "a%3Bb"):
+            written = names.cell(text)
+            self.assertNotIn(written[:1], "=+-@")
+            self.assertEqual(names.text_of_cell(written), text)
+
+    def test_balances_of_another_form_are_refused(self):
+        with tempfile.TemporaryDirectory() as folder:
+            path = os.path.join(folder, "balances.csv")
+            for text in ("", "account,balance\nal,1\n", "account,balance,overrun\nal,1\n"):
+                with open(path, "w", encoding="ascii") as file:
+                    file.write(text)
+                self.assertRaises(ValueError, names.balances_in, path)
+            with open(path, "w", encoding="ascii") as file:
+                file.write("account,balance,overrun\na%2Cb,-5,5\n")
+            self.assertEqual(names.balances_in(path), {b"a,b": -5})
+
+
+class Money(unittest.TestCase):
+    def test_sums_have_bounds(self):
+        for text in ("1", "007", "1000000000000"):
+            self.assertEqual(money.sum_of(text), int(text))
+        for text in ("", "0", "1000000000001", "+5", "-5", " 5", "5.0", "٥", "5\n"):
+            self.assertIsNone(money.sum_of(text))
+
+    def test_what_people_write(self):
+        euro = money.Money(2, "EUR")
+        rows = {"5": 500, "5.5": 550, "5,05": 505, "0.01": 1, "10000000000": 10**12}
+        self.assertEqual({it: euro.units(it) for it in rows}, rows)
+        for text in ("0", "0.00", "5.005", "5.", ".5", "-5", "1e3", "10000000000.01", "5.5.5"):
+            self.assertIsNone(euro.units(text))
+        self.assertIsNone(money.Money(0).units("5.0"))
+
+    def test_what_people_read(self):
+        euro = money.Money(2, "EUR")
+        rows = {0: "0.00 EUR", 5: "0.05 EUR", -5: "-0.05 EUR", 123456: "1234.56 EUR"}
+        self.assertEqual({it: euro.shown(it) for it in rows}, rows)
+        self.assertEqual(euro.plain(-123456789, ","), "-1,234,567.89")
+        self.assertEqual(money.Money().plain(1234567, ","), "1,234,567")
+
+    def test_settings_of_a_wrong_kind_are_refused(self):
+        with tempfile.TemporaryDirectory() as folder:
+            path = os.path.join(folder, "settings.json")
+            for found in ([], {"decimals": 7}, {"decimals": True}, {"decimals": "2"}, {"name": 1}):
+                with open(path, "w", encoding="utf-8") as file:
+                    json.dump(found, file)
+                self.assertRaises(ValueError, money.settings_in, path)
+
+
+class Desk(unittest.TestCase):
+    def test_answers(self):
+        rows = [
+            (201, {"result": "new"}, desk.NEW), (200, {"result": "repeat"}, desk.REPEAT),
+            (409, {"error": "voucher differs"}, desk.DIFFERS),
+            (422, {"error": "balance limit"}, desk.LIMIT), (401, {"error": "no key"}, desk.NO_KEY),
+            (403, None, desk.NO_KEY), (503, None, desk.AWAY), (429, {}, desk.AWAY),
+            (200, {"result": "new"}, desk.STRANGE), (201, None, desk.STRANGE),
+            (422, {"error": "bad topup"}, desk.STRANGE), (409, [], desk.STRANGE),
+        ]  # fmt: skip
+        for status, said, wanted in rows:
+            self.assertEqual(desk.meaning(status, said), wanted, (status, said))
+
+    def key(self, text, mode=0o600, most=1):
+        with tempfile.TemporaryDirectory() as folder:
+            path = os.path.join(folder, "key")
+            files.make(path, text, mode)
+            return desk.keys_in(path, most)
+
+    def test_keys(self):
+        key = "cash-key-00000001"
+        self.assertEqual(self.key(f"\n {key} \r\n\n".encode()), [key])
+        self.assertEqual(self.key(f"{key}\n{key[:-1]}2\n".encode(), most=2)[1], f"{key[:-1]}2")
+        for mode in (0o640, 0o604):
+            self.assertRaises(desk.WrongKey, self.key, key.encode(), mode)
+
+    def test_a_wrong_key_is_not_printed(self):
+        secret = "this-is-a-secret-of-somebody"
+        for text in (f"{secret} {secret}", f"{secret}\n{secret}", "x" * 15, "x" * 65, ""):
+            with self.assertRaises(desk.WrongKey) as found:
+                self.key(text.encode())
+            self.assertNotIn("secret", str(found.exception).split("/", 1)[0])
+
+
+class Files(unittest.TestCase):
+    def test_nothing_is_overwritten(self):
+        with tempfile.TemporaryDirectory() as folder:
+            path = os.path.join(folder, "file")
+            files.make(path, b"one")
+            self.assertEqual(stat.S_IMODE(os.stat(path).st_mode), 0o600)
+            self.assertRaises(FileExistsError, files.make, path, b"two")
+            os.symlink(os.path.join(folder, "other"), os.path.join(folder, "link"))
+            self.assertRaises(FileExistsError, files.make, os.path.join(folder, "link"), b"two")
+            self.assertEqual(sorted(os.listdir(folder)), ["file", "link"])
+
+    def test_no_link_or_pipe_is_read(self):
+        with tempfile.TemporaryDirectory() as folder:
+            files.make(os.path.join(folder, "file"), b"one")
+            os.symlink("file", os.path.join(folder, "link"))
+            os.mkfifo(os.path.join(folder, "pipe"))
+            self.assertEqual(files.read(os.path.join(folder, "file")), b"one")
+            for name in ("link", "pipe"):
+                self.assertRaises(OSError, files.read, os.path.join(folder, name))
+
+
+if __name__ == "__main__":
+    unittest.main()

@@ -1,0 +1,70 @@
+"""Makes the folder of what the pages of guests and cashiers read: the plans and the settings.
+
+    radacctl pages [--plans FILE] [--to FOLDER]
+
+FOLDER/plans.json becomes a link to FILE, which the service writes before each start of the server:
+the plans that are in force, and no secret or key. FOLDER/settings.json is made if it is not there:
+the name of the house, the address of the pages, the money's name and its number of decimals. Change
+it with an editor; it is never overwritten.
+
+FILE is /var/lib/radacctd-balances/plans.json, FOLDER is /etc/radacctd-web; the folder is made if it
+is not there. Give the command once. A second time changes nothing.
+
+It ends with 0 if all is there, with 1 if FILE is missing or a file cannot be written, and with 2
+for a bad command line.
+"""
+
+import json
+import os
+
+from radacctl import program
+from radacctl.program import fail
+
+PLANS = "/var/lib/radacctd-balances/plans.json"
+SETTINGS = {"name": "", "url": "", "currency": "", "decimals": 2}
+
+
+def write(path, value):
+    """Writes a file, whole or not at all, for everyone to read."""
+    with open(path + ".new", "w", encoding="utf-8") as file:
+        json.dump(value, file, indent=2, ensure_ascii=False)
+        file.write("\n")
+    os.chmod(path + ".new", 0o644)
+    os.rename(path + ".new", path)
+    print(f"{path} is written")
+
+
+def link(path, plans):
+    """Makes a name a link to the plans, in the place of a file of an earlier version."""
+    if os.path.islink(path) and os.readlink(path) == plans:
+        print(f"{path} is as it was")
+        return
+    if os.path.lexists(path + ".new"):
+        os.remove(path + ".new")
+    os.symlink(plans, path + ".new")
+    os.rename(path + ".new", path)
+    print(f"{path} is a link to {plans}")
+
+
+def parser():
+    it = program.parser(__doc__)
+    it.add_argument("--plans", default=PLANS, metavar="FILE")
+    it.add_argument("--to", default="/etc/radacctd-web", metavar="FOLDER")
+    return it
+
+
+def main(words):
+    words = parser().parse_args(words)
+    plans, settings = (os.path.join(words.to, it) for it in ("plans.json", "settings.json"))
+    try:
+        os.makedirs(words.to, mode=0o755, exist_ok=True)
+        link(plans, os.path.abspath(words.plans))
+        if os.path.exists(settings):
+            print(f"{settings} is as it was")
+        else:
+            write(settings, SETTINGS)
+    except OSError as fault:
+        fail(f"{fault.filename}: {fault.strerror}")
+    if not os.path.exists(words.plans):
+        fail(f"{words.plans} is not there yet: systemctl restart radacctd writes it")
+    return 0

@@ -1,0 +1,216 @@
+"""Redeems one printed voucher: the CGI program behind the page /redeem/.
+
+nginx gives it a POST by fcgiwrap, which runs it as the user radacctd-redeem. The body is a JSON
+object with `account` and `code`. Both are matched by pattern before anything is done with them. If
+the stock has the code, and it is not withdrawn, it sends the desk a top-up whose number is W- and
+the code.
+
+    200 {"result": "new" or "repeat", "sum": N}     it is on the account
+    404 {"error": "no such code"}                   the stock has no such code, or it is withdrawn
+    409 {"error": "used"}                           it was redeemed for another account
+    422 {"error": "bad account" or "bad code"}      a member is out of its form
+    503 {"error": "away"}                           no answer of the desk: the same again is right
+
+A code is for one account, at one desk, for ever. Before a code is sent, a line of given/given.csv
+in the stock's folder says for whom, and is on the disk. So after a kill or a lost answer it can go
+to that account alone, and to that desk. Only a desk that refused a code sets it free again. Nothing
+is written before the desk is connected.
+
+Its files are /var/lib/radacctd-vouchers/stock.csv, the logs of withdrawn codes, and
+/etc/radacctd-redeem.key, which has the key of a cashier and nothing else. RADACCTD_STOCK,
+RADACCTD_WITHDRAWN (the second log), RADACCTD_KEY and RADACCTD_DESKS name others. Of a pair
+RADACCTD_DESKS has both desks with a comma: a code is redeemed once both took it, the first one
+first. It stops at a desk that did not take it.
+
+It ends with 0 if it wrote an answer. Standard error, which the journal has, says why it is 503, and
+has no code and no key.
+"""
+
+import contextlib
+import http.client
+import json
+import os
+import re
+import sys
+
+from radacctl import desk as desks
+from radacctl import names, program
+from radacctl import stock as stocks
+
+# An account as the desk takes it: plain characters, and % with two digits for any other octet.
+ACCOUNT = re.compile("(?:[ -$&-~]|%[0-9A-F]{2}){1,253}")
+STOCK = os.environ.get("RADACCTD_STOCK", f"{stocks.FOLDER}/stock.csv")
+FOLDER = os.path.dirname(os.path.abspath(STOCK))
+SECOND = os.environ.get("RADACCTD_WITHDRAWN", stocks.SECOND)
+WITHDRAWN = [os.path.join(FOLDER, "withdrawn.csv"), SECOND]
+GIVEN = os.path.join(FOLDER, "given", "given.csv")
+KEY = os.environ.get("RADACCTD_KEY", "/etc/radacctd-redeem.key")
+DESKS = os.environ.get("RADACCTD_DESKS", "127.0.0.1:8066")
+LARGEST_BODY = 1024
+# In seconds: for a connection, an answer, another request for the same code, and another run over
+# the stock. nginx waits for 20.
+CONNECT, PATIENCE, TURN, LOCK = 2, 6, 3, 5
+NAMES = {200: "OK", 404: "Not Found", 409: "Conflict", 422: "Unprocessable Entity"}
+
+
+class Answered(Exception):
+    """The answer to the guest."""
+
+    def __init__(self, status, **body):
+        super().__init__(status)
+        self.status, self.body = status, body
+
+
+class Away(Exception):
+    """Why it cannot be said whether the code is redeemed. It has no code and no key."""
+
+
+def asked():
+    """The account and the code of the request, both of the right form."""
+    length = os.environ.get("CONTENT_LENGTH", "")
+    if not re.fullmatch("[0-9]{1,4}", length) or int(length) > LARGEST_BODY:
+        raise Answered(422, error="bad code")
+    try:
+        body = json.loads(sys.stdin.buffer.read(int(length)))
+        account, code = body["account"], stocks.code_of(body["code"])
+    except (ValueError, KeyError, TypeError, AttributeError, RecursionError):
+        raise Answered(422, error="bad code") from None
+    if not isinstance(account, str) or not ACCOUNT.fullmatch(account):
+        raise Answered(422, error="bad account")
+    if names.why_not(names.octets_of(account)):
+        raise Answered(422, error="bad account")
+    if code is None:
+        raise Answered(422, error="bad code")
+    # One spelling for each name, so that two requests for it are the same.
+    return names.shown(names.octets_of(account)), code
+
+
+def key_of(path):
+    """The cashier's key, which the user who redeems reads by a group."""
+    try:
+        return desks.key_in(path, lambda status: True)
+    except desks.WrongKey as why:
+        raise Away(why) from None
+
+
+class Desk:
+    """One desk, connected, which got nothing yet."""
+
+    def __init__(self, where):
+        self.where = where
+        try:
+            self.caller = http.client.HTTPConnection(where, timeout=CONNECT)
+            self.caller.connect()
+        except (OSError, http.client.HTTPException) as fault:
+            raise Away(f"cannot connect to the desk {where}: {why_of(fault)}") from None
+        self.caller.sock.settimeout(PATIENCE)
+
+    def credit(self, key, account, total, code):
+        """The status and the object that the desk gave to a top-up."""
+        body = desks.topup(account, total, "W-" + code)
+        header = {"Desk-Key": key, "Content-Type": "application/json", "Connection": "close"}
+        try:
+            self.caller.request("POST", "/topups", body, header)
+            reply = self.caller.getresponse()
+            return reply.status, json.loads(reply.read(4096))
+        except (OSError, http.client.HTTPException, ValueError) as fault:
+            why = why_of(fault)
+            raise Away(f"no answer of the desk {self.where}: {why}; the same is right") from None
+        finally:
+            self.caller.close()
+
+
+def why_of(fault):
+    """A fault in words that are never those of a file, a header or an answer."""
+    return (fault.strerror if isinstance(fault, OSError) else None) or type(fault).__name__
+
+
+def worth(code, state, account):
+    """What a code is worth to an account; else the answer that it is none, or another one's."""
+    total = stocks.worth(STOCK, code)
+    if total is None or stocks.is_withdrawn(WITHDRAWN, code):
+        raise Answered(404, error="no such code")
+    if state.account not in (None, account):
+        raise Answered(409, error="used")
+    return total
+
+
+class Redeeming:
+    """One code for one account, while no other request has that code."""
+
+    def __init__(self, given, key, account, code):
+        self.given, self.key, self.account, self.code = given, key, account, code
+        self.state = given.state(code)
+        self.is_noted = False
+
+    def note(self, event, desks):
+        with stocks.locked(FOLDER, LOCK):
+            self.given.note(event, self.code, self.account, desks)
+
+    def begin(self):
+        """Says that the code is for the account, on the disk: unless it was withdrawn just now."""
+        with stocks.locked(FOLDER, LOCK):
+            worth(self.code, self.given.state(self.code), self.account)
+            self.given.note(stocks.GIVEN, self.code, self.account, " ".join(self.desks()))
+        self.is_noted = True
+
+    def desks(self):
+        """Where the code goes: always to the desks that it was first given to."""
+        return self.state.desks or tuple(DESKS.split(","))
+
+    def redeem(self):
+        """The answer, once each desk took the code."""
+        total = worth(self.code, self.state, self.account)
+        statuses, taken = set(), set(self.state.taken)
+        for where in self.desks():
+            desk = Desk(where)
+            if not self.is_noted:
+                self.begin()
+            status, said = desk.credit(self.key, self.account, total, self.code)
+            if desks.meaning(status, said) not in (desks.NEW, desks.REPEAT):
+                self.refused(where, status, said, taken)
+            if where not in taken:
+                self.note(stocks.TAKEN, where)
+            taken.add(where)
+            statuses.add(status)
+        return Answered(200, result="new" if statuses == {201} else "repeat", sum=total)
+
+    def refused(self, where, status, said, taken):
+        """Ends at a desk that did not take the code."""
+        error = said.get("error") if isinstance(said, dict) else None
+        is_sure = 400 <= status < 500 and error is not None
+        if is_sure and self.state.account is None and not taken:
+            self.note(stocks.REFUSED, where)
+        if desks.meaning(status, said) == desks.DIFFERS:
+            if taken:
+                program.say(f"ALARM: {where} has a code for another account that "
+                            f"{' '.join(sorted(taken))} took: radacctl voucher --list")
+            raise Answered(409, error="used")
+        raise Away(f"the desk {where} answered {status}")
+
+
+def parser():
+    return program.parser(__doc__)
+
+
+def main(words):
+    # Its web server gives it no argument, and a word would be a person's.
+    parser().parse_args(words)
+    try:
+        account, code = asked()
+        with contextlib.suppress(OSError):
+            os.mkdir(os.path.dirname(GIVEN), 0o700)
+        given = stocks.Given(GIVEN)
+        with given.turn(code, TURN):
+            answer = Redeeming(given, key_of(KEY), account, code).redeem()
+    except Answered as found:
+        answer = found
+    except (stocks.Fault, Away, OSError) as fault:
+        # Standard error goes to the journal of the service.
+        why = f"{fault.strerror}: {fault.filename}" if isinstance(fault, OSError) else fault
+        program.say(why)
+        answer = Answered(503, error="away")
+    name = NAMES.get(answer.status, "Service Unavailable")
+    sys.stdout.write(f"Status: {answer.status} {name}\r\nContent-Type: application/json\r\n\r\n")
+    sys.stdout.write(json.dumps(answer.body, separators=(",", ":")))
+    return 0

@@ -1,0 +1,530 @@
+"""Reports what was used, charged and sold in a day or a month, from exports of radacctd.
+
+    radacctl report [--folder EXPORTS] [--csv FOLDER] [--top N] [--debit-class CLASS]
+        [--settings FILE] [--sales LOG] day [YYYY-MM-DD] | month [YYYY-MM]
+
+EXPORTS is /var/backups/radacctd/exports, where radacctd-nightly writes them: a folder for each
+date, with sessions.csv, balances.csv and topups.csv, which may be compressed by gzip. Each is the
+state of the book as that day began. The report is the difference of two of them: so a session of
+six weeks counts in each month with what it used in that month. Without a date it is of yesterday,
+or of the month before this one.
+
+If there is no export of the first or the last date, the one before it is taken; the report says
+from when to when it is. If there is none but the last one, as after the first night, a voucher
+counts if it was credited in the time, and a session if its last report is of the time, then with
+all that it used. What happened between two exports is known only
+as a sum: not at what hour, nor in what order.
+
+Sums are in the site's money, as FILE says, /etc/radacctd-web/settings.json; without that file they
+are in whole units. Names are shown as they are. In a CSV file a name that a spreadsheet would take
+for a formula has an apostrophe before it.
+
+LOG is nginx' log of sales, /var/log/nginx/radacctd-sales.log, whose older parts are read, too. It
+says which cashier sold a voucher.
+
+Sessions of the Class CLASS, `debit` unless given, are money that radacctd-debit took, and no usage.
+A line, into which `radacctd forward` carried sessions, is no session and no usage. The sessions are
+`carried`, and no money moved. Another session or voucher of the first export that is not in the
+second is `gone`: its money is shown apart. N accounts are shown, 20 unless given, those that used
+most first.
+
+--csv writes usage.csv (by account and Class), plans.csv, vouchers.csv (by what stands before the
+first hyphen of the number), cashiers.csv and balances.csv into a folder that it makes.
+
+It ends with 0 if the balances moved by just what the sessions and vouchers say, with 1 if they
+did not, or the exports are too few or broken, and with 2 for a bad command line.
+"""
+
+import collections
+import contextlib
+import csv
+import dataclasses
+import datetime
+import glob
+import gzip
+import json
+import os
+import re
+import time
+
+from radacctl import money as moneys
+from radacctl import names, program, site as places
+
+SUBJECT, ESCAPED = re.compile(rb"[A-Za-z.0-9]+="), re.compile(rb"\\([0-9A-F]{2})")
+DATED = re.compile(r"\d{4}-\d{2}-\d{2}(\.\d{6})?")
+COLUMNS = {
+    "sessions": "client session account class input output total charged seconds first last state"
+    " cause calling framed".split(),
+    "balances": ["account", "balance", "overrun"],
+    "topups": ["voucher", "account", "sum", "when"],
+}
+
+
+class Broken(Exception):
+    """Why there is no report."""
+
+
+@dataclasses.dataclass
+class Used:
+    """What some sessions used between the two exports."""
+
+    sessions: int = 0
+    input: int = 0
+    output: int = 0
+    charged: int = 0
+
+    def add(self, octets_in, octets_out, charged):
+        self.sessions += 1
+        self.input += octets_in
+        self.output += octets_out
+        self.charged += charged
+
+
+@dataclasses.dataclass
+class Account:
+    """The money of an account: after = before + sold - charged - debited + gone."""
+
+    before: int = 0
+    sold: int = 0
+    charged: int = 0
+    debited: int = 0
+    gone: int = 0
+    after: int = 0
+
+    def is_explained(self):
+        return self.after == self.before + self.sold - self.charged - self.debited + self.gone
+
+
+class Money(int):
+    """Whole units of the site's money."""
+
+
+class Snapshot:
+    """The exports of one moment."""
+
+    def __init__(self, folder, name):
+        self.folder, self.name = os.path.join(folder, name), name
+        self.date = datetime.date.fromisoformat(name[:10])
+
+    def moment(self):
+        """When the book was copied, as a person reads it."""
+        try:
+            with open(os.path.join(self.folder, "taken"), encoding="ascii") as file:
+                return time.strftime("%Y-%m-%d %H:%M:%S %Z", time.localtime(int(file.read())))
+        except (OSError, ValueError):
+            return self.name
+
+    def rows(self, what):
+        """The rows of one export, as dictionaries."""
+        path = os.path.join(self.folder, f"{what}.csv")
+        try:
+            with contextlib.ExitStack() as open_files:
+                if os.path.exists(path):
+                    file = open_files.enter_context(open(path, encoding="ascii", newline=""))
+                else:
+                    packed = gzip.open(f"{path}.gz", "rt", encoding="ascii", newline="")
+                    file = open_files.enter_context(packed)
+                reader = csv.DictReader(file)
+                if reader.fieldnames != COLUMNS[what]:
+                    raise Broken(f"{path} is no export of {what}")
+                yield from reader
+        except (OSError, EOFError, UnicodeDecodeError, csv.Error) as fault:
+            raise Broken(f"cannot read {path}: {fault}") from None
+
+
+class Beginning:
+    """What the book had as a day began, as far as a later export says it."""
+
+    def __init__(self, later, date):
+        self.later, self.date, self.name = later, date, None
+        self.begin = time.mktime(date.timetuple())
+
+    def moment(self):
+        return f"{self.date} 00:00:00 (reckoned from the later export)"
+
+    def rows(self, what):
+        """The rows that are older than the day; the balances are their sums."""
+        if what == "balances":
+            yield from self.balances()
+            return
+        column = {"sessions": "last", "topups": "when"}[what]
+        for row in self.later.rows(what):
+            if int(row[column]) < self.begin:
+                yield row
+
+    def balances(self):
+        found = {row["account"]: int(row["balance"]) for row in self.later.rows("balances")}
+        for what, column, sign in (("sessions", "charged", 1), ("topups", "sum", -1)):
+            for row in self.later.rows(what):
+                is_newer = int(row["last" if sign == 1 else "when"]) >= self.begin
+                found[row["account"]] += sign * int(row[column]) * is_newer
+        for account, balance in found.items():
+            yield {"account": account, "balance": balance}
+
+
+def readable(text):
+    """A name as it is, unless it has what cannot be shown; then as exports spell it."""
+    try:
+        shown = names.octets_of(text).decode("utf-8")
+    except UnicodeDecodeError:
+        return text
+    return shown if shown.isprintable() else text
+
+
+def key_of_session(row):
+    # The client's name is written as it is.
+    return row["client"].encode(), names.octets_of(row["session"])
+
+
+def is_line(row):
+    """Whether this is a line of sessions that were carried forward. No client has such a name."""
+    return row["client"].startswith("(")
+
+
+def key_of_voucher(row):
+    return row["voucher"].encode()
+
+
+def ordered(rows, key_of):
+    """The rows with their keys, which an export has in order."""
+    last = None
+    for row in rows:
+        key = key_of(row)
+        if last is not None and key <= last:
+            raise Broken(f"an export is not in order at {row}")
+        last = key
+        yield key, row
+
+
+def paired(old, new, key_of):
+    """Each row of either export with the one of the same key in the other, or None."""
+    old, new = ordered(old, key_of), ordered(new, key_of)
+    left, right = next(old, None), next(new, None)
+    while left or right:
+        if right is None or (left and left[0] < right[0]):
+            yield left[1], None
+            left = next(old, None)
+        elif left is None or right[0] < left[0]:
+            yield None, right[1]
+            right = next(new, None)
+        else:
+            yield left[1], right[1]
+            left, right = next(old, None), next(new, None)
+
+
+def snapshots_of(folder):
+    try:
+        names = sorted(name for name in os.listdir(folder) if DATED.fullmatch(name))
+        return [Snapshot(folder, name) for name in names]
+    except (OSError, ValueError) as fault:
+        raise Broken(f"cannot read the exports: {fault}") from None
+
+
+def snapshot_at(snapshots, date):
+    """The first export of a date, else the last one before it, or None."""
+    on = next((it for it in snapshots if it.date == date), None)
+    before = [it for it in snapshots if it.date < date]
+    return on or (before[-1] if before else None)
+
+
+def span_of(snapshots, begin, end):
+    """The two exports whose difference is the report."""
+    first, last = snapshot_at(snapshots, begin), snapshot_at(snapshots, end)
+    if last is None or last.date < begin:
+        why = f"there are no two exports to compare, of {begin} and {end} or before"
+        raise Broken(f"{why}, nor one of this time")
+    if first is None or first.name == last.name:
+        first = Beginning(last, begin)
+    return first, last
+
+
+def cashiers_of(path):
+    """The cashier of each voucher that nginx' logs of sales have."""
+    # Of a sale that was sent again: 201 is its first answer, and 200 that it is known.
+    found = {200: {}, 201: {}}
+    for name in glob.glob(glob.escape(path) + "*"):
+        try:
+            with (gzip.open if name.endswith(".gz") else open)(name, "rb") as file:
+                for status, voucher, cashier in filter(None, map(sale_of, file)):
+                    found[status][voucher] = cashier
+        except (OSError, EOFError) as fault:
+            program.say(f"cannot read {name}: {fault}")
+    return {**found[200], **found[201]}
+
+
+def sale_of(line):
+    """Status, voucher and cashier of a line of the log, if it is of a sale that the book has."""
+    try:
+        entry = json.loads(line.decode("utf-8", "surrogateescape"))
+        if entry["status"] in (200, 201) and entry["cashier"]:
+            voucher = str(json.loads(entry["sale"])["voucher"])
+            return entry["status"], voucher, spelled(entry["cashier"])
+    except (ValueError, KeyError, TypeError, AttributeError):
+        pass
+    return None
+
+
+def spelled(cashier):
+    """A cashier of the log as exports spell a name. That of a certificate has escaped octets, as
+    C3 and B6 for an umlaut; that of a login may be in another coding than UTF-8.
+    """
+    octets = cashier.encode("utf-8", "surrogateescape")
+    if SUBJECT.match(octets):
+        octets = ESCAPED.sub(lambda it: bytes([int(it[1], 16)]), octets)
+    return names.shown(octets)
+
+
+class Report:
+    """What happened between two exports."""
+
+    def __init__(self, first, last, debit_class, cashiers):
+        self.first, self.last, self.debit_class = first, last, debit_class
+        self.cashiers = cashiers
+        self.accounts = collections.defaultdict(Account)
+        # Of each account how many sessions are gone, and how many lines have grown.
+        self.gone_sessions, self.lines = collections.Counter(), collections.Counter()
+        self.sold_by = collections.defaultdict(lambda: [0, 0])
+        self.usage = collections.defaultdict(Used)
+        self.plans = collections.defaultdict(Used)
+        self.prefixes = collections.defaultdict(lambda: [0, 0])
+        self.counts = collections.Counter()
+        for old, new in paired(first.rows("sessions"), last.rows("sessions"), key_of_session):
+            self.add_session(old, new)
+        for old, new in paired(first.rows("topups"), last.rows("topups"), key_of_voucher):
+            self.add_voucher(old, new)
+        for row in first.rows("balances"):
+            self.accounts[row["account"]].before = int(row["balance"])
+        for row in last.rows("balances"):
+            self.accounts[row["account"]].after = int(row["balance"])
+
+    def add_session(self, old, new):
+        if new is None:
+            self.gone_sessions[old["account"]] += 1
+            self.accounts[old["account"]].gone += int(old["charged"])
+            return
+        columns = ("input", "output", "charged")
+        moved = [int(new[it]) - (int(old[it]) if old else 0) for it in columns]
+        account, name = self.accounts[new["account"]], new["class"]
+        if is_line(new):
+            account.gone -= moved[2]
+            self.lines[new["account"]] += moved != [0, 0, 0]
+            return
+        if name == self.debit_class:
+            account.debited += moved[2]
+            self.counts["debits"] += old is None
+            self.counts["debited"] += moved[2]
+            return
+        self.counts["begun"] += old is None
+        self.counts["ended"] += new["state"] != "open" and (old is None or old["state"] == "open")
+        self.counts["lowered"] += min(moved) < 0
+        account.charged += moved[2]
+        if old is None or any(moved):
+            self.usage[new["account"], name].add(*moved)
+            self.plans[name].add(*moved)
+
+    def add_voucher(self, old, new):
+        if new is None:
+            self.counts["gone vouchers"] += 1
+            self.accounts[old["account"]].gone -= int(old["sum"])
+        elif old is None:
+            self.accounts[new["account"]].sold += int(new["sum"])
+            cashier = self.cashiers.get(new["voucher"], "")
+            for found in (self.prefixes[prefix_of(new["voucher"])], self.sold_by[cashier]):
+                found[0] += 1
+                found[1] += int(new["sum"])
+
+    def notes(self):
+        """What a reader is to know besides the figures."""
+        carried, lines, gone = self.carried()
+        if lines:
+            yield f"{carried} sessions were carried forward into {lines} lines: no money moved"
+        for name, count in ("sessions", gone), ("vouchers", self.counts["gone vouchers"]):
+            if count:
+                yield f"{count} gone {name}: in the first export, and not in the second"
+        if self.counts["lowered"]:
+            yield f"{self.counts['lowered']} sessions have less than before: was the book restored?"
+        for name, account in sorted(self.accounts.items()):
+            if not account.is_explained():
+                name = readable(name)
+                yield f"UNEXPLAINED: the balance of {name} moved otherwise than its entries say"
+
+    def carried(self):
+        """How many sessions were carried forward, into how many lines, and how many are gone."""
+        carried = gone = 0
+        for name, count in self.gone_sessions.items():
+            if self.lines[name] and self.accounts[name].gone == 0:
+                carried += count
+            else:
+                gone += count
+        return carried, sum(self.lines.values()), gone
+
+    def is_explained(self):
+        return all(account.is_explained() for account in self.accounts.values())
+
+
+def prefix_of(number):
+    return number.split("-", 1)[0] + "-" if "-" in number else ""
+
+
+def table(title, header, rows):
+    """Prints a table with its columns in line, numbers to the right."""
+    texts = [header]
+    texts += [[shown(it) for it in row] for row in rows]
+    widths = [max(len(row[at]) for row in texts) for at in range(len(header))]
+    print(f"\n{title}")
+    for text, values in zip(texts, [header, *rows]):
+        to_right = [isinstance(it, int) for it in values]
+        if text is header:
+            to_right = [at > 0 for at in range(len(header))]
+        cells = zip(text, widths, to_right)
+        line = "  ".join(it.rjust(wide) if right else it.ljust(wide) for it, wide, right in cells)
+        print(f"  {line}".rstrip())
+
+
+def shown(value):
+    """A cell as a person reads it."""
+    if isinstance(value, Money):
+        return site.plain(value, ",")
+    return f"{value:,}" if isinstance(value, int) else readable(value) or "(none)"
+
+
+# The site's money; without settings sums are in units of the book.
+site = moneys.Money()
+
+
+def settle(path):
+    """Reads what the site's money is."""
+    try:
+        settings = moneys.settings_in(path)
+    except FileNotFoundError:
+        return
+    except (OSError, ValueError) as fault:
+        raise Broken(f"cannot read {path}: {fault}") from None
+    site.decimals, site.currency = settings["decimals"], settings["currency"]
+
+
+def in_money(title):
+    return f"{title}, in {site.currency}" if site.currency else title
+
+
+def usage_rows(found):
+    rows = [[*names, *dataclasses.astuple(used)] for *names, used in found]
+    return [[*row[:-1], Money(row[-1])] for row in rows]
+
+
+def sold_rows(found):
+    return [[name, count, Money(total)] for name, (count, total) in sorted(found.items())]
+
+
+def by_usage(report):
+    """The accounts and Classes with what they used, the most octets first."""
+    found = [(account, name, used) for (account, name), used in report.usage.items()]
+    return sorted(found, key=lambda it: (-(it[2].input + it[2].output), it[0], it[1]))
+
+
+def balance_rows(report):
+    found = sorted(report.accounts.items())
+    return [[name, *map(Money, dataclasses.astuple(it))] for name, it in found]
+
+
+SOLD = ["vouchers", "sum"]
+USAGE = ["account", "class", "sessions", "input", "output", "charged"]
+BALANCES = ["account", "before", "sold", "charged", "debited", "gone", "after"]
+
+
+def show(report, title, dates, top):
+    print(f"{title}: from {report.first.moment()} to {report.last.moment()}")
+    for date, snapshot in zip(dates, (report.first, report.last)):
+        if date != snapshot.date:
+            print(f"there is no export of {date}: that of {snapshot.date} is taken")
+    if isinstance(report.first, Beginning):
+        print("a session that began before and was reported since counts with all that it used")
+    counts = report.counts
+    print(f"sessions begun {counts['begun']}, ended {counts['ended']}; debits {counts['debits']}")
+    plans = sorted(report.plans.items())
+    table(in_money("used (octets) and charged by Class"), USAGE[1:], usage_rows(plans))
+    title = in_money("vouchers sold by what their numbers begin with")
+    table(title, ["prefix", *SOLD], sold_rows(report.prefixes))
+    title = in_money("vouchers sold by cashier, as the log of sales says")
+    table(title, ["cashier", *SOLD], sold_rows(report.sold_by))
+    rows = balance_rows(report)
+    sums = [Money(sum(row[at] for row in rows)) for at in range(1, len(BALANCES))]
+    table(in_money("money of all accounts"), BALANCES, [[f"all {len(rows)}", *sums]])
+    used = by_usage(report)
+    title = f"accounts that used most, {min(top, len(used))} of {len(used)}"
+    table(title, USAGE, usage_rows(used[:top]))
+    most = {name for name, *_ in used[:top]}
+    table("and their money", BALANCES, [row for row in rows if row[0] in most])
+    for note in report.notes():
+        print(f"\n{note}")
+
+
+def write(folder, name, header, rows):
+    with open(os.path.join(folder, name), "x", encoding="utf-8", newline="") as file:
+        rows = [[cell(it) for it in row] for row in rows]
+        csv.writer(file, lineterminator="\n").writerows([header, *rows])
+
+
+def cell(value):
+    """A field of a CSV file."""
+    if isinstance(value, Money):
+        return site.plain(value)
+    return value if isinstance(value, int) else names.cell(readable(value))
+
+
+def write_all(report, folder):
+    """Writes the same as CSV, into a folder that is not there before."""
+    try:
+        os.mkdir(folder, 0o700)
+        write(folder, "usage.csv", USAGE, usage_rows(by_usage(report)))
+        write(folder, "plans.csv", USAGE[1:], usage_rows(sorted(report.plans.items())))
+        write(folder, "vouchers.csv", ["prefix", *SOLD], sold_rows(report.prefixes))
+        write(folder, "cashiers.csv", ["cashier", *SOLD], sold_rows(report.sold_by))
+        write(folder, "balances.csv", BALANCES, balance_rows(report))
+    except OSError as fault:
+        raise Broken(f"cannot write: {fault}") from None
+
+
+def period_of(parser, words):
+    """The title, the first date of the period, and the first one after it."""
+    today = datetime.date.today()
+    one_day = datetime.timedelta(days=1)
+    try:
+        if words.what == "day":
+            begin = datetime.date.fromisoformat(words.date) if words.date else today - one_day
+            return f"day {begin}", begin, begin + one_day
+        text = words.date or f"{today.replace(day=1) - one_day:%Y-%m}"
+        begin = datetime.date.fromisoformat(f"{text}-01")
+    except ValueError:
+        parser.error("the date is YYYY-MM-DD for a day, YYYY-MM for a month")
+    return f"month {begin:%Y-%m}", begin, (begin + 31 * one_day).replace(day=1)
+
+
+def parser():
+    it = program.parser(__doc__)
+    it.add_argument("--folder", default=f"{places.BACKUPS}/exports", metavar="EXPORTS")
+    it.add_argument("--csv", metavar="FOLDER")
+    it.add_argument("--top", type=int, default=20, metavar="N")
+    it.add_argument("--debit-class", default="debit", metavar="CLASS")
+    it.add_argument("--settings", default=moneys.SETTINGS, metavar="FILE")
+    it.add_argument("--sales", default="/var/log/nginx/radacctd-sales.log", metavar="LOG")
+    it.add_argument("what", choices=["day", "month"])
+    it.add_argument("date", nargs="?")
+    return it
+
+
+def main(words):
+    it = parser()
+    words = it.parse_args(words)
+    title, begin, end = period_of(it, words)
+    try:
+        settle(words.settings)
+        first, last = span_of(snapshots_of(words.folder), begin, end)
+        report = Report(first, last, words.debit_class, cashiers_of(words.sales))
+        if words.csv:
+            write_all(report, words.csv)
+    except Broken as fault:
+        program.say(fault)
+        return 1
+    show(report, title, (begin, end), words.top)
+    return 0 if report.is_explained() else 1

@@ -1,0 +1,428 @@
+"""Makes the file of radacctd's book anew: small, and without the octets of what left the book.
+
+    radacctl rewrite [--config FILE] [--page-sums | --no-page-sums] BOOK
+
+Stop the server first. `radacctd forward` takes sessions out of the book, and the pages that they
+had stay in its file until they are used again. This copies all rows to a new file, and gives it the
+name of the old one. Nothing in the book changes.
+
+1. It is refused while a process has BOOK or its log open.
+2. `check` tests BOOK with the plans of FILE (/etc/radacctd.toml), and `plans`, which has none to
+   add, copies the log into the file.
+3. `init` makes a book in the folder BOOK.new. SQLite copies all rows into it, in one transaction.
+4. Each row of both is compared, and so is each of the four exports, octet for octet.
+5. The new file, which then needs no log, gets the owner, the group and the mode of BOOK, is synced,
+   and takes its place.
+
+If the pages of BOOK end in sums (`init --page-sums`), so do those of the new file. With --page-sums
+or --no-page-sums the new file is of that kind, whatever BOOK is. SQLite writes pages without right
+sums. So it leaves the rows in the log of the new file. `plans` then gives the pages their sums, and
+copies the log into the file.
+
+A run that was cut off at any moment leaves the old book or the new one. The next run removes the
+folder BOOK.new that it may leave. It takes the time of eleven starts, the memory of one, and twice
+the space of the new file: with sums fifteen starts, and three times the space. If root runs it, it
+works as the user who may change names on BOOK's path (as-owner), which is the service's, or else as
+the owner of BOOK.
+
+The status is 0 if BOOK is the new file, 1 if it is the old one, and 2 for a bad command line. A
+line on standard error says why.
+"""
+
+import argparse
+import contextlib
+import ctypes
+import fcntl
+import hashlib
+import os
+import pwd
+import signal
+import sqlite3
+import stat
+import subprocess
+import sys
+import time
+import urllib.parse
+
+from radacctl import program, site
+from radacctl.files import remove
+from radacctl.files import sync_folder as sync
+from radacctl.program import say
+
+EXPORTS = ("sessions", "balances", "topups", "overruns")
+# The tables that `init` fills, and those that are copied.
+FILLED = ("meta", "price_plan", "plan_count")
+COPIED = ("account", "voucher", "session", "session_plan")
+# What may be in BOOK.new.
+PARTS = ("book", "book-wal", "book-shm", "book-journal")
+ROWS = 10_000
+CHUNK = 1 << 20
+# A log shorter than its header, a frame's header and the smallest page has no frame.
+LEAST_LOG = 32 + 24 + 512
+# The memory for pages, in KiB.
+CACHE = 65_536
+# The octet of a database's header that says how many octets at the end of each page are a sum's.
+SUM_AT, SUM_OCTETS = 20, 8
+# Asks for a signal once the parent ends (prctl).
+PARENT_DEATH_SIGNAL = 1
+
+
+class Refused(Exception):
+    """Why the book stays as it is."""
+
+
+class Rewrite:
+    """A book, and the new file that is to take its place."""
+
+    def __init__(self, config, book, has_sums=None):
+        self.config, self.has_sums = os.path.abspath(config), has_sums
+        self.book = os.path.realpath(book)
+        self.folder = os.path.dirname(self.book)
+        self.new_folder = self.book + ".new"
+        self.new = os.path.join(self.new_folder, "book")
+        self.program = site.part("radacctd")
+        # Whether this run may remove BOOK.new, and whether the new file has its name.
+        self.is_begun = self.is_placed = False
+
+    def begin(self):
+        """Tests what is there, and becomes the owner of the book."""
+        try:
+            status = os.stat(self.book)
+        except OSError as fault:
+            raise Refused(f"{self.book}: {fault.strerror}") from None
+        if not stat.S_ISREG(status.st_mode):
+            raise Refused(f"{self.book} is no file")
+        if os.geteuid() not in (0, status.st_uid):
+            raise Refused(f"{self.book} is another user's: be root")
+        # One rewrite or restore at a time in a folder. The lock ends with this process.
+        lock(os.open(self.folder, os.O_RDONLY), f"another rewrite or a restore is in {self.folder}")
+        refuse_if_held(self.book)
+        if os.geteuid() == 0 and status.st_uid != 0:
+            become(status.st_uid, status.st_gid)
+        self.is_begun = True
+        self.remove_new()
+
+    def remove_new(self):
+        """Removes what a run that was cut off left, and nothing else."""
+        if not os.path.lexists(self.new_folder):
+            return
+        is_own = stat.S_ISDIR(os.lstat(self.new_folder).st_mode)
+        if not is_own or not set(os.listdir(self.new_folder)) <= set(PARTS):
+            raise Refused(f"{self.new_folder} is in the way, and no rewrite made it: move it away")
+        for name in PARTS:
+            with contextlib.suppress(FileNotFoundError):
+                os.remove(os.path.join(self.new_folder, name))
+        os.rmdir(self.new_folder)
+
+    def command(self, name, book, *more):
+        """Runs a command of the program, which must end well."""
+        words = [self.program, name, "--config", self.config, "--db", book, "--explain", *more]
+        done = subprocess.run(words, capture_output=True, text=True)
+        if done.returncode:
+            said = done.stderr.strip().replace("\n", "; ") or f"status {done.returncode}"
+            raise Refused(f"`radacctd {name}` says of {book}: {said}")
+
+    def export(self, what, book):
+        """The length and the digest of an export."""
+        words = [self.program, "export", "--config", self.config, "--db", book, what]
+        length, digest = 0, hashlib.sha256()
+        with subprocess.Popen(words, stdout=subprocess.PIPE, stderr=subprocess.PIPE) as process:
+            try:
+                while chunk := process.stdout.read(CHUNK):
+                    length += len(chunk)
+                    digest.update(chunk)
+                errors = process.stderr.read().decode(errors="replace").strip()
+            except BaseException:
+                process.kill()
+                raise
+        if process.returncode:
+            raise Refused(f"`radacctd export {what}` says of {book}: {errors}")
+        return length, digest.digest()
+
+    def empty_log(self):
+        """Lets the program copy the log into the file, so that the file alone is the book."""
+        self.command("plans", self.book)
+        test_log(self.book)
+        self.digest = digest_of(self.book)
+
+    def fill(self):
+        """Copies all rows into the new file, and compares them."""
+        if self.has_sums:
+            in_child(self.target, self.copy_rows)
+            # Gives the pages in the log their sums, and copies them into the file.
+            self.command("plans", self.new)
+        else:
+            with contextlib.closing(self.target()) as target:
+                self.copy_rows(target)
+                target.execute("PRAGMA wal_checkpoint(TRUNCATE)")
+
+    def copy_rows(self, target):
+        """Copies all rows in one transaction, and compares them."""
+        with contextlib.closing(self.source()) as source:
+            test_tables(source, target)
+            target.execute("BEGIN IMMEDIATE")
+            for table in COPIED:
+                copy(source, target, table)
+            target.execute("COMMIT")
+            say("comparing each row")
+            for table in (*FILLED, *COPIED):
+                compare(source, target, table)
+
+    def target(self):
+        """The new file. Its log is copied into it only if it is closed or this is asked for."""
+        target = sqlite3.connect(self.new, isolation_level=None)
+        # The log's index is kept in memory, and no other file is made.
+        target.execute("PRAGMA locking_mode = EXCLUSIVE")
+        target.execute("PRAGMA synchronous = FULL")
+        target.execute("PRAGMA wal_autocheckpoint = 0")
+        target.execute(f"PRAGMA cache_size = -{CACHE}")
+        return target
+
+    def source(self):
+        """The old file, which SQLite only reads: its log is empty."""
+        name = urllib.parse.quote(self.book)
+        return sqlite3.connect(f"file:{name}?mode=ro&immutable=1", uri=True, isolation_level=None)
+
+    def make(self):
+        """Makes the new file, and compares it with the old one."""
+        os.mkdir(self.new_folder, 0o700)
+        if self.has_sums is None:
+            self.has_sums = has_sums(self.book)
+        self.command("init", self.new, *(["--page-sums"] if self.has_sums else []))
+        self.fill()
+        say("checking the new file")
+        self.command("check", self.new)
+        for what in EXPORTS:
+            say(f"comparing the export of {what}")
+            if self.export(what, self.book) != self.export(what, self.new):
+                raise Refused(f"the new file has another export of {what}")
+        test_log(self.new)
+        if has_sums(self.new) != self.has_sums:
+            raise Refused(f"{self.new} is a file of another kind")
+
+    def finish(self):
+        """Gives the new file what the old one has but its name, and syncs it."""
+        old = os.stat(self.book)
+        with open(self.new, "rb+") as file:
+            if os.fstat(file.fileno()).st_gid != old.st_gid:
+                # A group that this user is not in cannot be given.
+                with contextlib.suppress(PermissionError):
+                    os.fchown(file.fileno(), -1, old.st_gid)
+            os.fchmod(file.fileno(), stat.S_IMODE(old.st_mode))
+            os.fsync(file.fileno())
+        remove(self.new + "-wal")
+        sync(self.new_folder)
+
+    def place(self):
+        """Puts the new file in the place of the old one, which no program can open meanwhile."""
+        with open(self.book, "rb") as old:
+            lock(old, f"a process has opened {self.book} meanwhile")
+            self.refuse_if_changed(old)
+            # Its log goes first, so that none can be read with the new file. It has nothing.
+            remove(self.book + "-wal")
+            sync(self.folder)
+            sizes = os.stat(self.book).st_size, os.stat(self.new).st_size
+            os.rename(self.new, self.book)
+            self.is_placed = True
+            sync(self.folder)
+            # A start that opened the old file before it lost its name finds it locked.
+            time.sleep(1)
+        return sizes
+
+    def refuse_if_changed(self, old):
+        is_same = os.path.samestat(os.fstat(old.fileno()), os.stat(self.book))
+        if not is_same or digest_of(self.book) != self.digest:
+            raise Refused(f"{self.book} was changed meanwhile")
+        test_log(self.book)
+
+    def run(self):
+        self.begin()
+        say("checking the book, which takes as long as a start")
+        self.command("check", self.book)
+        self.empty_log()
+        self.make()
+        self.finish()
+        for number in (signal.SIGHUP, signal.SIGINT, signal.SIGTERM):
+            signal.signal(number, signal.SIG_IGN)
+        return self.place()
+
+
+def refuse_if_held(book):
+    """The test of a restore."""
+    for mode, what in (("--removed", "a removed file or log of it"), ("--all", "it")):
+        done = subprocess.run([site.part("holders"), mode, book], capture_output=True, text=True)
+        if done.returncode:
+            raise Refused(done.stderr.strip().removeprefix("holders: "))
+        pids = " ".join(done.stdout.split())
+        if pids:
+            raise Refused(f"process {pids} has {what} open: {book}. Stop the server first")
+
+
+def leave_root(words):
+    """Runs this program again as the user who may change names on the path of the book, if that is
+    not root: such a user could have root follow a link.
+    """
+    book, config = os.path.abspath(words.book), os.path.abspath(words.config)
+    done = subprocess.run([site.part("as-owner"), "--words", book], capture_output=True, text=True)
+    if done.returncode:
+        raise Refused(done.stderr.strip().removeprefix("as-owner: "))
+    if not done.stdout:
+        return
+    # Root sees what other users' processes have open.
+    refuse_if_held(book)
+    kind = {None: [], True: ["--page-sums"], False: ["--no-page-sums"]}[words.page_sums]
+    tool = os.path.realpath(sys.argv[0])
+    again = ["/usr/bin/python3", "-I", tool, "rewrite", "--config", config, *kind, book]
+    command = [*done.stdout.splitlines(), *again]
+    os.chdir("/")
+    os.execvp(command[0], command)
+
+
+def become(user, group):
+    """Goes on as the owner of the book, as the server does."""
+    try:
+        os.initgroups(pwd.getpwuid(user).pw_name, group)
+    except KeyError:
+        os.setgroups([group])
+    os.setgid(group)
+    os.setuid(user)
+
+
+def lock(opened, fault):
+    """Locks a file as the program does."""
+    try:
+        fcntl.flock(opened, fcntl.LOCK_EX | fcntl.LOCK_NB)
+    except OSError:
+        raise Refused(fault) from None
+
+
+def digest_of(path):
+    with open(path, "rb") as file:
+        return hashlib.file_digest(file, "sha256").digest()
+
+
+def has_sums(book):
+    """Whether the pages of a database end in sums."""
+    with open(book, "rb") as file:
+        return file.read(SUM_AT + 1)[SUM_AT] == SUM_OCTETS
+
+
+def in_child(target, work):
+    """Works on a database in a child, which ends without closing it: SQLite copies the log into the
+    file as it closes a database. The child ends with this process.
+    """
+    parent = os.getpid()
+    read, write = os.pipe()
+    child = os.fork()
+    if child == 0:
+        fault = "it was cut off"
+        try:
+            end_with(parent)
+            opened = target()
+            work(opened)
+            fault = ""
+        except (Refused, OSError, sqlite3.Error) as found:
+            fault = str(found)
+        finally:
+            try:
+                os.write(write, fault.encode()[:1000])
+            finally:
+                os._exit(1 if fault else 0)
+    os.close(write)
+    try:
+        with open(read, encoding="utf-8", errors="replace") as told:
+            fault = told.read()
+    except BaseException:
+        os.kill(child, signal.SIGKILL)
+        os.waitpid(child, 0)
+        raise
+    status = os.waitpid(child, 0)[1]
+    if status:
+        raise Refused(fault or f"the copying of the rows ended with status {status}")
+
+
+def end_with(parent):
+    """Lets this process end with its parent."""
+    if ctypes.CDLL(None).prctl(PARENT_DEATH_SIGNAL, signal.SIGKILL) or os.getppid() != parent:
+        raise Refused("it cannot end with its parent")
+
+
+def test_log(book):
+    """The log has no frame, so the file alone is the book."""
+    with contextlib.suppress(FileNotFoundError):
+        size = os.stat(f"{book}-wal").st_size
+        if size >= LEAST_LOG:
+            raise Refused(f"the log of {book} still has {size} octets")
+
+
+def test_tables(source, target):
+    """Both have the tables that this program knows."""
+    text = "SELECT type, name, tbl_name, sql FROM sqlite_schema ORDER BY rowid"
+    schemas = [opened.execute(text).fetchall() for opened in (source, target)]
+    tables = {row[1] for row in schemas[0] if row[0] == "table"}
+    if schemas[0] != schemas[1] or tables != {*FILLED, *COPIED}:
+        raise Refused("the book has other tables than this tool knows")
+
+
+def copy(source, target, table):
+    """Copies the rows of a table in their order."""
+    total = source.execute(f"SELECT count(*) FROM {table}").fetchone()[0]
+    rows = source.execute(f"SELECT * FROM {table} ORDER BY rowid")
+    marks = ", ".join("?" * len(rows.description))
+    count = 0
+    while batch := rows.fetchmany(ROWS):
+        target.executemany(f"INSERT INTO {table} VALUES ({marks})", batch)
+        count += len(batch)
+        say(f"{count} of {total} rows of {table}")
+
+
+def compare(source, target, table):
+    """Each row is in both, in the same order; that of the tables that `init` fills is free."""
+    order = "1" if table in FILLED else "rowid"
+    text = f"SELECT * FROM {table} ORDER BY {order}"
+    one, other = source.execute(text), target.execute(text)
+    while True:
+        rows = one.fetchmany(ROWS), other.fetchmany(ROWS)
+        if rows[0] != rows[1]:
+            raise Refused(f"the new file has other rows of {table}")
+        if not rows[0]:
+            return
+
+
+def ended(number, _):
+    raise Refused(f"ended by {signal.Signals(number).name}")
+
+
+def megabytes(octets):
+    return f"{octets / 1e6:.1f} MB"
+
+
+def parser():
+    it = program.parser(__doc__)
+    it.add_argument("--config", default=site.CONFIG, metavar="FILE")
+    it.add_argument("--page-sums", action=argparse.BooleanOptionalAction)
+    it.add_argument("book", metavar="BOOK")
+    return it
+
+
+def main(words):
+    words = parser().parse_args(words)
+    os.umask(0o077)
+    for number in (signal.SIGHUP, signal.SIGINT, signal.SIGTERM):
+        signal.signal(number, ended)
+    rewrite = None
+    try:
+        leave_root(words)
+        rewrite = Rewrite(words.config, words.book, words.page_sums)
+        before, after = rewrite.run()
+    except (Refused, site.Missing, OSError, sqlite3.Error) as fault:
+        is_placed = rewrite is not None and rewrite.is_placed
+        say(f"{fault}. The book is {'the new file' if is_placed else 'as it was'}")
+        return 0 if is_placed else 1
+    finally:
+        if rewrite is not None and rewrite.is_begun:
+            with contextlib.suppress(Refused, OSError):
+                rewrite.remove_new()
+    print(f"{rewrite.book}: {megabytes(before)} before, {megabytes(after)} now")
+    return 0
+

@@ -1,0 +1,88 @@
+"""The desk: the keys that it takes, how a voucher is sent to it, and what its answers mean."""
+
+import http.client
+import json
+import os
+import re
+import stat
+
+# The number of a voucher, and a key.
+NUMBER, TOKEN = re.compile("[A-Z0-9-]{1,32}"), re.compile("[A-Za-z0-9-]{16,64}")
+TOKEN_RULE = "16 to 64 of A-Z a-z 0-9 and -"
+CASHIER_KEY = "/etc/radacctd-cashier.key"
+# What became of a voucher.
+NEW, REPEAT, DIFFERS, LIMIT, NO_KEY = "new", "repeat", "differs", "limit", "no key"
+# The book could not say, or a proxy before it; and what is no answer of a desk.
+AWAY, STRANGE = "away", "strange"
+ANSWERS = {
+    (201, "result", "new"): NEW,
+    (200, "result", "repeat"): REPEAT,
+    (409, "error", "voucher differs"): DIFFERS,
+    (422, "error", "balance limit"): LIMIT,
+}
+
+
+class WrongKey(Exception):
+    """Why a file has no key that may be used. It has no octet of the file."""
+
+
+def meaning(status, said):
+    """What became of a voucher, by the status and the object that was answered."""
+    for (number, member, value), found in ANSWERS.items():
+        if status == number and isinstance(said, dict) and said.get(member) == value:
+            return found
+    if status in (401, 403):
+        return NO_KEY
+    return AWAY if status in (429, 502, 503, 504) else STRANGE
+
+
+def object_of(body):
+    """The object of an answer, or None."""
+    try:
+        return json.loads(body)
+    except (ValueError, RecursionError):
+        return None
+
+
+def topup(account, total, number):
+    """The body of a request that credits a voucher."""
+    return json.dumps({"account": account, "sum": total, "voucher": number})
+
+
+def ask(where, method, path, key, body=None, patience=30):
+    """The status and the body that the desk at an address and a port gave."""
+    caller = http.client.HTTPConnection(*where, timeout=patience)
+    try:
+        caller.request(method, path, body, {"Desk-Key": key, "Connection": "close"})
+        response = caller.getresponse()
+        return response.status, response.read(1 << 20)
+    finally:
+        caller.close()
+
+
+def keys_in(path, most, may_read=lambda status: False):
+    """The keys of a file, one on a line. Only its owner may read it, unless `may_read` says so."""
+    try:
+        with open(path, "rb") as file:
+            found = os.fstat(file.fileno())
+            lines = file.read(65_536).decode("ascii", "replace").split("\n")
+    except OSError as fault:
+        raise WrongKey(f"cannot read the key: {path}: {fault.strerror}") from None
+    is_open = stat.S_IMODE(found.st_mode) & 0o077 or found.st_uid not in (0, os.getuid())
+    if is_open and not may_read(found):
+        raise WrongKey(f"others may read {path}, or it is another user's: chmod 600")
+    named = [(at, line.strip()) for at, line in enumerate(lines, 1) if line.strip()]
+    if not named:
+        raise WrongKey(f"{path} has no key: {TOKEN_RULE}")
+    if len(named) > most:
+        at = named[most][0]
+        raise WrongKey(f"line {at} of {path} is one too many: it has one key on one line")
+    for at, line in named:
+        if not TOKEN.fullmatch(line):
+            raise WrongKey(f"line {at} of {path} is no key: {TOKEN_RULE}")
+    return [line for _, line in named]
+
+
+def key_in(path, may_read=lambda status: False):
+    """The one key of a file."""
+    return keys_in(path, 1, may_read)[0]

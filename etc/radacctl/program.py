@@ -1,0 +1,23 @@
+"""What each command is to its caller: its name, its lines on standard error, its parser."""
+
+import argparse
+import sys
+
+# As the caller spelled it, `radacctl sell`, or an older name.
+NAME = "radacctl"
+
+
+def say(text):
+    print(f"{NAME}: {text}", file=sys.stderr, flush=True)
+
+
+def fail(why, status=1):
+    """Ends the program."""
+    say(why)
+    sys.exit(status)
+
+
+def parser(text):
+    """A parser whose help is this text. No option may be cut short: a later one might be meant."""
+    how = {"formatter_class": argparse.RawDescriptionHelpFormatter, "allow_abbrev": False}
+    return argparse.ArgumentParser(prog=NAME, description=text, **how)
