@@ -94,6 +94,16 @@ ALLOWED = {
         "and_then(word_of)": "shows what the checker does not accept",
     },
     "docs/DAMAGE.md": each("restore makes it", ".restore.*", "book.replaced-..."),
+    "man/radacctl.8": each("a command of radacctl", "edit", "redeem", "night"),
+    "docs/DOCTOR.md": {
+        **each("a fault's name: .ci/tools compares them", "book-shut", "drop-secret", "log-odd"),
+        "radacctd/settings.conf": "a copy of a file of etc/freeradius",
+    },
+    "docs/START.md": {
+        "/desk/": "nginx' path",
+        "/root/radacctd-setup": "radacctl setup makes it",
+        "~before-": "a part of a name that radacctl setup makes",
+    },
     "docs/ACCESS-SERVERS.md": {
         **VENDORS,
         "gold;radacctd;;al;": "an example",
@@ -130,18 +140,11 @@ ALLOWED = {
         "radacctd_0.1.0_amd64.deb": "bin/package makes it",
     },
     "man/radacctd-backup.8": {"FOLDER/book-wal": "a copy"},
-    "man/radacctd-site.8": {"PLACE.replaced-DATE-TIME": "radacctd-site makes it"},
     "man/radacctd-edit.8": {
         "FILE.edit-base": "radacctd-edit makes it",
         "FILE.edit-lock": "radacctd-edit makes it",
     },
-    "man/radacctd-key.8": {"FILE.key-new": "radacctd-key makes it"},
     "man/radacctd-restore.8": {"BOOK.replaced-DATE-TIME": "restore makes it"},
-    "man/radacctd-pages.8": {
-        **each("radacctd-pages makes it", "FOLDER/plans.json", "FOLDER/settings.json"),
-        "settings.json": "radacctd-pages makes it",
-        **each("an example", "[\\(dqa\\(dq, \\(dqb\\(dq]"),
-    },
     "docs/PAIR.md": {
         **each(
             "FreeRADIUS' own file, or a copy of one of etc/freeradius",
@@ -164,16 +167,10 @@ ALLOWED = {
         "radacctd/pair.conf": "a copy of a file of etc/pair",
     },
     "man/radacctd-outbox.8": {"/waiting": "a path of radacctd-outbox' own"},
-    "man/radacctd-shards.8": {"shard,address,radius,desk": "the columns of its table"},
     "docs/SHARDS.md": {
         **each("made by the page's steps", "/etc/radacctd-s0.toml", "/root", "s7.moved"),
         **each("another program's", ".ssh/authorized_keys", "sites-enabled/default"),
         "radacctd/settings.conf": "a copy of a file of etc/freeradius",
-    },
-    "man/radacctd-vouchers.8": {
-        "fonts-dejavu-core": "Debian's package",
-        "code,sum": "the columns of a stock file",
-        "/redeem/": "nginx' path",
     },
     "man/radacctd-nightly.8": {"exports/DATE": "a folder that it makes"},
     "docs/SITE.md": {"a%2Cb": "an account of an example"},

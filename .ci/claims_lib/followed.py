@@ -20,6 +20,7 @@ RUN = {
     "PAIR": "interop/pair_page.py",
     "SHARDS": "interop/shards_page.py",
     "SITE": "interop/front_page.py",
+    "START": "interop/start",
     "WATCHING": "interop/monitoring",
 }
 # Pages whose commands a person types, and why no script does.

@@ -140,6 +140,13 @@ class Checker:
     def tool_line(self, text, _block):
         """A command line of such a tool."""
         name, *words = text.split()
+        if name == "radacctl" and words:
+            command = f"etc/radacctl/commands/{words[0]}.py"
+            if f'"{words[0]}": (' not in self.tree.scripts["etc/radacctl/main.py"]:
+                return f"`{text}`: radacctl has no command `{words[0]}`"
+            source = self.tree.scripts.get(command, "--")
+            lost = [it for it in words[1:] if it[:2] == "--" and not has(source, it)]
+            return f"`{text}`: `radacctl {words[0]}` has no option {lost[0]}" if lost else ""
         if not re.fullmatch(r"radacctd-[a-z]+(?:-[a-z]+)*", name) or name in self.tree.paths:
             return None
         if not self.tool(name):

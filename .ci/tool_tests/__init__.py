@@ -1,4 +1,4 @@
-"""Unit tests of the package of radacctl: .ci/tools runs them, in seconds and without the program."""
+"""Unit tests of the package of radacctl, in seconds: .ci/tools runs them without the program."""
 
 import os
 import sys

@@ -1,14 +1,24 @@
 """Files: made once, for their owner, replaced whole, on the disk, and with no link followed."""
 
 import contextlib
+import json
 import os
 import stat
+import subprocess
+import urllib.parse
 
 from radacctl import site
 
 FOLDER = os.O_RDONLY | os.O_DIRECTORY | os.O_NOFOLLOW | os.O_CLOEXEC
 FLAGS = os.O_RDONLY | os.O_NOFOLLOW | os.O_NONBLOCK | os.O_CLOEXEC
-LARGEST = 1 << 24
+LARGEST = 1 << 26
+# Prints the rows of a query of a database as JSON: octets are texts of one letter each.
+QUERY = """
+import json, sqlite3, sys
+shown = lambda it: it.decode("latin-1") if isinstance(it, bytes) else it
+rows = sqlite3.connect(sys.argv[1], uri=True, timeout=5).execute(sys.argv[2], sys.argv[3:])
+print(json.dumps([[shown(it) for it in row] for row in rows]))
+"""
 
 
 def sync_folder(path):
@@ -74,6 +84,29 @@ def read(path, most=LARGEST):
         return file.read(most)
 
 
+def text(path):
+    """The text of a file, or "" if it cannot be read."""
+    try:
+        return read(os.path.realpath(path)).decode("utf-8", "replace")
+    except OSError:
+        return ""
+
+
 def as_owner(path):
     """What runs a command as the user who may change names on a path."""
     return [site.part("as-owner"), os.path.abspath(path)]
+
+
+def rows(path, query, *values, is_still=False):
+    """The rows of a query of a database, read by the user who may change names on its path.
+
+    A database that nobody changes is read beside its log (`is_still`). OSError says why not.
+    """
+    mark = "mode=ro&immutable=1" if is_still else "mode=ro"
+    uri = f"file:{urllib.parse.quote(os.path.abspath(path))}?{mark}"
+    words = [*as_owner(path), "/usr/bin/python3", "-I", "-c", QUERY, uri, query, *values]
+    done = subprocess.run(words, capture_output=True, text=True, cwd="/", timeout=120)
+    if done.returncode:
+        why = done.stderr.strip().rpartition(": ")[2] or f"status {done.returncode}"
+        raise OSError(f"{path}: {why}")
+    return [tuple(row) for row in json.loads(done.stdout)]

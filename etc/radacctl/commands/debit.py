@@ -40,28 +40,20 @@ import fcntl
 import hashlib
 import hmac
 import io
-import json
 import os
 import re
 import shlex
 import socket
 import stat
-import subprocess
 import time
 import tomllib
-import urllib.parse
 
 from radacctl import desk, files, money, names, program, site
 from radacctl.names import shown
 
 CLIENT, CLASS = "books", "debit"
-# Prints the rows of a plan of a book as JSON.
-READ_PLAN = """
-import json, sqlite3, sys
-query = "SELECT block, unit, mode FROM price_plan JOIN plan_count USING (class) WHERE class = ?"
-book = sqlite3.connect(sys.argv[1], uri=True)
-print(json.dumps(book.execute(query, (sys.argv[2].encode(),)).fetchall()))
-"""
+READ_PLAN = "SELECT block, unit, mode FROM price_plan JOIN plan_count USING (class)"
+READ_PLAN += " WHERE class = CAST(? AS BLOB)"
 FILE_HEADER = ["account", "sum", "number"]
 HEADER = ["moment", "event", "number", "account", "sum"]
 GIVEN, ANSWERED = "given", "answered"
@@ -130,14 +122,10 @@ def test_plan_of_book(path):
     """Tests that the book keeps the plan. A plan is added while no server has the book, and never
     removed: so the server that has the book now has the plan too. `immutable` reads beside it.
     """
-    uri = f"file:{urllib.parse.quote(os.path.abspath(path))}?mode=ro&immutable=1"
-    # The book's user could lead root to another file by a link: so that user reads it.
-    command = [*files.as_owner(path), "/usr/bin/python3", "-I", "-c", READ_PLAN, uri, CLASS]
-    done = subprocess.run(command, capture_output=True, text=True, cwd="/")
-    if done.returncode:
-        why = done.stderr.strip().rpartition(": ")[2] or f"status {done.returncode}"
-        raise Refused(f"cannot read the plans of {path} ({why}): be root, or give it again")
-    rows = [tuple(row) for row in json.loads(done.stdout)]
+    try:
+        rows = files.rows(path, READ_PLAN, CLASS, is_still=True)
+    except OSError as why:
+        raise Refused(f"cannot read the plans of {why}: be root, or give it again") from None
     if not rows:
         raise Refused(
             f"{path} does not keep the plan {CLASS} yet, so a debit would be priced by `default`.\n"

@@ -399,6 +399,6 @@ def main(words):
             return withdraw(words, money)
         return show(words, money) if words.list is not None else make(words, settings, money)
     except stocks.Fault as fault:
-        return fail(f"{fault}; man 8 radacctd-vouchers says how it is set up")
+        return fail(f"{fault}; radacctl setup makes it, or the steps of DESK.md")
     except OSError as fault:
         return fail(f"{fault.filename or words.stock}: {fault.strerror}")

@@ -1,0 +1,191 @@
+"""The doctor's table of faults, and what setup makes of answers and of files."""
+
+import os
+import re
+import stat
+import tempfile
+import unittest
+
+from radacctl import freeradius
+from radacctl.doctor import faults, look
+from radacctl.setup import answers, front, steps
+from tool_tests import ROOT
+
+PLAN = {"class": "default", "block": 1000, "unit": 5}
+
+
+def sources(folder):
+    """The texts of the modules of a folder of the package."""
+    place = os.path.join(ROOT, "etc", "radacctl", folder)
+    for name in sorted(os.listdir(place)):
+        if name.endswith(".py"):
+            with open(os.path.join(place, name), encoding="utf-8") as file:
+                yield name, file.read()
+
+
+class Table(unittest.TestCase):
+    """The table and the modules name the same faults. The page is made of the table."""
+
+    def test_each_fault_is_found_somewhere(self):
+        text = "".join(text for name, text in sources("doctor") if name != "faults.py")
+        named = {it for it in faults.MEANINGS if f'"{it}"' in text}
+        self.assertEqual(named, set(faults.MEANINGS))
+        used = set(re.findall(r'Fault\(\s*"([a-z0-9-]+)"', text))
+        self.assertLessEqual(used, set(faults.MEANINGS))
+
+    def test_statuses(self):
+        one, other = (faults.Fault(it, "", "") for it in ("unsent", "unit-down"))
+        found = [faults.gravity_of(it) for it in ([], [one], [one, other])]
+        self.assertEqual(found, [0, 1, 3])
+
+
+class Answers(unittest.TestCase):
+    def wrong(self, **more):
+        with self.assertRaises(answers.Wrong, msg=str(more)) as found:
+            answers.Answers({"plan": [PLAN], **more})
+        return str(found.exception)
+
+    def test_the_sample_is_right(self):
+        from radacctl.commands import setup
+
+        with tempfile.NamedTemporaryFile("w", suffix=".toml") as file:
+            file.write(setup.SAMPLE)
+            file.flush()
+            found = answers.read(file.name)
+        self.assertEqual((found.usual_class, len(found.access_servers)), ("default", 1))
+
+    def test_what_is_wrong_is_named(self):
+        self.assertIn("no member `hots`", self.wrong(hots="x"))
+        self.assertIn("name of a host", self.wrong(host="a b", name="x", currency="EUR"))
+        self.assertIn("another kind", self.wrong(decimals="2"))
+        self.assertIn("another kind", self.wrong(freeradius=1))
+        self.assertIn("default", self.wrong(plan=[{**PLAN, "class": "gold"}]))
+        self.assertIn("two plans", self.wrong(plan=[PLAN, PLAN]))
+        self.assertIn("setup makes", self.wrong(plan=[PLAN, {**PLAN, "class": "debit"}]))
+        self.assertIn("no plan silver", self.wrong(**{"class": "silver"}))
+        self.assertIn("no address", self.wrong(access_server=[{"name": "a", "address": "x"}]))
+
+    def test_no_text_gets_into_a_file_as_another_line(self):
+        """What is written into files of FreeRADIUS and nginx has no mark of theirs."""
+        for text in ('x"', "x;", "x{", "a\nb", "%{x}", "a\\"):
+            self.wrong(plan=[PLAN, {**PLAN, "class": text}])
+            self.wrong(host=text, name="x", currency="EUR")
+            self.wrong(access_server=[{"name": text, "address": "10.0.0.1"}])
+            self.wrong(cashiers=[text], host="a.example.org", name="x", currency="EUR")
+            self.wrong(certificate=text, certificate_key="/etc/x")
+            self.wrong(front_desk=[text])
+            self.wrong(server=text)
+
+    def test_prices(self):
+        for text, block, unit in (("1.00", 10**7, 1), ("10.00", 10**6, 1), ("3.33", 10**9, 333)):
+            plan = answers.price_of(text, 2)
+            self.assertEqual((plan["block"], plan["unit"]), (block, unit))
+            self.assertEqual(plan["unit"] * 10**9, int(text.replace(".", "")) * plan["block"])
+
+
+class Steps(unittest.TestCase):
+    def setUp(self):
+        folder = tempfile.TemporaryDirectory()
+        self.addCleanup(folder.cleanup)
+        self.folder = os.path.realpath(folder.name)
+        self.path = os.path.join(self.folder, "file")
+
+    def write(self, text, mode=0o640):
+        with open(self.path, "w", encoding="utf-8") as file:
+            file.write(text)
+        os.chmod(self.path, mode)
+
+    def test_an_edited_file_is_kept_with_its_mode(self):
+        self.write("mine\n", 0o604)
+        step = steps.File(self.path, lambda old: "ours\n")
+        step.do()
+        [kept] = [it for it in os.listdir(self.folder) if "~before-" in it]
+        with open(os.path.join(self.folder, kept), encoding="utf-8") as file:
+            self.assertEqual(file.read(), "mine\n")
+        self.assertEqual(stat.S_IMODE(os.stat(os.path.join(self.folder, kept)).st_mode), 0o604)
+        self.assertEqual(stat.S_IMODE(os.stat(self.path).st_mode), 0o604)
+        self.assertTrue(step.is_done())
+
+    def test_what_is_done_is_not_done_again(self):
+        self.write("ours\n")
+        step = steps.File(self.path, lambda old: "ours\n")
+        before = os.stat(self.path).st_ino
+        self.assertTrue(step.is_done())
+        self.assertEqual(os.stat(self.path).st_ino, before)
+
+    def test_no_link_is_followed(self):
+        os.symlink("/etc/hostname", self.path)
+        step = steps.File(self.path, lambda old: "ours\n")
+        self.assertRaises(OSError, step.do)
+        self.assertTrue(os.path.islink(self.path))
+
+    def test_a_secret_is_not_shown(self):
+        self.write("secret = old-secret\nport = 1\n")
+        text = steps.File(self.path, lambda old: "secret = new-secret\nport = 2\n").text()
+        self.assertIn("+port = 2", text)
+        self.assertNotIn("-secret", text.replace("- (a line with a secret)", ""))
+
+    def test_a_link_takes_the_place_of_a_file_that_is_kept(self):
+        self.write("mine\n")
+        step = steps.Link(self.path, "/usr/share/ours")
+        step.do()
+        self.assertEqual(os.readlink(self.path), "/usr/share/ours")
+        self.assertEqual(len(os.listdir(self.folder)), 2)
+        self.assertTrue(step.is_done())
+
+
+class FreeRadius(unittest.TestCase):
+    SITE = """server default {
+authorize {
+\tfilter_username
+}
+accounting {
+\tdetail
+}
+post-auth {
+\tif (x) {
+\t\tnoop
+\t}
+}
+}
+"""
+
+    def test_steps_are_done_once(self):
+        wanted = answers.Answers({"plan": [PLAN]})
+        text = front.default(self.SITE, wanted)
+        self.assertEqual(front.default(text, wanted), text)
+        self.assertEqual(freeradius.section(text, "accounting").split()[0], "radacctd_accounting")
+        words = freeradius.section(freeradius.without_comments(text), "post-auth").split()
+        self.assertLess(words.index("&Class"), words.index("radacctd_login"))
+        self.assertNotIn("filter_username", text)
+
+    def test_clients_keep_their_secrets(self):
+        one = {"name": "a", "address": "10.0.0.1", "vendor": "mikrotik"}
+        wanted = answers.Answers({"plan": [PLAN], "access_server": [one]})
+        text = front.clients(None, wanted)
+        self.assertEqual(front.clients(text, wanted), text)
+        found = dict(freeradius.CLIENT.findall(text))
+        secrets = {freeradius.value(it, "secret") for it in found.values()}
+        self.assertEqual((set(found), len(secrets)), ({"a", "radacctd-setup"}, 2))
+        [(name, block)] = freeradius.HOME_SERVER.findall(text)
+        own = freeradius.value(found["a"], "secret")
+        self.assertEqual((name, freeradius.value(block, "secret")), ("cut-10.0.0.1", own))
+
+    def test_values(self):
+        for text, wanted in (('x = "a b"', "a b"), ("x = a", "a"), ('x = ""', ""), ("y = a", "")):
+            self.assertEqual(freeradius.value(text, "x"), wanted)
+
+
+class Look(unittest.TestCase):
+    def test_samples(self):
+        with tempfile.NamedTemporaryFile("w") as file:
+            file.write('# HELP a b\na 5\nb{queue="x",y="z"} 1e3\nc nonsense\n')
+            file.flush()
+            found = look.samples(file.name)
+        self.assertEqual(found["a"], [({}, 5.0)])
+        self.assertEqual(found["b"], [({"queue": "x", "y": "z"}, 1000.0)])
+        self.assertNotIn("c", found)
+
+
+if __name__ == "__main__":
+    unittest.main()

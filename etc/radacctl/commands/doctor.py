@@ -1,0 +1,76 @@
+"""Says what is wrong with a site: a line for each fault, with its cure.
+
+    radacctl doctor [--only NAME..] [--quiet]
+    radacctl doctor --list
+
+It looks at what this machine has: radacctd alone, behind FreeRADIUS, with pages, one of a pair,
+some of 16 books. It changes nothing. It sends nothing to radacctd or FreeRADIUS, and asks nginx for
+its pages. Run it as root.
+
+A line is `critical NAME: WHAT. Do: CURE` or `warning NAME: WHAT. Do: CURE`. --list prints each NAME
+that it knows, with its meaning. --only shows faults of these names alone. --quiet prints nothing
+about a sound site.
+
+It ends with 0 if nothing is wrong, with 1 if there are warnings only, with 2 for a bad command
+line, with 3 if something is critical: reports or logins are affected now. It ends with 4 if it
+could not look at all of it, which it says.
+"""
+
+import os
+
+from radacctl import program
+from radacctl.doctor import book, copies, faults, front, kind, machine, pair, web
+
+SIDES = {
+    "the machine": machine,
+    "the configuration": book,
+    "FreeRADIUS": front,
+    "the pages": web,
+    "the copies": copies,
+    "the pair": pair,
+}
+
+
+def parser():
+    it = program.parser(__doc__)
+    it.add_argument("--only", nargs="+", metavar="NAME", choices=sorted(faults.MEANINGS))
+    it.add_argument("--quiet", action="store_true")
+    it.add_argument("--list", action="store_true")
+    return it
+
+
+def found_in(site):
+    """The faults of each side, and the sides that could not be looked at, with the reason."""
+    found, lost = [], []
+    for name, side in SIDES.items():
+        try:
+            found += side.look_at(site)
+        except Exception as why:  # noqa: BLE001
+            # One side that surprises the doctor is no reason to keep the others from the operator.
+            lost.append(f"{name}: {type(why).__name__}: {why}")
+    return found, lost
+
+
+def listed():
+    for name, text in faults.MEANINGS.items():
+        print(f"{faults.gravity(name):8}  {name:18}  {text}")
+    return 0
+
+
+def main(words):
+    words = parser().parse_args(words)
+    if words.list:
+        return listed()
+    if os.geteuid() != 0:
+        program.fail("be root: what is secret could not be looked at", 4)
+    site = kind.Kind()
+    found, lost = found_in(site)
+    found = [it for it in found if not words.only or it.name in words.only]
+    found.sort(key=lambda it: it.name not in faults.CRITICALS)
+    for it in dict.fromkeys(found):
+        print(f"{faults.gravity(it.name)} {it.name}: {it.text}. Do: {it.cure}")
+    for line in lost:
+        program.say(f"could not look at {line}")
+    if not found and not lost and not words.quiet:
+        print(f"{site.words()}: nothing is wrong")
+    return 4 if lost else faults.gravity_of(found)

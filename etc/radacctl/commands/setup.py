@@ -1,0 +1,174 @@
+"""Sets a site up, or completes it, and shows that it works.
+
+    radacctl setup [--dry-run] [--yes] [FILE]
+    radacctl setup --sample
+
+FILE has the answers, as TOML; without it they are asked. --sample prints such a file. It says what
+it will change, and asks; --yes asks nothing, and --dry-run changes nothing. Run it as root.
+
+It installs Debian's packages, writes the configuration with new secrets, makes the book, starts the
+service and its nights, sets FreeRADIUS up in front, and nginx with the pages. Radacctd's files for
+FreeRADIUS are links, so that an upgrade mends them. At its end it tries a sale, a login and a
+report, takes them back, and runs `radacctl doctor`.
+
+A second time it changes nothing. If it was killed, give it again. A file that it changes is kept
+next to it as NAME~before-DATE-TIME, with the same owner and mode. Plans, secrets and keys that are
+there stay. It writes what to type at each access server, and the passwords of cashiers, into
+/root/radacctd-setup, for root alone.
+
+It ends with 0 if all is done, with 1 if not, which it says, and with 2 for a bad command line or a
+wrong answer.
+"""
+
+import fcntl
+import os
+import sys
+
+from radacctl import files, program, site
+from radacctl.commands import doctor
+from radacctl.doctor import copies
+from radacctl.setup import alone, answers, devices, front, proof, steps, web
+
+SAMPLE = """\
+name = "Hotel Example"              # on pages and printed vouchers
+server = "10.0.0.5"                 # where access servers reach this machine
+host = "accounts.example.org"       # the name of the pages; without it there are none
+currency = "EUR"
+decimals = 2
+cashiers = ["anna", "ben"]
+front_desk = ["10.0.1.0/24"]        # never shut out, however often a password is mistyped
+# certificate = "/etc/letsencrypt/live/accounts.example.org/fullchain.pem"
+# certificate_key = "/etc/letsencrypt/live/accounts.example.org/privkey.pem"
+
+# A gigabyte costs 1.00: 1 cent for each started 10 megabytes.
+[[plan]]
+class = "default"
+block = 10000000
+unit = 1
+
+[[access_server]]
+name = "lobby"
+address = "10.0.0.1"
+vendor = "mikrotik"                 # or unifi, pfsense, openwrt, other
+"""
+LOCK = "/run/radacctd-setup.lock"
+STOPPED = "stopped; give the same again: it goes on"
+
+
+def parser():
+    it = program.parser(__doc__)
+    it.add_argument("--dry-run", action="store_true")
+    it.add_argument("--yes", action="store_true")
+    it.add_argument("--sample", action="store_true")
+    it.add_argument("file", nargs="?", metavar="FILE")
+    return it
+
+
+def packages_of(wanted):
+    found = list(front.PACKAGES) if wanted.has_front else []
+    if wanted.host:
+        found += web.PACKAGES
+    return [*found, *(web.CODES if wanted.has_codes else [])]
+
+
+def steps_of(wanted, config):
+    """All steps but the packages and the proof."""
+    yield from alone.of(wanted, config)
+    if wanted.has_front:
+        yield from front.of(wanted, config)
+    if wanted.host:
+        yield from web.of(wanted, config)
+    yield from devices.of(wanted, config)
+
+
+def confirmed(words):
+    if words.yes:
+        return True
+    if not sys.stdin.isatty() and words.file:
+        program.fail("nobody is there to answer: give --yes")
+    print("Do this? [y/N] ", end="", flush=True)
+    return sys.stdin.readline().strip().lower() in ("y", "yes", "j", "ja")
+
+
+def is_done(step):
+    """What cannot be looked at yet is still to be done: a user whose package is missing, say."""
+    try:
+        return step.is_done()
+    except (steps.Failed, OSError):
+        return False
+
+
+def show(found):
+    for it in found:
+        print(f"  - {it.text()}")
+
+
+def do(words, wanted):
+    """Installs what is missing, does each step that is not done, and shows that the site works."""
+    packages = alone.packages(packages_of(wanted))
+    config = alone.Config(wanted)
+    found = [it for it in [packages, *steps_of(wanted, config)] if not is_done(it)]
+    last = proof.Proof(wanted, config)
+    if not found and last.is_done():
+        print("nothing is to be done")
+        return 0
+    print("This is to be done:")
+    show([*found, last])
+    if words.dry_run:
+        return 0
+    if not confirmed(words):
+        program.fail("nothing was done")
+    files.remove(proof.DONE)
+    # What one step makes may be what a later one looks for: so each is asked again.
+    for it in [packages, *steps_of(wanted, config)]:
+        if not is_done(it):
+            print(f"{it.text().splitlines()[0]} ..", flush=True)
+            it.do()
+    last.do()
+    first_copy()
+    print(f"What to type at access servers is in {devices.FOLDER}.")
+    return doctor.main([])
+
+
+def first_copy():
+    """The copy of the first night, now: until there is one, a lost disk loses all."""
+    if not any(copies.NAME.fullmatch(it) for it in names_in(site.BACKUPS)):
+        print("copy the site ..", flush=True)
+        steps.given(["systemctl", "start", "radacctd-nightly.service"])
+
+
+def names_in(folder):
+    return os.listdir(folder) if os.path.isdir(folder) else []
+
+
+def locked():
+    """One set-up at a time. The lock ends with this process."""
+    handle = os.open(LOCK, os.O_RDWR | os.O_CREAT | os.O_NOFOLLOW | os.O_CLOEXEC, 0o600)
+    try:
+        fcntl.flock(handle, fcntl.LOCK_EX | fcntl.LOCK_NB)
+    except BlockingIOError:
+        program.fail("another set-up is going on")
+    return handle
+
+
+def main(words):
+    words = parser().parse_args(words)
+    if words.sample:
+        print(SAMPLE, end="")
+        return 0
+    if os.geteuid() != 0:
+        program.fail("be root")
+    os.umask(0o077)
+    try:
+        wanted = answers.read(words.file) if words.file else answers.asked()
+    except answers.Wrong as why:
+        program.fail(why, 2)
+    lock = locked()
+    try:
+        do(words, wanted)
+    except (steps.Failed, site.Missing, OSError) as why:
+        program.say(f"{why}\nWhat is done stays. Mend it, and give the same again.")
+        return 1
+    finally:
+        os.close(lock)
+    return 0

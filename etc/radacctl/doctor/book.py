@@ -1,0 +1,221 @@
+"""The configuration, its secrets and keys, the plans in force, and what the server writes."""
+
+import csv
+import glob
+import os
+import re
+import time
+import tomllib
+
+from radacctl import desk, files, names, site
+from radacctl.doctor import look
+from radacctl.doctor.faults import Fault
+
+# Limits of a configuration, and how many are to be free.
+LIMITS, SPARE = {"key": 4096, "client": 1024, "plan": 256}, 64
+SHORTEST_SECRET = 16
+LONGER = "write a longer one there and at the device: openssl rand -hex 16"
+OWN = "give each its own: openssl rand -hex 16"
+# How old the balances may be, in seconds, if the server writes them each 10.
+OLDEST = 120
+# What the server prints that needs a look, and what to do.
+ODD = {
+    r"cannot write": "see whether the folder is there, and its disk has space",
+    r"db: (?:Unavailable|Memory)": "df -h /var/lib/radacctd; dmesg; free -m",
+    r"clock: .* is before": "set the clock: moments in the book are wrong, balances are not",
+}
+SECRETS = {
+    "/etc/radacctd*.toml": (0o640, ("root",), (site.USER,)),
+    "/etc/radacctd-cashier.key": (0o600, ("root",), None),
+    "/etc/radacctd-books.secret": (0o600, ("root",), None),
+    "/etc/radacctd-redeem.key": (0o640, ("root",), ("radacctd-redeem",)),
+    site.STATE: (0o700, (site.USER,), None),
+    site.BACKUPS: (0o700, ("root",), None),
+}
+
+
+def look_at(kind):
+    for book in kind.books:
+        yield from configuration(book)
+        yield from counts(book)
+        yield from journal(book)
+    yield from modes()
+    yield from groups(kind)
+    yield from keys(kind)
+
+
+def content(book):
+    """The configuration, or {} if it is wrong."""
+    try:
+        return tomllib.loads(files.text(book.config).replace("\r\n", "\n"))
+    except tomllib.TOMLDecodeError:
+        return {}
+
+
+def configuration(book):
+    if look.status_of(book.config) is None:
+        yield Fault("config-wrong", f"there is no {book.config}", "radacctl setup")
+        return
+    words = (site.program(), "check", "--config", book.config, "--explain")
+    status, said = look.run(*words)
+    for line in said.splitlines():
+        if "is the sample's, which is public" in line:
+            yield Fault("sample-value", f"{book.config}: {line.removeprefix('warning: ')}",
+                        "replace it: radacctl edit")
+    if status:
+        yield Fault("config-wrong", f"{book.config}: {look.last_line(said)}", "radacctl edit")
+        return
+    found = content(book)
+    yield from secrets(book, found)
+    yield from plans(book, found)
+    for name, most in LIMITS.items():
+        if len(found.get(name, [])) > most - SPARE:
+            cure = "radacctl key expire; for more use 16 books: SHARDS.md"
+            yield Fault("keys-full", f"{book.config} has {len(found[name])} [[{name}]] of {most}",
+                        cure)
+
+
+def secrets(book, found):
+    seen = {}
+    for client in found.get("client", []):
+        secret, name = client.get("secret", ""), client.get("name")
+        if len(secret) < SHORTEST_SECRET:
+            text = f"{book.config}: the secret of {name} has {len(secret)} characters"
+            yield Fault("secret-short", text, LONGER)
+        if secret in seen:
+            text = f"{book.config}: {seen[secret]} and {name} have one secret"
+            yield Fault("secret-shared", text, OWN)
+        seen[secret] = name
+
+
+def plans_in(path):
+    """The plans of a file of plans in force, by their classes; None if it cannot be read."""
+    rows = list(csv.reader(files.text(path).splitlines()))
+    if not rows or rows[0] != ["class", "block", "unit", "count"]:
+        return None
+    return {row[0]: tuple(row[1:]) for row in rows[1:]}
+
+
+def plans(book, found):
+    """The configuration has the plans in force, and no other one."""
+    force = plans_in(book.plans)
+    if force is None:
+        yield Fault("plan-waits", f"{book.plans} is missing: nobody knows the plans in force",
+                    f"systemctl restart {book.unit}")
+        return
+    wanted = {
+        names.shown(it["class"].encode()): (str(it["block"]), str(it["unit"]),
+                                            it.get("count", "both"))
+        for it in found.get("plan", [])
+    }
+    for name in sorted(set(wanted) - set(force)):
+        yield Fault("plan-waits", f"plan {name} of {book.config} is not in force",
+                    f"systemctl stop {book.unit}; radacctd plans --config {book.config} "
+                    f"--db {book.file}; systemctl start {book.unit}")
+    for name in sorted(force):
+        if wanted.get(name) != force[name]:
+            is_there = "is another one in" if name in wanted else "is not in"
+            text = ", ".join(force[name])
+            yield Fault("plan-lost", f"plan {name} ({text}) of the book {is_there} {book.config}",
+                        "write it back as it was: radacctl edit")
+
+
+def counts(book):
+    found = look.samples(book.counts)
+    if not found:
+        return
+    value = lambda name: found.get(name, [({}, 0)])[0][1]
+    if value("radacctd_config_is_current") == 0:
+        yield Fault("config-wrong", f"the server goes on without {book.config} as it is",
+                    f"journalctl -u {book.unit} | grep config:")
+    age = time.time() - value("radacctd_balances_time_seconds")
+    every = int(book.value("RADACCTD_BALANCES_EVERY", "10"))
+    if look.is_active(book.unit) and age > max(OLDEST, 5 * every):
+        yield Fault("balances-old", f"{book.balances} is {age:.0f} seconds old",
+                    f"journalctl -u {book.unit} | grep balances:")
+
+
+def journal(book):
+    words = ("journalctl", "-u", book.unit, "--since", "-1h", "-o", "cat", "--no-pager")
+    said = look.run(*words)[1]
+    seen = set()
+    for name, address in re.findall(r"^drop \d+ (\w+) from ([\d.]+):", said, re.M):
+        if (name, address) in seen:
+            continue
+        seen.add((name, address))
+        if name == "BadAuthenticator":
+            yield Fault("drop-secret", f"{address} sends reports with another secret",
+                        f"give it the secret of its client in {book.config}")
+        elif name == "UnknownClient":
+            yield Fault("log-odd", f"{address} sends reports, and is no client",
+                        f"add it to {book.config}, or shut it out: radacctl edit")
+    for pattern, cure in ODD.items():
+        if found := re.search(rf"^.*{pattern}.*$", said, re.M):
+            name = "book-shut" if "db:" in pattern else "log-odd"
+            yield Fault(name, f"{book.unit} printed: {found[0][:120]}", cure)
+
+
+def modes():
+    for pattern, (most, owners, groups_allowed) in SECRETS.items():
+        for path in glob.glob(pattern):
+            yield from mode(path, most, owners, groups_allowed)
+
+
+def mode(path, most, owners, groups_allowed):
+    status = look.status_of(path)
+    if status is None:
+        return
+    owner, group = look.run("stat", "-c", "%U %G", path)[1].split()
+    if look.mode_of(status) & ~most & 0o077:
+        yield Fault("mode-open", f"others may read {path}: it has {look.mode_of(status):o}",
+                    f"chmod {most:o} {path}")
+    elif owner not in owners:
+        yield Fault("mode-open", f"{path} belongs to {owner}", f"chown {owners[0]} {path}")
+    if groups_allowed and look.mode_of(status) & 0o040 and group not in groups_allowed:
+        yield Fault("mode-wrong", f"{path} is of the group {group}",
+                    f"chgrp {groups_allowed[0]} {path}")
+    elif groups_allowed and not look.mode_of(status) & 0o040:
+        yield Fault("mode-wrong", f"the group {groups_allowed[0]} may not read {path}",
+                    f"chmod {most:o} {path}")
+
+
+def groups_of(user):
+    status, said = look.run("id", "-Gn", user)
+    return said.split() if status == 0 else None
+
+
+def groups(kind):
+    wanted = [(kind.has_front, site.RADIUS_USER), (kind.has_pages, site.WEB_USER)]
+    for is_needed, user in wanted:
+        found = groups_of(user) if is_needed else None
+        if found is None:
+            continue
+        if site.USER in found:
+            yield Fault("group-wrong", f"{user} is in the group {site.USER}, which reads secrets",
+                        f"gpasswd -d {user} {site.USER}, and restart its service")
+        if site.READERS not in found:
+            yield Fault("group-wrong", f"{user} is not in the group {site.READERS}",
+                        f"gpasswd -a {user} {site.READERS}, and restart its service")
+
+
+# The files of cashiers' keys: of each, what finds the keys in it.
+KEY_FILES = {
+    desk.CASHIER_KEY: r"(?m)^\s*(\S+)\s*$",
+    "/etc/radacctd-redeem.key": r"(?m)^\s*(\S+)\s*$",
+    "/etc/nginx/radacctd/cashier.conf": r'(?m)^\s*proxy_set_header\s+Desk-Key\s+"([^"]*)"',
+}
+
+
+def keys(kind):
+    """Each cashier's key in a file is one of a configuration. None is printed."""
+    known = {it.get("token") for book in kind.books for it in content(book).get("key", [])
+             if it.get("cashier") is True}
+    for path, pattern in KEY_FILES.items():
+        if not os.path.exists(path):
+            continue
+        found = re.findall(pattern, files.text(path))
+        lost = [at for at, it in enumerate(found, 1) if it not in known]
+        if lost or not found:
+            which = f"key {lost[0]} of {path}" if lost else path
+            yield Fault("key-unknown", f"{which} is no cashier's key of the configuration",
+                        "write the same key into both: radacctl edit")

@@ -1,0 +1,46 @@
+"""The night's copies: how old the last one is, whether it can be read, and its exports."""
+
+import os
+import re
+import time
+
+from radacctl import site
+from radacctl.doctor import look
+from radacctl.doctor.faults import Fault
+
+OLDEST = 36 * 3600
+NAME = re.compile(r"\d{4}-\d{2}-\d{2}(?:\.\d{6})?")
+NOW = "systemctl start radacctd-nightly; journalctl -u radacctd-nightly -n 20"
+
+
+def look_at(kind):
+    values = look.values_in("/etc/default/radacctd-nightly")
+    folder = values.get("RADACCTD_BACKUPS") or site.BACKUPS
+    names = os.listdir(folder) if os.path.isdir(folder) else []
+    good = sorted(it for it in names if NAME.fullmatch(it))
+    bad = sorted(it for it in names if NAME.fullmatch(it.removesuffix(".bad")) and it not in good)
+    if bad and (not good or bad[-1] > good[-1]):
+        yield Fault("copy-bad", f"{folder}/{bad[-1]} was refused: the book may be damaged",
+                    "read DAMAGE.md, and journalctl -u radacctd-nightly")
+    if not good:
+        yield Fault("copy-old", f"there is no copy in {folder}", NOW)
+        return
+    yield from newest(folder, good[-1])
+
+
+def newest(folder, name):
+    path = f"{folder}/{name}"
+    age = time.time() - os.stat(path).st_mtime
+    if age > OLDEST:
+        yield Fault("copy-old", f"the last copy, {path}, is {age / 3600:.0f} hours old", NOW)
+    for part in ("book", "radacctd.toml", "site.tar.gz"):
+        if not os.path.exists(f"{path}/{part}"):
+            yield Fault("copy-bad", f"{path} has no {part}", NOW)
+    if os.path.exists(f"{path}/site.tar.gz"):
+        tool = os.path.join(site.SBIN, "radacctl")
+        status, said = look.run(tool, "site", "test", f"{path}/site.tar.gz", seconds=1800)
+        if status:
+            yield Fault("copy-bad", f"{path}: {look.last_line(said)}", NOW)
+    if not os.path.exists(f"{folder}/exports/{name}/sessions.csv.gz"):
+        text = f"{folder}/exports/{name} is missing: no report of that day"
+        yield Fault("copy-exports", text, NOW)

@@ -1,0 +1,229 @@
+"""FreeRADIUS: its files and steps, its queue, what was filed, and the mirror of the balances."""
+
+import os
+import pwd
+import re
+import tempfile
+import time
+
+from radacctl import files, freeradius, names, site
+from radacctl.doctor import book as books
+from radacctl.doctor import look
+from radacctl.doctor.faults import Fault
+
+COUNTS = "/var/lib/radacctd-front/radacctd-front.prom"
+STATE = "/run/freeradius/radacctd-queue"
+MIRROR = "/run/radacctd-mirror/balances.db"
+# How old counts and balances may be, and how long a report may wait, in seconds.
+COUNTS_OLD, WAITS = 120, 300
+STATES = {
+    "fault": "reports are not written, and not answered",
+    "clock": "the clock is not set, so all reports wait",
+    "undated": "a report cannot be dated, and holds up its reader",
+    "volatile": "the queue's file system may lose what was synced",
+}
+PAGE = "FREERADIUS.md"
+
+
+def look_at(kind):
+    if not kind.has_front:
+        return
+    for place, own in freeradius.differing():
+        yield Fault("file-old", f"{place} is not that of this version",
+                    f"ln -sf {own} {place}; systemctl restart freeradius radacctd-mirror "
+                    "radacctd-front")
+    yield from steps(kind)
+    yield from settings(kind)
+    yield from samples()
+    yield from proxies(kind)
+    yield from names_refused()
+    yield from queue()
+    yield from counts()
+    yield from mirror(kind)
+
+
+def steps(kind):
+    """The lines that a site writes into FreeRADIUS' own files."""
+    main = freeradius.text("radiusd.conf")
+    wanted = ["settings.conf", "access-servers.conf", *(["pair.conf"] if kind.has_pair else [])]
+    for name in wanted:
+        if f"$INCLUDE radacctd/{name}" not in main and f"/radacctd/{name}" not in main:
+            yield Fault("raddb-steps", f"radiusd.conf does not include radacctd/{name}",
+                        f"add it before `modules`: {PAGE}")
+    for place in freeradius.OURS:
+        if not os.path.exists(freeradius.path(place)):
+            yield Fault("raddb-steps", f"{freeradius.path(place)} is missing",
+                        "radacctl setup, or step 1 of " + PAGE)
+    default = freeradius.text("sites-enabled", "default")
+    accounting = freeradius.section(default, "accounting").split()
+    if accounting[:1] != ["radacctd_accounting"]:
+        yield Fault("raddb-steps", "radacctd_accounting is not the first line of accounting",
+                    f"write it there in sites-enabled/default: step 6 of {PAGE}")
+    if "radacctd_login" not in freeradius.section(default, "post-auth").split():
+        yield Fault("raddb-steps", "post-auth has no radacctd_login: everybody gets in",
+                    f"write it into sites-enabled/default: step 7 of {PAGE}")
+    yield from tunnel()
+    status, said = look.run("freeradius", "-C", "-l", "stdout")
+    if status:
+        errors = [it for it in said.splitlines() if "rror" in it or "ailed" in it]
+        line = look.last_line("\n".join(errors) or said)
+        yield Fault("raddb-wrong", f"FreeRADIUS says: {line}", "freeradius -CX | tail")
+
+
+def tunnel():
+    """A login by PEAP or TTLS gets its name and Class from the inner tunnel."""
+    eap = freeradius.text("mods-enabled", "eap")
+    if not re.search(r"(?m)^\s*(?:peap|ttls)\s*\{", eap):
+        return
+    for name in set(re.findall(r'(?m)^\s*virtual_server\s*=\s*"?([\w-]+)', eap)):
+        inner = freeradius.text("sites-enabled", name)
+        if inner and "radacctd_login" not in freeradius.section(inner, "post-auth").split():
+            yield Fault("tunnel-login", f"sites-enabled/{name} has no radacctd_login in post-auth: "
+                        "logins by PEAP and TTLS are refused", f"step 7 of {PAGE}")
+
+
+def settings(kind):
+    """Address, port and secret are those of radacctd's one client."""
+    found = freeradius.settings()
+    if kind.has_shards or found["address"] not in ("127.0.0.1", ""):
+        return
+    it = kind.books[0]
+    if found["port"] != str(it.port()):
+        yield Fault("front-address", f"FreeRADIUS sends reports to port {found['port']}, and "
+                    f"radacctd listens at {it.port()}",
+                    f"let RADACCTD_RADIUS_PORT in {it.defaults} be that of radacctd/settings.conf")
+    clients = {each.get("address"): each for each in books.content(it).get("client", [])}
+    client = clients.get(found["from"])
+    if client is None:
+        yield Fault("front-secret", f"radacctd has no client of the address {found['from']}",
+                    f"let `from` of radacctd/settings.conf be a client of {it.config}")
+    elif client.get("secret") != found["secret"]:
+        yield Fault("front-secret", f"radacctd/settings.conf and {it.config} have two secrets",
+                    "write one into both, and restart freeradius")
+
+
+def samples():
+    """Secrets of the samples, short ones, and files that others may read."""
+    for name in ("settings.conf", "access-servers.conf", "pair.conf"):
+        path = freeradius.path("radacctd", name)
+        if not os.path.exists(path):
+            continue
+        if "change-me" in freeradius.text("radacctd", name):
+            yield Fault("sample-value", f"{path} has a secret that begins with change-me",
+                        "replace it: openssl rand -hex 16")
+        if look.mode_of(look.status_of(path)) & 0o007:
+            yield Fault("mode-open", f"others may read {path}", f"chmod o= {path}")
+    seen = {}
+    for name, block in freeradius.blocks(freeradius.CLIENT, "radacctd", "access-servers.conf"):
+        secret = freeradius.value(block, "secret")
+        if 0 < len(secret) < books.SHORTEST_SECRET and "change-me" not in secret:
+            text = f"client {name} of FreeRADIUS has {len(secret)} characters"
+            yield Fault("secret-short", text, books.LONGER)
+        if secret in seen and "change-me" not in secret:
+            text = f"{seen[secret]} and {name} of FreeRADIUS have one secret"
+            yield Fault("secret-shared", text, books.OWN)
+        seen[secret] = name
+
+
+def proxies(kind):
+    """A home server that asks radacctd for what it never answers."""
+    ports = {str(it.port()) for it in kind.books}
+    for name in ("proxy.conf", "sites-enabled/default"):
+        for server, block in freeradius.blocks(freeradius.HOME_SERVER, name):
+            is_ours = freeradius.value(block, "port") in ports
+            if is_ours and freeradius.value(block, "status_check") == "status-server":
+                yield Fault("status-check", f"home_server {server} of {name} asks by status-server",
+                            "status_check = none, revive_interval = 10")
+
+
+def names_refused():
+    """Accounts that were sold to, and whose login Debian's filter refuses."""
+    authorize = freeradius.section(freeradius.text("sites-enabled", "default"), "authorize")
+    if "filter_username" not in authorize.split():
+        return
+    try:
+        accounts = names.balances_in(site.BALANCES)
+    except (OSError, ValueError):
+        return
+    count = sum(b" " in it for it in accounts)
+    if count:
+        yield Fault("names-refused", f"{count} accounts have a space, and filter_username refuses "
+                    "their login", "write radacctd_filter in its place: " + PAGE)
+
+
+def queue():
+    folder = freeradius.settings()["queue"].replace("${radacctdir}", site.RADACCT)
+    for path in (site.RADACCT, folder or f"{site.RADACCT}/radacctd"):
+        status = look.status_of(path)
+        owner = look.run("stat", "-c", "%U", path)[1].strip() if status else "nobody"
+        if owner != site.RADIUS_USER:
+            yield Fault("queue-folder", f"{path} belongs to {owner}: no report is answered",
+                        f"install -d -o freerad -g freerad -m 0700 {path}")
+    for ending, meaning in STATES.items():
+        if os.path.exists(f"{STATE}.{ending}"):
+            line = files.text(f"{STATE}.{ending}").split("\n")[0][:120]
+            yield Fault("queue-state", f"{meaning}: {line}", f"df -h {site.RADACCT}; {PAGE}")
+
+
+def counts():
+    """What waits and what was filed: as front-counts counts it, run now by FreeRADIUS' user."""
+    status = look.status_of(COUNTS)
+    if status is None or time.time() - status.st_mtime > COUNTS_OLD:
+        yield Fault("counts-old", f"{COUNTS} is missing or old",
+                    "systemctl restart radacctd-front; journalctl -u radacctd-front -n 20")
+    found = counted()
+    for labels, moment in found.get("radacctd_queue_oldest_time_seconds", []):
+        if moment and time.time() - moment > WAITS:
+            since = time.strftime("%F %T", time.localtime(moment))
+            yield Fault("queue-waits", f"reports of the queue {labels['queue']} wait since {since}",
+                        "systemctl status radacctd; look at secret and address: " + PAGE)
+    for labels, count in found.get("radacctd_unsent_reports", []):
+        if count:
+            folder = f"{site.RADACCT}/{labels['folder']}"
+            yield Fault("unsent", f"{count:.0f} reports in {folder} were charged to nobody",
+                        f"look at them, and move them back or away: {PAGE}")
+
+
+def counted():
+    with tempfile.TemporaryDirectory() as folder:
+        os.chmod(folder, 0o711)
+        inner = os.path.join(folder, "counts")
+        os.mkdir(inner)
+        try:
+            os.chown(inner, *owner_of(site.RADIUS_USER))
+        except LookupError:
+            return {}
+        program = freeradius.path("radacctd", "front-counts")
+        words = [site.part("as-owner"), "--as", site.RADIUS_USER, program, f"{inner}/prom", MIRROR]
+        look.run(*words, site.RADACCT, STATE)
+        return look.samples(f"{inner}/prom")
+
+
+def owner_of(user):
+    found = pwd.getpwnam(user)
+    return found.pw_uid, found.pw_gid
+
+
+def mirror(kind):
+    """The mirror can be read, is new, and has the plans in force."""
+    cure = "systemctl restart radacctd-mirror; journalctl -u radacctd-mirror -n 20"
+    try:
+        written = files.rows(MIRROR, "SELECT written FROM mirror")[0][0]
+        plans = files.rows(MIRROR, "SELECT class, block, unit, count FROM plan")
+    except (OSError, IndexError, site.Missing) as why:
+        yield Fault("mirror-missing", f"logins have no balances: {why}", cure)
+        return
+    age = time.time() - written
+    oldest = freeradius.settings()["oldest"]
+    if age > (int(oldest) if oldest.isdigit() else 60):
+        yield Fault("mirror-old", f"the balances of logins are {age:.0f} seconds old",
+                    "systemctl status radacctd radacctd-mirror; date")
+    found = {names.shown(row[0].encode("latin-1")): tuple(map(str, row[1:])) for row in plans}
+    path = "/var/lib/radacctd-pair/plans.csv" if kind.has_pair else kind.books[0].plans
+    if kind.has_shards:
+        path = f"{os.path.dirname(site.BALANCES)}/plans.csv"
+    wanted = books.plans_in(path)
+    if wanted is not None and wanted != found:
+        which = sorted(set(found) ^ set(wanted)) or sorted(it for it in found
+                                                           if found[it] != wanted[it])
+        yield Fault("mirror-plans", f"logins have another plan {which[0]} than {path}", cure)

@@ -1,0 +1,79 @@
+"""What the doctor looks with: programs of the machine, files, units, samples of counts."""
+
+import contextlib
+import os
+import re
+import stat
+import subprocess
+
+from radacctl import files
+
+PATH = "/usr/sbin:/usr/bin:/sbin:/bin"
+LONGEST = 60
+SAMPLE = re.compile(r'^(\w+)(?:\{(.*)\})? (\S+)$', re.M)
+LABEL = re.compile(r'(\w+)="([^"]*)"')
+
+
+def run(*words, seconds=LONGEST, text=None):
+    """The status and the text that a program printed; 127 if it is not there, 124 if it is slow."""
+    environment = {"PATH": PATH, "LC_ALL": "C.UTF-8", "LANG": "C.UTF-8"}
+    how = {"capture_output": True, "text": True, "errors": "replace", "env": environment}
+    how |= {"timeout": seconds, "cwd": "/", "input": text or ""}
+    try:
+        done = subprocess.run(words, **how)
+    except FileNotFoundError:
+        return 127, f"{words[0]} is missing"
+    except subprocess.TimeoutExpired:
+        return 124, f"{words[0]} did not end in {seconds} seconds"
+    return done.returncode, done.stdout + done.stderr
+
+
+def properties(unit, *names):
+    """Properties of a unit, or none of a machine without systemd."""
+    said = run("systemctl", "show", unit, *(f"-p{it}" for it in names))[1]
+    return dict(line.split("=", 1) for line in said.splitlines() if "=" in line)
+
+
+def is_active(unit):
+    return run("systemctl", "is-active", "--quiet", unit)[0] == 0
+
+
+def is_enabled(unit):
+    return run("systemctl", "is-enabled", "--quiet", unit)[0] == 0
+
+
+def samples(path):
+    """The counts of a file for node_exporter: labels and value, by name."""
+    found = {}
+    for name, labels, value in SAMPLE.findall(files.text(path)):
+        with contextlib.suppress(ValueError):
+            number = float(value)
+            found.setdefault(name, []).append((dict(LABEL.findall(labels)), number))
+    return found
+
+
+def status_of(path):
+    """The status of a file or folder, or None."""
+    try:
+        return os.stat(path)
+    except OSError:
+        return None
+
+
+def mode_of(status):
+    return stat.S_IMODE(status.st_mode)
+
+
+def values_in(path):
+    """The values of a file of settings for systemd, without quotation marks."""
+    found = {}
+    for line in files.text(path).splitlines():
+        name, mark, value = line.strip().partition("=")
+        if mark and not name.startswith("#"):
+            found[name.strip()] = value.strip().strip("\"'")
+    return found
+
+
+def last_line(text):
+    lines = [it.strip() for it in text.splitlines() if it.strip()]
+    return lines[-1] if lines else "it printed nothing"

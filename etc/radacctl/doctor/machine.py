@@ -1,0 +1,139 @@
+"""Units, processes, the clock and disks."""
+
+import glob
+import os
+import re
+import time
+
+from radacctl import site
+from radacctl.doctor.faults import Fault
+from radacctl.doctor import look
+
+# Free space that a disk is to have at least: a part, or so many octets of a large one.
+LEAST_PART, LEAST_OCTETS = 0.05, 1 << 30
+YEAR_2026 = 1_767_225_600
+# The programs whose process may be an older one: of each, the unit.
+SCRIPTS = {
+    f"{site.RADDB}/radacctd/balances-mirror": "radacctd-mirror.service",
+    f"{site.RADDB}/radacctd/front-counts": "radacctd-front.service",
+}
+
+
+def look_at(kind):
+    yield from units(kind)
+    yield from failed()
+    yield from old_programs(kind)
+    yield from clock(kind)
+    yield from disks(kind)
+
+
+def units(kind):
+    for unit in kind.units():
+        found = look.properties(unit, "LoadState", "ActiveState", "UnitFileState")
+        if found.get("LoadState") == "masked":
+            yield Fault("unit-down", f"{unit} is masked", f"systemctl unmask --now {unit}")
+            continue
+        if found.get("ActiveState") not in ("active", "reloading"):
+            state = found.get("ActiveState", "unknown")
+            cure = f"systemctl start {unit}; why it stopped: journalctl -u {unit} -n 20"
+            yield Fault("unit-down", f"{unit} is {state}", cure)
+        if found.get("UnitFileState") not in ("enabled", "enabled-runtime", "static", "alias"):
+            yield Fault("unit-off", f"{unit} does not start with the machine",
+                        f"systemctl enable {unit}")
+
+
+def failed():
+    words = ("systemctl", "list-units", "--plain", "--no-legend", "--state=failed", "radacctd*")
+    for line in look.run(*words)[1].splitlines():
+        unit = line.split()[0] if line.split() else ""
+        if unit.startswith("radacctd"):
+            cure = f"journalctl -u {unit} -n 20; once it is mended: systemctl reset-failed {unit}"
+            yield Fault("unit-failed", f"{unit} has failed", cure)
+
+
+def old_programs(kind):
+    """Processes whose program is no longer the file of its name."""
+    for path in glob.glob("/proc/[0-9]*/exe"):
+        try:
+            name = os.readlink(path)
+        except OSError:
+            continue
+        if re.search(r"/radacctd(?:\.dpkg\S*)? \(deleted\)$", name):
+            process = path.split("/")[2]
+            yield Fault("old-program", f"process {process} runs a radacctd that was replaced",
+                        f"systemctl restart {unit_of(process)}")
+    yield from old_scripts()
+
+
+def unit_of(process):
+    try:
+        with open(f"/proc/{process}/cgroup", encoding="utf-8") as file:
+            found = re.findall(r"/([^/\n]+\.service)", file.read())
+    except OSError:
+        found = []
+    return found[-1] if found else f"its unit (process {process})"
+
+
+def old_scripts():
+    for path, unit in SCRIPTS.items():
+        process = look.properties(unit, "MainPID").get("MainPID", "0")
+        status = look.status_of(path)
+        begun = begin_of(process)
+        if status and begun and status.st_ctime > begun + 2:
+            yield Fault("old-program", f"{unit} runs an older {os.path.basename(path)}",
+                        f"systemctl restart {unit}")
+
+
+def begin_of(process):
+    """When a process began, or None."""
+    try:
+        with open(f"/proc/{process}/stat", encoding="utf-8", errors="replace") as file:
+            ticks = int(file.read().rpartition(")")[2].split()[19])
+        with open("/proc/uptime", encoding="ascii") as file:
+            up = float(file.read().split()[0])
+    except (OSError, ValueError, IndexError):
+        return None
+    return time.time() - up + ticks / os.sysconf("SC_CLK_TCK")
+
+
+def clock(kind):
+    now = time.time()
+    if now < YEAR_2026:
+        text = f"the clock says {time.strftime('%F %T')}"
+        yield Fault("clock-wrong", text, "timedatectl set-ntp true, or set-time")
+    for book in kind.books:
+        for path in (book.balances, book.counts):
+            status = look.status_of(path)
+            if status and status.st_mtime > now + 60:
+                when = time.strftime("%F %T", time.localtime(status.st_mtime))
+                yield Fault("clock-wrong", f"{path} is of {when}, which is to come",
+                            "set the clock, or wait: timedatectl")
+    found = look.run("timedatectl", "show", "-p", "NTP", "-p", "NTPSynchronized")
+    if found[0] == 0 and "NTPSynchronized=yes" not in found[1]:
+        which = "is switched on, and has no answer" if "NTP=yes" in found[1] else "is switched off"
+        yield Fault("clock-unset", f"the clock is not synchronised: NTP {which}",
+                    "apt install systemd-timesyncd, or chrony; timedatectl set-ntp true")
+
+
+def disks(kind):
+    places = [site.STATE, "/etc", site.BACKUPS, "/var/log"]
+    if kind.has_front:
+        places += [site.RADACCT, "/run"]
+    seen = set()
+    for path in places:
+        status = look.status_of(path)
+        if status is None or status.st_dev in seen:
+            continue
+        seen.add(status.st_dev)
+        yield from disk(path)
+
+
+def disk(path):
+    found = os.statvfs(path)
+    free, total = found.f_bavail * found.f_frsize, found.f_blocks * found.f_frsize
+    if free < LEAST_OCTETS and free < LEAST_PART * total:
+        yield Fault("disk-full", f"the disk of {path} has {free // 1_000_000} MB left",
+                    f"make space there, and delete nothing in {site.STATE}: df -h {path}")
+    if found.f_files and found.f_favail < LEAST_PART * found.f_files:
+        yield Fault("disk-full", f"the disk of {path} has {found.f_favail} inodes left",
+                    f"remove files there, and none in {site.STATE}: df -i {path}")

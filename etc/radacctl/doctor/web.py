@@ -1,0 +1,171 @@
+"""nginx, its certificate and secrets, the pages' settings, printed codes, fail2ban."""
+
+import glob
+import http.client
+import os
+import re
+import ssl
+
+from radacctl import files, money, site
+from radacctl.doctor import kind as kinds
+from radacctl.doctor import look
+from radacctl.doctor.faults import Fault
+
+FOLDER, WEB = "/etc/nginx/radacctd", "/etc/radacctd-web"
+PLANS = f"{os.path.dirname(site.BALANCES)}/plans.json"
+# Of the file for nginx what a site changes: these directives, and where pages and tools are.
+CHANGED = re.compile(r"^(?:server_name|ssl_|listen|include radacctd/desks|root|limit_req_zone|"
+                     r"fastcgi_param SCRIPT_FILENAME|access_log|error_log)")
+SOON = 21 * 86400
+JAIL, FILTER = "/etc/fail2ban/jail.d/radacctd.conf", "/etc/fail2ban/filter.d/radacctd.conf"
+SECRETS = {
+    f"{FOLDER}/cashier.conf": 0o600,
+    f"{FOLDER}/cashiers": 0o640,
+}
+LOGS = "/var/log/nginx/radacctd*.log"
+
+
+def look_at(kind):
+    if not kind.has_pages:
+        return
+    text = files.text(kinds.NGINX)
+    yield from configuration(text)
+    yield from certificates(text)
+    yield from modes()
+    yield from settings()
+    yield from answers(kind, text)
+    yield from programs()
+    yield from fail2ban()
+
+
+def lines_of(text):
+    found = (re.sub(r"\s*#.*$", "", line).strip() for line in text.splitlines())
+    return [it for it in found if it and not CHANGED.match(it)]
+
+
+def configuration(text):
+    status, said = look.run("nginx", "-t")
+    if status:
+        errors = [it for it in said.splitlines() if "emerg" in it] or [said]
+        yield Fault("nginx-wrong", f"nginx says: {look.last_line(errors[0])}", "nginx -t")
+    if lines_of(text) != lines_of(files.text(site.shared("nginx", "radacctd.conf"))):
+        yield Fault("file-old", f"{kinds.NGINX} is not that of this version, but for your names",
+                    f"diff {site.shared('nginx', 'radacctd.conf')} {kinds.NGINX}")
+    for name in ("headers.conf", "to-desk.conf"):
+        if files.text(f"{FOLDER}/{name}") != files.text(site.shared("nginx", "radacctd", name)):
+            yield Fault("file-old", f"{FOLDER}/{name} is not that of this version",
+                        f"cp {site.shared('nginx', 'radacctd', name)} {FOLDER}/")
+    if "accounts.example.org" in text:
+        yield Fault("sample-value", f"{kinds.NGINX} has the sample's name accounts.example.org",
+                    "write your own in its place")
+
+
+def certificates(text):
+    """Each certificate of nginx, and of FreeRADIUS' EAP, is there and lasts three weeks."""
+    found = set(re.findall(r"(?m)^\s*ssl_certificate\s+(\S+?);", text))
+    eap = files.text(f"{site.RADDB}/mods-enabled/eap")
+    found |= {it for it in re.findall(r"(?m)^\s*certificate_file\s*=\s*(\S+)", eap) if it[0] == "/"}
+    for path in sorted(found):
+        if look.status_of(path) is None:
+            yield Fault("certificate-ended", f"{path} is missing", "get it anew")
+            continue
+        checked = lambda seconds, it=path: look.run(
+            "openssl", "x509", "-in", it, "-noout", "-checkend", str(seconds))[0]
+        if checked(0) == 127:
+            continue
+        end = look.run("openssl", "x509", "-in", path, "-noout", "-enddate")[1].strip()
+        when = end.removeprefix("notAfter=")
+        if checked(0):
+            yield Fault("certificate-ended", f"{path} is over, since {when}", "renew it")
+        elif checked(SOON):
+            yield Fault("certificate-ends", f"{path} is over at {when}", "renew it")
+
+
+def modes():
+    for path, most in SECRETS.items():
+        status = look.status_of(path)
+        if status and look.mode_of(status) & ~most & 0o077:
+            yield Fault("mode-open", f"others may read {path}: it has {look.mode_of(status):o}",
+                        f"chmod {most:o} {path}")
+    for path in sorted(glob.glob(LOGS)):
+        if look.mode_of(os.stat(path)) & 0o007:
+            yield Fault("log-open", f"others may read {path}",
+                        f"chmod o= {path}; and radacctd-logs.tmpfiles: DESK.md")
+    text = files.text(kinds.NGINX)
+    for path in re.findall(r"(?m)^\s*ssl_certificate_key\s+(\S+?);", text):
+        status = look.status_of(path)
+        if status and look.mode_of(status) & 0o007:
+            yield Fault("mode-open", f"others may read {path}", f"chmod o= {path}")
+
+
+def settings():
+    try:
+        found = money.settings_in()
+        lacks = [it for it in ("name", "url", "currency") if not found[it]]
+        if lacks:
+            yield Fault("pages-settings", f"{money.SETTINGS} has no {', '.join(lacks)}",
+                        "write it there")
+        elif not found["url"].startswith("https://"):
+            yield Fault("pages-settings", f"{money.SETTINGS}: url does not begin with https://",
+                        "write it there")
+    except (OSError, ValueError) as why:
+        yield Fault("pages-settings", str(why), "radacctl pages; then write your values there")
+    path = f"{WEB}/plans.json"
+    if not os.path.islink(path) or os.path.realpath(path) != PLANS or not os.path.exists(PLANS):
+        yield Fault("pages-plans", f"{path} is no link to the plans in force, {PLANS}",
+                    "radacctl pages; systemctl restart radacctd")
+
+
+def answers(kind, text):
+    """What nginx answers on this machine: the pages, and no login without a name."""
+    if not look.is_active("nginx.service"):
+        return
+    name = re.search(r"(?m)^\s*server_name\s+([^\s;]+)", text)
+    wanted = {"/": 200, "/desk/": 401, "/settings.json": 200}
+    if kind.has_codes:
+        wanted["/redeem/"] = 200
+    for path, status in wanted.items():
+        found = asked(name[1] if name else "localhost", path)
+        if found not in (status, 429):
+            is_file = path.endswith(".json")
+            fault = "pages-settings" if is_file else "pages-silent"
+            yield Fault(fault, f"nginx answers {found} for {path}, not {status}",
+                        "tail -n 5 /var/log/nginx/radacctd-error.log")
+
+
+def asked(name, path):
+    """The status that nginx gives on this machine for a page of a name."""
+    context = ssl.create_default_context()
+    # It is this machine: whether browsers trust its certificate is another question.
+    context.check_hostname, context.verify_mode = False, ssl.CERT_NONE
+    caller = http.client.HTTPSConnection("127.0.0.1", 443, timeout=10, context=context)
+    try:
+        caller.request("GET", path, headers={"Host": name})
+        return caller.getresponse().status
+    except (OSError, http.client.HTTPException) as fault:
+        return type(fault).__name__
+    finally:
+        caller.close()
+
+
+def programs():
+    for unit in ("fcgiwrap.socket", "fcgiwrap.service"):
+        if look.is_active(unit) or look.is_enabled(unit):
+            yield Fault("fcgiwrap-open", f"{unit} of Debian runs programs for every page",
+                        "systemctl disable --now fcgiwrap.socket fcgiwrap.service")
+            return
+
+
+def fail2ban():
+    if not os.path.exists(JAIL):
+        return
+    if files.text(FILTER) != files.text(site.shared("nginx", "fail2ban", "radacctd.filter.conf")):
+        yield Fault("file-old", f"{FILTER} is not that of this version",
+                    f"cp {site.shared('nginx', 'fail2ban', 'radacctd.filter.conf')} {FILTER}")
+    if look.run("fail2ban-client", "status", "radacctd")[0]:
+        yield Fault("fail2ban-down", "fail2ban has no jail radacctd",
+                    "systemctl restart fail2ban; tail /var/log/fail2ban.log")
+    text = "".join(files.text(it) for it in sorted(glob.glob("/etc/fail2ban/jail.d/*.conf")))
+    if not re.search(r"(?m)^ignoreip\s*=", text + files.text("/etc/fail2ban/jail.local")):
+        yield Fault("fail2ban-desk", f"{JAIL} has no ignoreip: a mistyped password closes sales",
+                    "write the front desk's network there, and restart fail2ban")

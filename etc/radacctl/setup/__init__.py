@@ -1,0 +1,1 @@
+"""Sets a site up: what it is to be, the steps to it, and the proof that it works."""

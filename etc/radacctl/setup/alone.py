@@ -1,0 +1,235 @@
+"""The steps to radacctd itself: its configuration, its book, its service, its nights."""
+
+import json
+import os
+import re
+import secrets
+import tomllib
+
+from radacctl import desk, files, site
+from radacctl.commands import key
+from radacctl.doctor.book import plans_in
+from radacctl.setup import steps
+from radacctl.setup.steps import Command, File, Folder
+
+BOOKS_SECRET = "/etc/radacctd-books.secret"
+REDEEM_KEY = "/etc/radacctd-redeem.key"
+FRONT_PORT = "11813"
+NOTES = "/root/radacctd-setup"
+HEAD = """\
+# The site: who reports, what the plans cost, who may use the desk. `radacctl setup` wrote it, and
+# only adds to it. Change it by radacctl edit; man radacctd.toml has the rules.
+"""
+
+
+def secret():
+    """128 bits, in letters and digits."""
+    return secrets.token_hex(16)
+
+
+class Config:
+    """The configuration as it is, and what the site needs besides.
+
+    Secrets and keys that are there stay. New ones are the same for all steps of a run.
+    """
+
+    def __init__(self, answers):
+        self.answers = answers
+        self.text = files.text(site.CONFIG)
+        try:
+            self.found = tomllib.loads(self.text.replace("\r\n", "\n"))
+        except tomllib.TOMLDecodeError as why:
+            raise steps.Failed(f"{site.CONFIG} is wrong: {why}") from None
+        self.clients = {it.get("name"): it for it in self.found.get("client", [])}
+        self.more = []
+        self.add_clients()
+        self.add_plans()
+        self.keys = self.add_keys()
+
+    def add_clients(self):
+        wanted = {"books": "127.0.0.9"}
+        if self.answers.has_front:
+            wanted["freeradius"] = "127.0.0.1"
+        else:
+            wanted |= {it["name"]: it["address"] for it in self.answers.access_servers}
+        for name, address in wanted.items():
+            known = self.clients.get(name)
+            if known is None:
+                known = {"name": name, "address": address, "secret": secret()}
+                self.clients[name] = known
+                self.more.append(block("client", known))
+            elif known.get("address") != address:
+                raise steps.Failed(f"{site.CONFIG} has the client {name} with the address "
+                                   f"{known.get('address')}, not {address}")
+
+    def add_plans(self):
+        known = {it.get("class"): it for it in self.found.get("plan", [])}
+        debit = {"class": "debit", "block": 1, "unit": 1, "count": "both"}
+        for plan in [*self.answers.plans, debit]:
+            old = known.get(plan["class"])
+            if old is None:
+                self.more.append(block("plan", plan))
+            elif {"count": "both", **old} != {"count": "both", **plan}:
+                raise steps.Failed(f"the plan {plan['class']} is another one in {site.CONFIG}: "
+                                   "a plan stays what it is, so add one of a new class")
+
+    def add_keys(self):
+        """The cashiers' keys of the front desk and the tools, and of printed codes."""
+        known = [it["token"] for it in self.found.get("key", []) if it.get("cashier") is True]
+        found = {}
+        for name, path in (("cashier", desk.CASHIER_KEY), ("redeem", REDEEM_KEY)):
+            key = files.text(path).strip()
+            if key not in known:
+                # That of a run which was killed before it wrote the file, or a new one.
+                used = [*found.values(), files.text(REDEEM_KEY).strip()]
+                key = next((it for it in known if it not in used), None)
+            if key is None:
+                key = f"{name}-{secret()}"
+                self.more.append(block("key", {"token": key, "cashier": True}))
+            found[name] = key
+        return found
+
+    def wanted(self, old):
+        """What the file is to be, of what it was as it was read."""
+        text = self.text or HEAD
+        for more in self.more:
+            text = text.rstrip("\n") + "\n\n" + more
+        if (old or "") not in (self.text, text):
+            raise steps.Failed(f"{site.CONFIG} was changed meanwhile: give the command again")
+        return text
+
+
+class ConfigFile(File):
+    """The configuration: it takes its place only if it is right, while nobody else changes it."""
+
+    def do(self):
+        with key.locked(self.path):
+            old, _ = self.found()
+            if old is None or old == self.wanted(old):
+                super().do()
+                return
+            above, name = os.path.split(self.path)
+            with files.opened_folder(above) as folder:
+                steps.keep(folder, name)
+            key.put_in_place(self.path, self.wanted(old).decode(), is_needed=True)
+            # Owner and mode, if they were wrong.
+            super().do()
+
+
+def block(name, members):
+    lines = [f"{it} = {json.dumps(value, ensure_ascii=False)}" for it, value in members.items()]
+    return f"[[{name}]]\n" + "\n".join(lines) + "\n"
+
+
+def with_value(text, name, value):
+    """A file of settings for systemd in which one has this value."""
+    line = f"{name}={value}"
+    text = text or ""
+    found = re.search(rf"(?m)^{name}=.*$", text)
+    if found:
+        return text[: found.start()] + line + text[found.end() :]
+    return (text.rstrip("\n") + "\n" if text else "") + line + "\n"
+
+
+def defaults(text):
+    return with_value(text, "RADACCTD_RADIUS_PORT", FRONT_PORT)
+
+
+def has_book():
+    return os.path.exists(site.BOOK)
+
+
+def plans_are_in(answers):
+    """Whether the book keeps each plan."""
+    found = plans_in(f"{os.path.dirname(site.BALANCES)}/plans.csv")
+    return found is not None and {it["class"] for it in answers.plans} | {"debit"} <= set(found)
+
+
+def is_packaged():
+    return site.INSTALLED.startswith("/usr/libexec/")
+
+
+def packages(names):
+    """Installs Debian's packages that are missing."""
+    lacking = [it for it in names if not is_installed(it)]
+    holds = lambda: all(map(is_installed, names))
+    return Command(f"install {' '.join(lacking)}", holds, "apt-get", "install", "--yes",
+                   "--no-install-recommends", *lacking)
+
+
+def is_installed(name):
+    try:
+        words = ["dpkg-query", "-W", "-f", "${db:Status-Status}", name]
+        return steps.given(words) == "installed"
+    except steps.Failed:
+        return False
+
+
+def user_steps():
+    """The service's user and folders, if no package made them."""
+    if is_packaged():
+        return
+    prefix = os.path.normpath(f"{site.INSTALLED}/../../lib")
+    has_group = lambda: is_known_group(site.READERS)
+    yield Command("make the users", has_group, "systemd-sysusers",
+                  f"{prefix}/sysusers.d/radacctd.conf")
+    yield Command("make the folders", lambda: os.path.isdir(os.path.dirname(site.BALANCES)),
+                  "systemd-tmpfiles", "--create", f"{prefix}/tmpfiles.d/radacctd.conf")
+
+
+def is_known_group(name):
+    try:
+        steps.group(name)
+    except steps.Failed:
+        return False
+    return True
+
+
+def of(answers, config):
+    """The steps, in their order."""
+    yield from user_steps()
+    yield Folder(NOTES, 0o700)
+    yield ConfigFile(site.CONFIG, config.wanted, 0o640, of_group=site.USER)
+    if answers.has_front:
+        yield File(site.DEFAULTS, defaults, 0o644)
+    yield File(BOOKS_SECRET, config.clients["books"]["secret"] + "\n", 0o600)
+    yield File(desk.CASHIER_KEY, config.keys["cashier"] + "\n", 0o600)
+    yield Folder(site.STATE, 0o700, site.USER, site.USER)
+    book = ("--config", site.CONFIG, "--db", site.BOOK)
+    yield Command(f"make the book {site.BOOK}", has_book, site.program(), "init", *book)
+    yield unit("radacctd.service")
+    if has_book() and not plans_are_in(answers):
+        yield Plans(answers, book)
+    for name in ("radacctd-nightly.timer", "radacctd-key.timer"):
+        yield unit(name)
+
+
+class Plans:
+    """Puts new plans into a book, whose server stops for that long."""
+
+    def __init__(self, answers, book):
+        self.answers, self.book = answers, book
+
+    def text(self):
+        return "put the new plans into the book: radacctd stops for some seconds"
+
+    def is_done(self):
+        return plans_are_in(self.answers)
+
+    def do(self):
+        steps.given(["systemctl", "stop", "radacctd.service"])
+        try:
+            steps.given([site.program(), "plans", *self.book])
+        finally:
+            steps.given(["systemctl", "start", "radacctd.service"])
+
+
+def is_running(name):
+    found = steps.given(["systemctl", "show", name, "-p", "ActiveState", "-p", "UnitFileState"])
+    return "ActiveState=active" in found and "UnitFileState=enabled" in found
+
+
+def unit(name):
+    """Starts a unit now and with the machine."""
+    return Command(f"start {name}, now and with the machine", lambda: is_running(name),
+                   "systemctl", "enable", "--now", name)

@@ -1,0 +1,99 @@
+"""What to type or to click at an access server. The text has its secret: only root reads it."""
+
+from radacctl.setup import front
+from radacctl.setup.alone import NOTES, File, Folder
+
+FOLDER = f"{NOTES}/access-servers"
+# How often a session is reported, in minutes: a report that overdraws cuts off at the next one.
+INTERVAL = 5
+MIKROTIK = """\
+# RouterOS 7: paste this into a terminal of {name}. Hotspot; for PPP write `ppp` in its place.
+/radius add service=hotspot address={server} secret="{secret}" timeout=3s comment=radacctd
+/radius incoming set accept=yes port=3799
+/ip hotspot profile set [find] use-radius=yes radius-accounting=yes \\
+    radius-interim-update={interval}m login-by=http-pap,https
+/system ntp client set enabled=yes servers=pool.ntp.org
+{garden}"""
+MIKROTIK_GARDEN = """\
+/ip hotspot walled-garden ip add action=accept dst-host={host} comment=radacctd
+"""
+UNIFI = """\
+UniFi Network, for {name}:
+ 1. Settings, Profiles, RADIUS, Create New. Name: radacctd.
+ 2. Authentication Servers: {server}, port 1812, the shared secret below. Add.
+ 3. RADIUS Accounting: on. Accounting Servers: {server}, port 1813, the same secret. Add.
+ 4. Interim Update Interval: on, {seconds} seconds. Apply.
+ 5. WiFi, your network, Security: WPA2/3 Enterprise with this profile. Or Hotspot Portal,
+    Authentication: RADIUS, with this profile; Disconnect Requests (CoA): on, port 3799.
+ 6. Each access point is a client of its own address: let {address} cover all of them.
+{garden}
+    shared secret: {secret}
+"""
+UNIFI_GARDEN = " 7. Hotspot, Landing Page, Pre-Authorization Access: {host}."
+PFSENSE = """\
+pfSense, for {name}:
+ 1. System, User Manager, Authentication Servers, Add. Type RADIUS, Protocol PAP, Hostname
+    {server}, Services Authentication and Accounting, ports 1812 and 1813, the secret below. Save.
+ 2. Services, Captive Portal, your zone. Authentication: this server, also for accounting.
+ 3. Accounting: send RADIUS accounting packets; Accounting updates: Interim.
+ 4. Reauthentication: off. Its interval of updates is a minute, and cannot be set.
+ 5. System, General Setup: a time server.
+{garden}
+    shared secret: {secret}
+"""
+PFSENSE_GARDEN = " 6. Allowed Hostnames, Add: {host}, both directions."
+OPENWRT = """\
+# OpenWrt with wpad of WPA Enterprise: paste this into a shell of {name}, for its first network.
+uci set wireless.@wifi-iface[0].encryption=wpa2
+uci set wireless.@wifi-iface[0].auth_server={server}
+uci set wireless.@wifi-iface[0].auth_secret='{secret}'
+uci set wireless.@wifi-iface[0].acct_server={server}
+uci set wireless.@wifi-iface[0].acct_secret='{secret}'
+uci set wireless.@wifi-iface[0].acct_interval={seconds}
+uci set wireless.@wifi-iface[0].dae_client={server}
+uci set wireless.@wifi-iface[0].dae_port=3799
+uci set wireless.@wifi-iface[0].dae_secret='{secret}'
+uci commit wireless; wifi reload
+"""
+OTHER = """\
+{name}, as its own manual names these:
+    RADIUS server {server}, authentication port 1812, accounting port 1813
+    interim updates each {interval} minutes, gigawords on, Acct-Delay-Time on
+    Disconnect-Requests (RFC 5176) from {server} at port 3799
+    a clock set by NTP
+    {garden}
+    shared secret: {secret}
+"""
+TEXTS = {
+    "mikrotik": (MIKROTIK, MIKROTIK_GARDEN), "unifi": (UNIFI, UNIFI_GARDEN),
+    "pfsense": (PFSENSE, PFSENSE_GARDEN), "openwrt": (OPENWRT, ""),
+    "other": (OTHER, "what may be reached without a login: {host}"),
+}  # fmt: skip
+
+
+def text_of(device, answers, secret):
+    text, garden = TEXTS[device["vendor"]]
+    values = {**device, "secret": secret, "server": answers.server or "ADDRESS-OF-THIS-MACHINE",
+              "host": answers.host, "interval": INTERVAL, "seconds": 60 * INTERVAL}
+    return text.format(garden=garden.format(**values) if answers.host else "", **values)
+
+
+def of(answers, config):
+    """A file for each access server. The steps before it made the secrets."""
+    yield Folder(FOLDER, 0o700)
+    for device in answers.access_servers:
+        yield File(f"{FOLDER}/{device['name']}.txt", Text(device, answers, config), 0o600)
+
+
+class Text:
+    """The text, once the secret is there."""
+
+    def __init__(self, device, answers, config):
+        self.device, self.answers, self.config = device, answers, config
+
+    def __call__(self, _):
+        if self.answers.has_front:
+            secret = front.secret_of(self.device["name"]) or ""
+        else:
+            secret = self.config.clients[self.device["name"]]["secret"]
+        return text_of(self.device, self.answers, secret)

@@ -1,0 +1,232 @@
+"""The steps to FreeRADIUS in front of radacctd."""
+
+import os
+import re
+
+from radacctl import files, freeradius, site
+from radacctl.doctor import look, machine
+from radacctl.setup import steps
+from radacctl.setup.alone import Command, File, Folder, secret, unit
+from radacctl.setup.steps import Link
+
+PACKAGES = ["freeradius", "freeradius-utils"]
+INCLUDES = "$INCLUDE radacctd/settings.conf\n$INCLUDE radacctd/access-servers.conf\n"
+# The account of the proof at the end, and where its login and its report come from.
+TEST_USER, TEST_ADDRESS = "radacctd-setup", "127.0.0.8"
+QUOTAS = {"mikrotik": "mikrotik", "pfsense": "pfsense", "openwrt": "none", "unifi": "none",
+          "other": "none"}
+CUTS = ("mikrotik", "unifi", "pfsense", "openwrt")
+CUT_PORT = {"openwrt": 3799, "mikrotik": 3799, "unifi": 3799, "pfsense": 3799}
+CLIENT = """\
+client {name} {{
+	{kind} = {address}
+	secret = {secret}
+	radacctd_quota = {quota}
+	radacctd_cut = {cut}
+	radacctd_stamp = name
+}}
+"""
+HOME = """\
+home_server cut-{address} {{
+	type = coa
+	ipaddr = {address}
+	port = {port}
+	secret = {secret}
+	coa {{
+		irt = 2
+		mrt = 8
+		mrc = 3
+		mrd = 15
+	}}
+}}
+"""
+HEAD = """\
+# Access servers. `radacctl setup` wrote this file, and only adds to it. Each has its own secret.
+"""
+MARK = "# radacctl setup:"
+
+
+def of(answers, config):
+    """The steps, in their order."""
+    raddb = freeradius.path
+    yield Folder(raddb("radacctd"), 0o750, of_group=site.RADIUS_USER)
+    for place, own in freeradius.OURS.items():
+        yield Link(raddb(place), site.shared("freeradius", own))
+    for name in freeradius.UNITS:
+        yield Link(f"/etc/systemd/system/{name}", site.shared("freeradius", name))
+    book_secret = config.clients["freeradius"]["secret"]
+    yield of_group(raddb("radacctd", "settings.conf"), lambda old: settings(old, book_secret))
+    yield of_group(raddb("radacctd", "access-servers.conf"), lambda old: clients(old, answers))
+    kept = files.text(site.shared("freeradius", "kept"))
+    yield of_group(raddb("radacctd", "kept"), lambda old: kept if old is None else old)
+    yield File(raddb("radiusd.conf"), main)
+    yield File(raddb("sites-available/default"), lambda old: default(old, answers))
+    yield File(raddb("sites-available/inner-tunnel"), lambda old: inner(old, answers))
+    yield File(raddb("mods-config/files/authorize"), users)
+    for name in ("", "/radacctd", "/radacctd-unsent"):
+        yield Folder(site.RADACCT + name, 0o700, site.RADIUS_USER, site.RADIUS_USER)
+    yield member(site.RADIUS_USER)
+    yield Command("let systemd read its units", is_reloaded, "systemctl", "daemon-reload")
+    yield Checked()
+    for name in ("radacctd-mirror.service", "radacctd-front.service", "radacctd-clock.timer",
+                 "freeradius.service"):
+        yield unit(name)
+    yield Restarted()
+
+
+def of_group(path, change):
+    return File(path, change, 0o640, of_group=site.RADIUS_USER)
+
+
+def member(user):
+    """Lets a user read the balances, and nothing else of radacctd's."""
+    is_in = lambda: site.READERS in steps.given(["id", "-Gn", user]).split()
+    return Command(f"let {user} read the balances", is_in, "gpasswd", "-a", user, site.READERS)
+
+
+def is_reloaded():
+    found = [steps.given(["systemctl", "show", it, "-p", "LoadState", "-p", "NeedDaemonReload"])
+             for it in freeradius.UNITS]
+    return all("LoadState=loaded" in it and "NeedDaemonReload=no" in it for it in found)
+
+
+def settings(old, book_secret):
+    """settings.conf with radacctd's secret; what a site has changed in it stays."""
+    text = old or files.text(site.shared("freeradius", "settings.conf"))
+    return re.sub(r"(?m)^(\tsecret = ).*$", lambda it: it[1] + book_secret, text, count=1)
+
+
+def clients(old, answers):
+    """access-servers.conf with those that it lacks."""
+    text = old if old is not None else HEAD
+    known = {name for name, _ in freeradius.CLIENT.findall(freeradius.without_comments(text))}
+    test = {"name": TEST_USER, "address": TEST_ADDRESS, "vendor": "mikrotik", "version": 4}
+    for it in [*answers.access_servers, test]:
+        if it["name"] in known:
+            continue
+        is_one = "/" not in it["address"]
+        cut = "yes" if it["vendor"] in CUTS and is_one and it is not test else "no"
+        values = {**it, "secret": secret(), "quota": QUOTAS[it["vendor"]], "cut": cut,
+                  "kind": "ipaddr" if it["version"] == 4 else "ipv6addr"}
+        text = text.rstrip("\n") + "\n\n" + CLIENT.format(**values)
+        if cut == "yes":
+            text += HOME.format(port=CUT_PORT[it["vendor"]], **values)
+    return text
+
+
+def secret_of(name):
+    """The secret that FreeRADIUS has with an access server, or None."""
+    for found, block in freeradius.blocks(freeradius.CLIENT, "radacctd", "access-servers.conf"):
+        if found == name:
+            return freeradius.value(block, "secret")
+    return None
+
+
+def main(old):
+    """radiusd.conf with the two files, before its modules."""
+    lacks = [it for it in INCLUDES.splitlines(True) if it.strip() not in there(old, "radiusd.conf")]
+    if not lacks:
+        return old
+    if "\nmodules {" not in old:
+        raise steps.Failed("radiusd.conf has no line `modules {`: do step 5 of FREERADIUS.md")
+    return old.replace("\nmodules {", f"\n{''.join(lacks)}modules {{", 1)
+
+
+def there(old, name):
+    """A file that FreeRADIUS' package makes."""
+    if old is None:
+        raise steps.Failed(f"{freeradius.path(name)} is missing: is freeradius installed?")
+    return old
+
+
+def within(text, section, first):
+    """A virtual server whose section begins with these lines."""
+    found = re.search(rf"(?m)^[ \t]*{section}[ \t]*\{{[^\n]*\n", text)
+    if not found:
+        raise steps.Failed(f"a virtual server has no section {section}: FREERADIUS.md, step 6")
+    return text[: found.end()] + first + text[found.end() :]
+
+
+def login(answers):
+    lines = f"\t{MARK} who pays, and by which plan\n\tupdate reply {{\n"
+    return lines + f'\t\t&Class = "{answers.usual_class}"\n\t}}\n\tradacctd_login\n'
+
+
+def lacks(text, section, word):
+    return word not in freeradius.section(freeradius.without_comments(text), section).split()
+
+
+def default(old, answers):
+    """The server default: reports are queued, logins are asked for their balance."""
+    text = there(old, "sites-available/default")
+    if lacks(text, "accounting", "radacctd_accounting"):
+        text = within(text, "accounting", "\tradacctd_accounting\n")
+    if lacks(text, "post-auth", "radacctd_login"):
+        text = within(text, "post-auth", login(answers))
+    return re.sub(r"(?m)^(\s*)filter_username\b", r"\1radacctd_filter", text, count=1)
+
+
+def inner(old, answers):
+    text = there(old, "sites-available/inner-tunnel")
+    if lacks(text, "post-auth", "radacctd_login"):
+        text = within(text, "post-auth", login(answers))
+    return re.sub(r"(?m)^(\s*)filter_username\b", r"\1radacctd_filter", text, count=1)
+
+
+def users(old):
+    """Debian's file of users with that of the proof, who has no money but during it."""
+    if re.search(rf"(?m)^{TEST_USER}\s", there(old, "mods-config/files/authorize")):
+        return old
+    line = f'{TEST_USER}\tCleartext-Password := "{secret()}"\n'
+    return f"{MARK} the proof at the end of a set-up logs in by this name\n{line}\n{old}"
+
+
+def password():
+    found = re.search(rf'(?m)^{TEST_USER}\s.*"([^"]+)"', files.text(
+        freeradius.path("mods-config/files/authorize")))
+    return found[1] if found else None
+
+
+class Checked:
+    """FreeRADIUS reads its configuration, and finds it right."""
+
+    def text(self):
+        return "test FreeRADIUS' configuration"
+
+    def is_done(self):
+        # A test changes nothing: it belongs to the step after it.
+        return Restarted().is_done()
+
+    def do(self):
+        steps.given(["freeradius", "-C", "-l", "stdout"], seconds=60)
+
+
+class Restarted:
+    """FreeRADIUS and its parts run with the files as they are."""
+
+    UNITS = ("freeradius.service", "radacctd-mirror.service", "radacctd-front.service")
+
+    def text(self):
+        return "restart FreeRADIUS"
+
+    def newest(self):
+        found = [freeradius.path(it) for it in freeradius.OURS]
+        found += [freeradius.path("radacctd", it) for it in freeradius.SETTINGS]
+        found += [freeradius.path(it) for it in (
+            "radiusd.conf", "sites-available/default", "sites-available/inner-tunnel",
+            "mods-config/files/authorize")]
+        # A link that changed is as new as what it leads to.
+        moments = [max(os.stat(it).st_ctime, os.lstat(it).st_ctime) for it in found
+                   if os.path.exists(it)]
+        return max(moments, default=0), len(moments) == len(found)
+
+    def is_done(self):
+        newest, are_there = self.newest()
+        for name in self.UNITS:
+            begun = machine.begin_of(look.properties(name, "MainPID").get("MainPID", "0"))
+            if not begun or begun < newest:
+                return False
+        return are_there
+
+    def do(self):
+        steps.given(["systemctl", "restart", *self.UNITS])

@@ -1,0 +1,151 @@
+"""Shows that the site works: a sale, a login and a report of an account of its own.
+
+The account is radacctd-setup. What is left on it is taken by a debit, so it has nothing before and
+nothing after. A run that was killed left something: the next one takes that first.
+"""
+
+import http.client
+import os
+import secrets
+import tempfile
+import time
+
+from radacctl import desk, files, names, site
+from radacctl.doctor import kind
+from radacctl.setup import front, steps
+
+ACCOUNT = front.TEST_USER
+# How long the balances, which are written each 10 seconds, may lack a change, in seconds.
+PATIENCE = 90
+DONE = "/root/radacctd-setup/proved"
+
+
+class Proof:
+    """The last step. It is done once nothing has changed since it went well."""
+
+    def __init__(self, answers, config):
+        self.answers, self.config = answers, config
+        plan = next(it for it in answers.plans if it["class"] == answers.usual_class)
+        self.block, self.price = plan["block"], max(plan["unit"], 1)
+        self.plan = plan
+
+    def text(self):
+        parts = "a sale, a login and a report" if self.answers.has_front else "a sale"
+        return f"try {parts} of the account {ACCOUNT}, and take them back"
+
+    def is_done(self):
+        return os.path.exists(DONE)
+
+    def do(self):
+        self.wait_for_balances()
+        self.take_back("what an earlier run left")
+        before = self.balance() or 0
+        self.sell(3 * self.price)
+        self.wait(before + 3 * self.price, "the sale")
+        print(f"a sale of {3 * self.price} is on the account {ACCOUNT}")
+        if self.answers.has_front:
+            self.wait_for_login(True)
+            print("a login with money is accepted")
+            count, charged = self.report()
+            self.wait(before + 3 * self.price - charged, "the report")
+            print(f"a report of {count} octets is answered, and costs {charged}")
+        self.take_back("the rest")
+        if self.answers.has_front and self.plan["unit"]:
+            self.wait_for_login(False)
+            print("a login without money is refused")
+        print(f"all of it is taken back: {ACCOUNT} has 0")
+        files.remove(DONE)
+        files.make(DONE, b"")
+        files.sync_folder(os.path.dirname(DONE))
+
+    def wait_for_balances(self):
+        """Waits until the balances are newer than now: so they have all that was sold before."""
+        begun, end = time.time(), time.monotonic() + PATIENCE
+        while not os.path.exists(site.BALANCES) or os.stat(site.BALANCES).st_mtime <= begun:
+            if time.monotonic() > end:
+                raise steps.Failed(f"the server does not write {site.BALANCES}: radacctl doctor")
+            time.sleep(0.5)
+
+    def balance(self):
+        try:
+            return names.balances_in(site.BALANCES).get(ACCOUNT.encode())
+        except (OSError, ValueError):
+            return None
+
+    def wait(self, wanted, what):
+        """Waits until the balances, which FreeRADIUS reads, have this one."""
+        end = time.monotonic() + PATIENCE
+        while self.balance() != wanted:
+            if time.monotonic() > end:
+                raise steps.Failed(f"{what}: the balance of {ACCOUNT} is {self.balance()}, and is "
+                                   f"to be {wanted}: radacctl doctor")
+            time.sleep(0.5)
+
+    def sell(self, total):
+        number = f"SETUP-{secrets.token_hex(8).upper()}"
+        body = desk.topup(ACCOUNT, total, number)
+        end = time.monotonic() + PATIENCE
+        while True:
+            try:
+                where = kind.Book().desk()
+                status, said = desk.ask(where, "POST", "/topups", self.config.keys["cashier"], body)
+                found = desk.meaning(status, desk.object_of(said))
+            except (OSError, http.client.HTTPException) as fault:
+                found, status = desk.AWAY, str(fault)
+            if found in (desk.NEW, desk.REPEAT):
+                return
+            if found != desk.AWAY and found != desk.NO_KEY or time.monotonic() > end:
+                raise steps.Failed(f"the desk did not take a sale: {found}, {status}")
+            # The server reads a key that was just written within 5 seconds.
+            time.sleep(1)
+
+    def take_back(self, what):
+        """Takes what is on the account, which the balances show within seconds."""
+        left = self.balance() or 0
+        if left < 0:
+            raise steps.Failed(f"{ACCOUNT} has {left}: somebody used the account of the set-up")
+        if left:
+            number = f"SETUP-{secrets.token_hex(8).upper()}"
+            tool = os.path.join(site.SBIN, "radacctl")
+            steps.given([tool, "debit", "--host", "127.0.0.1", "--port",
+                         str(kind.Book().port()), ACCOUNT, str(left), number], seconds=60)
+            self.wait(0, what)
+
+    def client(self, port, act, lines):
+        """What radclient printed. The secret is in a file, and in no command line."""
+        address = front.TEST_ADDRESS
+        lines = [*lines, f"Packet-Src-IP-Address = {address}", "NAS-IP-Address = 127.0.0.8"]
+        with tempfile.TemporaryDirectory(dir="/run") as folder:
+            path = os.path.join(folder, "secret")
+            files.make(path, front.secret_of(front.TEST_USER).encode() + b"\n")
+            words = ["radclient", "-r", "2", "-t", "3", "-x", "-S", path, f"127.0.0.1:{port}", act]
+            try:
+                return steps.given(words, "\n".join(lines) + "\n", seconds=30)
+            except steps.Failed as why:
+                return str(why)
+
+    def wait_for_login(self, wanted):
+        said, end = "", time.monotonic() + PATIENCE
+        lines = [f'User-Name = "{ACCOUNT}"', f'User-Password = "{front.password()}"']
+        while time.monotonic() < end:
+            said = self.client(1812, "auth", lines)
+            if ("Received Access-Accept" in said) == wanted and "Received Access-" in said:
+                return
+            time.sleep(1)
+        # Its own lines have the password.
+        kept = [it for it in said.splitlines() if "Received" in it or "Reply-Message" in it]
+        state = "accepted" if wanted else "refused"
+        raise steps.Failed(f"a login was not {state}: {' '.join(kept) or 'no answer'}")
+
+    def report(self):
+        """Sends a report within one block, which must be answered: its octets and its price."""
+        session = secrets.token_hex(8)
+        octets = {"out": "Acct-Output-Octets"}.get(self.plan["count"], "Acct-Input-Octets")
+        count = min(self.block, 1000)
+        lines = [f'User-Name = "{ACCOUNT}"', f'Acct-Session-Id = "{session}"',
+                 "Acct-Status-Type = Stop", f"{octets} = {count}",
+                 f'Class = "{self.answers.usual_class}"']
+        said = self.client(1813, "acct", lines)
+        if "Received Accounting-Response" not in said:
+            raise steps.Failed("FreeRADIUS did not answer a report: freeradius -X shows why")
+        return count, self.plan["unit"]

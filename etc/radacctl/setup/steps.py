@@ -1,0 +1,226 @@
+"""Steps to a site. Each knows whether it is done, says what it would change, and does it.
+
+A step is done again without harm after a kill at any moment. A file is replaced by a rename. One
+that was there and differs is kept as PATH~before-DATE-TIME, with its owner and mode: it is another
+name of the same file, which no program reads. No name on a path is followed as a link.
+"""
+
+import contextlib
+import difflib
+import grp
+import os
+import pwd
+import re
+import stat
+import subprocess
+import time
+
+from radacctl import files
+
+# Lines that have a secret are not printed.
+SECRET = re.compile(r"secret|token|password|Desk-Key", re.I)
+MOST_LINES = 12
+
+
+class Failed(Exception):
+    """Why a step could not be done."""
+
+
+def user(name):
+    try:
+        return pwd.getpwnam(name).pw_uid
+    except KeyError:
+        raise Failed(f"there is no user {name}: is its package installed?") from None
+
+
+def group(name):
+    try:
+        return grp.getgrnam(name).gr_gid
+    except KeyError:
+        raise Failed(f"there is no group {name}: is its package installed?") from None
+
+
+class Folder:
+    """A folder with its owner and mode."""
+
+    def __init__(self, path, mode=0o755, owner="root", of_group="root"):
+        self.path, self.mode, self.owner, self.group = path, mode, owner, of_group
+
+    def text(self):
+        return f"make the folder {self.path}"
+
+    def is_done(self):
+        try:
+            found = os.lstat(self.path)
+            wanted = (user(self.owner), group(self.group), self.mode)
+        except (OSError, Failed):
+            return False
+        return stat.S_ISDIR(found.st_mode) and wanted == (
+            found.st_uid, found.st_gid, stat.S_IMODE(found.st_mode)
+        )
+
+    def do(self):
+        above, name = os.path.split(self.path)
+        with files.opened_folder(above) as folder:
+            with contextlib.suppress(FileExistsError):
+                os.mkdir(name, 0o700, dir_fd=folder)
+            handle = os.open(name, files.FOLDER, dir_fd=folder)
+            try:
+                os.fchown(handle, user(self.owner), group(self.group))
+                os.fchmod(handle, self.mode)
+            finally:
+                os.close(handle)
+            os.fsync(folder)
+
+
+class File:
+    """A file with its content, owner and mode. `change` makes the content of what was there."""
+
+    def __init__(self, path, change, mode=None, owner="root", of_group="root"):
+        self.path, self.change, self.mode = path, change, mode
+        self.owner, self.group = owner, of_group
+
+    def found(self):
+        """The content and the status of what is there, or None of both."""
+        above, name = os.path.split(self.path)
+        try:
+            with files.opened_folder(above) as folder, files.regular(folder, name) as (file, it):
+                return file.read(), it
+        except FileNotFoundError:
+            return None, None
+
+    def wanted(self, old):
+        if isinstance(self.change, str):
+            return self.change.encode()
+        return self.change(old.decode() if old is not None else None).encode()
+
+    def rights(self, status):
+        """Owner, group and mode. A file of another program keeps its own."""
+        if self.mode is None and status is not None:
+            return status.st_uid, status.st_gid, stat.S_IMODE(status.st_mode)
+        return user(self.owner), group(self.group), self.mode or 0o644
+
+    def is_done(self):
+        try:
+            old, status = self.found()
+            rights = self.rights(status)
+        except Failed:
+            return False
+        if old is None or old != self.wanted(old):
+            return False
+        return rights == (status.st_uid, status.st_gid, stat.S_IMODE(status.st_mode))
+
+    def text(self):
+        old, _ = self.found()
+        if old is None:
+            return f"write {self.path}"
+        new = self.wanted(old)
+        if old == new:
+            return f"give {self.path} its owner and mode"
+        return f"change {self.path}, and keep what it was next to it{self.shown(old, new)}"
+
+    def shown(self, old, new):
+        """The lines that change, but for those with a secret, if they are few."""
+        texts = [it.decode("utf-8", "replace").splitlines() for it in (old, new)]
+        found = [it for it in difflib.unified_diff(*texts, lineterm="", n=0)
+                 if it[:1] in "+-" and it[:3] not in ("+++", "---")]
+        shown = [it if not SECRET.search(it) else f"{it[0]} (a line with a secret)" for it in found]
+        if len(shown) > MOST_LINES:
+            return f": {len(found)} lines"
+        return "".join(f"\n      {it}" for it in shown)
+
+    def do(self):
+        above, name = os.path.split(self.path)
+        with files.opened_folder(above) as folder:
+            old, status = self.found()
+            new = self.wanted(old)
+            if old is not None and old != new:
+                keep(folder, name)
+            self.write(folder, name, new, self.rights(status))
+
+    def write(self, folder, name, octets, rights):
+        part = f"{name}~setup-new"
+        with contextlib.suppress(FileNotFoundError):
+            os.remove(part, dir_fd=folder)
+        way = os.O_WRONLY | os.O_CREAT | os.O_EXCL | os.O_NOFOLLOW
+        with os.fdopen(os.open(part, way, 0o600, dir_fd=folder), "wb") as file:
+            os.fchown(file.fileno(), *rights[:2])
+            os.fchmod(file.fileno(), rights[2])
+            file.write(octets)
+            file.flush()
+            os.fsync(file.fileno())
+        os.rename(part, name, src_dir_fd=folder, dst_dir_fd=folder)
+        os.fsync(folder)
+
+
+def keep(folder, name):
+    """Gives a file a second name, which it keeps. One of the same second has a number."""
+    stamp = time.strftime("%Y%m%d-%H%M%S")
+    for number in range(1, 1000):
+        new = f"{name}~before-{stamp}" + (f".{number}" if number > 1 else "")
+        with contextlib.suppress(FileExistsError):
+            os.link(name, new, src_dir_fd=folder, dst_dir_fd=folder, follow_symlinks=False)
+            return
+    raise Failed(f"{name} has too many copies")
+
+
+class Link:
+    """A link to a file of this version, so that an upgrade mends it."""
+
+    def __init__(self, path, target):
+        self.path, self.target = path, target
+
+    def text(self):
+        return f"link {self.path} to {self.target}"
+
+    def is_done(self):
+        return os.path.islink(self.path) and os.readlink(self.path) == self.target
+
+    def do(self):
+        above, name = os.path.split(self.path)
+        with files.opened_folder(above) as folder:
+            with contextlib.suppress(FileNotFoundError):
+                if stat.S_ISREG(os.stat(name, dir_fd=folder, follow_symlinks=False).st_mode):
+                    keep(folder, name)
+            part = f"{name}~setup-new"
+            with contextlib.suppress(FileNotFoundError):
+                os.remove(part, dir_fd=folder)
+            os.symlink(self.target, part, dir_fd=folder)
+            os.rename(part, name, src_dir_fd=folder, dst_dir_fd=folder)
+            os.fsync(folder)
+
+
+class Command:
+    """A command, and what tells whether it is still to be given."""
+
+    def __init__(self, what, holds, *words, given=None, seconds=1800):
+        self.what, self.holds, self.words = what, holds, words
+        self.given, self.seconds = given, seconds
+
+    def text(self):
+        return self.what
+
+    def is_done(self):
+        return self.holds()
+
+    def do(self):
+        said = given(self.words, self.given, self.seconds)
+        if not self.holds():
+            raise Failed(f"{' '.join(self.words)}: it did not help: {said[-300:]}")
+
+
+def given(words, text=None, seconds=1800):
+    """What a command printed, which must end well."""
+    environment = {"PATH": "/usr/sbin:/usr/bin:/sbin:/bin", "LC_ALL": "C.UTF-8",
+                   "DEBIAN_FRONTEND": "noninteractive"}
+    how = {"capture_output": True, "text": True, "errors": "replace", "env": environment}
+    try:
+        done = subprocess.run(words, input=text or "", timeout=seconds, cwd="/", **how)
+    except FileNotFoundError:
+        raise Failed(f"{words[0]} is missing") from None
+    except subprocess.TimeoutExpired:
+        raise Failed(f"{words[0]} did not end in {seconds} seconds") from None
+    if done.returncode:
+        said = (done.stderr or done.stdout).strip()[-600:]
+        raise Failed(f"{' '.join(words[:4])} ended with {done.returncode}: {said}")
+    return done.stdout

@@ -1,0 +1,205 @@
+"""The steps to the pages: nginx, its certificate, cashiers, printed codes, fail2ban."""
+
+import json
+import os
+import re
+import secrets
+import time
+
+from radacctl import files, money, site
+from radacctl.commands.key import LETTERS
+from radacctl.doctor import look, machine
+from radacctl.setup import steps
+from radacctl.setup.alone import NOTES, REDEEM_KEY, Command, File, Folder, is_known_group, unit
+from radacctl.setup.front import member
+from radacctl.setup.steps import Link
+
+PACKAGES = ["nginx", "apache2-utils", "openssl", "fail2ban", "nftables", "python3-systemd"]
+CODES = ["fcgiwrap", "qrencode"]
+FOLDER, CONF = "/etc/nginx/radacctd", "/etc/nginx/conf.d/radacctd.conf"
+CERTIFICATE, PRIVATE_KEY = "/etc/ssl/radacctd.pem", "/etc/ssl/private/radacctd.key"
+PASSWORDS = f"{NOTES}/cashiers.txt"
+PLANS = f"{os.path.dirname(site.BALANCES)}/plans.json"
+
+
+def of(answers, config):
+    """The steps, in their order."""
+    yield from certificate(answers)
+    yield Folder(FOLDER)
+    own = lambda *names: site.shared("nginx", *names)
+    for name in ("headers.conf", "to-desk.conf", "desks-one.conf"):
+        yield Link(f"{FOLDER}/{name}", own("radacctd", name))
+    login = files.text(own("radacctd", "login.conf"))
+    yield File(f"{FOLDER}/login.conf", lambda old: login if old is None else old, 0o644)
+    key = f'proxy_set_header Desk-Key "{config.keys["cashier"]}";\n'
+    yield File(f"{FOLDER}/cashier.conf", key, 0o600)
+    for name in answers.cashiers:
+        yield Cashier(name)
+    yield File(f"{FOLDER}/cashiers", lambda old: old or "", 0o640, of_group=site.WEB_USER)
+    yield File(CONF, lambda old: server(answers, own("radacctd.conf")), 0o644)
+    yield Folder("/etc/radacctd-web")
+    yield Link("/etc/radacctd-web/plans.json", PLANS)
+    yield File(money.SETTINGS, lambda old: settings(old, answers), 0o644)
+    yield from logs(own)
+    yield member(site.WEB_USER)
+    if answers.has_codes:
+        yield from codes(config, own)
+    yield Command("take Debian's own page of nginx away", lambda: not os.path.lexists(DEFAULT),
+                  "rm", "-f", DEFAULT)
+    yield unit("nginx.service")
+    yield Restarted()
+    yield from fail2ban(answers, own)
+
+
+DEFAULT = "/etc/nginx/sites-enabled/default"
+
+
+def certificate(answers):
+    """The certificate that was named, or one that browsers warn of."""
+    if answers.certificate:
+        return
+    words = ("openssl", "req", "-x509", "-newkey", "rsa:2048", "-nodes", "-days", "3650", "-subj",
+             f"/CN={answers.host}", "-addext", f"subjectAltName=DNS:{answers.host}", "-keyout",
+             PRIVATE_KEY, "-out", CERTIFICATE)
+    # Both are there, and one belongs to the other: a run that was killed makes both anew.
+    are_there = lambda: os.path.exists(CERTIFICATE) and os.path.exists(PRIVATE_KEY) and same_key()
+    what = f"make a certificate of {answers.host}, of which browsers warn"
+    yield Command(what, are_there, *words)
+    yield File(PRIVATE_KEY, lambda old: old or "", 0o600)
+
+
+def same_key():
+    try:
+        one = steps.given(["openssl", "x509", "-in", CERTIFICATE, "-noout", "-pubkey"])
+        return one == steps.given(["openssl", "pkey", "-in", PRIVATE_KEY, "-pubout"])
+    except steps.Failed:
+        return False
+
+
+def server(answers, own):
+    """The file for nginx with the site's names."""
+    text = files.text(own)
+    pem = answers.certificate or CERTIFICATE
+    key = answers.certificate_key or PRIVATE_KEY
+    text = re.sub(r"(?m)^(\s+server_name )\S+;.*$", rf"\g<1>{answers.host};", text)
+    text = re.sub(r"(?m)^(\s+ssl_certificate )\s*\S+;.*$", rf"\g<1>{pem};", text)
+    return re.sub(r"(?m)^(\s+ssl_certificate_key )\S+;.*$", rf"\g<1>{key};", text)
+
+
+def settings(old, answers):
+    """The settings of the pages; further members of a site stay."""
+    found = json.loads(old) if old else {}
+    found |= {"name": answers.name, "url": f"https://{answers.host}",
+              "currency": answers.currency, "decimals": answers.decimals}
+    return json.dumps(found, indent=2, ensure_ascii=False) + "\n"
+
+
+class Cashier:
+    """A cashier's login. The password is made once, and only root reads it."""
+
+    def __init__(self, name):
+        self.name = name
+
+    def text(self):
+        return f"make a login for the cashier {self.name}; its password is in {PASSWORDS}"
+
+    def is_done(self):
+        text = files.text(f"{FOLDER}/cashiers")
+        return any(it.startswith(f"{self.name}:") for it in text.splitlines())
+
+    def do(self):
+        found = re.search(rf"(?m)^{re.escape(self.name)} (\S+)$", files.text(PASSWORDS))
+        password = found[1] if found else "-".join(
+            "".join(secrets.choice(LETTERS) for _ in range(5)) for _ in range(4))
+        line = f"{self.name} {password}\n"
+        notes = lambda old: old if line in (old or "") else (old or "") + line
+        write(File(PASSWORDS, notes, 0o600))
+        made = steps.given(["htpasswd", "-niB", self.name], password).strip() + "\n"
+        write(File(f"{FOLDER}/cashiers", lambda old: (old or "") + made, 0o640,
+                   of_group=site.WEB_USER))
+
+
+def write(file):
+    """Writes a file of setup's own: its older content needs no copy."""
+    above, name = os.path.split(file.path)
+    with files.opened_folder(above) as folder:
+        old, status = file.found()
+        file.write(folder, name, file.wanted(old), file.rights(status))
+
+
+def logs(own):
+    place = "/etc/tmpfiles.d/radacctd-logs.conf"
+    yield File(place, files.text(own("radacctd-logs.tmpfiles")), 0o644)
+    log = "/var/log/nginx/radacctd-sales.log"
+    is_shut = lambda: os.path.exists(log) and not os.stat(log).st_mode & 0o007
+    yield Command("make the log of sales, which few may read", is_shut, "systemd-tmpfiles",
+                  "--create", place)
+
+
+def codes(config, own):
+    """Printed codes: a user who has the stock, and a socket for nginx."""
+    user = "radacctd-redeem"
+    prefix = os.path.normpath(f"{site.INSTALLED}/../../lib/sysusers.d")
+    yield Command(f"make the user {user}", lambda: is_known_group(user), "systemd-sysusers",
+                  f"{prefix}/{user}.conf")
+    yield Folder("/var/lib/radacctd-vouchers", 0o750, of_group=user)
+    yield File(REDEEM_KEY, config.keys["redeem"] + "\n", 0o640, of_group=user)
+    both = ["fcgiwrap.socket", "fcgiwrap.service"]
+    is_off = lambda: not any(it in steps.given(["systemctl", "list-units", "--plain", *both])
+                             for it in both) and not os.path.lexists(
+        "/etc/systemd/system/sockets.target.wants/fcgiwrap.socket")
+    yield Command("stop Debian's own fcgiwrap", is_off, "systemctl", "disable", "--now", *both)
+    yield unit("radacctd-redeem.socket")
+
+
+class Restarted:
+    """nginx runs with the files as they are."""
+
+    def text(self):
+        return "test and restart nginx"
+
+    def is_done(self):
+        begun = machine.begin_of(look.properties("nginx.service", "MainPID").get("MainPID", "0"))
+        paths = [CONF, CERTIFICATE, *(f"{FOLDER}/{it}" for it in os.listdir(FOLDER))]
+        newest = max((os.stat(it).st_ctime for it in paths if os.path.exists(it)), default=0)
+        return bool(begun) and begun >= newest
+
+    def do(self):
+        steps.given(["nginx", "-t"], seconds=60)
+        steps.given(["systemctl", "restart", "nginx.service"])
+
+
+def fail2ban(answers, own):
+    """Shuts out who guesses keys, logins or codes, and never the front desk."""
+    place = "/etc/fail2ban/jail.d"
+    networks = " ".join(["127.0.0.1/8", "::1", *answers.front_desk])
+    sample = files.text(own("fail2ban", "radacctd.jail.conf"))
+    jail = re.sub(r"(?m)^# ignoreip = .*$", f"ignoreip = {networks}", sample)
+    yield Link("/etc/fail2ban/filter.d/radacctd.conf", own("fail2ban", "radacctd.filter.conf"))
+    yield File(f"{place}/radacctd.conf", lambda old: jail, 0o644)
+    sshd = "[sshd]\nbackend = systemd\n"
+    yield File(f"{place}/sshd.conf", lambda old: old or sshd, 0o644)
+    yield unit("fail2ban.service")
+    yield Jail()
+
+
+class Jail:
+    """fail2ban watches the pages, by the files as they are."""
+
+    def text(self):
+        return "let fail2ban watch the pages"
+
+    def is_done(self):
+        try:
+            steps.given(["fail2ban-client", "status", "radacctd"], seconds=30)
+        except steps.Failed:
+            return False
+        return True
+
+    def do(self):
+        steps.given(["systemctl", "restart", "fail2ban.service"])
+        end = time.monotonic() + 60
+        while not self.is_done():
+            if time.monotonic() > end:
+                raise steps.Failed("fail2ban has no jail radacctd: tail /var/log/fail2ban.log")
+            time.sleep(0.5)

@@ -1,0 +1,153 @@
+"""How a site is broken in each way that the doctor knows, and mended again.
+
+Each row is the fault's name, what breaks the site and what mends it, as commands of the shell.
+Where nothing else would do, a row says how it feigns: a fault that would take an hour, or a disk.
+"""
+
+RADDB = "/etc/freeradius/3.0"
+QUEUE = "/var/log/freeradius/radacct/radacctd"
+UNSENT = "/var/log/freeradius/radacct/radacctd-unsent"
+DEVICES = f"{RADDB}/policy.d/radacctd-devices"
+CONFIG, COPIES = "/etc/radacctd.toml", "/var/backups/radacctd"
+MIRROR = "/run/radacctd-mirror/balances.db"
+PROGRAM = "/usr/local/libexec/radacctd/radacctd"
+# A report with a wrong secret, straight to radacctd.
+WRONG = "echo 'User-Name=a,Acct-Status-Type=Start,Acct-Session-Id=1"
+SENT = "radclient -r 1 -t 1 127.0.0.1:11813 acct wrong; journalctl --sync"
+# A report that waits since 2023, as FreeRADIUS writes it.
+REPORT = "Tue Nov 14 22:13:20 2023\\n\\tUser-Name = \"al\"\\n\\tTimestamp = 1700000000\\n\\n"
+# The journal of the service without what a row has printed into it.
+FORGET = "journalctl --rotate; journalctl --vacuum-time=1s"
+RELOAD = "systemctl restart freeradius radacctd-mirror radacctd-front"
+
+
+def kept(path, change):
+    """A change of a file, and the file as it was, with its owner and mode."""
+    return f"cp -a {path} /root/kept; {change}", f"cp -a --remove-destination /root/kept {path}"
+
+
+def appended(text, path=CONFIG):
+    return kept(path, f"printf '{text}' >> {path}")
+
+
+def edited(expression, path):
+    """sed makes a new file of other rights, so it writes into the old one."""
+    return kept(path, f"sed '{expression}' {path} > /root/new; cat /root/new > {path}")
+
+
+def printed(line):
+    """A line in the journal of the service, as root may write it: a real one takes a full disk."""
+    fields = f"MESSAGE={line}\\nOBJECT_SYSTEMD_UNIT=radacctd.service\\n"
+    return f"printf '{fields}' | logger --journald; journalctl --sync", FORGET
+
+
+def client(name, address, secret):
+    lines = f'\\n[[client]]\\nname = "{name}"\\naddress = "{address}"\\nsecret = "{secret}"\\n'
+    return appended(lines)
+
+
+OUTBOX = """python3 -c '
+import http.server, json
+class Caller(http.server.BaseHTTPRequestHandler):
+    def do_GET(self):
+        said = {"alarms": ["V-7"], "waiting": {"own": 0, "other": 3}, "oldest": 1}
+        body = json.dumps(said).encode()
+        self.send_response(200); self.send_header("Content-Length", len(body)); self.end_headers()
+        self.wfile.write(body)
+http.server.HTTPServer(("127.0.0.1", 8067), Caller).serve_forever()'"""
+PAIR = "printf 'RADACCTD_OWN=127.0.0.1\\nRADACCTD_OTHER=127.0.0.1\\n' > /etc/default/radacctd-pair"
+UNPAIR = "rm -f /etc/default/radacctd-pair"
+COMPARE = "/run/systemd/system/radacctd-compare.service"
+KEYS = "for it in $(seq 4060); do printf '[[key]]\\ntoken = \"guest-key-%09d\"\\n' $it; "
+KEYS += f"echo 'account = \"g\"'; done >> {CONFIG}"
+FULL = f"mount -t tmpfs -o size=20m tmpfs {COPIES} && head -c 19900000 /dev/zero > {COPIES}/x"
+CERTIFICATE = "openssl req -x509 -key /etc/ssl/private/radacctd.key -days {} -subj /CN=x -out "
+CERTIFICATE += "/root/new.pem 2>/dev/null; cat /root/new.pem > /etc/ssl/radacctd.pem"
+
+BREAKS = {
+    "unit-down": ("systemctl stop radacctd-key.timer", "systemctl start radacctd-key.timer"),
+    "unit-failed": ("systemd-run --unit=radacctd-broken false; sleep 1",
+                    "systemctl reset-failed radacctd-broken"),
+    "unit-off": ("systemctl disable radacctd-key.timer", "systemctl enable radacctd-key.timer"),
+    "config-wrong": appended("\\nx = 1\\n"),
+    "plan-waits": appended('\\n[[plan]]\\nclass = "gold"\\nblock = 1\\nunit = 1\\n'),
+    "plan-lost": edited("s/^unit = 1$/unit = 2/", CONFIG),
+    "book-shut": printed("db: Unavailable"),
+    "disk-full": (FULL, f"umount {COPIES}"),
+    "clock-wrong": ("touch -d tomorrow /var/lib/radacctd-balances/balances.csv", "sleep 11"),
+    "drop-secret": (f"{WRONG}' | {SENT}", FORGET),
+    "raddb-wrong": (f"echo 'server x {{' > {RADDB}/sites-enabled/zz",
+                    f"rm {RADDB}/sites-enabled/zz"),
+    "raddb-steps": edited("s/^\\tradacctd_accounting$//", f"{RADDB}/sites-available/default"),
+    "front-address": edited("s/port = 11813/port = 1813/", f"{RADDB}/radacctd/settings.conf"),
+    "front-secret": edited("s/secret = ./secret = x/", f"{RADDB}/radacctd/settings.conf"),
+    "queue-folder": (f"chown root {QUEUE}", f"chown freerad {QUEUE}"),
+    "queue-state": ("echo 'no space left' > /run/freeradius/radacctd-queue.fault",
+                    "rm /run/freeradius/radacctd-queue.fault"),
+    "queue-waits": (f"mkdir {QUEUE}/waits; printf '{REPORT}' > {QUEUE}/waits/detail-1; "
+                    f"chown -R freerad {QUEUE}/waits", f"rm -r {QUEUE}/waits"),
+    "mirror-missing": (f"systemctl stop radacctd-mirror; rm {MIRROR}*",
+                       "systemctl start radacctd-mirror"),
+    "mirror-plans": (f"systemctl stop radacctd-mirror; sqlite3 {MIRROR} 'UPDATE plan SET unit = 7'",
+                     "systemctl start radacctd-mirror"),
+    "nginx-wrong": ("echo 'x y' > /etc/nginx/conf.d/zz.conf", "rm /etc/nginx/conf.d/zz.conf"),
+    "pages-silent": ("chmod 0 /usr/local/share/radacctd/web/guest/index.html",
+                     "chmod 644 /usr/local/share/radacctd/web/guest/index.html"),
+    "key-unknown": kept("/etc/radacctd-redeem.key", "echo other-key-00000001 > "
+                        "/etc/radacctd-redeem.key"),
+    "certificate-ended": kept("/etc/ssl/radacctd.pem", "rm /etc/ssl/radacctd.pem"),
+    "certificate-ends": kept("/etc/ssl/radacctd.pem", CERTIFICATE.format(5)),
+    "pair-alarm": (f"{PAIR}; systemd-run --unit=feigned {OUTBOX}; sleep 2",
+                   f"systemctl stop feigned; {UNPAIR}"),
+    "pair-differs": (f"{PAIR}; printf '[Service]\\nType=oneshot\\nExecStart=/bin/false\\n' > "
+                     f"{COMPARE}; systemctl daemon-reload; systemctl start radacctd-compare",
+                     f"rm {COMPARE}; systemctl reset-failed radacctd-compare; "
+                     f"systemctl daemon-reload; {UNPAIR}"),
+    "pair-waits": (PAIR, UNPAIR),
+    "old-program": (f"cp -a {PROGRAM} {PROGRAM}.new; mv {PROGRAM}.new {PROGRAM}",
+                    "systemctl restart radacctd"),
+    "sample-value": appended('\\n[[key]]\\ntoken = "al-key-0000000001"\\naccount = "al"\\n'),
+    "secret-short": client("near", "10.9.9.9", "short"),
+    "secret-shared": kept(CONFIG, f"grep -m 1 '^secret' {CONFIG} > /root/new; (echo '[[client]]'; "
+                          "echo 'name = \"near\"'; echo 'address = \"10.9.9.9\"'; "
+                          f"cat /root/new) >> {CONFIG}"),
+    "mode-open": ("chmod 644 /etc/radacctd-cashier.key", "chmod 600 /etc/radacctd-cashier.key"),
+    "mode-wrong": (f"chmod 600 {CONFIG}", f"chmod 640 {CONFIG}"),
+    "group-wrong": ("gpasswd -d www-data radacctd-balances",
+                    "gpasswd -a www-data radacctd-balances"),
+    "keys-full": kept(CONFIG, KEYS),
+    "log-odd": (f"{WRONG},Packet-Src-IP-Address=127.0.0.77' | {SENT}", FORGET),
+    "clock-unset": ("echo 'echo NTP=no; echo NTPSynchronized=no' > /root/clock; "
+                    "cp -a /usr/bin/timedatectl /root/kept; cat /root/clock > /usr/bin/timedatectl",
+                    "cp -a /root/kept /usr/bin/timedatectl"),
+    "file-old": (f"cp {DEVICES} /root/new; rm {DEVICES}; (cat /root/new; echo '# old') > {DEVICES}",
+                 f"ln -sf /usr/local/share/radacctd/freeradius/devices {DEVICES}"),
+    "tunnel-login": edited("s/^\\tradacctd_login$//", f"{RADDB}/sites-available/inner-tunnel"),
+    "names-refused": (f"cp -a {RADDB}/sites-available/default /root/kept; "
+                      f"sed 's/radacctd_filter/filter_username/' /root/kept > "
+                      f"{RADDB}/sites-available/default; "
+                      "printf 'voucher,account,sum\\nR-12,room 12,5\\n' | radacctl sell; sleep 11",
+                      f"cp -a --remove-destination /root/kept {RADDB}/sites-available/default"),
+    "status-check": appended("\\nhome_server x {\\n\\ttype = acct\\n\\tipaddr = 127.0.0.1\\n"
+                             "\\tport = 11813\\n\\tsecret = x\\n"
+                             "\\tstatus_check = status-server\\n}\\n", f"{RADDB}/proxy.conf"),
+    "counts-old": ("systemctl stop radacctd-front; touch -d '1 hour ago' "
+                   "/var/lib/radacctd-front/radacctd-front.prom", "systemctl start radacctd-front"),
+    "unsent": (f"printf '{REPORT}' > {UNSENT}/detail-1; chown freerad {UNSENT}/detail-1",
+               f"rm {UNSENT}/detail-1"),
+    "pages-plans": ("rm /etc/radacctd-web/plans.json", "radacctl pages"),
+    "pages-settings": kept("/etc/radacctd-web/settings.json",
+                           "echo '{}' > /etc/radacctd-web/settings.json"),
+    "fcgiwrap-open": ("systemctl start fcgiwrap.socket", "systemctl stop fcgiwrap.socket"),
+    "fail2ban-down": ("systemctl stop fail2ban", "systemctl start fail2ban"),
+    "fail2ban-desk": edited("/^ignoreip/d", "/etc/fail2ban/jail.d/radacctd.conf"),
+    "log-open": ("chmod 644 /var/log/nginx/radacctd-sales.log",
+                 "chmod 640 /var/log/nginx/radacctd-sales.log"),
+    "copy-old": (f"touch -d '2 days ago' {COPIES}/20*", f"touch {COPIES}/20*"),
+    "copy-bad": (f"cp -a {COPIES}/20*/site.tar.gz /root/kept; truncate -s 1000 "
+                 f"{COPIES}/20*/site.tar.gz", f"cp -a /root/kept {COPIES}/20*/site.tar.gz"),
+    "copy-exports": (f"mv {COPIES}/exports /root/", f"mv /root/exports {COPIES}/"),
+}
+# The server stops for so long that balances grow old, at radacctd and at logins.
+STOPPED = (("balances-old", "mirror-old"), "kill -STOP $(systemctl show -P MainPID radacctd)",
+           "kill -CONT $(systemctl show -P MainPID radacctd)", 130)

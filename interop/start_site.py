@@ -1,0 +1,63 @@
+"""A machine on which `radacctl setup` makes a whole site."""
+
+import os
+import time
+
+import machine
+from served import ROOT, check
+
+PACKAGES = [*machine.SITE, "fail2ban", "nftables", "python3-systemd", "openssl"]
+HOST, RADDB = "accounts.hotel.test", "/etc/freeradius/3.0"
+ANSWERS = "/root/site.toml"
+# A container has no clock of its own to keep.
+CLOCK = "#!/bin/sh\necho NTP=yes\necho NTPSynchronized=yes\n"
+NOTES = "/root/radacctd-setup"
+
+
+def staged(folder):
+    """What bin/install puts in place."""
+    env = {**os.environ, "DESTDIR": folder}
+    status, text = machine.run([os.path.join(ROOT, "bin", "install")], env=env)
+    check("bin/install ends well", (status, text if status else ""), (0, ""))
+
+
+def answers(box):
+    """The sample with the names of this site, as an operator edits it."""
+    text = box.must("radacctl setup --sample")
+    text = text.replace("accounts.example.org", HOST)
+    return text.replace('[[access_server]]', '[[access_server]]\nname = "attic"\n'
+                        'address = "10.0.2.0/24"\nvendor = "unifi"\n\n[[access_server]]')
+
+
+def prepare(box, folder):
+    box.copy(folder)
+    # Debian's packages start nothing here; on a machine with a network they would.
+    box.write("/usr/local/sbin/timedatectl", CLOCK, 0o755)
+    box.must("rm -f /usr/bin/timedatectl && mv /usr/local/sbin/timedatectl /usr/bin/")
+    box.write(ANSWERS, answers(box), 0o600)
+
+
+def set_up(box):
+    """Runs it to its end: how long it took, in seconds, and what it printed."""
+    begun = time.monotonic()
+    status, said = box.run(f"radacctl setup --yes {ANSWERS}")
+    check("the set-up ends well", (status, said if status else ""), (0, ""))
+    return time.monotonic() - begun, said
+
+
+def doctor(box, *words):
+    """The status and the lines of the doctor."""
+    status, said = box.run(" ".join(["radacctl doctor", *words]))
+    return status, said.splitlines()
+
+
+def is_sound(box, seconds=90):
+    """Waits until the doctor finds nothing; else the lines that it last printed."""
+    end = time.monotonic() + seconds
+    while True:
+        status, lines = doctor(box, "--quiet")
+        if status == 0 and not lines:
+            return []
+        if time.monotonic() > end:
+            return lines or [f"status {status}"]
+        time.sleep(1)
