@@ -5,6 +5,7 @@ import re
 import stat
 import tempfile
 import unittest
+import unittest.mock
 
 from radacctl import freeradius
 from radacctl.doctor import faults, look
@@ -170,6 +171,16 @@ post-auth {
         [(name, block)] = freeradius.HOME_SERVER.findall(text)
         own = freeradius.value(found["a"], "secret")
         self.assertEqual((name, freeradius.value(block, "secret")), ("cut-10.0.0.1", own))
+
+    def test_the_password_of_the_proof_is_found(self):
+        text = front.users('#\n"x" Cleartext-Password := "y"\n')
+        self.assertEqual(front.users(text), text)
+        with tempfile.TemporaryDirectory() as folder:
+            os.makedirs(os.path.join(folder, "mods-config", "files"))
+            with open(os.path.join(folder, "mods-config/files/authorize"), "w") as file:
+                file.write(text)
+            with unittest.mock.patch("radacctl.site.RADDB", folder):
+                self.assertRegex(front.password(), "^[0-9a-f]{32}$")
 
     def test_values(self):
         for text, wanted in (('x = "a b"', "a b"), ("x = a", "a"), ('x = ""', ""), ("y = a", "")):

@@ -41,7 +41,7 @@ def text(*names):
 
 def value(block, name):
     """The value of a line `name = value` of a text, or ""."""
-    found = re.search(rf'(?m)^\s*{name}\s*=\s*(?:"([^"]*)"|(\S+))', block)
+    found = re.search(rf'(?m)^[ \t]*{name}[ \t]*=[ \t]*(?:"([^"\n]*)"|(\S+))', block)
     return (found[1] if found[1] is not None else found[2]) if found else ""
 
 

@@ -150,7 +150,8 @@ def asked(name, path):
 
 def programs():
     for unit in ("fcgiwrap.socket", "fcgiwrap.service"):
-        if look.is_active(unit) or look.is_enabled(unit):
+        found = look.properties(unit, "ActiveState", "UnitFileState")
+        if found.get("ActiveState") == "active" or found.get("UnitFileState") == "enabled":
             yield Fault("fcgiwrap-open", f"{unit} of Debian runs programs for every page",
                         "systemctl disable --now fcgiwrap.socket fcgiwrap.service")
             return

@@ -182,7 +182,7 @@ def users(old):
 
 
 def password():
-    found = re.search(rf'(?m)^{TEST_USER}\s.*"([^"]+)"', files.text(
+    found = re.search(rf'(?m)^{TEST_USER}[ \t][^"\n]*"([^"\n]+)"', files.text(
         freeradius.path("mods-config/files/authorize")))
     return found[1] if found else None
 
