@@ -138,7 +138,7 @@ def making(shop):
     shop.write("settings.json", json.dumps(SETTINGS))
     os.rename(f"{shop.folder}/settings.json", f"{shop.folder}/away")
     status, _, errors = shop("--count", "1", "--sum", "1")
-    check("without the site's money", (status, "radacctd-pages" in errors), (1, True))
+    check("without the site's money", (status, "radacctl pages" in errors), (1, True))
     check("codes are listed all the same", " of 150 units: live 1," in shop("--list")[1], True)
     os.rename(f"{shop.folder}/away", f"{shop.folder}/settings.json")
 

@@ -11,7 +11,7 @@ import tempfile
 import time
 
 from radacctl import desk, files, names, site
-from radacctl.doctor import kind
+from radacctl.doctor import kind, look
 from radacctl.setup import front, steps
 
 ACCOUNT = front.TEST_USER
@@ -119,10 +119,8 @@ class Proof:
             path = os.path.join(folder, "secret")
             files.make(path, front.secret_of(front.TEST_USER).encode() + b"\n")
             words = ["radclient", "-r", "2", "-t", "3", "-x", "-S", path, f"127.0.0.1:{port}", act]
-            try:
-                return steps.given(words, "\n".join(lines) + "\n", seconds=30)
-            except steps.Failed as why:
-                return str(why)
+            # Its status is 1 if a login is refused, which may be what is wanted.
+            return look.run(*words, seconds=30, text="\n".join(lines) + "\n")[1]
 
     def wait_for_login(self, wanted):
         said, end = "", time.monotonic() + PATIENCE
