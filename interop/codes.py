@@ -130,7 +130,7 @@ def making(shop):
     text = subprocess.run(["pdftotext", sheet, "-"], capture_output=True, text=True).stdout
     found = "Hotel Łódź" in text, "333.34 zł" in text
     check("letters beyond Windows-1252 are printed", found, (True, True))
-    shop.write("settings.json", json.dumps({**SETTINGS, "name": "王"}))
+    shop.write("settings.json", json.dumps({**SETTINGS, "name": "مرحبا"}))
     status, _, errors = shop("--count", "1", "--sum", "1")
     told = "give another --name" in errors
     check("a letter that no font has is refused", (status, told), (1, True))

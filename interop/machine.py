@@ -23,7 +23,8 @@ MIRROR = "http://deb.debian.org/debian"
 PACKAGES = ["systemd", "systemd-sysv", "dbus", "python3", "procps", "sensible-utils", "libbpf1"]
 # What a whole site has: FreeRADIUS, nginx, printed vouchers, copies from one machine to another.
 SITE = ["apache2-utils", "curl", "fcgiwrap", "freeradius", "freeradius-utils", "iproute2", "nginx"]
-SITE += ["openssh-client", "openssh-server", "qrencode", "rsync", "sqlite3"]
+SITE += ["fonts-dejavu-core", "openssh-client", "openssh-server", "python3-reportlab", "qrencode"]
+SITE += ["rsync", "sqlite3"]
 CACHE = os.environ.get("RADACCTD_ROOTS", "/var/tmp/radacctd-interop")
 TOOLS = {
     "systemd-nspawn": "systemd-container",

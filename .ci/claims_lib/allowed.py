@@ -110,7 +110,8 @@ ALLOWED = {
         "radacctd = no": "a line of a client in FreeRADIUS",
     },
     "docs/DESK.md": {
-        **each("Debian's packages", "fcgiwrap", "fonts-dejavu-core"),
+        **each("Debian's packages", "fcgiwrap", "fonts-dejavu-core", "fonts-droid-fallback"),
+        **each("Debian's package", "python3-reportlab", "qrencode"),
         "adm": "a group of the system",
         "ignoreip": "fail2ban's own",
         **each("nginx' paths", "/desk/", "/redeem/"),

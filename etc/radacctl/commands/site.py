@@ -82,6 +82,7 @@ NAMING, LARGEST_NAMING = [site.RADDB, "/etc/nginx"], 1 << 20
 NAMED = re.compile(r"/etc/(?:ssl|letsencrypt)/[A-Za-z0-9._/-]+")
 NOT_NAMED = "/etc/ssl/certs/ca-certificates.crt"
 PACKAGES = ["freeradius*", "libfreeradius*", "nginx*", "libnginx*", "fcgiwrap", "fail2ban", "jq"]
+PACKAGES += ["fonts-dejavu-core", "python3-reportlab"]
 PACKAGES += ["nftables", "python3-systemd", "qrencode", "apache2-utils", "rsync", "ssl-cert"]
 UNITS = ["radacctd*", "freeradius.service", "nginx.service", "fail2ban.service"]
 # What their packages enable, and a site may not.

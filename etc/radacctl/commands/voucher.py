@@ -26,7 +26,8 @@ Options: --stock FILE, else /var/lib/radacctd-vouchers/stock.csv; --second FILE,
 /var/lib/radacctd-withdrawn/withdrawn.csv; --settings FILE, else /etc/radacctd-web/settings.json,
 which has currency, decimals, name and address (URL); --topups FILE, an export of topups, also
 compressed: with --list and --withdraw it tells which codes were redeemed before the log of given
-ones began; --yes asks nothing. A sheet needs qrencode.
+ones began; --yes asks nothing. A sheet needs qrencode and
+python3-reportlab.
 
 It ends with 0 if all was done, with 1 if not (then no new code can be redeemed, or nothing was
 withdrawn), and with 2 for a bad command line.

@@ -15,7 +15,7 @@ from radacctl.setup.front import member
 from radacctl.setup.steps import Link
 
 PACKAGES = ["nginx", "apache2-utils", "openssl", "fail2ban", "nftables", "python3-systemd"]
-CODES = ["fcgiwrap", "qrencode"]
+CODES = ["fcgiwrap", "qrencode", "python3-reportlab", "fonts-dejavu-core"]
 FOLDER, CONF = "/etc/nginx/radacctd", "/etc/nginx/conf.d/radacctd.conf"
 CERTIFICATE, PRIVATE_KEY = "/etc/ssl/radacctd.pem", "/etc/ssl/private/radacctd.key"
 PASSWORDS = f"{NOTES}/cashiers.txt"
