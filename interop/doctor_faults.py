@@ -60,7 +60,7 @@ UNPAIR = "rm -f /etc/default/radacctd-pair"
 COMPARE = "/run/systemd/system/radacctd-compare.service"
 KEYS = "for it in $(seq 4060); do printf '[[key]]\\ntoken = \"guest-key-%09d\"\\n' $it; "
 KEYS += f"echo 'account = \"g\"'; done >> {CONFIG}"
-FULL = f"mount -t tmpfs -o size=20m tmpfs {COPIES} && head -c 19900000 /dev/zero > {COPIES}/x"
+FULL = f"mount -t tmpfs -o size=20m tmpfs {COPIES} && head -c 20800000 /dev/zero > {COPIES}/x"
 CERTIFICATE = "openssl req -x509 -key /etc/ssl/private/radacctd.key -days {} -subj /CN=x -out "
 CERTIFICATE += "/root/new.pem 2>/dev/null; cat /root/new.pem > /etc/ssl/radacctd.pem"
 
