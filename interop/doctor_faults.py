@@ -117,7 +117,7 @@ BREAKS = {
                     "gpasswd -a www-data radacctd-balances"),
     "keys-full": kept(CONFIG, KEYS),
     "log-odd": (f"{WRONG},Packet-Src-IP-Address=127.0.0.77' | {SENT}", FORGET),
-    "clock-unset": ("echo 'echo NTP=no; echo NTPSynchronized=no' > /root/clock; "
+    "clock-unset": ("printf '#!/bin/sh\\necho NTP=no\\necho NTPSynchronized=no\\n' > /root/clock; "
                     "cp -a /usr/bin/timedatectl /root/kept; cat /root/clock > /usr/bin/timedatectl",
                     "cp -a /root/kept /usr/bin/timedatectl"),
     "file-old": (f"cp {DEVICES} /root/new; rm {DEVICES}; (cat /root/new; echo '# old') > {DEVICES}",

@@ -25,8 +25,11 @@ def answers(box):
     """The sample with the names of this site, as an operator edits it."""
     text = box.must("radacctl setup --sample")
     text = text.replace("accounts.example.org", HOST)
-    return text.replace('[[access_server]]', '[[access_server]]\nname = "attic"\n'
-                        'address = "10.0.2.0/24"\nvendor = "unifi"\n\n[[access_server]]')
+    more = [("attic", "10.0.2.0/24", "unifi"), ("hall", "127.0.0.20", "openwrt")]
+    for name, address, vendor in more:
+        lines = f'name = "{name}"\naddress = "{address}"\nvendor = "{vendor}"\n'
+        text += f"\n[[access_server]]\n{lines}"
+    return text
 
 
 def prepare(box, folder):
