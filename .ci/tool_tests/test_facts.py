@@ -113,6 +113,20 @@ class Files(unittest.TestCase):
             self.assertRaises(FileExistsError, files.make, os.path.join(folder, "link"), b"two")
             self.assertEqual(sorted(os.listdir(folder)), ["file", "link"])
 
+    @unittest.skipUnless(os.geteuid() == 0, "only root can become another user")
+    def test_a_users_link_leads_root_to_no_secret(self):
+        with tempfile.TemporaryDirectory() as folder:
+            os.chmod(folder, 0o755)
+            own, secret = os.path.join(folder, "own"), os.path.join(folder, "secret")
+            os.mkdir(own)
+            files.make(secret, b"secret")
+            os.symlink(secret, os.path.join(own, "link"))
+            files.make(os.path.join(own, "file"), b"theirs", 0o644)
+            os.chown(own, 65534, 65534)
+            self.assertEqual(files.text(os.path.join(own, "link")), "")
+            self.assertEqual(files.text(os.path.join(own, "file")), "theirs")
+            self.assertEqual(files.text(secret), "secret")
+
     def test_no_link_or_pipe_is_read(self):
         with tempfile.TemporaryDirectory() as folder:
             files.make(os.path.join(folder, "file"), b"one")
