@@ -1,5 +1,7 @@
 """The doctor's table of faults, and what setup makes of answers and of files."""
 
+import contextlib
+import io
 import os
 import re
 import stat
@@ -76,6 +78,26 @@ class Answers(unittest.TestCase):
             self.wrong(certificate=text, certificate_key="/etc/x")
             self.wrong(front_desk=[text])
             self.wrong(server=text)
+
+    def asked(self, lines):
+        with unittest.mock.patch("sys.stdin", io.StringIO("\n".join(lines) + "\n")):
+            with contextlib.redirect_stderr(io.StringIO()):
+                return answers.asked()
+
+    def test_a_person_answers(self):
+        found = self.asked(["Hotel", "wifi.example.org", "CHF", "2", "2.50", "10.0.0.5", "anna ben",
+                            "lobby 10.0.0.1 mikrotik", "attic 10.0.2.0/24", ""])
+        self.assertEqual((found.host, found.cashiers), ("wifi.example.org", ["anna", "ben"]))
+        self.assertEqual([it["vendor"] for it in found.access_servers], ["mikrotik", "other"])
+        [plan] = found.plans
+        self.assertEqual((plan["block"], plan["unit"]), (100_000_000, 25))
+
+    def test_empty_lines_are_the_usual_answers(self):
+        found = self.asked([""] * 8)
+        self.assertEqual((found.host, found.currency, found.access_servers), ("", "EUR", []))
+
+    def test_answers_that_end_are_wrong(self):
+        self.assertRaises(answers.Wrong, self.asked, ["Hotel"])
 
     def test_prices(self):
         for text, block, unit in (("1.00", 10**7, 1), ("10.00", 10**6, 1), ("3.33", 10**9, 333)):
