@@ -7,6 +7,7 @@ itself, or as % and two hexadecimal digits.
 """
 
 import csv
+import io
 import re
 import string
 import urllib.parse
@@ -46,7 +47,12 @@ def for_desk(octets):
 def balances_in(path):
     """The balance of each account of a file that radacctd wrote."""
     with open(path, encoding="ascii", newline="") as file:
-        header, *rows = list(csv.reader(file)) or [[]]
+        return balances_of(file.read(), path)
+
+
+def balances_of(text, path):
+    """The same of the text of such a file."""
+    header, *rows = list(csv.reader(io.StringIO(text, newline=""))) or [[]]
     if header != ["account", "balance", "overrun"] or any(len(row) != 3 for row in rows):
         raise ValueError(f"{path} has no balances")
     return {octets_of(row[0]): int(row[1]) for row in rows}

@@ -142,8 +142,8 @@ def names_refused():
     if "filter_username" not in authorize.split():
         return
     try:
-        accounts = names.balances_in(site.BALANCES)
-    except (OSError, ValueError):
+        accounts = names.balances_of(files.text(site.BALANCES), site.BALANCES)
+    except ValueError:
         return
     count = sum(b" " in it for it in accounts)
     if count:

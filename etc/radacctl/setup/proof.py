@@ -68,9 +68,10 @@ class Proof:
 
     def balance(self):
         try:
-            return names.balances_in(site.BALANCES).get(ACCOUNT.encode())
-        except (OSError, ValueError):
+            found = names.balances_of(files.text(site.BALANCES), site.BALANCES)
+        except ValueError:
             return None
+        return found.get(ACCOUNT.encode())
 
     def wait(self, wanted, what):
         """Waits until the balances, which FreeRADIUS reads, have this one."""
