@@ -1,5 +1,5 @@
 "use strict";
-// Names of accounts, as etc/tools/radacctd_names.py has them for the tools.
+// Names of accounts, as etc/radacctl/names.py has them for the tools.
 
 // An account as the desk takes it: octets past plain characters are % and two digits.
 function spelled(name) {

@@ -1,0 +1,211 @@
+"""Rows of interop/tools: each command of radacctl is killed at random moments, and given again.
+
+A round picks a command, kills all of its processes after a random time, looks at what there is, and
+gives the command again to its end. What it was to do is then done once, by exports and by files.
+RADACCTD_KILLS says how many rounds there are, and RADACCTD_SEED chooses them.
+"""
+
+import csv
+import json
+import os
+import random
+import re
+import signal
+import subprocess
+import time
+
+from served import check
+from tool_site import CASHIER, INTERIM, LONGEST, Site, run, text_of, topups, write
+
+ROUNDS = 100
+SHEET = re.compile(r"vouchers-[0-9]{8}-[0-9]{6}(?:-[0-9]+)?")
+SETTINGS = {"name": "Hotel", "url": "https://localhost", "currency": "EUR", "decimals": 2}
+
+
+class Killed:
+    """A site whose tools are killed. Each name is a command, and its faults are kept."""
+
+    def __init__(self, folder, rng):
+        self.site, self.rng = Site(folder), rng
+        self.site.command("init")
+        self.site.start()
+        self.folder, self.faults, self.counts = folder, [], {}
+        self.accounts, self.sold, self.sheets, self.number = set(), {}, {}, 0
+        os.mkdir(f"{folder}/stock")
+        os.mkdir(f"{folder}/backups")
+        write(f"{folder}/key", CASHIER + "\n")
+        write(f"{folder}/settings.json", json.dumps(SETTINGS))
+        # How long a whole run of each takes, once it is known.
+        self.times = {}
+
+    def begin(self, words, text=b"", env=None):
+        pipe = subprocess.PIPE
+        process = subprocess.Popen(words, stdin=pipe, stdout=pipe, stderr=pipe, cwd=self.folder,
+                                   start_new_session=True, env={**os.environ, **(env or {})})
+        process.stdin.write(text)
+        process.stdin.close()
+        process.stdin = None
+        return process
+
+    def kill(self, name, words, text=b"", env=None):
+        """Kills a run with all that it started, and lets the server go on if a copy stopped it."""
+        process = self.begin(words, text, env)
+        time.sleep(self.rng.uniform(0, self.times.get(name, 1.0)))
+        is_over = process.poll() is not None
+        try:
+            os.killpg(process.pid, signal.SIGKILL)
+        except ProcessLookupError:
+            pass
+        process.communicate()
+        if self.site.process:
+            self.site.process.send_signal(signal.SIGCONT)
+        self.counts.setdefault(name, [0, 0])[is_over] += 1
+
+    def whole(self, name, words, text=b"", env=None):
+        """Gives the command to its end: the status and what it printed."""
+        begun = time.monotonic()
+        process = self.begin(words, text, env)
+        output, errors = process.communicate(timeout=LONGEST)
+        self.times[name] = time.monotonic() - begun
+        return process.returncode, output.decode(), errors.decode()
+
+    def tool(self, *words):
+        return [self.site.tool("radacctl"), *words]
+
+    def need(self, name, got, wanted):
+        if got != wanted:
+            self.faults.append((name, got, wanted))
+
+    def next(self):
+        self.number += 1
+        return self.number
+
+    # ---- one round of each command
+
+    def key(self):
+        account = f"guest-{self.next()}"
+        words = self.tool("key", "--config", self.site.config, "new", account)
+        self.kill("key", words)
+        found = text_of(self.site.config).count(f'"{account}"')
+        self.need("a key is there once or not at all", found <= 1, True)
+        checked = self.site.command("check")[0]
+        self.need("the configuration is right", checked, 0)
+        status = self.whole("key", words)[0]
+        self.need("a key that is there is refused", status, 1 if found else 0)
+        self.need("it is there once", text_of(self.site.config).count(f'"{account}"'), 1)
+        self.accounts.add(account)
+
+    def revoke(self):
+        if not self.accounts:
+            return
+        account = self.accounts.pop()
+        words = self.tool("key", "--config", self.site.config, "revoke", account)
+        self.kill("revoke", words)
+        is_there = f'"{account}"' in text_of(self.site.config)
+        status = self.whole("revoke", words)[0]
+        self.need("an ended key is ended once", status, 0 if is_there else 1)
+        self.need("and gone", f'"{account}"' in text_of(self.site.config), False)
+
+    def sell(self):
+        first = self.next()
+        rows = {f"K-{first}-{at}": (f"st{at % 7}", 100 + at) for at in range(40)}
+        text = "".join(f"{number},{account},{total}\n" for number, (account, total) in rows.items())
+        text = ("voucher,account,sum\n" + text).encode()
+        words = self.tool("sell", "--key-file", f"{self.folder}/key", "--port",
+                          str(self.site.ports[1]))
+        self.kill("sell", words, text)
+        status, output, _ = self.whole("sell", words, text)
+        found = [int(it) for it in re.findall(r"\d+", output)[:3]]
+        self.need("each voucher is there", (status, sum(found[:2]), found[2]), (0, len(rows), 0))
+        self.sold |= rows
+
+    def vouchers(self, *more):
+        return self.tool("voucher", "--stock", f"{self.folder}/stock/stock.csv", "--settings",
+                         f"{self.folder}/settings.json", *more)
+
+    def stock(self):
+        """The codes of each sheet of the stock."""
+        found = {}
+        for row in csv.reader(text_of(f"{self.folder}/stock/stock.csv").splitlines()[1:]):
+            found.setdefault(row[2], []).append(row[0])
+        return found
+
+    def voucher(self):
+        words = self.vouchers("--count", "3", "--sum", "1.00", "--to", self.folder)
+        self.kill("voucher", words)
+        self.need("a sheet is in the stock whole or not", {*map(len, self.stock().values())} - {3},
+                  set())
+        status, output, _ = self.whole("voucher", words)
+        sheet = SHEET.search(output)
+        self.need("a sheet is made", (status, sheet is not None), (0, True))
+        if sheet:
+            self.need("its codes are in the stock", len(self.stock()[sheet[0]]), 3)
+            self.sheets[sheet[0]] = self.stock()[sheet[0]]
+
+    def withdraw(self):
+        if not self.sheets:
+            return
+        sheet, codes = self.sheets.popitem()
+        words = self.vouchers("--withdraw", sheet, "--yes")
+        self.kill("withdraw", words)
+        self.need("it is withdrawn", self.whole("withdraw", words)[0], 0)
+        for name in ("withdrawn.csv", "second.csv"):
+            text = text_of(f"{self.folder}/stock/{name}")
+            self.need(f"once in {name}", [text.count(it) for it in codes], [1] * len(codes))
+
+    def night(self):
+        env = {"RADACCTD_CONFIG": self.site.config, "RADACCTD_BOOK": self.site.book,
+               "RADACCTD_BACKUPS": f"{self.folder}/backups",
+               "RADACCTD_JOURNAL": f"{self.folder}/debits.csv"}
+        words = self.tool("night")
+        self.kill("night", words, env=env)
+        for name in self.copies():
+            path = f"{self.folder}/backups/{name}/site.tar.gz"
+            self.need(f"the copy {name} is whole", run(self.tool("site", "test", path))[0], 0)
+        before = self.copies()
+        # The copy's name has its second: one of the second that was killed is there.
+        time.sleep(1.1)
+        status, _, errors = self.whole("night", words, env=env)
+        self.need("a night ends well", (status, errors if status else ""), (0, ""))
+        self.need("with one copy more", len(self.copies()) - len(before), 1)
+        left = [it for it in os.listdir(f"{self.folder}/backups") if it.startswith((".new", ".pl"))]
+        self.need("and nothing half", left, [])
+
+    def copies(self):
+        return sorted(it for it in os.listdir(f"{self.folder}/backups") if it[0] == "2")
+
+    def rewrite(self):
+        self.site.kill()
+        before = self.exports()
+        words = self.tool("rewrite", "--config", self.site.config, self.site.book)
+        self.kill("rewrite", words)
+        self.need("the book is as it was", self.exports() == before, True)
+        status, _, errors = self.whole("rewrite", words)
+        self.need("a rewrite ends well", (status, errors.splitlines()[-1:]) if status else 0, 0)
+        self.need("and changes nothing", self.exports() == before, True)
+        self.need("nor leaves a folder", os.path.exists(self.site.book + ".new"), False)
+        self.site.start()
+
+    def exports(self):
+        return [self.site.command("export", it)[1] for it in ("sessions", "balances", "topups")]
+
+
+def test_kills(folder):
+    seed = int(os.environ.get("RADACCTD_SEED", "1"))
+    rounds = int(os.environ.get("RADACCTD_KILLS", ROUNDS))
+    rng = random.Random(seed)
+    it = Killed(folder, rng)
+    names = ["key", "revoke", "sell", "voucher", "withdraw", "night", "rewrite"]
+    try:
+        it.site.send(INTERIM, "S-1", 5_000_000)
+        for number in range(rounds):
+            getattr(it, names[number % len(names)])()
+        it.site.kill()
+        wanted = sorted(f"{number},{account},{total}"
+                        for number, (account, total) in it.sold.items())
+        check(f"each of {len(wanted)} vouchers is credited once", topups(it.site), wanted)
+    finally:
+        it.site.kill()
+    shown = ", ".join(f"{name} {killed}+{over}" for name, (killed, over) in it.counts.items())
+    print(f"          seed {seed}; killed + over before: {shown}")
+    check(f"{rounds} kills: each command did its work once or not at all", it.faults, [])
