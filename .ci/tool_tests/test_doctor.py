@@ -6,12 +6,13 @@ import os
 import re
 import stat
 import tempfile
+import tomllib
 import unittest
 import unittest.mock
 
 from radacctl import freeradius
 from radacctl.doctor import faults, look
-from radacctl.setup import answers, front, steps
+from radacctl.setup import alone, answers, front, pair, steps
 from tool_tests import ROOT
 
 PLAN = {"class": "default", "block": 1000, "unit": 5}
@@ -203,6 +204,23 @@ post-auth {
                 file.write(text)
             with unittest.mock.patch("radacctl.site.RADDB", folder):
                 self.assertRegex(front.password(), "^[0-9a-f]{32}$")
+
+    def test_the_other_machine_of_a_pair_gets_the_same_secrets(self):
+        one = {"name": "a", "address": "10.0.0.1", "vendor": "mikrotik"}
+        wanted = answers.Answers({"plan": [PLAN], "access_server": [one], "name": 'The "Inn"',
+                                  "pair": {"own": "10.9.0.5", "other": "10.9.0.6"}})
+        with unittest.mock.patch("radacctl.site.CONFIG", "/nonexistent"):
+            config = alone.Config(wanted)
+        text = front.clients(None, wanted, config.clients["books"])
+        with unittest.mock.patch("radacctl.freeradius.text", lambda *names: text):
+            made = pair.Text(wanted, config)(None)
+        other = answers.Answers(tomllib.loads(made))
+        self.assertEqual(other.pair, {"own": "10.9.0.6", "other": "10.9.0.5"})
+        self.assertEqual((other.name, other.has_codes), ('The "Inn"', False))
+        with unittest.mock.patch("radacctl.site.CONFIG", "/nonexistent"):
+            again = alone.Config(other)
+        self.assertEqual((again.keys, again.clients), (config.keys, config.clients))
+        self.assertEqual(front.clients(None, other, again.clients["books"]), text)
 
     def test_values(self):
         for text, wanted in (('x = "a b"', "a b"), ("x = a", "a"), ('x = ""', ""), ("y = a", "")):

@@ -40,7 +40,7 @@ HEADER = ["voucher", "account", "sum"]
 LARGEST_TEXT, MOST_RECORDS = 67_108_864, 1_000_000
 # In seconds: the pauses between tries, how often progress is shown.
 FIRST_PAUSE, LAST_PAUSE, PROGRESS = 0.2, 5, 3
-MOST_WARNINGS = 20
+MOST_WARNINGS, MOST_KEYS = 20, 1000
 STOPPED = "stopped; give the same file again: nothing is credited twice"
 # What an import calls these.
 CAUSES = {desks.DIFFERS: "VoucherDiffers", desks.LIMIT: "BalanceLimit"}
@@ -321,7 +321,7 @@ def parser():
 def main(words):
     words = parser().parse_args(words)
     try:
-        key = None if words.dry_run else desks.key_in(words.key_file)
+        key = None if words.dry_run else desks.keys_in(words.key_file, MOST_KEYS)[0]
     except desks.WrongKey as why:
         program.fail(why)
     known = known_in(words.known)

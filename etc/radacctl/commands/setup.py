@@ -27,7 +27,7 @@ import sys
 from radacctl import files, program, site
 from radacctl.commands import doctor
 from radacctl.doctor import copies
-from radacctl.setup import alone, answers, devices, front, proof, steps, web
+from radacctl.setup import alone, answers, devices, front, pair, proof, steps, web
 
 SAMPLE = """\
 name = "Hotel Example"              # on pages and printed vouchers
@@ -50,6 +50,12 @@ unit = 1
 name = "lobby"
 address = "10.0.0.1"
 vendor = "mikrotik"                 # or unifi, pfsense, openwrt, other
+
+# Two machines with the same balances, on a link with nobody else in it. The set-up of this one
+# writes a file of answers for the other one.
+# [pair]
+# own = "10.9.0.5"
+# other = "10.9.0.6"
 """
 LOCK = "/run/radacctd-setup.lock"
 STOPPED = "stopped; give the same again: it goes on"
@@ -76,6 +82,8 @@ def steps_of(wanted, config):
     yield from alone.of(wanted, config)
     if wanted.has_front:
         yield from front.of(wanted, config)
+    if wanted.pair:
+        yield from pair.after(wanted, config)
     if wanted.host:
         yield from web.of(wanted, config)
     yield from devices.of(wanted, config)

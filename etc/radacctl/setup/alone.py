@@ -10,11 +10,12 @@ from radacctl import desk, files, site
 from radacctl.commands import key
 from radacctl.doctor.book import plans_in
 from radacctl.setup import steps
-from radacctl.setup.steps import Command, File, Folder
+from radacctl.setup.steps import Command, File, Folder, Fresh
 
 BOOKS_SECRET = "/etc/radacctd-books.secret"
 REDEEM_KEY = "/etc/radacctd-redeem.key"
 FRONT_PORT = "11813"
+PLANS = f"{os.path.dirname(site.BALANCES)}/plans.csv"
 NOTES = "/root/radacctd-setup"
 HEAD = """\
 # The site: who reports, what the plans cost, who may use the desk. `radacctl setup` wrote it, and
@@ -22,9 +23,9 @@ HEAD = """\
 """
 
 
-def secret():
-    """128 bits, in letters and digits."""
-    return secrets.token_hex(16)
+def secret(answers, name):
+    """128 bits, in letters and digits; or what the other machine of a pair has."""
+    return answers.secrets.get(name) or secrets.token_hex(16)
 
 
 class Config:
@@ -41,7 +42,7 @@ class Config:
         except tomllib.TOMLDecodeError as why:
             raise steps.Failed(f"{site.CONFIG} is wrong: {why}") from None
         self.clients = {it.get("name"): it for it in self.found.get("client", [])}
-        self.more = []
+        self.more, self.pair_secret = [], secrets.token_hex(16)
         self.add_clients()
         self.add_plans()
         self.keys = self.add_keys()
@@ -55,7 +56,7 @@ class Config:
         for name, address in wanted.items():
             known = self.clients.get(name)
             if known is None:
-                known = {"name": name, "address": address, "secret": secret()}
+                known = {"name": name, "address": address, "secret": secret(self.answers, name)}
                 self.clients[name] = known
                 self.more.append(block("client", known))
             elif known.get("address") != address:
@@ -78,13 +79,13 @@ class Config:
         known = [it["token"] for it in self.found.get("key", []) if it.get("cashier") is True]
         found = {}
         for name, path in (("cashier", desk.CASHIER_KEY), ("redeem", REDEEM_KEY)):
-            key = files.text(path).strip()
+            key = files.text(path).split("\n")[0].strip()
             if key not in known:
                 # That of a run which was killed before it wrote the file, or a new one.
                 used = [*found.values(), files.text(REDEEM_KEY).strip()]
                 key = next((it for it in known if it not in used), None)
             if key is None:
-                key = f"{name}-{secret()}"
+                key = self.answers.secrets.get(name) or f"{name}-{secrets.token_hex(16)}"
                 self.more.append(block("key", {"token": key, "cashier": True}))
             found[name] = key
         return found
@@ -131,8 +132,10 @@ def with_value(text, name, value):
     return (text.rstrip("\n") + "\n" if text else "") + line + "\n"
 
 
-def defaults(text):
-    return with_value(text, "RADACCTD_RADIUS_PORT", FRONT_PORT)
+def defaults(text, answers):
+    text = with_value(text, "RADACCTD_RADIUS_PORT", FRONT_PORT)
+    # The other machine of a pair sells at this desk, too.
+    return with_value(text, "RADACCTD_DESK_BIND", answers.pair["own"]) if answers.pair else text
 
 
 def has_book():
@@ -141,7 +144,7 @@ def has_book():
 
 def plans_are_in(answers):
     """Whether the book keeps each plan."""
-    found = plans_in(f"{os.path.dirname(site.BALANCES)}/plans.csv")
+    found = plans_in(PLANS)
     return found is not None and {it["class"] for it in answers.plans} | {"debit"} <= set(found)
 
 
@@ -191,15 +194,19 @@ def of(answers, config):
     yield Folder(NOTES, 0o700)
     yield ConfigFile(site.CONFIG, config.wanted, 0o640, of_group=site.USER)
     if answers.has_front:
-        yield File(site.DEFAULTS, defaults, 0o644)
+        yield File(site.DEFAULTS, lambda old: defaults(old, answers), 0o644)
     yield File(BOOKS_SECRET, config.clients["books"]["secret"] + "\n", 0o600)
-    yield File(desk.CASHIER_KEY, config.keys["cashier"] + "\n", 0o600)
+    # The outbox of a pair takes both; the first is that of the tools.
+    keys = [config.keys[it] for it in (("cashier", "redeem") if answers.pair else ("cashier",))]
+    yield File(desk.CASHIER_KEY, "".join(f"{it}\n" for it in keys), 0o600)
     yield Folder(site.STATE, 0o700, site.USER, site.USER)
     book = ("--config", site.CONFIG, "--db", site.BOOK)
     yield Command(f"make the book {site.BOOK}", has_book, site.program(), "init", *book)
-    yield unit("radacctd.service")
-    if has_book() and not plans_are_in(answers):
+    # Before a restart, which fails as long as a plan waits.
+    if plans_in(PLANS) is not None:
         yield Plans(answers, book)
+    yield Fresh("restart radacctd", ("radacctd.service",), [site.DEFAULTS])
+    yield unit("radacctd.service")
     for name in ("radacctd-nightly.timer", "radacctd-key.timer"):
         yield unit(name)
 

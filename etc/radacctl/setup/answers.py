@@ -16,9 +16,10 @@ LARGEST_BLOCK, LARGEST_UNIT = 9_007_199_254_740_992, 1_000_000_000
 TOP = {
     "name": "", "freeradius": True, "server": "", "host": "", "certificate": "",
     "certificate_key": "", "currency": "", "decimals": 2, "cashiers": [], "codes": True,
-    "front_desk": [], "class": "", "plan": None, "access_server": [],
+    "front_desk": [], "class": "", "plan": None, "access_server": [], "pair": {}, "secrets": {},
 }  # fmt: skip
 PLAN = {"class": None, "block": None, "unit": None, "count": "both"}
+PAIR = {"own": None, "other": None}
 ACCESS_SERVER = {"name": None, "address": None, "vendor": "other"}
 # Plans and names that setup makes itself.
 TAKEN, TAKEN_NAMES = ("debit",), ("freeradius", "books", "radacctd-setup")
@@ -96,6 +97,10 @@ class Answers:
         self.plans = [plan_of(each) for each in it["plan"]]
         self.access_servers = [access_server_of(each, self.has_front)
                                for each in it["access_server"]]
+        self.pair = table(it["pair"], PAIR, "[pair]") if it["pair"] else None
+        # Those of the other machine of a pair, which has made a file of them.
+        self.secrets = it["secrets"]
+        self.found = it
         classes = [each["class"] for each in self.plans]
         self.usual_class = it["class"] or next(iter(classes), "")
         self.test(classes)
@@ -108,7 +113,21 @@ class Answers:
             found = [it[key] for it in self.access_servers]
             need(len(set(found)) == len(found), f"two access servers have one {key}")
         need(0 <= self.decimals <= MOST_DECIMALS, f"decimals is 0 to {MOST_DECIMALS}")
+        for name, value in self.secrets.items():
+            need(isinstance(value, str) and re.fullmatch(r"[A-Za-z0-9-]{16,128}", value),
+                 f"secrets: {name} is no secret of a set-up")
+        if self.pair:
+            self.test_pair()
         self.test_pages()
+
+    def test_pair(self):
+        need(self.has_front, "a pair has FreeRADIUS in front")
+        for name, value in self.pair.items():
+            try:
+                ipaddress.IPv4Address(value)
+            except (ValueError, TypeError):
+                raise Wrong(f"[pair]: {name} is no address of IPv4") from None
+        need(self.pair["own"] != self.pair["other"], "[pair]: both machines have one address")
 
     def test_pages(self):
         texts = (self.name, self.currency)

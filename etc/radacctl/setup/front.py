@@ -1,13 +1,12 @@
 """The steps to FreeRADIUS in front of radacctd."""
 
-import os
 import re
+import secrets
 
 from radacctl import files, freeradius, site
-from radacctl.doctor import look, machine
-from radacctl.setup import steps
+from radacctl.setup import pair, steps
 from radacctl.setup.alone import Command, File, Folder, secret, unit
-from radacctl.setup.steps import Link
+from radacctl.setup.steps import Fresh, Link
 
 PACKAGES = ["freeradius", "freeradius-utils"]
 INCLUDES = "$INCLUDE radacctd/settings.conf\n$INCLUDE radacctd/access-servers.conf\n"
@@ -24,6 +23,12 @@ client {name} {{
 	radacctd_quota = {quota}
 	radacctd_cut = {cut}
 	radacctd_stamp = name
+}}
+"""
+BOOKS = """\
+client books {{
+	ipaddr = {address}
+	secret = {secret}
 }}
 """
 HOME = """\
@@ -56,22 +61,25 @@ def of(answers, config):
         yield Link(f"/etc/systemd/system/{name}", site.shared("freeradius", name))
     book_secret = config.clients["freeradius"]["secret"]
     yield of_group(raddb("radacctd", "settings.conf"), lambda old: settings(old, book_secret))
-    yield of_group(raddb("radacctd", "access-servers.conf"), lambda old: clients(old, answers))
+    books = config.clients["books"] if answers.pair else None
+    yield of_group(raddb("radacctd", "access-servers.conf"),
+                   lambda old: clients(old, answers, books))
     kept = files.text(site.shared("freeradius", "kept"))
     yield of_group(raddb("radacctd", "kept"), lambda old: kept if old is None else old)
-    yield File(raddb("radiusd.conf"), main)
+    yield File(raddb("radiusd.conf"), lambda old: main(old, answers))
     yield File(raddb("sites-available/default"), lambda old: default(old, answers))
     yield File(raddb("sites-available/inner-tunnel"), lambda old: inner(old, answers))
     yield File(raddb("mods-config/files/authorize"), users)
+    if answers.pair:
+        yield from pair.in_front(answers, config)
     for name in ("", "/radacctd", "/radacctd-unsent"):
         yield Folder(site.RADACCT + name, 0o700, site.RADIUS_USER, site.RADIUS_USER)
     yield member(site.RADIUS_USER)
     yield Command("let systemd read its units", is_reloaded, "systemctl", "daemon-reload")
-    yield Checked()
+    yield running()
     for name in ("radacctd-mirror.service", "radacctd-front.service", "radacctd-clock.timer",
                  "freeradius.service"):
         yield unit(name)
-    yield Restarted()
 
 
 def of_group(path, change):
@@ -96,9 +104,11 @@ def settings(old, book_secret):
     return re.sub(r"(?m)^(\tsecret = ).*$", lambda it: it[1] + book_secret, text, count=1)
 
 
-def clients(old, answers):
-    """access-servers.conf with those that it lacks."""
+def clients(old, answers, books=None):
+    """access-servers.conf with those that it lacks. In a pair debits come by FreeRADIUS, too."""
     text = old if old is not None else HEAD
+    if books and not re.search(r"(?m)^client books ", text):
+        text = text.rstrip("\n") + "\n\n" + BOOKS.format(**books)
     known = {name for name, _ in freeradius.CLIENT.findall(freeradius.without_comments(text))}
     test = {"name": TEST_USER, "address": TEST_ADDRESS, "vendor": "mikrotik", "version": 4}
     for it in [*answers.access_servers, test]:
@@ -106,8 +116,9 @@ def clients(old, answers):
             continue
         is_one = "/" not in it["address"]
         cut = "yes" if it["vendor"] in CUTS and is_one and it is not test else "no"
-        values = {**it, "secret": secret(), "quota": QUOTAS[it["vendor"]], "cut": cut,
-                  "kind": "ipaddr" if it["version"] == 4 else "ipv6addr"}
+        own = secret(answers, f"client-{it['name']}")
+        kind = "ipaddr" if it["version"] == 4 else "ipv6addr"
+        values = {**it, "secret": own, "quota": QUOTAS[it["vendor"]], "cut": cut, "kind": kind}
         text = text.rstrip("\n") + "\n\n" + CLIENT.format(**values)
         if cut == "yes":
             text += HOME.format(port=CUT_PORT[it["vendor"]], **values)
@@ -122,9 +133,10 @@ def secret_of(name):
     return None
 
 
-def main(old):
-    """radiusd.conf with the two files, before its modules."""
-    lacks = [it for it in INCLUDES.splitlines(True) if it.strip() not in there(old, "radiusd.conf")]
+def main(old, answers):
+    """radiusd.conf with the files of the site, before its modules."""
+    wanted = INCLUDES + ("$INCLUDE radacctd/pair.conf\n" if answers.pair else "")
+    lacks = [it for it in wanted.splitlines(True) if it.strip() not in there(old, "radiusd.conf")]
     if not lacks:
         return old
     if "\nmodules {" not in old:
@@ -177,7 +189,7 @@ def users(old):
     """Debian's file of users with that of the proof, who has no money but during it."""
     if re.search(rf"(?m)^{TEST_USER}\s", there(old, "mods-config/files/authorize")):
         return old
-    line = f'{TEST_USER}\tCleartext-Password := "{secret()}"\n'
+    line = f'{TEST_USER}\tCleartext-Password := "{secrets.token_hex(16)}"\n'
     return f"{MARK} the proof at the end of a set-up logs in by this name\n{line}\n{old}"
 
 
@@ -187,46 +199,14 @@ def password():
     return found[1] if found else None
 
 
-class Checked:
-    """FreeRADIUS reads its configuration, and finds it right."""
-
-    def text(self):
-        return "test FreeRADIUS' configuration"
-
-    def is_done(self):
-        # A test changes nothing: it belongs to the step after it.
-        return Restarted().is_done()
-
-    def do(self):
-        steps.given(["freeradius", "-C", "-l", "stdout"], seconds=60)
-
-
-class Restarted:
-    """FreeRADIUS and its parts run with the files as they are."""
-
-    UNITS = ("freeradius.service", "radacctd-mirror.service", "radacctd-front.service")
-
-    def text(self):
-        return "restart FreeRADIUS"
-
-    def newest(self):
-        found = [freeradius.path(it) for it in freeradius.OURS]
-        found += [freeradius.path("radacctd", it) for it in freeradius.SETTINGS]
-        found += [freeradius.path(it) for it in (
-            "radiusd.conf", "sites-available/default", "sites-available/inner-tunnel",
-            "mods-config/files/authorize")]
-        # A link that changed is as new as what it leads to.
-        moments = [max(os.stat(it).st_ctime, os.lstat(it).st_ctime) for it in found
-                   if os.path.exists(it)]
-        return max(moments, default=0), len(moments) == len(found)
-
-    def is_done(self):
-        newest, are_there = self.newest()
-        for name in self.UNITS:
-            begun = machine.begin_of(look.properties(name, "MainPID").get("MainPID", "0"))
-            if not begun or begun < newest:
-                return False
-        return are_there
-
-    def do(self):
-        steps.given(["systemctl", "restart", *self.UNITS])
+def running():
+    """FreeRADIUS and its parts run with the files as they are, which it has tested."""
+    paths = [freeradius.path(it) for it in freeradius.OURS]
+    paths += [freeradius.path("radacctd", it) for it in (*freeradius.SETTINGS, "pair.conf")]
+    paths += [freeradius.path(it) for it in (
+        "radiusd.conf", "sites-available/default", "sites-available/inner-tunnel",
+        "mods-config/files/authorize", "sites-enabled/radacctd-pair")]
+    paths.append("/etc/systemd/system/radacctd-mirror.service.d/pair.conf")
+    units = ("radacctd-mirror.service", "radacctd-front.service", "freeradius.service")
+    test = ("freeradius", "-C", "-l", "stdout")
+    return Fresh("test FreeRADIUS' configuration, and restart it", units, paths, test)

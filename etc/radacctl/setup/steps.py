@@ -16,6 +16,7 @@ import subprocess
 import time
 
 from radacctl import files
+from radacctl.doctor import look, machine
 
 # Lines that have a secret are not printed.
 SECRET = re.compile(r"secret|token|password|Desk-Key", re.I)
@@ -191,11 +192,10 @@ class Link:
 
 
 class Command:
-    """A command, and what tells whether it is still to be given."""
+    """A command, and what tells whether it is still to be given. Its own status may not matter."""
 
-    def __init__(self, what, holds, *words, given=None, seconds=1800):
-        self.what, self.holds, self.words = what, holds, words
-        self.given, self.seconds = given, seconds
+    def __init__(self, what, holds, *words, may_fail=False):
+        self.what, self.holds, self.words, self.may_fail = what, holds, words, may_fail
 
     def text(self):
         return self.what
@@ -204,9 +204,37 @@ class Command:
         return self.holds()
 
     def do(self):
-        said = given(self.words, self.given, self.seconds)
+        try:
+            said = given(self.words)
+        except Failed as why:
+            if not self.may_fail:
+                raise
+            said = str(why)
         if not self.holds():
             raise Failed(f"{' '.join(self.words)}: it did not help: {said[-300:]}")
+
+
+class Fresh:
+    """Restarts units that began before one of their files changed, once a test of these is well."""
+
+    def __init__(self, what, units, paths, test=()):
+        self.what, self.units, self.paths, self.test = what, units, paths, test
+
+    def text(self):
+        return self.what
+
+    def is_done(self):
+        # A link that changed is as new as what it leads to.
+        moments = [max(os.stat(it).st_ctime, os.lstat(it).st_ctime) for it in self.paths
+                   if os.path.exists(it)]
+        begun = [machine.begin_of(look.properties(it, "MainPID").get("MainPID", "0"))
+                 for it in self.units]
+        return all(it and it >= max(moments, default=0) for it in begun)
+
+    def do(self):
+        if self.test:
+            given(self.test, seconds=60)
+        given(["systemctl", "restart", *self.units])
 
 
 def given(words, text=None, seconds=1800):

@@ -8,11 +8,10 @@ import time
 
 from radacctl import files, money, site
 from radacctl.commands.key import LETTERS
-from radacctl.doctor import look, machine
-from radacctl.setup import steps
+from radacctl.setup import pair, steps
 from radacctl.setup.alone import NOTES, REDEEM_KEY, Command, File, Folder, is_known_group, unit
 from radacctl.setup.front import member
-from radacctl.setup.steps import Link
+from radacctl.setup.steps import Fresh, Link
 
 PACKAGES = ["nginx", "apache2-utils", "openssl", "fail2ban", "nftables", "python3-systemd"]
 CODES = ["fcgiwrap", "qrencode", "python3-reportlab", "fonts-dejavu-core"]
@@ -29,6 +28,8 @@ def of(answers, config):
     own = lambda *names: site.shared("nginx", *names)
     for name in ("headers.conf", "to-desk.conf", "desks-one.conf"):
         yield Link(f"{FOLDER}/{name}", own("radacctd", name))
+    if answers.pair:
+        yield File(f"{FOLDER}/desks-outbox.conf", pair.desks(answers), 0o644)
     login = files.text(own("radacctd", "login.conf"))
     yield File(f"{FOLDER}/login.conf", lambda old: login if old is None else old, 0o644)
     key = f'proxy_set_header Desk-Key "{config.keys["cashier"]}";\n'
@@ -46,8 +47,8 @@ def of(answers, config):
         yield from codes(config, own)
     yield Command("take Debian's own page of nginx away", lambda: not os.path.lexists(DEFAULT),
                   "rm", "-f", DEFAULT)
+    yield running()
     yield unit("nginx.service")
-    yield Restarted()
     yield from fail2ban(answers, own)
 
 
@@ -79,6 +80,8 @@ def same_key():
 def server(answers, own):
     """The file for nginx with the site's names."""
     text = files.text(own)
+    if answers.pair:
+        text = text.replace("radacctd/desks-one.conf;", "radacctd/desks-outbox.conf;", 1)
     pem = answers.certificate or CERTIFICATE
     key = answers.certificate_key or PRIVATE_KEY
     text = re.sub(r"(?m)^(\s+server_name )\S+;.*$", rf"\g<1>{answers.host};", text)
@@ -152,21 +155,11 @@ def codes(config, own):
     yield unit("radacctd-redeem.socket")
 
 
-class Restarted:
-    """nginx runs with the files as they are."""
-
-    def text(self):
-        return "test and restart nginx"
-
-    def is_done(self):
-        begun = machine.begin_of(look.properties("nginx.service", "MainPID").get("MainPID", "0"))
-        paths = [CONF, CERTIFICATE, *(f"{FOLDER}/{it}" for it in os.listdir(FOLDER))]
-        newest = max((os.stat(it).st_ctime for it in paths if os.path.exists(it)), default=0)
-        return bool(begun) and begun >= newest
-
-    def do(self):
-        steps.given(["nginx", "-t"], seconds=60)
-        steps.given(["systemctl", "restart", "nginx.service"])
+def running():
+    """nginx runs with the files as they are, which it has tested."""
+    names = os.listdir(FOLDER) if os.path.isdir(FOLDER) else []
+    paths = [CONF, CERTIFICATE, *(f"{FOLDER}/{it}" for it in names)]
+    return Fresh("test and restart nginx", ("nginx.service",), paths, ("nginx", "-t"))
 
 
 def fail2ban(answers, own):

@@ -1,0 +1,136 @@
+"""The steps to one machine of a pair, and the file of answers for the other one."""
+
+import json
+import re
+
+from radacctl import desk, files, freeradius, names, site
+from radacctl.setup import steps
+from radacctl.setup.alone import NOTES, Command, File, Folder, unit
+from radacctl.setup.steps import Fresh, Link
+
+OTHER = f"{NOTES}/other-machine.toml"
+TOOLS = ("radacctd-outbox", "radacctd-compare")
+UNITS = ("radacctd-outbox.service", "radacctd-compare.service", "radacctd-compare.timer",
+         "radacctd-state@.service")
+SYSTEMD = "/etc/systemd/system"
+# The one account that the proof of a set-up uses.
+TEST = b"radacctd-setup"
+TO_OUTBOX = "[Service]\nEnvironment=RADACCTD_DESKS=127.0.0.1:8067\n"
+
+
+def own(name):
+    return site.shared("pair", name)
+
+
+def test_book():
+    """A book that has sold is not copied by a set-up."""
+    try:
+        accounts = names.balances_of(files.text(site.BALANCES), site.BALANCES)
+    except ValueError:
+        return
+    others = set(accounts) - {TEST}
+    if others and not files.text("/etc/default/radacctd-pair"):
+        raise steps.Failed(f"the book has {len(others)} accounts already: make a pair of it by the "
+                           "steps of PAIR.md, which copy the book")
+
+
+def in_front(answers, config):
+    """FreeRADIUS' part: reports go to both books."""
+    test_book()
+    raddb = freeradius.path
+    known = freeradius.value(freeradius.text("radacctd", "pair.conf"), "secret")
+    secret = answers.secrets.get("pair") or (known if len(known) >= 16 else None)
+    config.pair_secret = secret or config.pair_secret
+    conf = conf_of(answers, config.pair_secret)
+    yield File(raddb("radacctd", "pair.conf"), conf, 0o640, of_group=site.RADIUS_USER)
+    yield Link(raddb("sites-enabled/radacctd-pair"), own("pair-server"))
+    yield Folder(f"{site.RADACCT}/radacctd-other", 0o700, site.RADIUS_USER, site.RADIUS_USER)
+    both = f"RADACCTD_OWN={answers.pair['own']}\nRADACCTD_OTHER={answers.pair['other']}\n"
+    yield File("/etc/default/radacctd-pair", both, 0o644)
+    for name in TOOLS:
+        yield Link(f"/usr/local/sbin/{name}", own(name))
+    for name in UNITS:
+        yield Link(f"{SYSTEMD}/{name}", own(name))
+    socket = files.text(own("radacctd-state.socket")).replace("ADDRESS", answers.pair["own"])
+    yield File(f"{SYSTEMD}/radacctd-state.socket", socket, 0o644)
+    yield Folder(f"{SYSTEMD}/radacctd-mirror.service.d")
+    yield Link(f"{SYSTEMD}/radacctd-mirror.service.d/pair.conf", own("mirror-of-pair.conf"))
+    if answers.has_codes:
+        yield Folder(f"{SYSTEMD}/radacctd-redeem.service.d")
+        yield File(f"{SYSTEMD}/radacctd-redeem.service.d/pair.conf", TO_OUTBOX, 0o644)
+
+
+def conf_of(answers, secret):
+    text = files.text(own("pair.conf"))
+    for name, value in (("own", answers.pair["own"]), ("other", answers.pair["other"]),
+                        ("secret", secret)):
+        text = re.sub(rf"(?m)^(\t{name} = ).*$", lambda it, to=value: it[1] + to, text, count=1)
+    return text
+
+
+def after(answers, config):
+    """What runs once FreeRADIUS does, and the answers for the other machine."""
+    for name in ("radacctd-outbox.service", "radacctd-state.socket", "radacctd-compare.timer"):
+        yield unit(name)
+    paths = [desk.CASHIER_KEY, "/etc/default/radacctd-pair"]
+    yield Fresh("restart the outbox", ("radacctd-outbox.service",), paths)
+    # It fails as long as the other machine is not there.
+    yield Command("compare both books once", has_balances, "systemctl", "start",
+                  "radacctd-compare.service", may_fail=True)
+    if not answers.secrets:
+        yield File(OTHER, Text(answers, config), 0o600)
+
+
+def has_balances():
+    return files.text("/var/lib/radacctd-pair/balances.csv") != ""
+
+
+class Text:
+    """The answers of the other machine, once all secrets are there."""
+
+    def __init__(self, answers, config):
+        self.answers, self.config = answers, config
+
+    def __call__(self, _):
+        found = {name: value for name, value in self.answers.found.items() if value != {}}
+        # Printed codes are redeemed on one machine.
+        found |= {"codes": False, "certificate": "", "certificate_key": ""}
+        pair = self.answers.pair
+        tables = {"pair": {"own": pair["other"], "other": pair["own"]}, "secrets": self.secrets()}
+        lists = {"plan": found.pop("plan"), "access_server": found.pop("access_server")}
+        found.pop("pair", None)
+        found.pop("secrets", None)
+        lines = ["# The other machine of the pair: radacctl setup --yes with this file. It has",
+                 "# all secrets: remove it on both machines once that is done."]
+        lines += [f"{name} = {shown(value)}" for name, value in found.items()]
+        for name, rows in lists.items():
+            lines += [line for row in rows for line in ("", f"[[{name}]]", *members(row))]
+        for name, row in tables.items():
+            lines += ["", f"[{name}]", *members(row)]
+        return "\n".join(lines) + "\n"
+
+    def secrets(self):
+        clients = freeradius.blocks(freeradius.CLIENT, "radacctd", "access-servers.conf")
+        found = {f"client-{name}": freeradius.value(text, "secret") for name, text in clients
+                 if name != "books"}
+        found |= {it: self.config.clients[it]["secret"] for it in ("freeradius", "books")}
+        return found | self.config.keys | {"pair": self.config.pair_secret}
+
+
+def members(row):
+    return [f"{json.dumps(name)} = {shown(value)}" for name, value in row.items()
+            if name != "version"]
+
+
+def shown(value):
+    """A value as TOML has it: texts, numbers, truths, lists and no table."""
+    return json.dumps(value, ensure_ascii=False)
+
+
+def desks(answers):
+    """The file for nginx that sells by the outbox, and asks either machine."""
+    text = files.text(own("desks-outbox.conf"))
+    text = text.replace("10.0.0.5", "OWN").replace("10.0.0.6", answers.pair["other"])
+    return text.replace("OWN", answers.pair["own"])
+
+
