@@ -70,10 +70,10 @@ def of(answers, config):
     yield File(raddb("sites-available/default"), lambda old: default(old, answers))
     yield File(raddb("sites-available/inner-tunnel"), lambda old: inner(old, answers))
     yield File(raddb("mods-config/files/authorize"), users)
-    if answers.pair:
-        yield from pair.in_front(answers, config)
     for name in ("", "/radacctd", "/radacctd-unsent"):
         yield Folder(site.RADACCT + name, 0o700, site.RADIUS_USER, site.RADIUS_USER)
+    if answers.pair:
+        yield from pair.in_front(answers, config)
     yield member(site.RADIUS_USER)
     yield Command("let systemd read its units", is_reloaded, "systemctl", "daemon-reload")
     yield running()
