@@ -92,9 +92,9 @@ def try_it(box, secret, name, password, spend):
     """The guest logs in by 802.1X, and is disconnected once the money is gone."""
     with Wire(box, secret, name, password) as wire:
         end = time.monotonic() + 60
-        while "Accounting-Request" not in wire.log() and time.monotonic() < end:
+        while "starting accounting session" not in wire.log() and time.monotonic() < end:
             time.sleep(0.5)
-        found = [it in wire.log() for it in ("authorizing port", "Accounting-Request")]
+        found = [it in wire.log() for it in ("authorizing port", "starting accounting")]
         check("a guest logs in through hostapd, which reports the session", found, [True, True])
         spend()
         end = time.monotonic() + 90

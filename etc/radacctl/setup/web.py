@@ -43,6 +43,7 @@ def of(answers, config):
     yield File(money.SETTINGS, lambda old: settings(old, answers), 0o644)
     yield from logs(own)
     yield member(site.WEB_USER)
+    yield no_fcgiwrap()
     if answers.has_codes:
         yield from codes(config, own)
     yield Command("take Debian's own page of nginx away", lambda: not os.path.lexists(DEFAULT),
@@ -147,12 +148,16 @@ def codes(config, own):
                   f"{prefix}/{user}.conf")
     yield Folder("/var/lib/radacctd-vouchers", 0o750, of_group=user)
     yield File(REDEEM_KEY, config.keys["redeem"] + "\n", 0o640, of_group=user)
-    both = ["fcgiwrap.socket", "fcgiwrap.service"]
-    is_off = lambda: not any(it in steps.given(["systemctl", "list-units", "--plain", *both])
-                             for it in both) and not os.path.lexists(
-        "/etc/systemd/system/sockets.target.wants/fcgiwrap.socket")
-    yield Command("stop Debian's own fcgiwrap", is_off, "systemctl", "disable", "--now", *both)
     yield unit("radacctd-redeem.socket")
+
+
+def no_fcgiwrap():
+    """Debian's own one runs programs for every page, also if it came with another package."""
+    both = ["fcgiwrap.socket", "fcgiwrap.service"]
+    wanted = "/etc/systemd/system/sockets.target.wants/fcgiwrap.socket"
+    is_off = lambda: not os.path.lexists(wanted) and not any(
+        it in steps.given(["systemctl", "list-units", "--plain", *both]) for it in both)
+    return Command("stop Debian's own fcgiwrap", is_off, "systemctl", "disable", "--now", *both)
 
 
 def running():
