@@ -76,6 +76,7 @@ def of(answers, config):
         yield from pair.in_front(answers, config)
     yield member(site.RADIUS_USER)
     yield Command("let systemd read its units", is_reloaded, "systemctl", "daemon-reload")
+    yield from parts_running()
     yield running()
     for name in ("radacctd-mirror.service", "radacctd-front.service", "radacctd-clock.timer",
                  "freeradius.service"):
@@ -200,13 +201,22 @@ def password():
 
 
 def running():
-    """FreeRADIUS and its parts run with the files as they are, which it has tested."""
-    paths = [freeradius.path(it) for it in freeradius.OURS]
+    """FreeRADIUS runs with the files as they are, which it has tested."""
+    parts = ("radacctd/balances-mirror", "radacctd/front-counts", "radacctd/kept-sessions")
+    paths = [freeradius.path(it) for it in freeradius.OURS if it not in parts]
     paths += [freeradius.path("radacctd", it) for it in (*freeradius.SETTINGS, "pair.conf")]
     paths += [freeradius.path(it) for it in (
         "radiusd.conf", "sites-available/default", "sites-available/inner-tunnel",
         "mods-config/files/authorize", "sites-enabled/radacctd-pair")]
-    paths.append("/etc/systemd/system/radacctd-mirror.service.d/pair.conf")
-    units = ("radacctd-mirror.service", "radacctd-front.service", "freeradius.service")
     test = ("freeradius", "-C", "-l", "stdout")
-    return Fresh("test FreeRADIUS' configuration, and restart it", units, paths, test)
+    return Fresh("test FreeRADIUS' configuration, and restart it", ("freeradius.service",), paths,
+                 test)
+
+
+def parts_running():
+    """So do the mirror of the balances and the counts."""
+    drop_in = "/etc/systemd/system/radacctd-mirror.service.d/pair.conf"
+    for name, path in (("mirror", freeradius.path("radacctd/balances-mirror")),
+                       ("front", freeradius.path("radacctd/front-counts"))):
+        paths = [path, *([drop_in] if name == "mirror" else [])]
+        yield Fresh(f"restart radacctd-{name}", (f"radacctd-{name}.service",), paths)
