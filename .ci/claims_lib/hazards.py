@@ -117,6 +117,12 @@ KEPT = {
         "If one stops trying, that report is lost until the session's next report",
         "the kernel drops the rest",
     ),
+    "docs/START.md": (
+        "Both files have all secrets: remove them",
+        "The book of a site that has sold is copied by hand",
+        "It never changes a plan, a secret or a key that is there",
+        "Without a certificate it makes one that browsers warn of",
+    ),
     "docs/TROUBLE.md": (
         "Delete nothing in `/var/lib/radacctd`",
         "A restart fails",
