@@ -352,6 +352,7 @@ class FreeRadius:
     def mirrors(self, book):
         """Keeps the mirror, as the unit does."""
         words = [os.path.join(FILES, "balances-mirror"), "--queue", self.queue]
+        words += ["--state", os.path.join(self.folder, "run", "radacctd-queue")]
         words += [book.balances, book.plans, self.mirror, "0.2"]
         # It says once that radacctd has written no balances yet.
         self.mirroring = subprocess.Popen(words, stderr=subprocess.DEVNULL)

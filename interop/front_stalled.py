@@ -104,6 +104,34 @@ def as_of(radius):
         return opened.execute("SELECT as_of FROM mirror").fetchone()[0]
 
 
+@part
+def unwritten(folder):
+    """No report can be queued, and so none is answered: no login gets again what is used."""
+    with both(folder, settings=[("oldest", str(OLDEST))]) as (book, radius):
+        check("bo buys", book.sell("bo", MONEY, "V-1"), 201)
+        waits_for("and has a quota for that", lambda: told(radius, "bo"), quota(FULL))
+        time.sleep(2)
+        # A file is in the place of each reader's folder.
+        for name in front.READERS:
+            path = os.path.join(radius.queue, name)
+            if os.path.exists(path):
+                os.rename(path, os.path.join(folder, name))
+            front.written(path, "")
+        lines = report("Stop", "U-1", "bo", FULL * MEBIBYTE)
+        check("his report is not answered", radius.reports("ap1", lines), False)
+        old = lambda: time.time() - as_of(radius) > OLDEST + 1
+        waits_for("the balances count as old in time", old, True)
+        got = [granted(radius, "bo") for _ in range(3)]
+        check("three logins get a part of `last_quota`", got, [50, 25, 12])
+        for name in front.READERS:
+            path = os.path.join(radius.queue, name)
+            os.remove(path)
+            if os.path.exists(os.path.join(folder, name)):
+                os.rename(os.path.join(folder, name), path)
+        check("with the folders again it is answered", radius.reports("ap1", lines), True)
+        waits_for("and charged", lambda: book.balance("bo"), 0)
+
+
 REPORTS = 10_000
 
 

@@ -1,5 +1,5 @@
-"""The parts of interop/freeradius about how old the balances of the mirror are while reports wait in
-the queue, and after they were sent.
+"""The parts of interop/freeradius about how old the balances of the mirror are while reports wait
+in the queue, or cannot be written there, and after they were sent.
 """
 
 import os
@@ -53,9 +53,14 @@ class Waiting(Kept):
 
     def start(self):
         words = [os.path.join(FILES, "balances-mirror"), "--queue", self.queue]
+        words += ["--state", os.path.join(self.folder, "state")]
         words += [self.balances, self.plans, self.mirror, "0.1"]
         with open(self.log, "ab") as file:
             self.process = subprocess.Popen(words, stderr=file)
+
+    def end_process(self):
+        self.process.kill()
+        self.process.communicate()
 
     def renew(self):
         """As radacctd does, only more often."""
@@ -137,6 +142,7 @@ def aging(folder):
             kept.put(text())
             kept.becomes(f"{name}: {wanted} seconds", wanted)
         in_places(kept)
+        not_written(kept)
         large(kept)
         without_a_queue(kept)
     finally:
@@ -165,6 +171,28 @@ def in_places(kept):
     kept.put(record(300), "reader-0/detail-2")
     front.written(os.path.join(kept.queue, "reader-1", "detail-1"), record(600))
     kept.becomes("the oldest of two files", 600)
+
+
+def not_written(kept):
+    """The queue's writer has a fault: then no report is answered, and none waits."""
+    kept.put("")
+    kept.becomes("nothing waits", 0)
+    mark = os.path.join(kept.folder, "state.fault")
+    front.written(mark, "no space\n")
+    time.sleep(12)
+    age = kept.age()
+    check("no report is written: they grow old", age is not None and 8 < age < 20, True)
+    kept.end_process()
+    kept.start()
+    kept.becomes("a new mirror does not know since when", None)
+    os.utime(mark, (time.time() - 3700, time.time() - 3700))
+    kept.becomes("nothing has failed for an hour: they are new", 0)
+    os.utime(mark)
+    time.sleep(12)
+    age = kept.age()
+    check("again: they grow old", age is not None and 8 < age < 20, True)
+    os.remove(mark)
+    kept.becomes("reports are written again: they are new", 0)
 
 
 def large(kept):
