@@ -7,6 +7,7 @@ Where nothing else would do, a row says how it feigns: a fault that would take a
 RADDB = "/etc/freeradius/3.0"
 QUEUE = "/var/log/freeradius/radacct/radacctd"
 UNSENT = "/var/log/freeradius/radacct/radacctd-unsent"
+SQL = f"{RADDB}/mods-enabled/sql"
 DEVICES = f"{RADDB}/policy.d/radacctd-devices"
 CONFIG, COPIES = "/etc/radacctd.toml", "/var/backups/radacctd"
 MIRROR = "/run/radacctd-mirror/balances.db"
@@ -146,6 +147,9 @@ BREAKS = {
     "copy-old": (f"touch -d '2 days ago' {COPIES}/20*", f"touch {COPIES}/20*"),
     "copy-bad": (f"cp -a {COPIES}/20*/site.tar.gz /root/kept; truncate -s 1000 "
                  f"{COPIES}/20*/site.tar.gz", f"cp -a /root/kept {COPIES}/20*/site.tar.gz"),
+    # It is no right file for FreeRADIUS, either: another line says so.
+    "copy-sql": (f"(echo 'sql {{'; echo 'dialect = \"postgresql\"'; echo '}}') > {SQL}",
+                 f"rm {SQL}"),
     "copy-exports": (f"mv {COPIES}/exports /root/", f"mv /root/exports {COPIES}/"),
 }
 # The server stops for so long that balances grow old, at radacctd and at logins.

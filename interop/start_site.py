@@ -1,6 +1,7 @@
 """A machine on which `radacctl setup` makes a whole site."""
 
 import os
+import secrets
 import time
 
 import machine
@@ -38,6 +39,30 @@ def prepare(box, folder):
     box.write("/usr/local/sbin/timedatectl", CLOCK, 0o755)
     box.must("rm -f /usr/bin/timedatectl && mv /usr/local/sbin/timedatectl /usr/bin/")
     box.write(ANSWERS, answers(box), 0o600)
+
+
+ROLE = """CREATE ROLE radius LOGIN PASSWORD '{}';
+CREATE DATABASE radius OWNER radius;
+"""
+USER = """INSERT INTO radcheck (username, attribute, op, value)
+VALUES ('nora', 'Cleartext-Password', ':=', 'nora-has-one');
+"""
+
+
+def database(box):
+    """What the administrator of a database does before: FreeRADIUS' own tables, and a user. The
+    password is returned.
+    """
+    password = secrets.token_hex(12)
+    schema = f"{RADDB}/mods-config/sql/main/postgresql/schema.sql"
+    box.write("/root/radius-password", f"{password}\n", 0o600)
+    box.write("/root/.pgpass", f"*:*:*:*:{password}\n", 0o600)
+    box.write("/tmp/role.sql", ROLE.format(password))
+    box.write("/tmp/user.sql", USER)
+    box.must("systemctl start postgresql && su postgres -c 'psql -qf /tmp/role.sql'")
+    for path in (schema, "/tmp/user.sql"):
+        box.must(f"HOME=/root psql -qwh localhost -U radius -f {path} radius")
+    return password
 
 
 def set_up(box, path=ANSWERS):

@@ -102,6 +102,7 @@ ALLOWED = {
     "docs/START.md": {
         "/desk/": "nginx' path",
         "/root/radacctd-setup": "radacctl setup makes it",
+        "[sql]": "a table of the answers",
         "~before-": "a part of a name that radacctl setup makes",
     },
     "docs/ACCESS-SERVERS.md": {

@@ -27,7 +27,7 @@ import sys
 from radacctl import files, program, site
 from radacctl.commands import doctor
 from radacctl.doctor import copies
-from radacctl.setup import alone, answers, devices, front, pair, proof, steps, web
+from radacctl.setup import alone, answers, devices, front, pair, proof, sql, steps, web
 
 SAMPLE = """\
 name = "Hotel Example"              # on pages and printed vouchers
@@ -51,6 +51,11 @@ name = "lobby"
 address = "10.0.0.1"
 vendor = "mikrotik"                 # or unifi, pfsense, openwrt, other
 
+# Users of a PostgreSQL database with FreeRADIUS' own tables, in place of a file.
+# [sql]
+# server = "db.example.org"
+# password_file = "/root/radius-password"
+
 # Two machines with the same balances, on a link with nobody else in it. The set-up of this one
 # writes a file of answers for the other one.
 # [pair]
@@ -72,6 +77,7 @@ def parser():
 
 def packages_of(wanted):
     found = list(front.PACKAGES) if wanted.has_front else []
+    found += sql.PACKAGES if wanted.sql else []
     if wanted.host:
         found += web.PACKAGES
     return [*found, *(web.CODES if wanted.has_codes else [])]

@@ -46,7 +46,7 @@ import tomllib
 import urllib.parse
 import zlib
 
-from radacctl import files, program, site
+from radacctl import files, freeradius, program, site
 from radacctl.files import FOLDER, opened_folder as opened, regular
 from radacctl.program import say
 
@@ -70,6 +70,7 @@ PLACES = [
     "/var/lib/radacctd-outbox",
     "/var/lib/radacctd-pair",
     "/var/log/freeradius/radacct/radacctd-unsent",
+    "/var/lib/radacctd-sql",
     "/var/log/nginx/radacctd-sales.log*",
 ]
 # Of these the folders alone are copied: what waits in a queue is sent within seconds.
@@ -335,6 +336,36 @@ def enabled():
     return sorted(found)
 
 
+DUMP = "/var/lib/radacctd-sql/radius.sql"
+
+
+def dump_sql():
+    """Writes FreeRADIUS' PostgreSQL database, if the site has one, where it is copied.
+
+    If that fails, the dump of an earlier night stays and is copied, and a line says so.
+    """
+    text = freeradius.text("mods-enabled", "sql")
+    if freeradius.value(text, "dialect") != "postgresql":
+        return
+    names = {"-h": "server", "-p": "port", "-U": "login", "-d": "radius_db"}
+    words = [it for option, name in names.items() for it in (option, freeradius.value(text, name))]
+    os.makedirs(os.path.dirname(DUMP), mode=0o700, exist_ok=True)
+    password = re.sub(r"([:\\])", r"\\\1", freeradius.value(text, "password"))
+    with tempfile.TemporaryDirectory() as folder:
+        path = os.path.join(folder, "pgpass")
+        files.make(path, f"*:*:*:*:{password}\n".encode())
+        files.remove(DUMP + ".new")
+        environment = {"PATH": "/usr/bin:/bin", "PGPASSFILE": path, "PGCONNECT_TIMEOUT": "20"}
+        try:
+            done = subprocess.run(["pg_dump", "-w", *words, "-f", DUMP + ".new"], env=environment,
+                                  capture_output=True, text=True, timeout=3600)
+            if done.returncode:
+                raise OSError(done.stderr.strip()[-200:])
+            os.rename(DUMP + ".new", DUMP)
+        except (OSError, subprocess.TimeoutExpired) as why:
+            say(f"FreeRADIUS' database is not in this copy as it is now: {why}")
+
+
 def members_of(name):
     try:
         return grp.getgrnam(name).gr_mem
@@ -346,6 +377,7 @@ def save(words):
     """Writes the archive under another name, tests it, and gives it its own."""
     part = words.file + ".part"
     files.remove(part)
+    dump_sql()
     found = places()
     archive = Archive(part)
     for path in found:

@@ -4,12 +4,13 @@ import os
 import re
 import time
 
-from radacctl import site
+from radacctl import freeradius, site
 from radacctl.doctor import look
 from radacctl.doctor.faults import Fault
 
 OLDEST = 36 * 3600
 NAME = re.compile(r"\d{4}-\d{2}-\d{2}(?:\.\d{6})?")
+DUMP = "/var/lib/radacctd-sql/radius.sql"
 NOW = "systemctl start radacctd-nightly; journalctl -u radacctd-nightly -n 20"
 
 
@@ -41,6 +42,17 @@ def newest(folder, name):
         status, said = look.run(tool, "site", "test", f"{path}/site.tar.gz", seconds=1800)
         if status:
             yield Fault("copy-bad", f"{path}: {look.last_line(said)}", NOW)
+    yield from database()
     if not os.path.exists(f"{folder}/exports/{name}/sessions.csv.gz"):
         text = f"{folder}/exports/{name} is missing: no report of that day"
         yield Fault("copy-exports", text, NOW)
+
+
+def database():
+    """FreeRADIUS' own users, if they are in PostgreSQL."""
+    text = freeradius.text("mods-enabled", "sql")
+    status = look.status_of(DUMP)
+    if freeradius.value(text, "dialect") != "postgresql":
+        return
+    if status is None or time.time() - status.st_mtime > OLDEST:
+        yield Fault("copy-sql", f"{DUMP} is missing or old", NOW)

@@ -179,6 +179,10 @@ WARNINGS = {
         "[DAMAGE](DAMAGE.md); make a copy now",
     ),
     "copy-exports": ("the last night wrote no exports", "make a copy now"),
+    "copy-sql": (
+        "FreeRADIUS' database is not in the last copy",
+        "`systemctl start radacctd-nightly` says why",
+    ),
     "pair-waits": (
         "vouchers wait for a desk",
         "start what is down ([PAIR](PAIR.md#start-it-again))",

@@ -104,6 +104,9 @@ def settings(kind):
 
 def samples():
     """Secrets of the samples, short ones, and files that others may read."""
+    sql = freeradius.path("mods-enabled", "sql")
+    if os.path.exists(sql) and look.mode_of(look.status_of(sql)) & 0o007:
+        yield Fault("mode-open", f"others may read {sql}", f"chmod o= {sql}")
     for name in ("settings.conf", "access-servers.conf", "pair.conf"):
         path = freeradius.path("radacctd", name)
         if not os.path.exists(path):

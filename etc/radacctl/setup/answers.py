@@ -17,9 +17,12 @@ TOP = {
     "name": "", "freeradius": True, "server": "", "host": "", "certificate": "",
     "certificate_key": "", "currency": "", "decimals": 2, "cashiers": [], "codes": True,
     "front_desk": [], "class": "", "plan": None, "access_server": [], "pair": {}, "secrets": {},
+    "sql": {},
 }  # fmt: skip
 PLAN = {"class": None, "block": None, "unit": None, "count": "both"}
 PAIR = {"own": None, "other": None}
+SQL = {"server": "localhost", "port": 5432, "database": "radius", "login": "radius",
+       "password_file": None}
 ACCESS_SERVER = {"name": None, "address": None, "vendor": "other"}
 # Plans and names that setup makes itself.
 TAKEN, TAKEN_NAMES = ("debit",), ("freeradius", "books", "radacctd-setup")
@@ -98,6 +101,7 @@ class Answers:
         self.access_servers = [access_server_of(each, self.has_front)
                                for each in it["access_server"]]
         self.pair = table(it["pair"], PAIR, "[pair]") if it["pair"] else None
+        self.sql = table(it["sql"], SQL, "[sql]") if it["sql"] else None
         # Those of the other machine of a pair, which has made a file of them.
         self.secrets = it["secrets"]
         self.found = it
@@ -118,6 +122,8 @@ class Answers:
                  f"secrets: {name} is no secret of a set-up")
         if self.pair:
             self.test_pair()
+        if self.sql:
+            self.test_sql()
         self.test_pages()
 
     def test_pair(self):
@@ -128,6 +134,16 @@ class Answers:
             except (ValueError, TypeError):
                 raise Wrong(f"[pair]: {name} is no address of IPv4") from None
         need(self.pair["own"] != self.pair["other"], "[pair]: both machines have one address")
+
+    def test_sql(self):
+        need(self.has_front, "users in a database need FreeRADIUS in front")
+        for name in ("server", "database", "login"):
+            need(re.fullmatch(r"[A-Za-z0-9._:-]{1,253}", self.sql[name]),
+                 f"[sql]: {name} is 1 to 253 letters, digits or . _ : -")
+        need(1 <= self.sql["port"] <= 65535, "[sql]: port is 1 to 65535")
+        path = self.sql["password_file"]
+        need(isinstance(path, str) and re.fullmatch(r"/[A-Za-z0-9._/-]+", path),
+             "[sql]: password_file is a path from the root")
 
     def test_pages(self):
         texts = (self.name, self.currency)

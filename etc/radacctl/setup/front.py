@@ -4,7 +4,7 @@ import re
 import secrets
 
 from radacctl import files, freeradius, site
-from radacctl.setup import pair, steps
+from radacctl.setup import pair, sql, steps
 from radacctl.setup.alone import Command, File, Folder, secret, unit
 from radacctl.setup.steps import Fresh, Link
 
@@ -70,6 +70,8 @@ def of(answers, config):
     yield File(raddb("sites-available/default"), lambda old: default(old, answers))
     yield File(raddb("sites-available/inner-tunnel"), lambda old: inner(old, answers))
     yield File(raddb("mods-config/files/authorize"), users)
+    if answers.sql:
+        yield from sql.of(answers)
     for name in ("", "/radacctd", "/radacctd-unsent"):
         yield Folder(site.RADACCT + name, 0o700, site.RADIUS_USER, site.RADIUS_USER)
     if answers.pair:
@@ -172,6 +174,8 @@ def lacks(text, section, word):
 def default(old, answers):
     """The server default: reports are queued, logins are asked for their balance."""
     text = there(old, "sites-available/default")
+    if answers.sql:
+        text = sql.without_sql(text)
     if lacks(text, "accounting", "radacctd_accounting"):
         text = within(text, "accounting", "\tradacctd_accounting\n")
     if lacks(text, "post-auth", "radacctd_login"):
@@ -207,7 +211,7 @@ def running():
     paths += [freeradius.path("radacctd", it) for it in (*freeradius.SETTINGS, "pair.conf")]
     paths += [freeradius.path(it) for it in (
         "radiusd.conf", "sites-available/default", "sites-available/inner-tunnel",
-        "mods-config/files/authorize", "sites-enabled/radacctd-pair")]
+        "mods-config/files/authorize", "sites-enabled/radacctd-pair", "mods-enabled/sql")]
     test = ("freeradius", "-C", "-l", "stdout")
     return Fresh("test FreeRADIUS' configuration, and restart it", ("freeradius.service",), paths,
                  test)
