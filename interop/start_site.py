@@ -57,10 +57,10 @@ def database(box):
     schema = f"{RADDB}/mods-config/sql/main/postgresql/schema.sql"
     box.write("/root/radius-password", f"{password}\n", 0o600)
     box.write("/root/.pgpass", f"*:*:*:*:{password}\n", 0o600)
-    box.write("/tmp/role.sql", ROLE.format(password))
-    box.write("/tmp/user.sql", USER)
-    box.must("systemctl start postgresql && su postgres -c 'psql -qf /tmp/role.sql'")
-    for path in (schema, "/tmp/user.sql"):
+    box.write("/var/tmp/role.sql", ROLE.format(password))
+    box.write("/var/tmp/user.sql", USER)
+    box.must("systemctl start postgresql && su postgres -c 'psql -qf /var/tmp/role.sql'")
+    for path in (schema, "/var/tmp/user.sql"):
         box.must(f"HOME=/root psql -qwh localhost -U radius -f {path} radius")
     return password
 
