@@ -12,7 +12,7 @@ import unittest.mock
 
 from radacctl import freeradius
 from radacctl.doctor import faults, look
-from radacctl.setup import alone, answers, front, pair, steps
+from radacctl.setup import alone, answers, front, pair, sql, steps
 from tool_tests import ROOT
 
 PLAN = {"class": "default", "block": 1000, "unit": 5}
@@ -221,6 +221,26 @@ post-auth {
             again = alone.Config(other)
         self.assertEqual((again.keys, again.clients), (config.keys, config.clients))
         self.assertEqual(front.clients(None, other, again.clients["books"]), text)
+
+    def test_a_password_cannot_leave_its_line(self):
+        with tempfile.TemporaryDirectory() as folder:
+            path = os.path.join(folder, "password")
+            for text in ('a"b', "a\\b", "a$b", "a\nb", "%{x}", "", "é"):
+                with open(path, "w", encoding="utf-8") as file:
+                    file.write(text + "\n")
+                self.assertRaises(steps.Failed, sql.password, path)
+            with open(path, "w", encoding="utf-8") as file:
+                file.write("a:b'c d\n")
+            self.assertEqual(sql.password(path), "a:b'c d")
+
+    def test_reports_are_not_written_into_the_database(self):
+        text = self.SITE.replace("\tdetail\n", "\tdetail\n\t-sql\n")
+        text = text.replace("\tfilter_username\n", "\tfilter_username\n\t-sql\n")
+        found = sql.without_sql(text)
+        self.assertEqual(sql.without_sql(found), found)
+        bare = freeradius.without_comments(found)
+        self.assertNotIn("-sql", freeradius.section(bare, "accounting"))
+        self.assertIn("-sql", freeradius.section(bare, "authorize"))
 
     def test_values(self):
         for text, wanted in (('x = "a b"', "a b"), ("x = a", "a"), ('x = ""', ""), ("y = a", "")):
