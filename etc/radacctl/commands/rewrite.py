@@ -271,8 +271,10 @@ def leave_root(words):
     # Root sees what other users' processes have open.
     refuse_if_held(book)
     kind = {None: [], True: ["--page-sums"], False: ["--no-page-sums"]}[words.page_sums]
-    tool = os.path.realpath(sys.argv[0])
-    again = ["/usr/bin/python3", "-I", tool, "rewrite", "--config", config, *kind, book]
+    tool = os.path.abspath(sys.argv[0])
+    # An older name of the program is the command itself.
+    name = ["rewrite"] if os.path.basename(tool) == "radacctl" else []
+    again = ["/usr/bin/python3", "-I", tool, *name, "--config", config, *kind, book]
     command = [*done.stdout.splitlines(), *again]
     os.chdir("/")
     os.execvp(command[0], command)
