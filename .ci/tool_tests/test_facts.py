@@ -89,7 +89,9 @@ class Desk(unittest.TestCase):
 
     def test_keys(self):
         key = "cash-key-00000001"
-        self.assertEqual(self.key(f"\n {key} \r\n\n".encode()), [key])
+        self.assertEqual(self.key(f" {key} \r\n\n".encode()), [key])
+        self.assertEqual(self.key(f"\n{key}\n".encode(), most=2), [key])
+        self.assertRaisesRegex(desk.WrongKey, "^line 2 ", self.key, f"\n{key}\n".encode())
         self.assertEqual(self.key(f"{key}\n{key[:-1]}2\n".encode(), most=2)[1], f"{key[:-1]}2")
         for mode in (0o640, 0o604):
             self.assertRaises(desk.WrongKey, self.key, key.encode(), mode)

@@ -74,8 +74,10 @@ def keys_in(path, most, may_read=lambda status: False):
     named = [(at, line.strip()) for at, line in enumerate(lines, 1) if line.strip()]
     if not named:
         raise WrongKey(f"{path} has no key: {TOKEN_RULE}")
-    if len(named) > most:
-        at = named[most][0]
+    # One key is on the first line.
+    extra = named[most:] if len(named) > most else [it for it in named if most == 1 and it[0] > 1]
+    if extra:
+        at = extra[0][0]
         raise WrongKey(f"line {at} of {path} is one too many: it has one key on one line")
     for at, line in named:
         if not TOKEN.fullmatch(line):
