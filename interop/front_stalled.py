@@ -63,7 +63,7 @@ def stalled(folder):
 def stall(book, radius, path, texts, account):
     """Logins of one who uses what each of them gets, and reports it."""
     right, wrong = texts
-    check(f"{account} buys", book.sell(account, MONEY, f"V-{account}"), 201)
+    check(f"{account} buys", book.sell(account, MONEY, f"V-{account[-1]}"), 201)
     waits_for("and has a quota for that", lambda: told(radius, account), quota(FULL))
     # Those tries count as logins until balances are of a later second.
     time.sleep(2)
