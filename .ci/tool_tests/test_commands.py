@@ -131,6 +131,13 @@ class Program(unittest.TestCase):
         for words in ((), ("no-such",), ("--no-such",), ("sell", "--dry")):
             self.assertEqual(self.run_it(*words).returncode, 2, words)
 
+    def test_what_is_done_is_so_though_it_cannot_be_printed(self):
+        text = "import sys; sys.path.insert(0, 'etc'); from radacctl import program; "
+        words = ["/usr/bin/python3", "-IBc", text + "program.show('done')"]
+        with open("/dev/full", "w", encoding="ascii") as full:
+            done = subprocess.run(words, stdout=full, stderr=subprocess.PIPE, cwd=ROOT)
+        self.assertEqual((done.returncode, done.stderr), (0, b""))
+
     def test_nothing_is_left_next_to_the_package(self):
         self.run_it("sell", "--dry-run")
         found = [it for _, it, _ in os.walk(os.path.join(ROOT, "etc", "radacctl"))]

@@ -1,6 +1,7 @@
 """What each command is to its caller: its name, its lines on standard error, its parser."""
 
 import argparse
+import os
 import sys
 
 # As the caller spelled it, `radacctl sell`, or an older name.
@@ -15,6 +16,15 @@ def fail(why, status=1):
     """Ends the program."""
     say(why)
     sys.exit(status)
+
+
+def show(text):
+    """Prints what is done already: if it cannot be printed, as on a full disk, it is done."""
+    try:
+        print(text, flush=True)
+    except OSError:
+        # Python would try again at the end, and change the status.
+        os.dup2(os.open(os.devnull, os.O_WRONLY), sys.stdout.fileno())
 
 
 def parser(text):

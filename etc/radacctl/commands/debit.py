@@ -280,7 +280,7 @@ class Books:
                 self.note(ANSWERED, number, name, total)
             except Refused as why:
                 program.say(f"{number} is taken, but {why}: so --list says that it has no answer")
-            print(f"{number}: {total} taken from {name}", flush=True)
+            program.show(f"{number}: {total} taken from {name}")
 
     def note(self, event, *debit):
         try:
@@ -356,7 +356,7 @@ def take_all(books, debits):
         except Refused as why:
             refused += 1
             program.say(why)
-    print(f"taken {len(debits) - refused}, refused {refused}")
+    program.show(f"taken {len(debits) - refused}, refused {refused}")
     return 1 if refused else 0
 
 
