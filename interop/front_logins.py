@@ -28,11 +28,9 @@ def logins(folder):
     clients = "".join(lines.format(*pair, SECRET) for pair in QUOTAS.items())
     settings = [("time_classes", '"^hour$"')]
     with both(folder, clients=clients, settings=settings) as (book, radius):
-        check(
-            "without money a login is refused",
-            told(radius, "al"),
-            (False, {"Reply-Message": SPENT}),
-        )
+        refused = (False, {"Reply-Message": SPENT})
+        # The mirror is made meanwhile.
+        waits_for("without money a login is refused", lambda: told(radius, "al"), refused)
         book.sell("al", 105, "V-1")
         wanted = (True, {MIKROTIK[0]: "10485760", MIKROTIK[1]: "0"})
         waits_for("105 at 10 a MiB are 10 MiB", lambda: told(radius, "al"), wanted)
