@@ -74,7 +74,7 @@ class Book(front.Book):
 
     def topup(self, account, total, number):
         """A sale straight at this desk: the status."""
-        named = OUTBOX.shown(account.encode())
+        named = OUTBOX.names.for_desk(account.encode())
         body = json.dumps({"account": named, "sum": total, "voucher": number})
         return self.ask("POST", "/topups", KILL.CASHIER, body)[0]
 
@@ -210,7 +210,7 @@ class Machine:
     def sell(self, account, total, number):
         """The status of a sale at the outbox, or None if nobody answers."""
         body = json.dumps(
-            {"account": OUTBOX.shown(account.encode()), "sum": total, "voucher": number}
+            {"account": OUTBOX.names.for_desk(account.encode()), "sum": total, "voucher": number}
         )
         caller = KILL.http.client.HTTPConnection("127.0.0.1", self.outbox_port, timeout=30)
         try:
@@ -226,7 +226,7 @@ class Machine:
         words = [os.path.join(TOOLS, "radacctd-debit"), "--config", self.book.config]
         words += ["--db", self.book.book, "--secret-file", self.secret, "--journal", journal]
         words += ["--port", str(self.radius.acct)]
-        words += [OUTBOX.shown(account.encode()), str(total), number]
+        words += [OUTBOX.names.for_desk(account.encode()), str(total), number]
         return subprocess.run(words, capture_output=True, text=True).returncode
 
     def processes(self):
@@ -304,6 +304,6 @@ def sum_of(sessions, vouchers, debits):
     moves = [*vouchers.values(), *((account, -total) for account, total in debits.values())]
     moves += [(account, -price(plan, octets)) for account, plan, octets in sessions.values()]
     for account, total in moves:
-        name = OUTBOX.shown(account.encode())
+        name = OUTBOX.names.for_desk(account.encode())
         wanted[name] = wanted.get(name, 0) + total
     return wanted
