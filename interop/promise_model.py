@@ -275,7 +275,9 @@ def charge_faults(session, row, least, most):
 
 def moment_faults(session, row):
     """Of when a session was, as far as a clock that was set off lets it be known."""
-    moments = [it.moment for it in session.reports]
+    # A copy that is sent with the delay of the first one is dated by when it was sent.
+    copies = [at - delay for it in session.reports for at, delay in it.sent]
+    moments = [it.moment for it in session.reports] + copies
     if int(row["first"]) < min(moments) - OFF or int(row["last"]) > max(moments) + OFF:
         yield f"dated {row['first']} to {row['last']}", session
 
