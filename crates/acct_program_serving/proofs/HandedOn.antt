@@ -28,7 +28,7 @@ module _ {B X Y : Type 0} (b : book.Ghosts B) (x : exchange.Ghosts X) (y : excha
     (oldest : Option ℕ) (config : Config) (turns : ℕ) (Went : List Slice → Type 0) (old new : B)
     (first last : X)
     (given back : Y) (starts : Agrees x y first given) (stops : Agrees x y last back) where
-  ran_so : (served : Served) (why : Until)
+  pub ran_so : (served : Served) (why : Until)
       → Ran b x oldest config turns Went old new first last served why
       → Ran b y oldest config turns Went old new given back served why
   ran_so served why ran = record {
@@ -77,12 +77,12 @@ polls r seen each first (slice ∷ later) last (next, goes, on, rest) =
 -- a run of slices, whose rounds went another way, too
 however : {B : Type 0} (b : book.Ghosts B) (oldest : Option ℕ) (config : Config) (old new : B)
     (told later : Option (List Call)) (Went Goes : List Slice → Type 0)
-    (so : (slices : List Slice) → Went slices → Goes slices) (made : ℕ) (served : Served) (why : Until)
-    → ServesInSlices b oldest config old new told later Went made served why
-    → ServesInSlices b oldest config old new told later Goes made served why
-however b oldest config old new told later Went Goes so made served why run = record {
+    (so : (slices : List Slice) → Went slices → Goes slices) (limit made : ℕ) (served : Served) (why : Until)
+    → ServesInSlices b oldest config limit old new told later Went made served why
+    → ServesInSlices b oldest config limit old new told later Goes made served why
+however b oldest config old new told later Went Goes so limit made served why run = record {
   slices = run.slices;
-  short = run.short;
+  full = run.full;
   made = run.made;
   ends = run.ends;
   follow = run.follow;
@@ -110,7 +110,7 @@ module _ {B X : Type 0} (b : book.Ghosts B) (x : exchange.Ghosts X) (IsBound : X
     open_is = ran.open_is;
     faults = ran.faults;
     run = however b oldest config old new (x.told first) (x.told last) Went
-        (λ slices. PollsAfter seen slices polled) so (x.turn_count last - x.turn_count first) served why
+        (λ slices. PollsAfter seen slices polled) so turns (x.turn_count last - x.turn_count first) served why
         ran.run;
   }
 

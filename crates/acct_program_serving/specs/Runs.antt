@@ -60,5 +60,5 @@ module _ {B X : Type 0} (b : book.Ghosts B) (x : exchange.Ghosts X) where
     pub stuck : why ≡ until.Stuck → 0 < count_for served.dropped reason.Unavailable
     pub open_is : why ≡ until.AllMade → 0 < turns → b.is_sound new → b.is_open new
     pub faults : x.failure_count last ≡ x.failure_count first + served.faults
-    pub run : ServesInSlices b oldest config old new (x.told first) (x.told last) Went
+    pub run : ServesInSlices b oldest config turns old new (x.told first) (x.told last) Went
         (x.turn_count last - x.turn_count first) served why

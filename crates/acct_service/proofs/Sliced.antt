@@ -1,8 +1,8 @@
 -- Slices of turns, one after another.
 use Rattle.std.proofs.Common.{◌≡◌, ℕ, List, [], ◌∷◌, ◌++◌, refl, sym, ◌∙◌, ap, subst, arith}
-use Rattle.std.proofs.Common.{inl, inr, Bor, Bool, true, false, ◌≢◌}
+use Rattle.std.proofs.Common.{inl, inr, Bor, Bool, true, false, ◌≢◌, ◌-◌, min}
 use Rattle.std.specs.Prelude.{◌+◌, ◌≤◌, ◌<◌, ◌||◌, length, Option, Some, None, Contains, IfSome, unwrap_or}
-use Rattle.std.specs.Prelude.{IsTrue, ⊤}
+use Rattle.std.specs.Prelude.{⊤}
 use Rattle.std.specs.Option.{option_or, option_copied}
 use Rattle.std.proofs.lemmas.List.{map-append, append-nil}
 use Rattle.std.proofs.lemmas.List.Elements.{Contains-push_cases}
@@ -22,7 +22,7 @@ use Rattle.acct_service.specs.Serving.{is_answered}
 use Rattle.acct_wire.specs.Reasons.{count_for}
 use Rattle.acct_wire.specs.declared.reason.Reason.TheVariants.{Unavailable}
 use Rattle.acct_service.specs.Slices.{Slice, site_then, Follow, visits_in, given_in}
-use Rattle.acct_service.specs.Slices.{GoRounds, ServesInSlices, AreShort, AreStuck, NoneStuck}
+use Rattle.acct_service.specs.Slices.{GoRounds, ServesInSlices, AreFull, AreStuck, NoneStuck}
 use Rattle.acct_service.specs.Slices.{EndsSo}
 use Rattle.std.specs.List.{list_any, sum_by}
 use Rattle.std.proofs.lemmas.List.Sums.{sum_by-append}
@@ -79,11 +79,18 @@ given_same plans site None other is all same = cc
 given_same plans site (Some this) other is all same =
     let it : this ≡ other = cc in subst (λ (c : Config). c.plans ≡ plans) it (all ∙ is)
 
-short_more : (slices : List Slice) (slice : Slice) → AreShort slices → slice.turns ≤ 256
-    → length slice.visits ≤ slice.turns → AreShort (slices ++ slice ∷ [])
-short_more [] slice all few visits = (few, visits, tt)
-short_more (first ∷ later) slice (few, seen, rest) is visits =
-    (few, seen, short_more later slice rest is visits)
+full_more : (limit made : ℕ) (slices : List Slice) (slice : Slice)
+    → sum_by (λ (s : Slice). s.turns) slices ≡ made → AreFull limit slices
+    → slice.turns ≡ min (limit - made) 256 → length slice.visits ≤ slice.turns
+    → AreFull limit (slices ++ slice ∷ [])
+full_more limit made [] slice sum all is visits = (omega (arith, sum, is), visits, tt)
+full_more limit made (first ∷ later) slice sum (whole, seen, rest) is visits =
+    let all = sum_by-append (λ (s : Slice). s.turns) (first ∷ []) later in (
+      whole,
+      seen,
+      full_more (limit - first.turns) (made - first.turns) later slice (omega (arith, sum, all))
+          rest (omega (arith, sum, all, is)) visits,
+    )
 
 made_more : (slices : List Slice) (slice : Slice)
     → sum_by (λ (s : Slice). s.turns) (slices ++ slice ∷ [])
@@ -174,11 +181,11 @@ rounds_more r first then last (one ∷ second ∷ later) slice (next, went, on, 
 )
 
 module _ {B R : Type 0} (b : book.Ghosts B) (r : rounds.Ghosts R) (oldest : Option ℕ)
-    (config : Config) where
+    (config : Config) (limit : ℕ) where
   -- how far the slices got: the run so far, and the configuration for the turns that follow
   pub record Reached (old new : B) (old_told new_told : Option (List Call)) (first last : R)
       (site : Config) (made : ℕ) (served : Served) (why : Until) : Type 0 where
-    pub so_far : ServesInSlices b oldest config old new old_told new_told
+    pub so_far : ServesInSlices b oldest config limit old new old_told new_told
         (λ slices. GoRounds r first slices last) made served why
     pub site_is : site ≡ site_after config so_far.slices
     -- no round so far has ended the run
@@ -191,7 +198,7 @@ module _ {B R : Type 0} (b : book.Ghosts B) (r : rounds.Ghosts R) (oldest : Opti
   reached_none book told first served counts = record {
     so_far = record {
       slices = [];
-      short = tt;
+      full = tt;
       made = refl;
       ends = tt;
       follow = tt;
@@ -209,7 +216,7 @@ module _ {B R : Type 0} (b : book.Ghosts B) (r : rounds.Ghosts R) (oldest : Opti
   pub reached_more : (old mid looked new : B) (told later last : Option (List Call))
       (first before after : R) (site : Config) (made turns_made : ℕ) (was is : Served)
       (had has : Bool) (gave : Option Config) (why : Until)
-      → turns_made ≤ 256 → is.events ≤ was.events + turns_made
+      → turns_made ≡ min (limit - made) 256 → is.events ≤ was.events + turns_made
       → Reached old mid told later first before site made was until.AllMade
       → (turns : TakesTurns b oldest site mid looked later last was is had has)
       → EndsAfter why turns.visits → (why ≡ until.AllMade → r.is_over after ≡ false)
@@ -230,7 +237,7 @@ module _ {B R : Type 0} (b : book.Ghosts B) (r : rounds.Ghosts R) (oldest : Opti
       record {
         so_far = record {
           slices = so_far.slices ++ slice ∷ [];
-          short = short_more so_far.slices slice so_far.short few
+          full = full_more limit made so_far.slices slice so_far.made so_far.full few
               (omega (arith, turns.counts.events, events));
           made = omega (arith, made_more so_far.slices slice, so_far.made);
           ends = ends_more why so_far.slices slice so_far.ends ends;
@@ -269,7 +276,7 @@ module _ {B R : Type 0} (b : book.Ghosts B) (r : rounds.Ghosts R) (oldest : Opti
       record {
         so_far = record {
           slices = so_far.slices;
-          short = so_far.short;
+          full = so_far.full;
           made = so_far.made;
           ends = so_far.ends;
           follow = so_far.follow;
@@ -289,7 +296,7 @@ module _ {B R : Type 0} (b : book.Ghosts B) (r : rounds.Ghosts R) (oldest : Opti
       (first before after : R) (changed gave : Option Config)
       (site : Config) (made turns_made all : ℕ) (was is : Served) (had has : Bool) (why : Until)
       → all ≡ made + turns_made → site ≡ unwrap_or changed config
-      → turns_made ≤ 256 → is.events ≤ was.events + turns_made
+      → turns_made ≡ min (limit - made) 256 → is.events ≤ was.events + turns_made
       → Reached old mid told later first before (unwrap_or changed config) made was until.AllMade
       → (turns : TakesTurns b oldest site mid turned later last was is had has)
       → EndsAfter why turns.visits → (why ≡ until.AllMade → r.is_over after ≡ false)

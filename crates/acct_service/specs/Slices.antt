@@ -1,7 +1,7 @@
 -- Turns in slices. How many a server makes until its book is shut, and which configuration each
 -- slice has, if clients and keys change in between.
-use Rattle.std.specs.Prelude.{◌≡◌, ◌≢◌, ◌+◌, ◌*◌, ◌<◌, ◌≤◌, ⊤, ℕ, List, [], ◌∷◌, Option, None, Some, map}
-use Rattle.std.specs.Prelude.{Contains, length, ◌++◌, false, count_by}
+use Rattle.std.specs.Prelude.{◌≡◌, ◌≢◌, ◌+◌, ◌<◌, ◌≤◌, ⊤, ℕ, List, [], ◌∷◌, Option, None, Some, map}
+use Rattle.std.specs.Prelude.{Contains, length, ◌++◌, ◌-◌, false, count_by, min}
 use Rattle.std.specs.List.{flat_map, list_any, sum_by}
 use Rattle.acct_book.specs.declared.book.Book as book
 use Rattle.acct_site.specs.declared.config.Config.{Config}
@@ -44,10 +44,13 @@ Follow oldest site (slice ∷ later) =
     (slice.site ≡ site) × AreUnder oldest site slice.visits
     × Follow oldest (site_then site slice.given) later
 
--- no more than 256 turns are made before a round, and no more visits than turns
-abbrev pub AreShort : List Slice → Type 0
-AreShort [] = ⊤
-AreShort (slice ∷ later) = (slice.turns ≤ 256) × (length slice.visits ≤ slice.turns) × AreShort later
+-- Of the turns that are left a slice has 256, or all if fewer are left. It has no more visits than
+-- turns.
+abbrev pub AreFull : ℕ → List Slice → Type 0
+AreFull left [] = ⊤
+AreFull left (slice ∷ later) =
+    (slice.turns ≡ min left 256) × (length slice.visits ≤ slice.turns)
+    × AreFull (left - slice.turns) later
 
 -- in these turns the book failed for a report, and no datagram was answered with a reply
 abbrev pub AreStuck : List Visit → Type 0
@@ -86,14 +89,15 @@ GoRounds r first (slice ∷ later) last =
     × GoRounds r next later last
 
 -- Turns in slices, each under its own configuration. Together they are what turns under one
--- configuration are, because all have the same plans. The rounds after the slices also went as
--- stated.
+-- configuration are, because all have the same plans. At most `limit` turns were allowed. The rounds
+-- after the slices also went as stated.
 pub record ServesInSlices {B : Type 0} (b : book.Ghosts B) (oldest : Option ℕ) (config : Config)
-    (old new : B) (old_told new_told : Option (List Call)) (Went : List Slice → Type 0) (turns : ℕ)
+    (limit : ℕ) (old new : B) (old_told new_told : Option (List Call)) (Went : List Slice → Type 0) (turns : ℕ)
     (served : Served) (why : Until) : Type 0 where
   pub slices : List Slice
-  -- each has at most 256 turns, and together they are the turns that were made
-  pub short : AreShort slices
+  -- each has 256 turns, but for a last one that is all that was left of the limit, and together they
+  -- are the turns that were made
+  pub full : AreFull limit slices
   pub made : sum_by (λ (slice : Slice). slice.turns) slices ≡ turns
   pub ends : EndsSo why slices
   pub follow : Follow oldest config slices

@@ -18,11 +18,11 @@ loop-left-init g c =
       room = at_most_greater 0 _ c.none-served.result (omega arith)
           (none_at_most c.none-served.result none.counts none.faults);
       reached = subst
-          (λ m. Reached g.B.Book g.G.Rounds c.args.rules.now.oldest c.args.rules.now.config.now c.args.book.now
-          c.args.book.now (x.told c.args.exchange.now) (x.told c.args.exchange.now)
+          (λ m. Reached g.B.Book g.G.Rounds c.args.rules.now.oldest c.args.rules.now.config.now c.args.limit
+          c.args.book.now c.args.book.now (x.told c.args.exchange.now) (x.told c.args.exchange.now)
           c.args.rounds.now c.args.rounds.now c.args.rules.now.config.now m c.none-served.result
           until.AllMade) (omega arith)
-          (reached_none g.B.Book g.G.Rounds c.args.rules.now.oldest c.args.rules.now.config.now c.args.book.now
+          (reached_none g.B.Book g.G.Rounds c.args.rules.now.oldest c.args.rules.now.config.now c.args.limit c.args.book.now
           (x.told c.args.exchange.now) c.args.rounds.now c.none-served.result none.counts);
     }
 
@@ -45,7 +45,7 @@ returns-in-Some-clause-serves g c =
     stuck_so taken.visits c.loop-left.served c.take_turns.new.served
     c.take_turns.new.out.has_answered taken.counts (rw c.forget_answers.ensures at taken.answered) yes.0
     (rw c.drops_for-refused.ensures at yes.1)) in
-    (reached_slice b r c.args.rules.now.oldest c.args.rules.now.config.now c.args.book.now c.loop-left.book
+    (reached_slice b r c.args.rules.now.oldest c.args.rules.now.config.now c.args.limit c.args.book.now c.loop-left.book
     c.take_turns.new.book c.go_round.new.book c.ending.new.book (x.told c.args.exchange.now)
     (x.told c.loop-left.exchange) (x.told c.take_turns.new.exchange)
     c.args.rounds.now c.loop-left.rounds c.go_round.new.self
@@ -58,7 +58,7 @@ returns-in-Some-clause-serves g c =
       c.loop-left.invariant.left,
       turns.turns,
       c.min-slice.ensures,
-    )) found (omega (arith, c.min-slice.ensures))
+    )) found (omega (arith, c.min-slice.ensures, c.loop-left.invariant.left))
     turns.events c.loop-left.invariant.reached taken ends
     (λ is. absurd (c.ending.ensures.early (c.in-Some.is ∙ ap (λ it. Some it) is)))
     c.go_round.ensures.looks c.go_round.ensures.plans c.go_round.ensures.goes
@@ -78,7 +78,7 @@ loop-left-preserved g c =
     c.take_turns.new.out.has_answered taken.counts (rw c.forget_answers.ensures at taken.answered)
     (rw c.drops_for-refused.ensures at c.are_stuck-is_stuck.ensures.no
     (c.ending.ensures.goes_on c.in_default.is).0) in
-    let reached = reached_slice b r c.args.rules.now.oldest c.args.rules.now.config.now c.args.book.now c.loop-left.book
+    let reached = reached_slice b r c.args.rules.now.oldest c.args.rules.now.config.now c.args.limit c.args.book.now c.loop-left.book
     c.take_turns.new.book c.go_round.new.book c.ending.new.book (x.told c.args.exchange.now)
     (x.told c.loop-left.exchange) (x.told c.take_turns.new.exchange)
     c.args.rounds.now c.loop-left.rounds c.go_round.new.self
@@ -86,7 +86,7 @@ loop-left-preserved g c =
     (c.args.limit - c.loop-left.left) c.min-slice.result
     (c.args.limit - (c.loop-left.left - c.min-slice.result)) c.loop-left.served
     c.take_turns.new.served _ _ until.AllMade
-    (omega (arith, before.left, c.min-slice.ensures)) found (omega (arith, c.min-slice.ensures))
+    (omega (arith, before.left, c.min-slice.ensures)) found (omega (arith, c.min-slice.ensures, c.loop-left.invariant.left))
     turns.events before.reached taken not
     (λ is. (c.ending.ensures.goes_on c.in_default.is).1) c.go_round.ensures.looks
     c.go_round.ensures.plans c.go_round.ensures.goes c.ending.ensures.looks in

@@ -17,7 +17,7 @@ invariant-loop-left g l =
       open_is : l.left < l.limit → b.is_sound l.book → b.is_open l.book;
       goes_on : l.left < l.limit → r.is_over l.rounds ≡ false;
       room : AtMost (l.limit - l.left) l.served;
-      reached : Reached b r l.rules.oldest l.rules.config.now l.fn.book l.book (x.told l.fn.exchange) (x.told l.exchange)
+      reached : Reached b r l.rules.oldest l.rules.config.now l.limit l.fn.book l.book (x.told l.fn.exchange) (x.told l.exchange)
           l.fn.rounds l.rounds (unwrap_or l.changed l.rules.config.now)
           (l.limit - l.left) l.served until.AllMade;
     }
