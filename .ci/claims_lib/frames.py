@@ -24,7 +24,7 @@ def body_of(text, name):
     if not found:
         return None
     begun = text.find(f"\n{found[1]}{{\n", found.end())
-    brace = text.find(" {\n", found.end()) if begun < 0 else begun
+    brace = min(it for it in (begun, text.find(" {\n", found.end())) if it >= 0)
     return text[brace : text.find(f"\n{found[1]}}}", brace)]
 
 

@@ -55,6 +55,16 @@ RULES = (
     ),
 )
 
+# How many calls of what binds sockets, or of what calls that, stand in each source: no second one.
+BINDS = re.compile(r"\b\w+::bind\w*\(|(?<!fn )\bbound\(")
+BINDERS = {
+    "crates/acct_net/src/datagrams.rt": 2,
+    "crates/acct_net/src/desk.rt": 1,
+    "crates/acct_net/src/sockets.rt": 2,
+    "crates/acct_program_explain/src/socket_faults.rt": 2,
+    "crates/acct_program_serving/src/sockets_server.rt": 2,
+}
+
 # What a source may name of std where files and processes are. Else all of it is only for the two.
 SYSTEM = re.compile(r"std(?:$| |::\*|::(?:fs|rt|process|os)\b)")
 NAMED = {
@@ -98,6 +108,11 @@ BY_EYE = (
         "the socket is bound at the address and port that are kept beside it",
     ),
     ("crates/acct_net/src/desk.rt", "opened", "so is the desk's"),
+    (
+        "crates/acct_net/src/datagrams.rt",
+        "RadiusSocket::receive",
+        "the size and the source that are kept beside the socket are those that the system gave",
+    ),
 )
 MOST_BY_EYE = 200
 MOST_OF_CHANGES = 120
@@ -154,6 +169,10 @@ def found_in(path, text):
     for name, at in given_in(text):
         if name not in GIVEN.get(path, "").split():
             yield at, f"{name}(.. HostRuntime ..)", "the runtime itself"
+    binds = list(BINDS.finditer(text))
+    if len(binds) != BINDERS.get(path, 0):
+        at = binds[-1].start() if binds else 0
+        yield at, f"{len(binds)} calls", f"other than {BINDERS.get(path, 0)} binds of sockets"
 
 
 def function_in(text, name):

@@ -11,7 +11,7 @@ ghost use Rattle.std.specs.Prelude.{MatchOption};
 ghost use Rattle.std.specs.Prelude.{◌↔◌, IfOk, IfSome, IsErrAnd, IsOkAnd};
 ghost use Rattle.std.specs.List.{All, list_any, position};
 ghost use Rattle.acct_net.specs.Bound.{AreBoundAt};
-ghost use Rattle.acct_net.specs.inner.RadiusSockets.{MayReceiveAt};
+ghost use Rattle.acct_net.specs.inner.RadiusSockets.{MayReceiveAt, HasReceived};
 ghost use Rattle.std.specs.IoError.{error_kind};
 
 use crate::readiness::Readiness;
@@ -36,13 +36,15 @@ impl Drop for Datagrams {
     }
 }
 
-// A socket for datagrams, where it is bound, and whether a datagram may wait there.
+// A socket for datagrams, where it is bound, whether a datagram may wait there, and the size and the
+// source of the one that the last receive gave.
 #[derive(Drop)]
 struct RadiusSocket {
     udp: UdpSocket,
     address: [u8; 4],
     port: u16,
     may_receive: bool,
+    received: Option<(usize, SocketAddrV4)>,
 }
 
 impl Datagrams {
@@ -134,8 +136,10 @@ impl Datagrams {
     ///
     /// If the system fails.
     pub fn receive(&mut self, buffer: &mut [u8]) -> Result<Option<(usize, SocketAddrV4)>, Fault>
-        ensures { IfOk result (λ received. received ≡ None
+        ensures none { IfOk result (λ received. received ≡ None
             → list_any (λ socket. socket.may_receive) self.new.sockets.items ≡ false) }
+        ensures some { IfOk result (λ received. IfSome received (λ datagram.
+            HasReceived self.new.sockets.items self.new.last datagram)) }
     {
         while let Some(place) = self.next_place() {
             self.last = place;
@@ -192,20 +196,27 @@ impl RadiusSocket {
             address,
             port,
             may_receive: true,
+            received: None,
         })
     }
 
-    // The datagram that waits here, if one does.
+    // The datagram that waits here, if one does. Its size and its source are kept beside the socket,
+    // and what is made of them above is a clause.
     fn receive(&mut self, buffer: &mut [u8]) -> Result<Option<(usize, SocketAddrV4)>, Fault>
-        ensures same { self.new ≡ record self.old { may_receive = self.new.may_receive } }
+        ensures same { self.new ≡ record self.old {
+          may_receive = self.new.may_receive;
+          received = self.new.received;
+        } }
         ensures none { IfOk result (λ received. received ≡ None → self.new.may_receive ≡ false) }
+        ensures kept { IfOk result (λ received. self.new.received ≡ received) }
     {
+        self.received = None;
         if !self.may_receive {
             return Ok(None);
         }
-        let received = outcome_of(self.udp.recv_from(buffer))?;
-        self.may_receive = received.is_some();
-        Ok(received)
+        self.received = outcome_of(self.udp.recv_from(buffer))?;
+        self.may_receive = self.received.is_some();
+        Ok(self.received)
     }
 
     // Sends a datagram. If the system has no space for it now, this waits until it has.

@@ -10,10 +10,11 @@
 //! 4. A reply to a datagram leaves from the address that was asked, and the sockets at several
 //!    addresses take turns.
 //! 5. The buffer for a datagram is allocated once, and not for each turn.
-ghost use Rattle.std.specs.Prelude.{◌≡◌, ◌+◌, ◌-◌, ◌<◌, ◌^◌, false, None, IfOk, IfSome, OnOk};
+ghost use Rattle.std.specs.Prelude.{◌≡◌, ◌+◌, ◌-◌, ◌<◌, ◌^◌, false, None, IfOk, IfSome, OnOk, take};
 ghost use Rattle.std.specs.List.{list_any};
 ghost use Rattle.acct_net.specs.Bound.{AreBoundAt};
 ghost use Rattle.acct_net.specs.inner.Places.{IsAnswered, IsOfUnanswered};
+ghost use Rattle.acct_net.specs.inner.RadiusSockets.{IsReceived};
 
 use crate::datagrams::Datagrams;
 use crate::desk::{Desk, PLACES};
@@ -209,6 +210,9 @@ impl<'r, R: Net + Clock> EventLoop<'r, R> {
             self.new.datagrams.sockets.items ≡ false) }
         ensures asked { IfOk result (λ event. IfSome event (λ it.
             IsOfUnanswered self.new.desk.unanswered self.new.desk.places.items it.what)) }
+        ensures received { IfOk result (λ event. IfSome event (λ it. IsReceived
+            self.new.datagrams.sockets.items self.new.datagrams.last self.new.buffer.items
+            it.what)) }
     {
         self.desk.close_unanswered();
         self.poll()?;
@@ -257,6 +261,9 @@ impl<'r, R: Net + Clock> EventLoop<'r, R> {
         ensures datagrams { self.new.datagrams ≡ self.old.datagrams }
         ensures asked { IfOk result (λ event. IfSome event (λ it.
             IsOfUnanswered self.new.desk.unanswered self.new.desk.places.items it.what)) }
+        ensures received { IfOk result (λ event. IfSome event (λ it. IsReceived
+            self.new.datagrams.sockets.items self.new.datagrams.last self.new.buffer.items
+            it.what)) }
     {
         let now = Instant::now(self.runtime).map_err(|_| Fault)?;
         let request = self
@@ -273,6 +280,9 @@ impl<'r, R: Net + Clock> EventLoop<'r, R> {
         ensures waits { self.new.readiness.waits ≡ self.old.readiness.waits }
         ensures asked { IfOk result (λ event. IfSome event (λ it.
             IsOfUnanswered self.new.desk.unanswered self.new.desk.places.items it.what)) }
+        ensures received { IfOk result (λ event. IfSome event (λ it. IsReceived
+            self.new.datagrams.sockets.items self.new.datagrams.last self.new.buffer.items
+            it.what)) }
         ensures idle { IfOk result (λ event. event ≡ None → list_any (λ socket. socket.may_receive)
             self.new.datagrams.sockets.items ≡ false) }
     {
@@ -288,7 +298,9 @@ impl<'r, R: Net + Clock> EventLoop<'r, R> {
     }
 
     // The octets of the last datagram, which are at the front of the buffer.
-    fn copy(&self, size: usize) -> Result<Octets, Fault> {
+    fn copy(&self, size: usize) -> Result<Octets, Fault>
+        ensures { IfOk result (λ octets. octets ≡ take size self.now.buffer.items) }
+    {
         let octets = self.buffer.get(..size).ok_or(Fault)?;
         Octets::from_slice(self.alloc, octets).map_err(|_| Fault)
     }

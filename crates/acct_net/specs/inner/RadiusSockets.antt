@@ -1,8 +1,28 @@
 -- The sockets for datagrams.
-use Rattle.std.specs.Prelude.{◌≡◌, ◌<◌, ℕ, true, List, length, slice_index_or}
+use Rattle.std.specs.Prelude.{◌≡◌, ◌<◌, ⊤, ℕ, true, List, Some, length, slice_get, slice_index_or}
+use Rattle.std.specs.Prelude.{take}
+use Rattle.std.specs.Net.Socket.{v4_ip, v4_port}
+use Rattle.std.specs.Net.Addr.{ipv4_octets}
+use Rattle.std.specs.declared.net.socket_addr.SocketAddrV4.{SocketAddrV4}
+use Rattle.acct_service.specs.declared.event.What.{What}
+use Rattle.acct_service.specs.declared.event.What.TheVariants as what
 use Rattle.acct_net.specs.declared.datagrams.RadiusSocket.{RadiusSocket}
 
 -- a datagram may wait at the socket with this place, as far as is known
 abbrev pub MayReceiveAt : List RadiusSocket → ℕ → Type 0
 MayReceiveAt sockets place = (place < length sockets)
     × ((d : RadiusSocket) → (slice_index_or sockets place d).may_receive ≡ true)
+
+-- the last receive of the socket with this place gave a datagram of this size and from there
+abbrev pub HasReceived : List RadiusSocket → ℕ → (ℕ × SocketAddrV4) → Type 0
+HasReceived sockets place datagram =
+    (socket : RadiusSocket) × (slice_get sockets place ≡ Some socket)
+    × (socket.received ≡ Some datagram)
+
+-- If an event is a datagram, the socket with this place received it last: its source and its port
+-- are those that the system gave, and its octets are so many at the front of the buffer.
+abbrev pub IsReceived : List RadiusSocket → ℕ → List ℕ → What → Type 0
+IsReceived sockets place buffer (what.Datagram source port octets) =
+    (size : ℕ) × (from : SocketAddrV4) × HasReceived sockets place (size, from)
+    × (source ≡ ipv4_octets (v4_ip from)) × (port ≡ v4_port from) × (octets ≡ take size buffer)
+IsReceived sockets place buffer (what.Desk request) = ⊤

@@ -1,11 +1,10 @@
-use Rattle.std.proofs.Common.{◌≡◌, ◌<◌, ℕ, List, Option, Some, length, slice_get, slice_set}
+use Rattle.std.proofs.Common.{◌≡◌, ℕ, List, Option, Some}
 use Rattle.std.proofs.Common.{rules, refl}
-use Rattle.std.proofs.lemmas.Option.{slice_get_read}
 use Rattle.acct_net_callers.specs.declared.caller.Stage.{Stage}
 use Rattle.acct_net_callers.specs.declared.caller.Stage.TheVariants as stage
 use Rattle.acct_net_callers.specs.declared.caller.Step.TheVariants as step
 use Rattle.acct_net_callers.specs.Progress.{Proceeds}
-use Rattle.acct_net.proofs.PlaceLemmas.{found}
+use Rattle.acct_net.proofs.PlaceLemmas.{found, put}
 use Rattle.acct_net.proofs.desk.Desk.serve_at.Goals as goal
 
 -- a caller whose request is handed out awaits its response
@@ -20,11 +19,6 @@ waits old_left new_left old_held new_held (stage.Writing left) after request pro
 waits old_left new_left old_held new_held (stage.Waiting asked) after request proceeds =
     absurd proceeds.1
 waits old_left new_left old_held new_held stage.Closing after request proceeds = absurd proceeds.1
-
--- who was put at a place is there
-put : {C : Type 0} (places : List C) (place : ℕ) (caller : C) → place < length places
-    → slice_get (slice_set places place caller) place ≡ Some caller
-put places place caller within = search (rules, slice_get_read)
 
 pub returns-in-Received : goal.returns-in-Received
 returns-in-Received g c =
