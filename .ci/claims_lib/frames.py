@@ -8,7 +8,7 @@ import re
 from claims_lib.tree import FOR_TESTS, text_of, without_comments
 
 CALLS = (
-    "main", "carry_out", "serve_files", "work_on", "worked", "Server::over", "run_serve",
+    "main", "carry_out", "serve_files", "work_on", "Server::over", "run_serve",
     "Watcher::serve", "serve_exchange", "serve_in_slices", "take_turns", "take_turn",
 )
 

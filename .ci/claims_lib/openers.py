@@ -81,13 +81,13 @@ CALLERS = {
 # The functions that are given the runtime itself. They open a book, or hand the runtime to one that
 # does. All others are given the traits that they need.
 GIVEN = {
-    MAIN: "main explain_wrong_words words_of",
+    MAIN: "main order_of explain_wrong_words words_of",
     JOBS + "audit_job.rt": "audit_book audited_from",
     JOBS + "checking.rt": "check check_or_audit check_files check_book checked_from",
     JOBS + "command.rt": "carry_out serve_files export exported",
     JOBS + "database.rt": "made adopted opened",
     JOBS + "making.rt": "make made_and_closed",
-    JOBS + "work.rt": "over work_on worked",
+    JOBS + "work.rt": "over work_on",
 }
 
 # What a person reads, since no clause says it: whole sources, and functions of others.
@@ -99,6 +99,7 @@ BY_EYE = (
         "it passes the streams on, with nothing in between, and says once what is assumed of the"
         " files",
     ),
+    (MAIN, "order_of", "the order is the one that the words ask for"),
     (READS, None, "it looks at files, and changes none"),
     (CHANGES, None, "it makes and replaces files as its comments say"),
     (JOBS + "database.rt", "opened", "the file opened is the one named"),

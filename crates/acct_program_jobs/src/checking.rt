@@ -20,16 +20,52 @@ use acct_sql::SqlBook;
 use sqlite::{FileFrom, FileStore, Start};
 use std::io::Write;
 
+/// What `check` looks at.
+#[derive(Clone, Copy)]
+pub(crate) struct Checking<'a> {
+    config: &'a Text,
+    database: Option<&'a Text>,
+    audits: bool,
+    loses_commits: bool,
+}
+
+impl<'a> Checking<'a> {
+    /// The configuration in a file, and the book in another one, if it is given. Its balances are
+    /// added up if that is asked for.
+    pub(crate) fn of(
+        config: &'a Text,
+        database: Option<&'a Text>,
+        audits: bool,
+        loses_commits: bool,
+    ) -> Checking<'a>
+        ensures database { option_copied result.database ≡ option_copied database.entry }
+        ensures audits { result.audits ≡ audits }
+    {
+        Checking {
+            config,
+            database,
+            audits,
+            loses_commits,
+        }
+    }
+
+    // The files of the book.
+    fn files(self, database: &'a Text) -> BookFile<'a> {
+        BookFile {
+            config: self.config,
+            database,
+            loses_commits: self.loses_commits,
+        }
+    }
+}
+
 /// `check` of the configuration in a file, and of the files that a server will write. If a book in
 /// another file is given, it must keep the plans of the configuration. If it is audited, its
 /// balances must be right. It does not change.
 pub(crate) fn check<S: Start, W: Write + Drop, E: Write + Drop>(
     runtime: &HostRuntime,
-    config: &Text,
-    database: Option<&Text>,
+    checking: Checking<'_>,
     kept: &KeptNames,
-    audits: bool,
-    loses_commits: bool,
     output: W,
     progress: E,
     start: S,
@@ -38,20 +74,11 @@ pub(crate) fn check<S: Start, W: Write + Drop, E: Write + Drop>(
     ensures does { KeepsOthers kept.now.status kept.now.balances (W.contents output)
         (text_of W.contents result.output) result.ended result.left
         ⊎ ChecksOrAudits (image_at S.Start) ⟦<SqlBook<FileStore<FileFrom<S>>> as Book>⟧
-        (W.contents output) (text_of W.contents result.output) audits
-        (option_copied database.entry) result.ended result.left }
+        (W.contents output) (text_of W.contents result.output) checking.entry.audits
+        (option_copied checking.entry.database) result.ended result.left }
 {
-    match keep_others(runtime, files_of(config, database, kept)) {
-        Ok(()) => check_or_audit(
-            runtime,
-            config,
-            database,
-            audits,
-            loses_commits,
-            output,
-            progress,
-            start,
-        ),
+    match keep_others(runtime, files_of(checking, kept)) {
+        Ok(()) => check_or_audit(runtime, checking, output, progress, start),
         Err(fault) => without_book(Err(fault), output),
     }
 }
@@ -59,47 +86,33 @@ pub(crate) fn check<S: Start, W: Write + Drop, E: Write + Drop>(
 // `check` of files that a server would not overwrite, with an audit, if that is requested.
 fn check_or_audit<S: Start, W: Write + Drop, E: Write + Drop>(
     runtime: &HostRuntime,
-    config: &Text,
-    database: Option<&Text>,
-    audits: bool,
-    loses_commits: bool,
+    checking: Checking<'_>,
     output: W,
     progress: E,
     start: S,
 ) -> Outcome<W, FileFrom<S>>
     ensures other { IfOk result.ended (λ status. status ≢ Status.BadCommandLine) }
     ensures does { ChecksOrAudits (image_at S.Start) ⟦<SqlBook<FileStore<FileFrom<S>>> as Book>⟧
-        (W.contents output) (text_of W.contents result.output) audits
-        (option_copied database.entry) result.ended result.left }
+        (W.contents output) (text_of W.contents result.output) checking.entry.audits
+        (option_copied checking.entry.database) result.ended result.left }
 {
-    if !audits {
-        return check_files(runtime, config, database, loses_commits, output, start);
+    if !checking.audits {
+        return check_files(runtime, checking, output, start);
     }
-    match database {
-        Some(database) => {
-            let files = BookFile {
-                config,
-                database,
-                loses_commits,
-            };
-            audit_book(runtime, files, output, progress, start)
-        }
-        None => check_files(runtime, config, None, loses_commits, output, start),
+    match checking.database {
+        Some(database) => { audit_book(runtime, checking.files(database), output, progress, start) }
+        None => check_files(runtime, checking, output, start),
     }
 }
 
 // The files of a server, by name, as `check` gets them.
-fn files_of<'a>(
-    config: &'a Text,
-    database: Option<&'a Text>,
-    kept: &'a KeptNames,
-) -> ServerFiles<'a>
+fn files_of<'a>(checking: Checking<'a>, kept: &'a KeptNames) -> ServerFiles<'a>
     ensures { NamesSome result.status result.balances
         → NamesSome kept.now.status kept.now.balances }
 {
     ServerFiles {
-        config,
-        database,
+        config: checking.config,
+        database: checking.database,
         status: kept.status.as_ref(),
         balances: kept.balances.as_ref(),
     }
@@ -108,29 +121,20 @@ fn files_of<'a>(
 // `check` of a configuration, and of a book, if one is given.
 fn check_files<S: Start, W: Write + Drop>(
     runtime: &HostRuntime,
-    config: &Text,
-    database: Option<&Text>,
-    loses_commits: bool,
+    checking: Checking<'_>,
     mut output: W,
     start: S,
 ) -> Outcome<W, FileFrom<S>>
     ensures other { IfOk result.ended (λ status. status ≢ Status.BadCommandLine) }
-    ensures does { DoesCheck (image_at S.Start) (option_copied database.entry)
+    ensures does { DoesCheck (image_at S.Start) (option_copied checking.entry.database)
         (W.contents output) (text_of W.contents result.output) result.ended result.left }
 {
-    match database {
+    match checking.database {
         None => {
-            let ended = run_check(runtime, runtime.alloc(), config, &mut output);
+            let ended = run_check(runtime, runtime.alloc(), checking.config, &mut output);
             without_book(ended, output)
         }
-        Some(database) => {
-            let files = BookFile {
-                config,
-                database,
-                loses_commits,
-            };
-            check_book(runtime, files, output, start)
-        }
+        Some(database) => check_book(runtime, checking.files(database), output, start),
     }
 }
 

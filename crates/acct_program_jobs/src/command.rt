@@ -21,7 +21,7 @@ ghost use Rattle.acct_program_commands.specs.KeptNames.{NamesSome};
 ghost use Rattle.std.specs.Option.{option_copied};
 
 use crate::book_file::BookFile;
-use crate::checking::check;
+use crate::checking::{Checking, check};
 use crate::database::{FileConnection, adopted};
 use crate::feed_job::run_feed;
 use crate::left::Left;
@@ -44,6 +44,31 @@ use sqlite_disk::Disk;
 use std::alloc::Global;
 use std::io::{Read, Write};
 
+/// What a command reads, and where it prints.
+#[derive(Drop)]
+pub struct Streams<I: Drop, W: Drop, E: Drop> {
+    /// Its input: the lines of `import`, and the script of `feed`.
+    pub input: I,
+    /// Its output.
+    pub output: W,
+    /// Where a server prints its drops and counts, and where long work shows its progress.
+    pub errors: Errors<E>,
+}
+
+impl<I: Drop, W: Drop, E: Drop> Streams<I, W, E> {
+    /// The streams of a command.
+    pub fn new(input: I, output: W, errors: Errors<E>) -> Streams<I, W, E>
+        ensures input { result.input ≡ input }
+        ensures output { result.output ≡ output }
+    {
+        Streams {
+            input,
+            output,
+            errors,
+        }
+    }
+}
+
 /// How a command ended, its output if that was not lost, and what it left of its files.
 #[derive(Drop)]
 pub struct Outcome<W, D: Disk> {
@@ -60,14 +85,13 @@ pub(crate) type Ending<S> = Result<(Status, Files<FileFrom<S>>), (Fault, Left<Fi
 
 /// Does the job of an order over these streams. The book's files held what `S` says. A book whose
 /// log is damaged is rejected, unless the commits from the damage on may be lost. What a server
-/// prints while it runs goes to `errors`: its drops and counts only if it is not quiet. Returns the
-/// exit status, and the outcome of the job. A fault that ended it is printed on `faults`.
+/// prints while it runs goes to the errors of the streams: its drops and counts only if it is not
+/// quiet. Returns the exit status, and the outcome of the job. A fault that ended it is printed on
+/// `faults`.
 pub fn carry_out<S: Start, I: Read + Drop, W: Write + Drop, E: Write + Drop, F: Write>(
     runtime: &HostRuntime,
     order: &Order,
-    input: I,
-    mut output: W,
-    errors: Errors<E>,
+    streams: Streams<I, W, E>,
     faults: &mut F,
     start: S,
 ) -> (Status, Outcome<W, FileFrom<S>>)
@@ -78,9 +102,14 @@ pub fn carry_out<S: Start, I: Read + Drop, W: Write + Drop, E: Write + Drop, F: 
         (λ listening s. IsBoundTo listening s.event_loop.datagrams.sockets.items
         s.event_loop.desk.door.address s.event_loop.desk.door.port)
         ⟦<SqlBook<MemStore> as Book>⟧
-        (I.remaining input) (W.contents output) (text_of W.contents result.1.output)
-        order.now.job result.1.ended result.1.left }
+        (I.remaining streams.input) (W.contents streams.output)
+        (text_of W.contents result.1.output) order.now.job result.1.ended result.1.left }
 {
+    let Streams {
+        input,
+        mut output,
+        errors,
+    } = streams;
     let loses = order.loses_commits;
     match &order.job {
         Job::Feed { config } => {
@@ -93,89 +122,78 @@ pub fn carry_out<S: Start, I: Read + Drop, W: Write + Drop, E: Write + Drop, F: 
             kept,
             audits,
         } => {
-            let (book, notices) = (database.as_ref(), errors.notices);
-            let checked = check(
-                runtime, config, book, kept, *audits, loses, output, notices, start,
-            );
+            let checking = Checking::of(config, database.as_ref(), *audits, loses);
+            let checked = check(runtime, checking, kept, output, errors.notices, start);
             told(faults, checked)
-        }
-        Job::Init { paths, has_sums } => {
-            let (making, files) = (Making::new(*has_sums), BookFile::of(paths, loses));
-            told(faults, make(runtime, making, files, output, start))
         }
         Job::Serve { paths, serving } => {
             let files = BookFile::of(paths, loses);
-            serve_files(runtime, files, serving, output, errors, faults, start)
+            let served = serve_files(runtime, files, serving, output, errors, start);
+            told(faults, served)
         }
         Job::Import { paths } => {
-            let moment = moment_of(runtime);
-            let (import, files) = (Import { moment, input }, BookFile::of(paths, loses));
+            let (files, moment) = (BookFile::of(paths, loses), moment_of(runtime));
+            let import = Import { moment, input };
             told(faults, work_on(runtime, files, import, output, start))
+        }
+        Job::Forward { paths, carrying } => {
+            let (files, moment) = (BookFile::of(paths, loses), moment_of(runtime));
+            let forward = Forward::new(carrying, moment, errors.notices);
+            told(faults, work_on(runtime, files, forward, output, start))
         }
         Job::Export { paths, what } => {
             let files = BookFile::of(paths, loses);
             told(faults, export(runtime, files, *what, output, start))
         }
-        Job::Migrate { paths } => {
-            let files = BookFile::of(paths, loses);
-            told(
-                faults,
-                make(runtime, Making::Migrated, files, output, start),
-            )
+        Job::Init { paths, has_sums } => {
+            let (files, making) = (BookFile::of(paths, loses), Making::new(*has_sums));
+            told(faults, make(runtime, making, files, output, start))
         }
-        Job::Forward { paths, carrying } => {
-            let moment = moment_of(runtime);
-            let forward = Forward {
-                carrying,
-                moment,
-                progress: errors.notices,
-            };
-            let files = BookFile::of(paths, loses);
-            told(faults, work_on(runtime, files, forward, output, start))
+        Job::Migrate { paths } => {
+            let (files, making) = (BookFile::of(paths, loses), Making::Migrated);
+            told(faults, make(runtime, making, files, output, start))
         }
         Job::AddPlans { paths } => {
-            let files = BookFile::of(paths, loses);
-            told(
-                faults,
-                make(runtime, Making::Extended, files, output, start),
-            )
+            let (files, making) = (BookFile::of(paths, loses), Making::Extended);
+            told(faults, make(runtime, making, files, output, start))
         }
     }
 }
 
-/// Serves the book of a file, as `carry_out` does. A program that assumes something else about a
-/// torn write while it serves calls this, so that its other jobs are compiled only once.
-pub fn serve_files<S: Start, W: Write + Drop, E: Write + Drop, F: Write>(
+/// Serves the book of a file, as `carry_out` does, but prints no fault. A program that assumes
+/// something else about a torn write while it serves calls this and `told`, so that its other jobs
+/// are compiled only once.
+pub fn serve_files<S: Start, W: Write + Drop, E: Write + Drop>(
     runtime: &HostRuntime,
     files: BookFile<'_>,
     serving: &Serving,
     output: W,
     errors: Errors<E>,
-    faults: &mut F,
     start: S,
-) -> (Status, Outcome<W, FileFrom<S>>)
+) -> Outcome<W, FileFrom<S>>
     requires { IsBounded serving.now }
-    ensures status { result.0 ≡ ended_status result.1.ended }
+    ensures other { IfOk result.ended (λ status. status ≢ Status.BadCommandLine) }
     ensures does { (paths : Paths) → (text : Option (List ℕ)) → DoesJob (image_at S.Start)
         ⟦<SqlBook<FileStore<FileFrom<S>>> as Book>⟧
         ⟦<Sockets<'static, HostRuntime> as Exchange>⟧
         (λ listening s. IsBoundTo listening s.event_loop.datagrams.sockets.items
         s.event_loop.desk.door.address s.event_loop.desk.door.port)
         ⟦<SqlBook<MemStore> as Book>⟧
-        text (W.contents output) (text_of W.contents result.1.output)
-        (Job.Serve paths serving.now) result.1.ended result.1.left }
+        text (W.contents output) (text_of W.contents result.output)
+        (Job.Serve paths serving.now) result.ended result.left }
 {
     match keep_others(runtime, files_of_server(files, &serving.telling)) {
         Ok(()) => {
             let server = server_of(runtime, files, serving, errors);
-            told(faults, work_on(runtime, files, server, output, start))
+            work_on(runtime, files, server, output, start)
         }
-        Err(fault) => told(faults, without_book(Err(fault), output)),
+        Err(fault) => without_book(Err(fault), output),
     }
 }
 
-// The exit status of a job with this outcome. A fault that ended it is printed.
-fn told<W: Write, D: Disk, F: Write>(
+/// The exit status of a job with this outcome, and the outcome. A fault that ended it is printed on
+/// `faults`.
+pub fn told<W: Write, D: Disk, F: Write>(
     faults: &mut F,
     outcome: Outcome<W, D>,
 ) -> (Status, Outcome<W, D>)

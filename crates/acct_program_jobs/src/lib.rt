@@ -20,7 +20,7 @@ mod serving;
 mod work;
 
 pub use book_file::BookFile;
-pub use command::{Outcome, carry_out, serve_files};
+pub use command::{Outcome, Streams, carry_out, serve_files, told};
 pub use database::{FileBook, FileConnection, adopted, close, made};
 pub use feed_job::run_feed;
 pub use left::Left;

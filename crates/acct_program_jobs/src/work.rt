@@ -90,6 +90,19 @@ pub(crate) struct Forward<'a, E: Drop> {
     pub(crate) progress: E,
 }
 
+impl<'a, E: Drop> Forward<'a, E> {
+    /// What was asked, at a moment. Its progress is printed.
+    pub(crate) fn new(carrying: &'a Carrying, moment: u64, progress: E) -> Forward<'a, E>
+        ensures { result ≡ record { carrying = carrying.entry; moment = moment; progress = progress } }
+    {
+        Forward {
+            carrying,
+            moment,
+            progress,
+        }
+    }
+}
+
 impl<W: Write, E: Write + Drop> Work<W> for Forward<'_, E> {
     ghost is_ready = { λ it. (it.moment < 2 ^ 53)
         × IfSome it.carrying.now.oldest_report (λ days. days ≤ 36500) };
@@ -176,31 +189,16 @@ pub(crate) fn work_on<S: Start, W: Write + Drop, K: Work<W> + Drop>(
         ended first last (W.contents output) (text_of W.contents result.output)))
         result.ended result.left }
 {
-    let ending = worked(runtime, files, work, &mut output, start);
-    with_book(ending, output)
-}
-
-// How the work on the book in a file ended, and its files if it was closed.
-fn worked<S: Start, W: Write, K: Work<W> + Drop>(
-    runtime: &HostRuntime,
-    files: BookFile<'_>,
-    work: K,
-    output: &mut W,
-    start: S,
-) -> Ending<S>
-    requires { K.is_ready work }
-    ensures other { IfOk result (λ done. done.0 ≢ Status.BadCommandLine) }
-    ensures closed { IfOk result (λ done. WorksAndCloses (image_at S.Start)
-        (λ config ended first last. K.did ⟦<SqlBook<FileStore<FileFrom<S>>> as Book>⟧ work config
-        ended first last (W.contents output.old) (W.contents output.new)) done.0 done.1) }
-    ensures failed { IfErr result (λ e. FailsAtWork (image_at S.Start)
-        (λ config ended first last. K.did ⟦<SqlBook<FileStore<FileFrom<S>>> as Book>⟧ work config
-        ended first last (W.contents output.old) (W.contents output.new)) e.0 e.1) }
-{
-    let config = config_of(runtime, files.config)?;
-    let mut book = adopted(runtime, files, &config.plans, start)?;
-    let ended = work.over(runtime, &config, &mut book, output);
-    finished(ended, book.into_connection())
+    let config = match config_of(runtime, files.config) {
+        Ok(config) => config,
+        Err(failed) => return with_book(Err(failed), output),
+    };
+    let mut book = match adopted(runtime, files, &config.plans, start) {
+        Ok(book) => book,
+        Err(failed) => return with_book(Err(failed), output),
+    };
+    let ended = work.over(runtime, &config, &mut book, &mut output);
+    with_book(finished(ended, book.into_connection()), output)
 }
 
 // Closes the book of a command that ended this way. After a fault its files stay open.

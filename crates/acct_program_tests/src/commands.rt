@@ -2,6 +2,7 @@
 use crate::trial::{Command, OLD_TABLES, Row, alter, came, comes, first_wrong, write_sites};
 use acct_program::Status;
 use std::test::Fail;
+use std::time::{SystemTime, UNIX_EPOCH};
 
 const UPLOAD: &str = "voucher,account,sum\nV-1,al,500\nV-2,bo,300\nV-1,al,501\n";
 
@@ -111,7 +112,16 @@ fn commands_say_what_they_did(rt: HostRuntime) -> Result<(), Fail> {
     Ok(())
 }
 
-// The moment of a voucher that is imported is the clock's, not that of another century.
+// The clock's second.
+fn now(rt: &HostRuntime) -> Result<u64, Fail> {
+    match SystemTime::now(rt)?.duration_since(UNIX_EPOCH) {
+        Ok(since) => Ok(since.as_secs()),
+        Err(_) => Err("no moment".into()),
+    }
+}
+
+// The moment of a voucher that is imported is the clock's, and so is the one from which the days of
+// a cutoff are counted.
 #[test]
 fn vouchers_have_the_moment_of_the_clock(rt: HostRuntime) -> Result<(), Fail> {
     write_sites(&rt, ["when.toml", "when-more.toml", "when-other.toml"])?;
@@ -119,6 +129,7 @@ fn vouchers_have_the_moment_of_the_clock(rt: HostRuntime) -> Result<(), Fail> {
     assert!(rt; comes(&rt, ("init --config when.toml --db when-book", ""), made)?);
     let upload = "voucher,account,sum\nV-1,al,500\n";
     let added = (Status::Done, "added 1, repeated 0, refused 0\n", "");
+    let before = now(&rt)?;
     assert!(rt;
         comes(
             &rt,
@@ -126,17 +137,42 @@ fn vouchers_have_the_moment_of_the_clock(rt: HostRuntime) -> Result<(), Fail> {
             added
         )?
     );
-    assert!(rt; has_moment(&rt, ("export --config when.toml --db when-book topups", ""))?);
+    let between = (before, now(&rt)?);
+    let topups = ("export --config when.toml --db when-book topups", "");
+    assert!(rt; has_moment(&rt, topups, between)?);
+    assert!(rt; counts_days(&rt, now(&rt)?)?);
     Ok(())
 }
 
-// Whether the last field of the last line that a command prints is a moment of this century.
-fn has_moment(rt: &HostRuntime, command: Command<'_>) -> Result<bool, Fail> {
+// Whether the last field of the last line that a command prints is a moment between these.
+fn has_moment(
+    rt: &HostRuntime,
+    command: Command<'_>,
+    (first, last): (u64, u64),
+) -> Result<bool, Fail> {
     let came = came(rt, command)?;
     let line = came.text().trim_end().rsplit('\n').next().unwrap_or("");
     let when = line.strip_prefix("V-1,al,500,").unwrap_or("");
     let moment = when.parse::<u64>().unwrap_or(0);
-    Ok(1_700_000_000 < moment && moment < 4_102_444_800)
+    Ok(first <= moment && moment <= last)
+}
+
+const CARRIED: &str = "carried 0 sessions of 0 accounts\n\
+    stay: 0 open, 0 recent, 0 kept, 0 too large\n";
+
+// Whether a cutoff is refused that is less than 30 days before the clock's moment, by a minute, and
+// one is taken that is not.
+fn counts_days(rt: &HostRuntime, now: u64) -> Result<bool, Fail> {
+    let late = now.saturating_sub(2_591_940);
+    let early = now.saturating_sub(2_592_060);
+    let command = "forward --config when.toml --db when-book --yes --at";
+    let refused = (Status::Refused, "", "forward: less than 30 days ago\n");
+    let late = format!(in rt.alloc(); "{command} {late}")?;
+    let early = format!(in rt.alloc(); "{command} {early}")?;
+    Ok(
+        comes(rt, (late.as_str(), ""), refused)?
+            && comes(rt, (early.as_str(), ""), (Status::Done, CARRIED, ""))?,
+    )
 }
 
 // A session of the plan `gold`, one of a Class that names no plan, a voucher and the balances.

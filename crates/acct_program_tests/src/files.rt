@@ -3,6 +3,7 @@ use crate::trial::{
     Command, Row, Wanted, alter_log, came, comes, first_wrong, octets_of, write_sites,
 };
 use acct_program::Status;
+use sqlite::{Connection, Wary};
 use std::fs;
 use std::os::unix::fs::{PermissionsExt, symlink};
 use std::test::Fail;
@@ -322,7 +323,7 @@ fn tells_each(rt: &HostRuntime) -> Result<bool, Fail> {
 
 // Commands that name files to be written. Each would take the place of another file: the
 // configuration, the book, its log, that of the other name, a folder, and what others wrote.
-static OVERWRITING: [&str; 12] = [
+static OVERWRITING: [&str; 14] = [
     "check --config safe.toml --status safe.toml",
     "check --config safe.toml --balances safe-link",
     "check --config safe.toml --balances ./safe.toml",
@@ -336,6 +337,10 @@ static OVERWRITING: [&str; 12] = [
     "serve --config safe.toml --db safe-book --turns 1 --radius-port 1 --desk-port 1 --status /tmp",
     "serve --config safe.toml --db safe-book --turns 1 --radius-port 1 --desk-port 1 \
      --balances safe-book",
+    "serve --config safe.toml --db safe-book --turns 1 --radius-port 1 --desk-port 1 \
+     --status safe-book-wal",
+    "serve --config safe.toml --db safe-book --turns 1 --radius-port 1 --desk-port 1 \
+     --status safe-out --balances safe-out",
 ];
 
 // Commands whose files are free, or were written by the program.
@@ -374,5 +379,50 @@ fn nothing_is_overwritten(rt: HostRuntime) -> Result<(), Fail> {
     assert!(rt; all_come(&rt, &OVERWRITING, refused)?);
     let sizes = (Status::Done, "ok: 1 clients, 2 plans, 2 keys\n", "");
     assert!(rt; all_come(&rt, &KEEPING, sizes)?);
+    Ok(())
+}
+
+// Gives a book an account without closing it: what was committed stays in the log.
+fn leave_log(rt: &HostRuntime, name: &str) -> Result<(), Fail> {
+    let opened = Connection::open_from(rt, name, false, Wary);
+    let Ok(mut connection) = opened else {
+        return Err("not opened".into());
+    };
+    connection.execute_batch("INSERT INTO account VALUES (x'616c', 7);")?;
+    Ok(())
+}
+
+// Commands that only look at a book, and what they print.
+static LOOKING: [(&str, &str); 3] = [
+    (
+        "export --config log.toml --db log-book balances",
+        "account,balance,overrun\nal,7,0\n",
+    ),
+    (
+        "check --config log.toml --db log-book",
+        "ok: 1 clients, 2 plans, 2 keys\n",
+    ),
+    (
+        "export --config log.toml --db log-book overruns",
+        "account,overrun\n",
+    ),
+];
+
+// Who only looks at a book leaves its log as it is.
+#[test]
+fn a_look_leaves_the_log(rt: HostRuntime) -> Result<(), Fail> {
+    write_sites(&rt, ["log.toml", "log-more.toml", "log-other.toml"])?;
+    let made = (Status::Done, "book made\n", "");
+    assert!(rt; comes(&rt, ("init --config log.toml --db log-book", ""), made)?);
+    leave_log(&rt, "log-book")?;
+    let log = fs::read(&rt, "log-book-wal")?;
+    assert!(rt; log.len() > 32);
+    for (line, wanted) in &LOOKING {
+        assert!(rt;
+            comes(&rt, (line, ""), (Status::Done, wanted, ""))?,
+            "{line}"
+        );
+        assert!(rt; fs::read(&rt, "log-book-wal")? == log, "{line}");
+    }
     Ok(())
 }

@@ -3,6 +3,8 @@
 #![tactic(auto)]
 
 #[cfg(test)]
+mod asked_server;
+#[cfg(test)]
 mod audits;
 #[cfg(test)]
 mod commands;

@@ -4,7 +4,7 @@ use crate::servers::free_port;
 use crate::trial::{Row, first_wrong, words_of};
 use acct_program::Status;
 use acct_program_args::job_of;
-use acct_program_jobs::carry_out;
+use acct_program_jobs::{Streams, carry_out};
 use acct_program_serving::Errors;
 use acct_service::moment_of;
 use sqlite::Wary;
@@ -246,7 +246,8 @@ fn serve(
     let output = Heard::new(rt, callers, &printed.output, Act::Begin);
     let mut faults = Vec::new(rt.alloc());
     let input: &[u8] = b"";
-    let (status, _outcome) = carry_out(rt, &order, input, output, errors, &mut faults, Wary);
+    let streams = Streams::new(input, output, errors);
+    let (status, _outcome) = carry_out(rt, &order, streams, &mut faults, Wary);
     Ok(status)
 }
 

@@ -34,14 +34,23 @@ fn a_server_without_callers_ends(rt: HostRuntime) -> Result<(), Fail> {
     Ok(())
 }
 
-// Whether a server of one turn prints what it is to print, and keeps its files.
+// The options of as many addresses for reports as there may be.
+fn more_addresses(rt: &HostRuntime) -> Result<String, Fail> {
+    let mut options = String::from_str(rt.alloc(), "--bind 127.0.0.1")?;
+    for number in 3..18 {
+        options.push_str(format!(in rt.alloc(); " --bind 127.0.0.{number}")?.as_str())?;
+    }
+    Ok(options)
+}
+
+// Whether a server of one turn and 16 addresses prints what it is to print, and keeps its files.
 fn serves_and_keeps(rt: &HostRuntime) -> Result<bool, Fail> {
     let desk = TcpListener::bind(rt, (Ipv4Addr::from([127, 0, 0, 1]), 0))?;
     let taken = desk.local_addr()?.port();
     // The desk's port is taken at 127.0.0.1, so it is to be bound at 127.0.0.2 and nowhere else.
-    let radius = free_port(rt)?;
+    let (radius, binds) = (free_port(rt)?, more_addresses(rt)?);
     let line = format!(in rt.alloc();
-        "serve --config quiet.toml --db quiet-book --turns 1 \
+        "serve --config quiet.toml --db quiet-book --turns 1 {binds} \
         --radius-port {radius} --desk-port {taken} --desk-bind 127.0.0.2 \
         --status quiet-status --balances quiet-balances"
     )?;

@@ -1,7 +1,10 @@
 //! A command line, and its result.
+ghost use Rattle.std.specs.Prelude.{IfOk};
+ghost use Rattle.acct_program_args.specs.Orders.{HasBounds};
+
 use acct_program::Status;
-use acct_program_args::job_of;
-use acct_program_jobs::{Outcome, carry_out};
+use acct_program_args::{Order, job_of};
+use acct_program_jobs::{Outcome, Streams, carry_out};
 use acct_program_serving::Errors;
 use sqlite::{Connection, FileFrom, FileStore, Wary};
 use std::alloc::Global;
@@ -50,9 +53,7 @@ impl Printed {
 
 /// Runs a command of the program, and returns its result.
 pub fn came(rt: &HostRuntime, (line, input): Command<'_>) -> Result<Printed, Fail> {
-    let Ok(order) = job_of(rt.alloc(), words_of(rt.alloc(), line)?) else {
-        return Err("no command".into());
-    };
+    let order = order_of(rt.alloc(), line)?;
     let errors = Errors {
         drops: Some(Vec::new(rt.alloc())),
         notices: Vec::new(rt.alloc()),
@@ -61,7 +62,8 @@ pub fn came(rt: &HostRuntime, (line, input): Command<'_>) -> Result<Printed, Fai
     let output = Vec::new(rt.alloc());
     let mut faults = Vec::new(rt.alloc());
     let input = input.as_bytes();
-    let (status, outcome) = carry_out(rt, &order, input, output, errors, &mut faults, Wary);
+    let streams = Streams::new(input, output, errors);
+    let (status, outcome) = carry_out(rt, &order, streams, &mut faults, Wary);
     let Outcome {
         output,
         ended: _ended,
@@ -72,6 +74,16 @@ pub fn came(rt: &HostRuntime, (line, input): Command<'_>) -> Result<Printed, Fai
         output: output.unwrap_or(Vec::new(rt.alloc())),
         faults,
     })
+}
+
+/// The order of a command line.
+pub fn order_of(alloc: Global, line: &str) -> Result<Order, Fail>
+    ensures { IfOk result (λ order. HasBounds order.job) }
+{
+    match job_of(alloc, words_of(alloc, line)?) {
+        Ok(order) => Ok(order),
+        Err(_) => Err("no command".into()),
+    }
 }
 
 /// The arguments of a command line, the program's name first.

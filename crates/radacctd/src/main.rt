@@ -6,13 +6,16 @@
 //! `check` reads a configuration. `feed` answers a script.
 #![tactic(auto)]
 
+ghost use Rattle.std.specs.Prelude.{IfOk};
+ghost use Rattle.acct_program_args.specs.Orders.{HasBounds};
+
 mod explaining;
 
 use crate::explaining::{explain_run, warn_first};
 use acct_program::Status;
-use acct_program_args::{Job, Syncs, job_of, tell};
+use acct_program_args::{Job, Order, Syncs, job_of, tell};
 use acct_program_explain::explain_words;
-use acct_program_jobs::{BookFile, carry_out, serve_files};
+use acct_program_jobs::{BookFile, Streams, carry_out, serve_files, told};
 use acct_program_serving::Errors;
 use sqlite::{Unknown, Wary};
 use std::io::BufWriter;
@@ -20,22 +23,9 @@ use std::process::ExitCode;
 use std::{env, io};
 
 fn main(rt: HostRuntime) -> ExitCode {
-    let words = match words_of(&rt) {
-        Ok(words) => words,
-        Err(error) => {
-            let _ = eprintln!(rt; "error: {error}");
-            return ExitCode::from(Status::BadCommandLine);
-        }
-    };
-    let order = match job_of(rt.alloc(), words) {
+    let order = match order_of(&rt) {
         Ok(order) => order,
-        Err(error) => {
-            let status = tell(&rt, &error);
-            if status == Status::BadCommandLine {
-                explain_wrong_words(&rt);
-            }
-            return ExitCode::from(status);
-        }
+        Err(status) => return ExitCode::from(status),
     };
     let output = BufWriter::new(rt.alloc(), rt.stdout());
     let drops = BufWriter::new(rt.alloc(), rt.stderr());
@@ -44,34 +34,55 @@ fn main(rt: HostRuntime) -> ExitCode {
         let _ = println!(rt; "unavailable");
         return ExitCode::from(Status::Unavailable);
     };
-    let drops = Some(drops);
     let errors = Errors {
-        drops,
+        drops: Some(drops),
         notices,
         explains: order.explains,
     };
     warn_first(&rt, &order, &mut rt.stderr());
-    let faults = &mut rt.stderr();
     // What is assumed of the files as the program begins, in one value that an open uses up: so
     // none is opened twice. A server that syncs once assumes that each octet of a write that was
     // cut short is the old one or the new one. All other jobs assume nothing of it.
     let status = match &order.job {
         Job::Serve { paths, serving } if serving.syncs == Syncs::Once => {
             let files = BookFile::of(paths, order.loses_commits);
-            let (status, outcome) = serve_files(
-                &rt, files, serving, output, errors, faults, Unknown,
-            );
+            let served = serve_files(&rt, files, serving, output, errors, Unknown);
+            let (status, outcome) = told(&mut rt.stderr(), served);
             explain_run(&rt, &order, outcome, &mut rt.stderr());
             status
         }
         _ => {
-            let input = rt.stdin();
-            let (status, outcome) = carry_out(&rt, &order, input, output, errors, faults, Wary);
+            let streams = Streams::new(rt.stdin(), output, errors);
+            let (status, outcome) = carry_out(&rt, &order, streams, &mut rt.stderr(), Wary);
             explain_run(&rt, &order, outcome, &mut rt.stderr());
             status
         }
     };
     ExitCode::from(status)
+}
+
+// What the command line asks for, or the status with which the program ends. Prints why, and help
+// if that was asked for.
+fn order_of(rt: &HostRuntime) -> Result<Order, Status>
+    ensures { IfOk result (λ order. HasBounds order.job) }
+{
+    let words = match words_of(rt) {
+        Ok(words) => words,
+        Err(error) => {
+            let _ = eprintln!(rt; "error: {error}");
+            return Err(Status::BadCommandLine);
+        }
+    };
+    match job_of(rt.alloc(), words) {
+        Ok(order) => Ok(order),
+        Err(error) => {
+            let status = tell(rt, &error);
+            if status == Status::BadCommandLine {
+                explain_wrong_words(rt);
+            }
+            Err(status)
+        }
+    }
 }
 
 // Explains a bad command line, if it asks for that.

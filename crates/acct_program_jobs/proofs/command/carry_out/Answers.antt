@@ -13,14 +13,16 @@ returns-in-Feed-clause-does g c =
 
 pub returns-in-Check-clause-does : goal.returns-in-Check-clause-does
 returns-in-Check-clause-does g c = rw (c.in-Check.is, c.told-in-Check.ensures.same)
-    (rw c.as_ref-book.ensures.value at c.check-checked.ensures.does)
+    (rw (c.of-checking.ensures.database, c.of-checking.ensures.audits, c.as_ref-in-Check.ensures.value)
+    at c.check-checked.ensures.does)
 
 pub returns-in-Init-clause-does : goal.returns-in-Init-clause-does
 returns-in-Init-clause-does g c =
     rw (c.in-Init.is, c.told-in-Init.ensures.same, ← c.new-making.ensures) c.make.ensures.does
 
 pub returns-in-Serve-clause-does : goal.returns-in-Serve-clause-does
-returns-in-Serve-clause-does g c = rw c.in-Serve.is (c.serve_files.ensures.does c.in-Serve.paths None)
+returns-in-Serve-clause-does g c = rw (c.in-Serve.is, c.told-in-Serve.ensures.same)
+    (c.serve_files-served.ensures.does c.in-Serve.paths None)
 
 pub returns-in-Import-clause-does : goal.returns-in-Import-clause-does
 returns-in-Import-clause-does g c = rw (c.in-Import.is, c.told-in-Import.ensures.same) (
@@ -33,7 +35,7 @@ pub returns-in-Forward-clause-does : goal.returns-in-Forward-clause-does
 returns-in-Forward-clause-does g c = rw (c.in-Forward.is, c.told-in-Forward.ensures.same) (
   c.moment_of-moment-in-Forward.result,
   c.moment_of-moment-in-Forward.ensures,
-  c.work_on-in-Forward.ensures.does,
+  rw c.new-forward.ensures at c.work_on-in-Forward.ensures.does,
 )
 
 pub returns-in-Export-clause-does : goal.returns-in-Export-clause-does
