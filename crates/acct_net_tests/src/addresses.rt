@@ -103,10 +103,10 @@ fn each_replies(rt: &HostRuntime, count: u8, asked: &[u8]) -> Result<bool, Fail>
     Ok(sockets.failures() == 0)
 }
 
-// Whether each of ten datagrams that wait was sent to another address than the one before it.
-fn alternate(sockets: &mut Sockets<'_, HostRuntime>) -> Result<bool, Fail> {
+// Whether each of so many datagrams that wait was sent to another address than the one before it.
+fn alternate(sockets: &mut Sockets<'_, HostRuntime>, count: u32) -> Result<bool, Fail> {
     let mut before = answer(sockets)?;
-    for _ in 1..10 {
+    for _ in 1..count {
         let now = answer(sockets)?;
         if now == before {
             return Ok(false);
@@ -116,15 +116,19 @@ fn alternate(sockets: &mut Sockets<'_, HostRuntime>) -> Result<bool, Fail> {
     Ok(true)
 }
 
-// Of two addresses neither waits for more than one datagram of the other one.
+// No address waits for more than one datagram of each other one.
 #[test]
 fn addresses_take_turns(rt: HostRuntime) -> Result<(), Fail> {
-    let mut sockets = bound(&rt, 2)?;
     let client = client(&rt)?;
-    for place in [0, 0, 0, 0, 0, 1, 1, 1, 1, 1] {
-        ask(&sockets, &client, place)?;
+    for count in [2, 3, 16] {
+        let mut sockets = bound(&rt, count)?;
+        for place in 0..count {
+            for _ in 0..5 {
+                ask(&sockets, &client, place)?;
+            }
+        }
+        assert!(rt; alternate(&mut sockets, 5 * u32::from(count))?, "{count}");
     }
-    assert!(rt; alternate(&mut sockets)?);
     Ok(())
 }
 

@@ -334,9 +334,23 @@ fn waits_for_a_caller_that_takes_nothing(rt: HostRuntime) -> Result<(), Fail> {
 }
 
 // The request of the caller with this place among the others: that of a guest with a key.
-fn request_of(alloc: Global, place: usize) -> Result<String, Fail> {
+pub(crate) fn request_of(alloc: Global, place: usize) -> Result<String, Fail> {
     let number = place.saturating_add(100);
     Ok(format!(in alloc; "GET /me/balance HTTP/1.1\r\nDesk-Key: key-of-guest-{number}\r\n\r\n")?)
+}
+
+/// So many callers that have sent these octets.
+pub fn callers_of(
+    rt: &HostRuntime,
+    desk: u16,
+    count: usize,
+    octets: &[u8],
+) -> Result<Vec<TcpStream>, Fail> {
+    let mut streams = Vec::new(rt.alloc());
+    for _ in 0..count {
+        streams.push(caller(rt, desk, octets)?)?;
+    }
+    Ok(streams)
 }
 
 /// So many callers, each with a request of its own: that of a guest from 100 on.
@@ -350,7 +364,7 @@ pub fn callers(rt: &HostRuntime, desk: u16, count: usize) -> Result<Vec<TcpStrea
 }
 
 // Answers each request of so many turns by its octets.
-fn echo_all<X: Exchange>(exchange: &mut X, turns: u32) -> bool {
+pub(crate) fn echo_all<X: Exchange>(exchange: &mut X, turns: u32) -> bool {
     for _ in 0..turns {
         let Ok(arrived) = turn(exchange) else {
             return false;
@@ -372,7 +386,7 @@ fn gets_its_own(alloc: Global, number: usize, stream: &mut TcpStream) -> Result<
 }
 
 // Whether each caller gets its own request.
-fn each_gets_its_own(alloc: Global, streams: &mut [TcpStream]) -> Result<bool, Fail> {
+pub(crate) fn each_gets_its_own(alloc: Global, streams: &mut [TcpStream]) -> Result<bool, Fail> {
     for (number, stream) in streams.iter_mut().enumerate() {
         if !gets_its_own(alloc, number, stream)? {
             return Ok(false);
@@ -423,10 +437,10 @@ fn is_served_after_a_fault<X: Exchange>(
     )
 }
 
-// Whether the first of these callers has lost its connection.
-fn is_first_closed(alloc: Global, silent: &mut [TcpStream]) -> bool {
-    match silent.first_mut() {
-        Some(first) => gets(alloc, first, b""),
+/// Whether the first of these callers gets this, and then its connection ends.
+pub fn first_gets(alloc: Global, callers: &mut [TcpStream], wanted: &[u8]) -> bool {
+    match callers.first_mut() {
+        Some(first) => gets(alloc, first, wanted),
         None => false,
     }
 }
@@ -437,7 +451,7 @@ fn serves_past_silent_callers(rt: HostRuntime) -> Result<(), Fail> {
     let (mut sockets, desk) = bound(&rt)?;
     let mut silent = silent_callers(&rt, desk, &mut sockets, 64)?;
     let is_served = is_served_after_a_fault(&rt, desk, &mut sockets)? && sockets.failures() == 1;
-    assert!(rt; is_served && is_first_closed(rt.alloc(), silent.as_mut_slice()));
+    assert!(rt; is_served && first_gets(rt.alloc(), silent.as_mut_slice(), b""));
     Ok(())
 }
 

@@ -16,6 +16,8 @@ mod guests;
 #[cfg(test)]
 mod limits;
 #[cfg(test)]
+mod places;
+#[cfg(test)]
 mod responses;
 #[cfg(test)]
 mod seed;

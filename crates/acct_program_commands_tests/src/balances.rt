@@ -189,6 +189,50 @@ fn tells_that_it_is_not_written(rt: HostRuntime) -> Result<(), Fail> {
     Ok(())
 }
 
+// Moments at which a file is due, and whether it can be written then.
+static OUTAGES: [(u64, bool); 5] = [
+    (3000, true),
+    (3005, false),
+    (3010, false),
+    (3015, true),
+    (3020, false),
+];
+
+// When the file was last written, after each of these moments.
+fn written_at(
+    rt: &HostRuntime,
+    kept: &mut KeptBalances<'_, HostRuntime>,
+    told: &mut Vec<u8>,
+) -> Result<Vec<u64>, Fail> {
+    let (alloc, gauges) = (rt.alloc(), Gauges::new());
+    let config = sample_config(alloc)?;
+    let mut book = MemBook::new(alloc);
+    let mut moments = Vec::new(alloc);
+    for (moment, can_write) in &OUTAGES {
+        if *can_write {
+            fs::create_dir(rt, "at-times")?;
+        }
+        kept.keep(alloc, &config.plans, &mut book, *moment, &gauges, told);
+        if *can_write {
+            fs::remove_file(rt, "at-times/balances")?;
+            fs::remove_dir(rt, "at-times")?;
+        }
+        moments.push(gauges.balances().map(|written| written.at).unwrap_or(0))?;
+    }
+    Ok(moments)
+}
+
+// Each outage is printed once, and until it is over the server shows when the file was last written.
+#[test]
+fn tells_each_outage(rt: HostRuntime) -> Result<(), Fail> {
+    let mut told = Vec::new(rt.alloc());
+    let mut kept = KeptBalances::new(&rt, rt.alloc(), &asked(rt.alloc(), "at-times/balances")?)?;
+    let moments = written_at(&rt, &mut kept, &mut told)?;
+    assert!(rt; moments.as_slice() == [3000, 3000, 3000, 3015, 3015].as_slice());
+    assert!(rt; told.as_slice() == b"balances: cannot write\nbalances: cannot write\n".as_slice());
+    Ok(())
+}
+
 // If the book fails, that is printed once, and the file stays.
 #[test]
 fn tells_that_the_book_refuses(rt: HostRuntime) -> Result<(), Fail> {

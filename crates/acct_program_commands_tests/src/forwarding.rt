@@ -187,3 +187,51 @@ fn many_accounts_are_carried(rt: HostRuntime) -> Result<(), Fail> {
     assert!(rt; carries_many(rt.alloc(), 1_500)?);
     Ok(())
 }
+
+// Whether each of so many open sessions that are carried is listed, of an account each.
+fn lists_many(alloc: Global, count: u32) -> Result<bool, Fail> {
+    let mut book = MemBook::new(alloc);
+    let mut wanted = String::from_str(alloc, "")?;
+    for number in 100_000..count.saturating_add(100_000) {
+        let silent = (
+            "ap1",
+            b"".as_slice(),
+            b"gold".as_slice(),
+            0,
+            0,
+            9,
+            Live,
+            4_000_000,
+        );
+        let mut row = row_of(alloc, &silent, number)?;
+        let account = format!(in alloc; "a{number}")?;
+        row.account = Octets::from_slice(alloc, account.as_bytes())?;
+        book.put_session(&row, -10)?;
+        let line = format!(in alloc; "open: ap1 s{number} of {account}, silent since 4000000\n")?;
+        wanted.push_str(line.as_str())?;
+    }
+    let last = (
+        "ap1",
+        b"zed".as_slice(),
+        b"gold".as_slice(),
+        7,
+        1,
+        9,
+        Stopped,
+        9_999_999,
+    );
+    put(alloc, &mut book, &last)?;
+    let totals = format!(in alloc;
+        "carried {count} sessions of {count} accounts\n\
+        stay: 0 open, 1 recent, 0 kept, 0 too large\n"
+    )?;
+    wanted.push_str(totals.as_str())?;
+    let (output, _) = carried(alloc, &mut book, false)?;
+    Ok(output.as_slice() == wanted.as_bytes())
+}
+
+#[test]
+fn each_open_session_is_listed(rt: HostRuntime) -> Result<(), Fail> {
+    assert!(rt; lists_many(rt.alloc(), 300)?);
+    Ok(())
+}

@@ -3,6 +3,8 @@
 #![tactic(auto)]
 
 #[cfg(test)]
+mod auditing;
+#[cfg(test)]
 mod balances;
 #[cfg(test)]
 mod checking;
@@ -16,6 +18,8 @@ mod many;
 mod rounds;
 #[cfg(test)]
 mod sessions;
+#[cfg(test)]
+mod shared;
 #[cfg(test)]
 mod site;
 #[cfg(test)]

@@ -9,28 +9,33 @@ use acct_program_args::BalancesFile;
 use acct_program_commands::{
     FileRounds, Gauges, KeptBalances, SiteSource, State, StateSource, StatusFile,
 };
-use acct_service::Rounds;
+use acct_service::{Rounds, moment_of};
 use acct_site::sample_config;
 use std::alloc::Global;
 use std::cell::Cell;
 use std::fs;
 use std::test::Fail;
 
-// The text that the round of a number finds, if it is another one.
+// The text that the round of a number finds, if it is another one, and when it was last polled.
 struct Said<'c> {
     number: &'c Cell<usize>,
+    polled_at: &'c Cell<u64>,
 }
 
 impl<'c> Drop for Said<'c> {
     fn drop(self) {
-        let Said { number: _ } = self;
+        let Said {
+            number: _,
+            polled_at: _,
+        } = self;
     }
 }
 
 impl<'c> SiteSource for Said<'c> {
     ghost sights = { λ _. None };
 
-    fn look(&mut self, alloc: Global, _moment: u64) -> Option<Result<Octets, InputFault>> {
+    fn look(&mut self, alloc: Global, moment: u64) -> Option<Result<Octets, InputFault>> {
+        self.polled_at.set(moment);
         let text = ROUNDS.get(self.number.get())?.0?;
         match Octets::from_slice(alloc, text.as_bytes()) {
             Ok(octets) => Some(Ok(octets)),
@@ -135,11 +140,12 @@ fn shown_by(rt: &HostRuntime, gauges: &Gauges) -> Result<Shown, Fail> {
     Ok(shown(&status.figures().state))
 }
 
-// Whether each round finds and writes what it is to, and the server shows it.
+// Whether each round polls at the clock's moment, finds and writes what it is to, and the server
+// shows it.
 fn go_rounds<R: Rounds>(
     rt: &HostRuntime,
     rounds: &mut R,
-    number: &Cell<usize>,
+    (number, polled_at): (&Cell<usize>, &Cell<u64>),
     gauges: &Gauges,
 ) -> Result<bool, Fail> {
     let config = sample_config(rt.alloc())?;
@@ -147,10 +153,12 @@ fn go_rounds<R: Rounds>(
     for (place, (_, credited, takes, wanted, file)) in ROUNDS.iter().enumerate() {
         credit(rt.alloc(), &mut book, *credited)?;
         number.set(place);
+        let before = moment_of(rt);
         let took = rounds.go_round(rt.alloc(), &config, &mut book).is_some();
+        let is_timely = before <= polled_at.get() && polled_at.get() <= moment_of(rt);
         let is_shown = shown_by(rt, gauges)? == *wanted;
         let written = fs::read_to_string(rt, "rounds-balances")?;
-        if took != *takes || !is_shown || written.as_str() != *file {
+        if !is_timely || took != *takes || !is_shown || written.as_str() != *file {
             return Ok(false);
         }
     }
@@ -173,11 +181,15 @@ const TOLD: &str = "\
 
 #[test]
 fn each_round_writes_what_is_new(rt: HostRuntime) -> Result<(), Fail> {
-    let (number, gauges, mut told) = (Cell::new(0), Gauges::new(), Vec::new(rt.alloc()));
+    let (number, polled_at) = (Cell::new(0), Cell::new(0));
+    let (gauges, mut told) = (Gauges::new(), Vec::new(rt.alloc()));
     let kept = KeptBalances::new(&rt, rt.alloc(), &balances(rt.alloc())?)?;
-    let source = Said { number: &number };
+    let source = Said {
+        number: &number,
+        polled_at: &polled_at,
+    };
     let mut rounds = FileRounds::new(&rt, source, Some(kept), &gauges, &mut told);
-    assert!(rt; go_rounds(&rt, &mut rounds, &number, &gauges)?);
+    assert!(rt; go_rounds(&rt, &mut rounds, (&number, &polled_at), &gauges)?);
     drop(rounds);
     assert!(rt; told.as_slice() == TOLD.as_bytes());
     fs::remove_file(&rt, "rounds-balances")?;

@@ -120,22 +120,24 @@ const OLD_KEY: &str = "[[key]]\ntoken = \"al-key-0000000001\"\naccount = \"al\"\
 
 const NEW_KEY: &str = "[[key]]\ntoken = \"bo-key-0000000002\"\naccount = \"bo\"\n";
 
-// Whether a change that leaves a file as long as it was is seen.
-fn sees_another_text(rt: &HostRuntime, name: &str) -> Result<bool, Fail> {
+// Whether a change that was made at a moment and leaves a file as long as it was is seen.
+fn sees_another_text(rt: &HostRuntime, name: &str, moment: u64) -> Result<bool, Fail> {
     let file = Text::from_str(rt.alloc(), name)?;
     write_text_at(rt, name, OLD_KEY, 1_000_000_000)?;
     let mut site = SiteFile::new(rt, &file);
     let is_same = site.look(rt.alloc(), 3000).is_none();
-    write_text_at(rt, name, NEW_KEY, 1_000_000_001)?;
+    write_text_at(rt, name, NEW_KEY, moment)?;
     let Some(Ok(read)) = site.look(rt.alloc(), 3001) else {
         return Ok(false);
     };
     Ok(is_same && read.octets.as_slice() == NEW_KEY.as_bytes())
 }
 
+// An older file may take the place of a newer one.
 #[test]
 fn sees_a_change_of_equal_length(rt: HostRuntime) -> Result<(), Fail> {
-    assert!(rt; sees_another_text(&rt, "rotated-site.toml")?);
+    assert!(rt; sees_another_text(&rt, "rotated-site.toml", 1_000_000_001)?);
+    assert!(rt; sees_another_text(&rt, "rotated-site.toml", 999_999_999)?);
     fs::remove_file(&rt, "rotated-site.toml")?;
     Ok(())
 }

@@ -11,7 +11,8 @@ use acct_service::lists::{ListExchange, Planned};
 use acct_service::{Event, Exchange, What};
 use acct_wire::Reason;
 use std::alloc::Global;
-use std::io::Write;
+use std::fs::{File, OpenFile};
+use std::io::{Read, Write};
 use std::os::unix::fs::PermissionsExt;
 use std::test::Fail;
 use std::{fs, io};
@@ -128,8 +129,11 @@ fn arrivals(count: u64, last_at: u64) -> Arrivals {
     Arrivals { count, last_at }
 }
 
+// The octets of a book of more than four gibibytes, of which none are written.
+const BOOK_OCTETS: u64 = 4_294_967_301;
+
 // What a server counted that started at 990, received only datagrams, dropped nothing but those that
-// were too short, and has no file of balances, and a book of five octets without a log.
+// were too short, and has no file of balances, and a long book without a log.
 fn figures(tally: Tally, last_event_at: u64) -> Figures {
     let mut dropped = [0; Reason::COUNT];
     dropped[1] = tally.drops;
@@ -144,19 +148,24 @@ fn figures(tally: Tally, last_event_at: u64) -> Figures {
         state: State {
             is_current: true,
             balances: None,
-            book_octets: Some(5),
+            book_octets: Some(BOOK_OCTETS),
             log_octets: None,
         },
     }
 }
 
+// Whether a reader has these figures, and no more.
+fn reads<R: Read>(rt: &HostRuntime, reader: &mut R, figures: &Figures) -> io::Result<bool> {
+    let (mut wanted, mut text) = (Vec::new(rt.alloc()), Vec::new(rt.alloc()));
+    write_figures(&mut wanted, figures)?;
+    reader.read_to_end(&mut text)?;
+    Ok(text == wanted)
+}
+
 /// Whether a file has these figures, and is open to everyone.
 pub fn has(rt: &HostRuntime, name: &str, figures: &Figures) -> io::Result<bool> {
-    let mut wanted = Vec::new(rt.alloc());
-    write_figures(&mut wanted, figures)?;
-    let text = fs::read_to_string(rt, name)?;
     let mode = fs::metadata(rt, name)?.permissions().mode();
-    Ok(text.as_bytes() == wanted.as_slice() && mode & 0o777 == 0o644)
+    Ok(reads(rt, &mut File::open(rt, name)?, figures)? && mode & 0o777 == 0o644)
 }
 
 // Datagrams at these moments.
@@ -208,23 +217,30 @@ fn replies<X: Exchange>(exchange: &mut X) -> bool {
     }
 }
 
-// Whether the file is written at the first turn, and when ten seconds have gone by.
+// Whether the file is written at the first turn, when ten seconds have gone by, and at a turn without
+// an event, whose moment is the clock's.
 fn is_kept<X: Exchange>(rt: &HostRuntime, exchange: &mut X) -> Result<bool, Fail> {
     let mut tally = Tally::none();
     let begins = drops(exchange) && has(rt, "kept-status", &figures(tally, 0))?;
+    let mut first = File::open(rt, "kept-status")?;
     let stays = replies(exchange) && has(rt, "kept-status", &figures(tally, 0))?;
     tally.events = 2;
     tally.drops = 1;
     tally.replies = 1;
     let goes_on = turn(exchange).is_ok() && has(rt, "kept-status", &figures(tally, 1009))?;
-    Ok(begins && stays && goes_on)
+    tally.events = 3;
+    tally.mute = 1;
+    let idles = turn(exchange).is_ok() && has(rt, "kept-status", &figures(tally, 1010))?;
+    // Who opened it before has the old file, whole.
+    let is_old = reads(rt, &mut first, &figures(Tally::none(), 0))?;
+    Ok(begins && stays && goes_on && idles && is_old)
 }
 
 // The file is written at the first turn, when ten seconds have gone by, and at the end, by an
 // exchange that counts its calls: a drop, a reply, and an event without an answer.
 #[test]
 fn keeps_a_file(rt: HostRuntime) -> Result<(), Fail> {
-    fs::write(&rt, "status-book", "12345")?;
+    File::create(&rt, "status-book")?.set_len(BOOK_OCTETS)?;
     let told = Vec::new(rt.alloc());
     let gauges = Gauges::new();
     let mut watched = watched(&rt, &gauges, "kept-status", [1000, 1009, 1010], told)?;

@@ -1,7 +1,7 @@
 //! What a server tells while it runs, and which drops it tells.
 ghost use Rattle.std.specs.Prelude.{◌<◌, ◌^◌};
 
-use crate::turns::drops;
+use crate::turns::{drops, turn};
 use acct_book::MemBook;
 use acct_model::Octets;
 use acct_program_commands::{DropLog, StatusFile, Watch, Watched};
@@ -176,6 +176,58 @@ fn counts_as_the_watched_one(rt: HostRuntime) -> Result<(), Fail> {
             && exchange.calls().len() == 2
             && matches!(&exchange.calls()[1], Call::Dropped(_, Reason::TooShort))
     );
+    Ok(())
+}
+
+const WENT_BACK: &str = "drop 2 TooShort from 10.0.0.9:1813\n\
+    minute: events 1, replies 0, drops 1, mute 0, faults 0\n\
+    drop 2 TooShort from 10.0.0.9:1813\n\
+    minute: events 1, replies 0, drops 1, mute 0, faults 0\n";
+
+// A minute is over too if the clock went back by more.
+#[test]
+fn tells_the_minute_before_a_clock_went_back(rt: HostRuntime) -> Result<(), Fail> {
+    let mut planned = Vec::new(rt.alloc());
+    plan_datagram(rt.alloc(), &mut planned, STRANGER, 5000)?;
+    plan_datagram(rt.alloc(), &mut planned, STRANGER, 4900)?;
+    let exchange = ListExchange::new(rt.alloc(), planned);
+    let watch = Watch::new(Vec::new(rt.alloc()));
+    let mut watched = Watched::new(&rt, exchange, Some(watch), no_status(&rt));
+    let are_dropped = drops(&mut watched) && drops(&mut watched);
+    let (_, told) = watched.finish();
+    assert!(rt; are_dropped && told.is_some_and(|told| told.as_slice() == WENT_BACK.as_bytes()));
+    Ok(())
+}
+
+// What is told of a drop for each reason, all in one minute.
+fn told_of_all(alloc: Global) -> Result<String, Fail> {
+    let mut text = String::from_str(alloc, "")?;
+    for reason in &Reason::ALL {
+        let (number, name) = (reason.number(), reason.name());
+        text.push_str(format!(in alloc; "drop {number} {name} from 10.0.0.9:1813\n")?.as_str())?;
+    }
+    text.push_str("minute: events 14, replies 0, drops 14, mute 0, faults 0\n")?;
+    Ok(text)
+}
+
+// A drop is told whatever its reason is.
+#[test]
+fn tells_drops_for_each_reason(rt: HostRuntime) -> Result<(), Fail> {
+    let mut planned = Vec::new(rt.alloc());
+    for _ in &Reason::ALL {
+        plan_datagram(rt.alloc(), &mut planned, STRANGER, 5000)?;
+    }
+    let exchange = ListExchange::new(rt.alloc(), planned);
+    let watch = Watch::new(Vec::new(rt.alloc()));
+    let mut watched = Watched::new(&rt, exchange, Some(watch), no_status(&rt));
+    for reason in &Reason::ALL {
+        if let Ok(Some(event)) = turn(&mut watched) {
+            watched.note_drop(&event, *reason);
+        }
+    }
+    let (_, told) = watched.finish();
+    let wanted = told_of_all(rt.alloc())?;
+    assert!(rt; told.is_some_and(|told| told.as_slice() == wanted.as_bytes()));
     Ok(())
 }
 
