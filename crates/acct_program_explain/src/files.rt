@@ -43,7 +43,7 @@ pub(crate) fn why_unopened<R: ReadsFiles>(runtime: &R, alloc: Global, file: &str
         Err(error) if is_missing(error.kind()) => "there is no such file, and init makes one",
         Err(error) => why_unseen(error.kind()),
         Ok(found) if found.is_file() && found.len() < DATABASE_HEADER_OCTETS => {
-            "it has fewer than 100 octets, so it is no book, and init makes one"
+            "it has fewer than 100 octets, so it is no book: move it away, and init makes one"
         }
         Ok(found) => why_shut(runtime, alloc, file, &found),
     }
@@ -118,8 +118,11 @@ fn why_refused<R: ReadsFiles, F: Read>(
     }
     match is_locked(runtime, alloc, found.dev(), found.ino()) {
         Some(true) => "another program has it",
-        Some(false) => "it is damaged, or this user may not write in its folder",
-        None => "another program has it, this user may not write in its folder, or it is damaged",
+        Some(false) => "it is damaged, its disk is full, or this user may not write in its folder",
+        None => {
+            "another program has it, its disk is full, this user may not write in its folder, or it \
+             is damaged"
+        }
     }
 }
 

@@ -48,8 +48,8 @@ static ROWS: [Row; 17] = [
     (
         Asked::Unopened,
         "acct_explain_test/site",
-        "explained: acct_explain_test/site: it has fewer than 100 octets, so it is no book, and \
-         init makes one\n",
+        "explained: acct_explain_test/site: it has fewer than 100 octets, so it is no book: move it \
+         away, and init makes one\n",
     ),
     (
         Asked::Unopened,
