@@ -132,7 +132,6 @@ ALLOWED = {
     },
     "docs/INSTALL.md": {
         **each("Debian's packages", "binutils", "libbpf1"),
-        "multi-user.target": "systemd's own",
         "radacctd-...": "stands for all tools",
         "target/radacctd_VERSION_amd64.deb": "bin/package makes it",
     },

@@ -30,7 +30,7 @@ MOST = {
     "docs/FRONTDESK.md": 650,
     "docs/GATE.md": 1150,
     "docs/GONE.md": 920,
-    "docs/INSTALL.md": 1680,
+    "docs/INSTALL.md": 1340,
     "docs/PAIR.md": 2530,
     "docs/PROOFS.md": 2680,
     "docs/SEMANTICS.md": 1130,
