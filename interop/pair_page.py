@@ -52,7 +52,7 @@ def section(path, title):
     with open(path, encoding="utf-8") as file:
         text = file.read()
     begun = text.index(f"\n## {title}\n")
-    return text[begun : text.index("\n## ", begun + 5)]
+    return text[begun:].split("\n## ")[1]
 
 
 def steps(text):

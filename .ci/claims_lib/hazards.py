@@ -107,7 +107,7 @@ KEPT = {
     ),
     "docs/SITE.md": (
         "a restart fails",
-        "a key that `radacctd-key` ends between steps 1 and 3 comes back",
+        "A key that `radacctd-key` ends between copy and rename comes back",
         "its sessions are priced by `default` until then",
         "or the next start fails",
         "If you run the server without the unit, give `plans-in-force` yourself",

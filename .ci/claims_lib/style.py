@@ -35,7 +35,7 @@ MOST = {
     "docs/PROOFS.md": 2680,
     "docs/SEMANTICS.md": 1130,
     "docs/SHARDS.md": 1850,
-    "docs/SITE.md": 1640,
+    "docs/SITE.md": 1290,
     "docs/SIZING.md": 830,
     "docs/TROUBLE.md": 2890,
     "docs/VOUCHERS.md": 1580,
