@@ -116,7 +116,6 @@ ALLOWED = {
         "adm": "a group of the system",
         "ignoreip": "fail2ban's own",
         **each("nginx' paths", "/desk/", "/redeem/"),
-        "settings.json": "radacctd-pages makes it",
         "revoke": "a command of radacctd-key",
         "url": "a member of settings.json",
     },

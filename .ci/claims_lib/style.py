@@ -22,7 +22,7 @@ MOST = {
     "docs/DAMAGE.md": 1140,
     "docs/DECISIONS.md": 2720,
     "docs/DEFINITIONS.md": 1990,
-    "docs/DESK.md": 2350,
+    "docs/DESK.md": 2030,
     "docs/FEED.md": 320,
     "docs/FILES.md": 1300,
     "docs/FORWARD.md": 1240,
