@@ -182,7 +182,6 @@ ALLOWED = {
         **each("systemd's own", "LimitAS=", "LimitDATA=", "LimitFSIZE=", "MemoryMax=", "activating"),
         "Not confirmed yet": "web/desk/index.html shows it",
         "fail2ban-client set radacctd unbanip": "fail2ban's own",
-        **each("the shell's own", "ulimit -d", "ulimit -v"),
     },
     "man/radacctd.8": {".new": "the end of a name"},
     "man/radacctd.8.in": {".new": "the end of a name"},

@@ -37,7 +37,7 @@ MOST = {
     "docs/SHARDS.md": 1850,
     "docs/SITE.md": 1290,
     "docs/SIZING.md": 830,
-    "docs/TROUBLE.md": 2890,
+    "docs/TROUBLE.md": 2370,
     "docs/VOUCHERS.md": 1580,
     "docs/WATCHING.md": 370,
 }
