@@ -26,7 +26,7 @@ MOST = {
     "docs/FEED.md": 320,
     "docs/FILES.md": 1300,
     "docs/FORWARD.md": 1240,
-    "docs/FREERADIUS.md": 3310,
+    "docs/FREERADIUS.md": 2860,
     "docs/FRONTDESK.md": 650,
     "docs/GATE.md": 1150,
     "docs/GONE.md": 920,
