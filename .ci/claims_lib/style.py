@@ -15,7 +15,7 @@ MOST = {
     "docs/ACCESS-SERVERS.md": 1380,
     "docs/ARCHITECTURE.md": 1100,
     "docs/BENCHES.md": 1110,
-    "docs/BOOK.md": 2610,
+    "docs/BOOK.md": 2200,
     "docs/CHANGE.md": 1080,
     "docs/CODEC.md": 1490,
     "docs/CONTRACTS.md": 100,
@@ -169,9 +169,6 @@ REPEATED = (
     "vouchers less the price of each",
     # A note on where each kind of installation has its files.
     "with the debian package write usr share",
-    # The columns of a file and of a table.
-    "acct-terminate-cause of the first stop",
-    "octets from and to the user",
     "voucher 1 to 32 of a to z",
 )
 
