@@ -6,12 +6,15 @@ import os
 import re
 import stat
 import tempfile
+import time
 import tomllib
 import unittest
 import unittest.mock
 
-from radacctl import freeradius
-from radacctl.doctor import faults, look
+from radacctl import files, freeradius
+from radacctl.commands import doctor
+from radacctl.doctor import book, copies, faults, front as fronts, kind, look, machine
+from radacctl.doctor import pair as pairs, web as pages
 from radacctl.setup import alone, answers, front, pair, sql, steps
 from tool_tests import ROOT
 
@@ -256,6 +259,112 @@ class Look(unittest.TestCase):
         self.assertEqual(found["a"], [({}, 5.0)])
         self.assertEqual(found["b"], [({"queue": "x", "y": "z"}, 1000.0)])
         self.assertNotIn("c", found)
+
+
+def said(*answers):
+    """Programs that print these in their turn, and then the last one again."""
+    left = list(answers)
+    return unittest.mock.patch.object(look, "run", lambda *words, **_: (
+        left.pop(0) if len(left) > 1 else left[0]))
+
+
+def books_only():
+    """A site without FreeRADIUS and pages, on no machine."""
+    with unittest.mock.patch.object(kind, "is_there", lambda *_: False):
+        with unittest.mock.patch("os.path.exists", lambda _: False):
+            return kind.Kind()
+
+
+class Unseen(unittest.TestCase):
+    """What could not be looked at is said, and is never taken for right."""
+
+    def setUp(self):
+        self.kind = books_only()
+
+    def unseen(self, look_at, *words, status=127):
+        with said((status, "it is missing")):
+            self.assertRaises(look.Unseen, lambda: list(look_at(*words)))
+
+    def test_programs_that_fail(self):
+        for status in (1, 124, 127, -9):
+            self.unseen(machine.failed, status=status)
+            self.unseen(machine.clock, self.kind, status=status)
+            self.unseen(machine.units, self.kind, status=status)
+            self.unseen(book.journal, self.kind.books[0], status=status)
+            self.unseen(pairs.compared, status=status)
+            with unittest.mock.patch.object(look, "status_of", lambda _: True):
+                self.unseen(pages.certificates, "ssl_certificate /etc/x.pem;", status=status)
+
+    def test_counts_that_are_missing(self):
+        """Without them nobody knows how old the balances are."""
+        for state, wanted in (("active", ["balances-old"]), ("inactive", [])):
+            with said((0, f"ActiveState={state}")):
+                with unittest.mock.patch.object(look, "samples", lambda _: {}):
+                    found = list(book.counts(self.kind.books[0]))
+            self.assertEqual([it.name for it in found], wanted)
+
+    def test_what_waits_is_not_none_if_it_cannot_be_counted(self):
+        with unittest.mock.patch.object(fronts, "owner_of", lambda _: (os.getuid(), os.getgid())):
+            self.unseen(lambda: fronts.counted().items(), status=1)
+
+    def test_a_copy_of_a_day_to_come_is_not_the_last_one(self):
+        with tempfile.TemporaryDirectory() as folder:
+            for name in ("2026-01-02", "2099-01-01"):
+                os.mkdir(os.path.join(folder, name))
+                os.utime(os.path.join(folder, name), (1767312000, 1767312000))
+            value = {"RADACCTD_BACKUPS": folder}
+            with unittest.mock.patch.object(look, "values_in", lambda _: value):
+                found = {it.name: it.text for it in copies.look_at(self.kind)}
+        self.assertIn("2099-01-01", found["clock-wrong"])
+        self.assertIn("2026-01-02", found["copy-old"])
+
+    def test_a_comparison_that_goes_on_has_no_result(self):
+        going = "ActiveState=activating\nResult=success\nExecMainStatus=0\n"
+        ended = "ActiveState=failed\nResult=exit-code\nExecMainStatus=1\n"
+        with said((0, going), (0, ended + "ExecMainExitTimestamp=now\n")):
+            with unittest.mock.patch("time.sleep"), unittest.mock.patch.object(
+                pairs, "outbox", lambda: []
+            ):
+                self.kind.has_pair = True
+                found = [it.name for it in pairs.look_at(self.kind)]
+        self.assertEqual(found, ["pair-differs"])
+
+    def test_16_books_of_which_none_is_there(self):
+        self.kind.books = []
+        with unittest.mock.patch.object(book, "SECRETS", {}), unittest.mock.patch.object(
+            book, "KEY_FILES", {}
+        ):
+            found = [it.name for it in book.look_at(self.kind)]
+        self.assertEqual(found, ["config-wrong"])
+
+    def test_each_trace_of_a_part_tells_that_it_is_wanted(self):
+        for trace, name in ((f"{freeradius.path('sites-enabled/radacctd')}", "has_front"),
+                            ("/etc/nginx/radacctd/cashier.conf", "has_pages"),
+                            (freeradius.path("radacctd", "pair.conf"), "has_pair")):
+            with unittest.mock.patch("os.path.lexists", lambda path, it=trace: path == it):
+                self.assertTrue(getattr(kind.Kind(), name), name)
+
+    def test_a_sample_that_is_missing_is_no_empty_file(self):
+        with unittest.mock.patch("os.path.lexists", lambda _: True), unittest.mock.patch.object(
+            files, "text", lambda _: ""
+        ):
+            self.assertRaises(OSError, lambda: list(freeradius.differing()))
+
+    def test_a_side_that_does_not_end(self):
+        def look_at(_):
+            yield faults.Fault("unsent", "x", "y")
+            time.sleep(60)
+
+        side = unittest.mock.Mock(look_at=look_at)
+        with unittest.mock.patch.object(doctor, "SIDES", {"a side": side}):
+            with unittest.mock.patch.object(doctor, "LONGEST", 1):
+                found, lost = doctor.found_in(None)
+        self.assertEqual(([it.name for it in found], len(lost)), (["unsent"], 1))
+        self.assertIn("a side: Late", lost[0])
+
+    def test_what_others_named_is_one_plain_line(self):
+        for text in ("a\nb", "\x1b[2Jx", "a\udcffb", "a\u202eb", "a\tb"):
+            self.assertTrue(doctor.shown(text).isprintable(), ascii(text))
 
 
 if __name__ == "__main__":

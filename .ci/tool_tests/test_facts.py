@@ -125,9 +125,24 @@ class Files(unittest.TestCase):
             os.symlink(secret, os.path.join(own, "link"))
             files.make(os.path.join(own, "file"), b"theirs", 0o644)
             os.chown(own, 65534, 65534)
-            self.assertEqual(files.text(os.path.join(own, "link")), "")
+            self.assertRaises(OSError, files.text, os.path.join(own, "link"))
             self.assertEqual(files.text(os.path.join(own, "file")), "theirs")
             self.assertEqual(files.text(secret), "secret")
+
+    def test_a_text_is_empty_only_if_there_is_none(self):
+        """What cannot be looked at would else be taken for a file that is not there."""
+        with tempfile.TemporaryDirectory() as folder:
+            place = lambda name: os.path.join(os.path.realpath(folder), name)
+            files.make(place("file"), "gr\u00f6\u00dfe".encode())
+            os.symlink("file", place("link"))
+            os.symlink("gone", place("dangling"))
+            os.mkfifo(place("pipe"))
+            for name in ("none", "none/file", "file/none", "dangling"):
+                self.assertEqual(files.text(place(name)), "", name)
+            for name in ("file", "link"):
+                self.assertEqual(files.text(place(name)), "gr\u00f6\u00dfe", name)
+            for name in ("pipe", "."):
+                self.assertRaises(OSError, files.text, place(name))
 
     def test_no_link_or_pipe_is_read(self):
         with tempfile.TemporaryDirectory() as folder:

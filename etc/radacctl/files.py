@@ -1,6 +1,7 @@
 """Files: made once, for their owner, replaced whole, on the disk, and with no link followed."""
 
 import contextlib
+import errno
 import json
 import os
 import stat
@@ -84,34 +85,46 @@ def read(path, most=LARGEST):
         return file.read(most)
 
 
-def is_roots(path):
-    """Whether only root can change what a path leads to: no other user has a folder on it."""
-    folder = os.path.dirname(os.path.abspath(path))
-    while True:
-        status = os.lstat(folder)
-        is_folder = stat.S_ISDIR(status.st_mode)
-        is_shared = stat.S_IMODE(status.st_mode) & 0o022 and not status.st_mode & stat.S_ISVTX
-        if status.st_uid != 0 or not is_folder or is_shared:
-            return False
-        if folder == "/":
-            return True
-        folder = os.path.dirname(folder)
-
-
 def text(path):
-    """The text of a file, or "" if it cannot be read.
+    """The text of a file, or "" if there is none. OSError says why it cannot be looked at.
 
-    What lies in another user's folder is read as that user: a link could lead root to any file.
+    What a link leads to is read as the user who may change names on the path: a link could lead
+    root to any file.
     """
+    above, name = os.path.split(os.path.abspath(path))
     try:
-        if os.geteuid() != 0 or is_roots(path):
-            with open(path, "rb") as file:
-                return file.read(LARGEST).decode("utf-8", "replace")
-        done = subprocess.run([*as_owner(path), "cat", "--", path], capture_output=True, cwd="/",
-                              stdin=subprocess.DEVNULL, timeout=10)
-        return done.stdout[:LARGEST].decode("utf-8", "replace") if done.returncode == 0 else ""
-    except (OSError, subprocess.TimeoutExpired, site.Missing):
+        with opened_folder(above) as folder, regular(folder, name) as (file, _):
+            octets = file.read(LARGEST)
+    except FileNotFoundError:
         return ""
+    except OSError as why:
+        if why.errno not in (errno.ELOOP, errno.ENOTDIR):
+            raise OSError(f"{path}: {why.strerror or why}") from None
+        octets = behind_links(path)
+    return octets.decode("utf-8", "replace")
+
+
+def behind_links(path):
+    """The octets of a file on whose path links are; none if there is none."""
+    words = [*as_owner(path), "head", "-c", str(LARGEST), "--", path]
+    how = {"capture_output": True, "stdin": subprocess.DEVNULL, "cwd": "/", "timeout": 10}
+    try:
+        done = subprocess.run(words, env={"PATH": "/usr/bin:/bin", "LC_ALL": "C"}, **how)
+    except subprocess.TimeoutExpired:
+        raise OSError(f"{path}: it cannot be read in {how['timeout']} seconds") from None
+    said = done.stderr.decode("utf-8", "replace").strip().rpartition(": ")[2]
+    if done.returncode and said not in ("No such file or directory", "Not a directory"):
+        raise OSError(f"{path}: {said}")
+    return done.stdout
+
+
+def sample(*names):
+    """The text of a file of radacctd's own, which is there and never empty."""
+    path = site.shared(*names)
+    found = text(path)
+    if not found:
+        raise OSError(f"{path} is missing or empty: install radacctd again")
+    return found
 
 
 def as_owner(path):

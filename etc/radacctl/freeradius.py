@@ -72,8 +72,8 @@ def blocks(pattern, *names):
 
 def differing():
     """The files of radacctd's that are not those of this version."""
-    places = {path(place): site.shared("freeradius", own) for place, own in OURS.items()}
-    places |= {f"/etc/systemd/system/{it}": site.shared("freeradius", it) for it in UNITS}
+    places = {path(place): own for place, own in OURS.items()}
+    places |= {f"/etc/systemd/system/{it}": it for it in UNITS}
     for place, own in places.items():
-        if os.path.lexists(place) and files.text(place) != files.text(own):
-            yield place, own
+        if os.path.lexists(place) and files.text(place) != files.sample("freeradius", own):
+            yield place, site.shared("freeradius", own)

@@ -16,7 +16,9 @@ line, with 3 if something is critical: reports or logins are affected now. It en
 could not look at all of it, which it says.
 """
 
+import contextlib
 import os
+import signal
 
 from radacctl import program
 from radacctl.doctor import book, copies, faults, front, kind, machine, pair, web
@@ -39,16 +41,47 @@ def parser():
     return it
 
 
+# How long the doctor may look at one side, in seconds; the copies are read whole.
+LONGEST, LONGEST_COPIES = 300, 3600
+
+
+class Late(Exception):
+    """A side that did not let the doctor go on."""
+
+
+@contextlib.contextmanager
+def within(seconds):
+    """Ends what goes on for longer: a disk or a desk that gives an octet now and then, say."""
+
+    def ended(*_):
+        raise Late(f"it took more than {seconds} seconds")
+
+    before = signal.signal(signal.SIGALRM, ended)
+    signal.alarm(seconds)
+    try:
+        yield
+    finally:
+        signal.alarm(0)
+        signal.signal(signal.SIGALRM, before)
+
+
 def found_in(site):
     """The faults of each side, and the sides that could not be looked at, with the reason."""
     found, lost = [], []
     for name, side in SIDES.items():
         try:
-            found += side.look_at(site)
+            with within(LONGEST_COPIES if side is copies else LONGEST):
+                for fault in side.look_at(site):
+                    found.append(fault)
         except Exception as why:  # noqa: BLE001
             # One side that surprises the doctor is no reason to keep the others from the operator.
             lost.append(f"{name}: {type(why).__name__}: {why}")
     return found, lost
+
+
+def shown(text):
+    """A line as it may be printed: other users chose names and lines that are in it."""
+    return "".join(it if it.isprintable() else "?" for it in text)
 
 
 def listed():
@@ -68,9 +101,9 @@ def main(words):
     found = [it for it in found if not words.only or it.name in words.only]
     found.sort(key=lambda it: it.name not in faults.CRITICALS)
     for it in dict.fromkeys(found):
-        print(f"{faults.gravity(it.name)} {it.name}: {it.text}. Do: {it.cure}")
+        print(shown(f"{faults.gravity(it.name)} {it.name}: {it.text}. Do: {it.cure}"))
     for line in lost:
-        program.say(f"could not look at {line}")
+        program.say(shown(f"could not look at {line}"))
     if not found and not lost and not words.quiet:
         print(f"{site.words()}: nothing is wrong")
     return 4 if lost else faults.gravity_of(found)

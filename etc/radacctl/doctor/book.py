@@ -3,6 +3,7 @@
 import csv
 import glob
 import os
+import pwd
 import re
 import time
 import tomllib
@@ -10,6 +11,7 @@ import tomllib
 from radacctl import desk, files, names, site
 from radacctl.doctor import look
 from radacctl.doctor.faults import Fault
+from radacctl.doctor.kind import TABLE
 
 # Limits of a configuration, and how many are to be free.
 LIMITS, SPARE = {"key": 4096, "client": 1024, "plan": 256}, 64
@@ -18,6 +20,8 @@ LONGER = "write a longer one there and at the device: openssl rand -hex 16"
 OWN = "give each its own: openssl rand -hex 16"
 # How old the balances may be, in seconds, if the server writes them each 10.
 OLDEST = 120
+# Of a storm of drops the last ones are looked at.
+MOST_LINES = "100000"
 # What the server prints that needs a look, and what to do.
 ODD = {
     r"cannot write": "see whether the folder is there, and its disk has space",
@@ -35,6 +39,9 @@ SECRETS = {
 
 
 def look_at(kind):
+    if not kind.books and not kind.has_front:
+        yield Fault("config-wrong", f"{TABLE} names 16 books, and this machine has none of them",
+                    "SHARDS.md")
     for book in kind.books:
         yield from configuration(book)
         yield from counts(book)
@@ -123,6 +130,9 @@ def plans(book, found):
 def counts(book):
     found = look.samples(book.counts)
     if not found:
+        if look.is_active(book.unit):
+            yield Fault("balances-old", f"{book.counts} is missing: nobody knows how old "
+                        f"{book.balances} is", f"journalctl -u {book.unit} | grep status:")
         return
     value = lambda name: found.get(name, [({}, 0)])[0][1]
     if value("radacctd_config_is_current") == 0:
@@ -136,8 +146,9 @@ def counts(book):
 
 
 def journal(book):
-    words = ("journalctl", "-u", book.unit, "--since", "-1h", "-o", "cat", "--no-pager")
-    said = look.run(*words)[1]
+    words = ("journalctl", "-u", book.unit, "--since", "-1h", "-o", "cat", "--no-pager", "-n",
+             MOST_LINES)
+    said = look.must(*words)
     seen = set()
     for name, address in re.findall(r"^drop \d+ (\w+) from ([\d.]+):", said, re.M):
         if (name, address) in seen:
@@ -165,7 +176,7 @@ def mode(path, most, owners, groups_allowed):
     status = look.status_of(path)
     if status is None:
         return
-    owner, group = look.run("stat", "-c", "%U %G", path)[1].split()
+    owner, group = look.must("stat", "-c", "%U %G", path).split()
     if look.mode_of(status) & ~most & 0o077:
         yield Fault("mode-open", f"others may read {path}: it has {look.mode_of(status):o}",
                     f"chmod {most:o} {path}")
@@ -180,8 +191,11 @@ def mode(path, most, owners, groups_allowed):
 
 
 def groups_of(user):
-    status, said = look.run("id", "-Gn", user)
-    return said.split() if status == 0 else None
+    try:
+        pwd.getpwnam(user)
+    except KeyError:
+        return None
+    return look.must("id", "-Gn", user).split()
 
 
 def groups(kind):

@@ -19,6 +19,12 @@ def look_at(kind):
     folder = values.get("RADACCTD_BACKUPS") or site.BACKUPS
     names = os.listdir(folder) if os.path.isdir(folder) else []
     good = sorted(it for it in names if NAME.fullmatch(it))
+    # A copy of a day to come would be the newest one until then, whatever fails meanwhile.
+    tomorrow = time.strftime("%F", time.localtime(time.time() + 86400))
+    while good and good[-1][:10] > tomorrow:
+        yield Fault("clock-wrong", f"{folder}/{good[-1]} is of a day to come",
+                    "set the clock: timedatectl; if it is right, give that folder another name")
+        good.pop()
     bad = sorted(it for it in names if NAME.fullmatch(it.removesuffix(".bad")) and it not in good)
     if bad and (not good or bad[-1] > good[-1]):
         yield Fault("copy-bad", f"{folder}/{bad[-1]} was refused: the book may be damaged",

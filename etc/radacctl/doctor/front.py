@@ -8,7 +8,7 @@ import time
 
 from radacctl import files, freeradius, names, site
 from radacctl.doctor import book as books
-from radacctl.doctor import look
+from radacctl.doctor import look, machine
 from radacctl.doctor.faults import Fault
 
 COUNTS = "/var/lib/radacctd-front/radacctd-front.prom"
@@ -158,7 +158,7 @@ def queue():
     folder = freeradius.settings()["queue"].replace("${radacctdir}", site.RADACCT)
     for path in (site.RADACCT, folder or f"{site.RADACCT}/radacctd"):
         status = look.status_of(path)
-        owner = look.run("stat", "-c", "%U", path)[1].strip() if status else "nobody"
+        owner = look.must("stat", "-c", "%U", path).strip() if status else "nobody"
         if owner != site.RADIUS_USER:
             yield Fault("queue-folder", f"{path} belongs to {owner}: no report is answered",
                         f"install -d -o freerad -g freerad -m 0700 {path}")
@@ -198,7 +198,7 @@ def counted():
             return {}
         program = freeradius.path("radacctd", "front-counts")
         words = [site.part("as-owner"), "--as", site.RADIUS_USER, program, f"{inner}/prom", MIRROR]
-        look.run(*words, site.RADACCT, STATE)
+        look.must(*words, site.RADACCT, STATE)
         return look.samples(f"{inner}/prom")
 
 
@@ -216,6 +216,7 @@ def mirror(kind):
     except (OSError, IndexError, site.Missing) as why:
         yield Fault("mirror-missing", f"logins have no balances: {why}", cure)
         return
+    yield from machine.to_come(f"the balances of logins in {MIRROR}", written)
     age = time.time() - written
     oldest = freeradius.settings()["oldest"]
     if age > (int(oldest) if oldest.isdigit() else 60):
@@ -226,7 +227,10 @@ def mirror(kind):
     if kind.has_shards:
         path = f"{os.path.dirname(site.BALANCES)}/plans.csv"
     wanted = books.plans_in(path)
-    if wanted is not None and wanted != found:
+    if wanted is None:
+        yield Fault("mirror-plans", f"{path} is missing: nobody knows which plans logins should have",
+                    "systemctl restart radacctd; in a pair or with 16 books the comparison writes it")
+    elif wanted != found:
         which = sorted(set(found) ^ set(wanted)) or sorted(it for it in found
                                                            if found[it] != wanted[it])
         yield Fault("mirror-plans", f"logins have another plan {which[0]} than {path}", cure)

@@ -2,6 +2,7 @@
 
 import glob
 import os
+import re
 
 from radacctl import site
 from radacctl.doctor import look
@@ -10,6 +11,12 @@ PAIR = "/etc/default/radacctd-pair"
 TABLE = "/etc/radacctd-shards.csv"
 NGINX = "/etc/nginx/conf.d/radacctd.conf"
 REDEEM_KEY = "/etc/radacctd-redeem.key"
+WANTS = "/etc/systemd/system"
+
+
+def is_there(*paths):
+    """Whether one of these is there, be it a link that leads nowhere."""
+    return any(map(os.path.lexists, paths))
 
 
 class Book:
@@ -42,12 +49,15 @@ class Kind:
 
     def __init__(self):
         self.has_shards = os.path.exists(TABLE)
-        self.has_front = os.path.isdir(f"{site.RADDB}/radacctd")
-        self.has_pages = os.path.exists(NGINX)
-        self.has_pair = os.path.exists(PAIR)
-        self.has_codes = os.path.exists(REDEEM_KEY)
+        # Any trace will do: what was lost is to be missed.
+        self.has_front = is_there(f"{site.RADDB}/radacctd", f"{site.RADDB}/sites-enabled/radacctd",
+                                  "/etc/systemd/system/radacctd-mirror.service")
+        self.has_pages = is_there(NGINX, "/etc/nginx/radacctd/cashier.conf")
+        self.has_pair = is_there(PAIR, f"{site.RADDB}/radacctd/pair.conf")
+        self.has_codes = is_there(REDEEM_KEY, f"{WANTS}/sockets.target.wants/radacctd-redeem.socket")
         if self.has_shards:
-            names = [it[len("/etc/radacctd-") : -5] for it in glob.glob("/etc/radacctd-s?.toml")]
+            found = [*glob.glob("/etc/radacctd-s?.toml"), *glob.glob(f"{WANTS}/*/radacctd@s?.service")]
+            names = {re.search(r"[-@](s.)\.", it)[1] for it in found}
             self.books = [Book(it) for it in sorted(names)]
         else:
             self.books = [Book()]

@@ -28,18 +28,26 @@ def run(*words, seconds=LONGEST, text=None):
     return done.returncode, done.stdout + done.stderr
 
 
+class Unseen(OSError):
+    """What could not be looked at, and why. Without a look nothing is known to be right."""
+
+
+def must(*words, **how):
+    """What a program printed, which must end well: else nothing was seen."""
+    status, said = run(*words, **how)
+    if status:
+        raise Unseen(f"{' '.join(words[:3])} ended with {status}: {last_line(said)}")
+    return said
+
+
 def properties(unit, *names):
-    """Properties of a unit, or none of a machine without systemd."""
-    said = run("systemctl", "show", unit, *(f"-p{it}" for it in names))[1]
+    """Properties of a unit."""
+    said = must("systemctl", "show", unit, *(f"-p{it}" for it in names))
     return dict(line.split("=", 1) for line in said.splitlines() if "=" in line)
 
 
 def is_active(unit):
-    return run("systemctl", "is-active", "--quiet", unit)[0] == 0
-
-
-def is_enabled(unit):
-    return run("systemctl", "is-enabled", "--quiet", unit)[0] == 0
+    return properties(unit, "ActiveState").get("ActiveState") == "active"
 
 
 def samples(path):

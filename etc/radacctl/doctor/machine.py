@@ -23,8 +23,8 @@ def look_at(kind):
     yield from units(kind)
     yield from failed()
     yield from old_programs(kind)
-    yield from clock(kind)
     yield from disks(kind)
+    yield from clock(kind)
 
 
 def units(kind):
@@ -44,7 +44,7 @@ def units(kind):
 
 def failed():
     words = ("systemctl", "list-units", "--plain", "--no-legend", "--state=failed", "radacctd*")
-    for line in look.run(*words)[1].splitlines():
+    for line in look.must(*words).splitlines():
         unit = line.split()[0] if line.split() else ""
         if unit.startswith("radacctd"):
             cure = f"journalctl -u {unit} -n 20; once it is mended: systemctl reset-failed {unit}"
@@ -104,15 +104,21 @@ def clock(kind):
     for book in kind.books:
         for path in (book.balances, book.counts):
             status = look.status_of(path)
-            if status and status.st_mtime > now + 60:
-                when = time.strftime("%F %T", time.localtime(status.st_mtime))
-                yield Fault("clock-wrong", f"{path} is of {when}, which is to come",
-                            "set the clock, or wait: timedatectl")
-    found = look.run("timedatectl", "show", "-p", "NTP", "-p", "NTPSynchronized")
-    if found[0] == 0 and "NTPSynchronized=yes" not in found[1]:
-        which = "is switched on, and has no answer" if "NTP=yes" in found[1] else "is switched off"
+            if status:
+                yield from to_come(path, status.st_mtime)
+    found = look.must("timedatectl", "show", "-p", "NTP", "-p", "NTPSynchronized")
+    if "NTPSynchronized=yes" not in found:
+        which = "is switched on, and has no answer" if "NTP=yes" in found else "is switched off"
         yield Fault("clock-unset", f"the clock is not synchronised: NTP {which}",
                     "apt install systemd-timesyncd, or chrony; timedatectl set-ntp true")
+
+
+def to_come(what, moment):
+    """The clock is before what the site wrote. Else what is of a day to come would never be old."""
+    if moment > time.time() + 60:
+        when = time.strftime("%F %T", time.localtime(moment))
+        yield Fault("clock-wrong", f"{what} is of {when}, which is to come",
+                    "set the clock: timedatectl; if it is right, do again what wrote that")
 
 
 def disks(kind):

@@ -10,16 +10,34 @@ from radacctl.doctor.faults import Fault
 OUTBOX = ("127.0.0.1", 8067)
 # How long a voucher may wait for a desk, in seconds.
 LONGEST = 300
+# How long a comparison may go on, which waits for the other machine.
+COMPARING = 45
 
 
 def look_at(kind):
     if not kind.has_pair:
         return
     yield from outbox()
-    found = look.properties("radacctd-compare.service", "Result", "ExecMainStatus")
-    if found.get("ExecMainStatus", "0") != "0" or found.get("Result", "success") != "success":
+    found = compared()
+    if not found.get("ExecMainExitTimestamp"):
+        yield Fault("pair-differs", "the books were not compared since the machine began",
+                    "systemctl start radacctd-compare; journalctl -u radacctd-compare -n 20")
+    elif (found["ExecMainStatus"], found["Result"]) != ("0", "success"):
         yield Fault("pair-differs", "the last comparison of both books found something",
                     "journalctl -u radacctd-compare -n 20; then read PAIR.md")
+
+
+def compared():
+    """How the last comparison ended. One that goes on has no result yet, and says `success`."""
+    end = time.monotonic() + COMPARING
+    while True:
+        found = look.properties("radacctd-compare.service", "ActiveState", "Result",
+                                "ExecMainStatus", "ExecMainExitTimestamp")
+        if found["ActiveState"] != "activating":
+            return found
+        if time.monotonic() > end:
+            raise look.Unseen(f"the comparison of both books takes more than {COMPARING} seconds")
+        time.sleep(1)
 
 
 def outbox():

@@ -48,11 +48,11 @@ def configuration(text):
     if status:
         errors = [it for it in said.splitlines() if "emerg" in it] or [said]
         yield Fault("nginx-wrong", f"nginx says: {look.last_line(errors[0])}", "nginx -t")
-    if lines_of(text) != lines_of(files.text(site.shared("nginx", "radacctd.conf"))):
+    if lines_of(text) != lines_of(files.sample("nginx", "radacctd.conf")):
         yield Fault("file-old", f"{kinds.NGINX} is not that of this version, but for your names",
                     f"diff {site.shared('nginx', 'radacctd.conf')} {kinds.NGINX}")
     for name in ("headers.conf", "to-desk.conf"):
-        if files.text(f"{FOLDER}/{name}") != files.text(site.shared("nginx", "radacctd", name)):
+        if files.text(f"{FOLDER}/{name}") != files.sample("nginx", "radacctd", name):
             yield Fault("file-old", f"{FOLDER}/{name} is not that of this version",
                         f"cp {site.shared('nginx', 'radacctd', name)} {FOLDER}/")
     if "accounts.example.org" in text:
@@ -69,12 +69,9 @@ def certificates(text):
         if look.status_of(path) is None:
             yield Fault("certificate-ended", f"{path} is missing", "get it anew")
             continue
-        checked = lambda seconds, it=path: look.run(
-            "openssl", "x509", "-in", it, "-noout", "-checkend", str(seconds))[0]
-        if checked(0) == 127:
-            continue
-        end = look.run("openssl", "x509", "-in", path, "-noout", "-enddate")[1].strip()
-        when = end.removeprefix("notAfter=")
+        words = ("openssl", "x509", "-in", path, "-noout")
+        checked = lambda seconds, it=words: look.run(*it, "-checkend", str(seconds))[0]
+        when = look.must(*words, "-enddate").strip().removeprefix("notAfter=")
         if checked(0):
             yield Fault("certificate-ended", f"{path} is over, since {when}", "renew it")
         elif checked(SOON):
@@ -160,7 +157,7 @@ def programs():
 def fail2ban():
     if not os.path.exists(JAIL):
         return
-    if files.text(FILTER) != files.text(site.shared("nginx", "fail2ban", "radacctd.filter.conf")):
+    if files.text(FILTER) != files.sample("nginx", "fail2ban", "radacctd.filter.conf"):
         yield Fault("file-old", f"{FILTER} is not that of this version",
                     f"cp {site.shared('nginx', 'fail2ban', 'radacctd.filter.conf')} {FILTER}")
     if look.run("fail2ban-client", "status", "radacctd")[0]:
