@@ -31,7 +31,7 @@ MOST = {
     "docs/GATE.md": 1150,
     "docs/GONE.md": 920,
     "docs/INSTALL.md": 1340,
-    "docs/PAIR.md": 2530,
+    "docs/PAIR.md": 2260,
     "docs/PROOFS.md": 2680,
     "docs/SEMANTICS.md": 1130,
     "docs/SHARDS.md": 1850,
