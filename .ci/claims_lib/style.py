@@ -34,7 +34,7 @@ MOST = {
     "docs/PAIR.md": 2260,
     "docs/PROOFS.md": 2680,
     "docs/SEMANTICS.md": 1130,
-    "docs/SHARDS.md": 1850,
+    "docs/SHARDS.md": 1660,
     "docs/SITE.md": 1290,
     "docs/SIZING.md": 830,
     "docs/TROUBLE.md": 2370,
