@@ -38,7 +38,7 @@ MOST = {
     "docs/SITE.md": 1290,
     "docs/SIZING.md": 830,
     "docs/TROUBLE.md": 2370,
-    "docs/VOUCHERS.md": 1580,
+    "docs/VOUCHERS.md": 1270,
     "docs/WATCHING.md": 370,
 }
 MOST_IN_ALL = 46500
