@@ -64,8 +64,8 @@ class Answers(unittest.TestCase):
     def test_what_is_wrong_is_named(self):
         self.assertIn("no member `hots`", self.wrong(hots="x"))
         self.assertIn("name of a host", self.wrong(host="a b", name="x", currency="EUR"))
-        self.assertIn("another kind", self.wrong(decimals="2"))
-        self.assertIn("another kind", self.wrong(freeradius=1))
+        self.assertIn("`decimals` is a whole number", self.wrong(decimals="2"))
+        self.assertIn("`freeradius` is true or false", self.wrong(freeradius=1))
         self.assertIn("default", self.wrong(plan=[{**PLAN, "class": "gold"}]))
         self.assertIn("two plans", self.wrong(plan=[PLAN, PLAN]))
         self.assertIn("setup makes", self.wrong(plan=[PLAN, {**PLAN, "class": "debit"}]))
@@ -82,6 +82,52 @@ class Answers(unittest.TestCase):
             self.wrong(certificate=text, certificate_key="/etc/x")
             self.wrong(front_desk=[text])
             self.wrong(server=text)
+
+    def read(self, text, mode=0o600):
+        with tempfile.NamedTemporaryFile("w", suffix=".toml") as file:
+            file.write(text)
+            file.flush()
+            os.chmod(file.name, mode)
+            try:
+                return answers.read(file.name)
+            except answers.Wrong as why:
+                return str(why).removeprefix(file.name)
+
+    def test_the_line_of_a_wrong_answer_is_named(self):
+        """And what is expected. Each is put into a right file."""
+        from radacctl.commands import setup
+
+        rows = (("decimals = 2", "decimals = 9", "decimals is 0 to 6"),
+                ("block = 10000000", "block = 0", "block is a whole number from 1 to"),
+                ("unit = 1", "unit = 1.5", "unit is a whole number from 0 to"),
+                ('"mikrotik" ', '"cisco" ', "vendor is one of mikrotik"),
+                ('"10.0.0.1"', '5', "no address"), ('"10.0.0.1"', '"10.0.0.1/24"', "host bits"),
+                ('"10.0.0.1"', '"127.0.0.8"', "this machine's own"),
+                ('"10.0.0.5" ', '"10.0.0.0/24" ', "one address of this machine"),
+                ('["10.0.1.0/24"]', "[1]", "no address"), ('"ben"', '"-c"', "- is not first"),
+                ('"ben"', "7", "a list of names"), ('"EUR"', '["EUR"]', "a text in quotation"),
+                ('name = "lobby"', 'name = "../x"', "1 to 32 of"),
+                ('name = "lobby"', 'name = "localhost"', "taken"),
+                ("currency", "curency", "has no member `curency`"),
+                ('vendor = "m', 'colour = "m', "has no member `colour`"))
+        for old, new, expected in rows:
+            self.assertEqual(setup.SAMPLE.count(old), 1, old)
+            before = setup.SAMPLE[: setup.SAMPLE.index(old)]
+            found = self.read(setup.SAMPLE.replace(old, new))
+            self.assertIn(expected, str(found))
+            self.assertRegex(str(found), rf"^, line {before.count(chr(10)) + 1}: ", new)
+
+    def test_the_second_of_two_is_named(self):
+        plan = '[[plan]]\nclass = "default"\nblock = 1\nunit = 1\n'
+        self.assertRegex(self.read(plan + plan), "^, line 6: two plans have one class, default")
+        self.assertRegex(self.read(plan + "[[plan]]\nblock = 1\n"), r"^, line 5: .* lacks `class`")
+
+    def test_a_file_with_secrets_is_for_its_owner(self):
+        text = '[[plan]]\nclass = "default"\nblock = 1\nunit = 1\n'
+        more = text + '[secrets]\nbooks = "0123456789abcdef"\n'
+        self.assertIn("chmod 600", self.read(more, 0o644))
+        for found in (self.read(more), self.read(text, 0o644)):
+            self.assertIsInstance(found, answers.Answers)
 
     def asked(self, lines):
         with unittest.mock.patch("sys.stdin", io.StringIO("\n".join(lines) + "\n")):

@@ -328,7 +328,7 @@ def debits_of(path):
     try:
         with open(path, encoding="utf-8-sig", errors="surrogateescape", newline="") as file:
             header, *rows = [row for row in csv.reader(file) if row] or [[]]
-    except OSError as fault:
+    except (OSError, csv.Error) as fault:
         raise Refused(f"cannot read the debits: {fault}") from None
     if header != FILE_HEADER:
         raise Refused(f"the header of {path} is {header}, and is to be {','.join(FILE_HEADER)}")

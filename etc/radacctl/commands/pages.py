@@ -17,7 +17,7 @@ for a bad command line.
 import json
 import os
 
-from radacctl import program
+from radacctl import files, program
 from radacctl.program import fail
 
 PLANS = "/var/lib/radacctd-balances/plans.json"
@@ -25,12 +25,12 @@ SETTINGS = {"name": "", "url": "", "currency": "", "decimals": 2}
 
 
 def write(path, value):
-    """Writes a file, whole or not at all, for everyone to read."""
-    with open(path + ".new", "w", encoding="utf-8") as file:
-        json.dump(value, file, indent=2, ensure_ascii=False)
-        file.write("\n")
-    os.chmod(path + ".new", 0o644)
+    """Writes a file, whole and on the disk or not at all, for everyone to read."""
+    text = json.dumps(value, indent=2, ensure_ascii=False) + "\n"
+    files.remove(path + ".new")
+    files.make(path + ".new", text.encode(), 0o644)
     os.rename(path + ".new", path)
+    files.sync_folder(os.path.dirname(path))
     print(f"{path} is written")
 
 

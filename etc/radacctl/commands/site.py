@@ -349,9 +349,15 @@ def dump_sql():
         return
     names = {"-h": "server", "-p": "port", "-U": "login", "-d": "radius_db"}
     words = [it for option, name in names.items() for it in (option, freeradius.value(text, name))]
+    if "=" in freeradius.value(text, "radius_db"):
+        # It may have the password, and each user sees a command line.
+        say("FreeRADIUS' database is not in this copy: radius_db of mods-enabled/sql is to be the "
+            "name of a database alone, with server, login and password on lines of their own")
+        return
     os.makedirs(os.path.dirname(DUMP), mode=0o700, exist_ok=True)
     password = re.sub(r"([:\\])", r"\\\1", freeradius.value(text, "password"))
-    with tempfile.TemporaryDirectory() as folder:
+    # In memory: a run that is killed leaves no password on the disk.
+    with tempfile.TemporaryDirectory(dir="/run") as folder:
         path = os.path.join(folder, "pgpass")
         files.make(path, f"*:*:*:*:{password}\n".encode())
         files.remove(DUMP + ".new")
@@ -361,8 +367,11 @@ def dump_sql():
                                   capture_output=True, text=True, timeout=3600)
             if done.returncode:
                 raise OSError(done.stderr.strip()[-200:])
+            with open(DUMP + ".new", "rb") as file:
+                os.fsync(file.fileno())
             os.rename(DUMP + ".new", DUMP)
         except (OSError, subprocess.TimeoutExpired) as why:
+            files.remove(DUMP + ".new")
             say(f"FreeRADIUS' database is not in this copy as it is now: {why}")
 
 

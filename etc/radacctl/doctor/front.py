@@ -228,8 +228,8 @@ def mirror(kind):
         path = f"{os.path.dirname(site.BALANCES)}/plans.csv"
     wanted = books.plans_in(path)
     if wanted is None:
-        yield Fault("mirror-plans", f"{path} is missing: nobody knows which plans logins should have",
-                    "systemctl restart radacctd; in a pair or with 16 books the comparison writes it")
+        yield Fault("mirror-plans", f"{path} is missing: nobody knows the plans of logins",
+                    "systemctl restart radacctd; of a pair, start the other machine")
     elif wanted != found:
         which = sorted(set(found) ^ set(wanted)) or sorted(it for it in found
                                                            if found[it] != wanted[it])

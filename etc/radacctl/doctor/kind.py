@@ -11,7 +11,7 @@ PAIR = "/etc/default/radacctd-pair"
 TABLE = "/etc/radacctd-shards.csv"
 NGINX = "/etc/nginx/conf.d/radacctd.conf"
 REDEEM_KEY = "/etc/radacctd-redeem.key"
-WANTS = "/etc/systemd/system"
+REDEEM = "/etc/systemd/system/sockets.target.wants/radacctd-redeem.socket"
 
 
 def is_there(*paths):
@@ -54,9 +54,10 @@ class Kind:
                                   "/etc/systemd/system/radacctd-mirror.service")
         self.has_pages = is_there(NGINX, "/etc/nginx/radacctd/cashier.conf")
         self.has_pair = is_there(PAIR, f"{site.RADDB}/radacctd/pair.conf")
-        self.has_codes = is_there(REDEEM_KEY, f"{WANTS}/sockets.target.wants/radacctd-redeem.socket")
+        self.has_codes = is_there(REDEEM_KEY, REDEEM)
         if self.has_shards:
-            found = [*glob.glob("/etc/radacctd-s?.toml"), *glob.glob(f"{WANTS}/*/radacctd@s?.service")]
+            found = glob.glob("/etc/radacctd-s?.toml")
+            found += glob.glob("/etc/systemd/system/*/radacctd@s?.service")
             names = {re.search(r"[-@](s.)\.", it)[1] for it in found}
             self.books = [Book(it) for it in sorted(names)]
         else:

@@ -6,7 +6,7 @@ import re
 import secrets
 import tomllib
 
-from radacctl import desk, files, site
+from radacctl import desk, files, names, site
 from radacctl.commands import key
 from radacctl.doctor.book import plans_in
 from radacctl.setup import steps
@@ -41,11 +41,14 @@ class Config:
             self.found = tomllib.loads(self.text.replace("\r\n", "\n"))
         except tomllib.TOMLDecodeError as why:
             raise steps.Failed(f"{site.CONFIG} is wrong: {why}") from None
-        self.clients = {it.get("name"): it for it in self.found.get("client", [])}
         self.more, self.pair_secret = [], secrets.token_hex(16)
-        self.add_clients()
-        self.add_plans()
-        self.keys = self.add_keys()
+        try:
+            self.clients = {it.get("name"): it for it in self.found.get("client", [])}
+            self.add_clients()
+            self.add_plans()
+            self.keys = self.add_keys()
+        except (AttributeError, KeyError, TypeError):
+            raise steps.Failed(f"{site.CONFIG} is wrong: radacctl edit says where") from None
 
     def add_clients(self):
         wanted = {"books": "127.0.0.9"}
@@ -139,25 +142,29 @@ def defaults(text, answers):
 
 
 def has_book():
-    return os.path.exists(site.BOOK)
+    """Whether a whole `init` made it: one that was killed leaves a file of no octet, or none."""
+    return os.path.exists(site.BOOK) and os.stat(site.BOOK).st_size >= 100
 
 
 def plans_are_in(answers):
     """Whether the book keeps each plan."""
     found = plans_in(PLANS)
-    return found is not None and {it["class"] for it in answers.plans} | {"debit"} <= set(found)
+    wanted = {names.shown(it["class"].encode()) for it in answers.plans} | {"debit"}
+    return found is not None and wanted <= set(found)
 
 
 def is_packaged():
     return site.INSTALLED.startswith("/usr/libexec/")
 
 
-def packages(names):
+def packages(wanted):
     """Installs Debian's packages that are missing."""
-    lacking = [it for it in names if not is_installed(it)]
-    holds = lambda: all(map(is_installed, names))
+    lacking = [it for it in wanted if not is_installed(it)]
+    holds = lambda: all(map(is_installed, wanted))
+    # Another run of apt is waited for, as that of a machine's first hour. A site's files stay.
+    how = ("-o", "DPkg::Lock::Timeout=600", "-o", "Dpkg::Options::=--force-confold")
     return Command(f"install {' '.join(lacking)}", holds, "apt-get", "install", "--yes",
-                   "--no-install-recommends", *lacking)
+                   "--no-install-recommends", *how, *lacking)
 
 
 # What a package is wanted for, if another one may have it, too.

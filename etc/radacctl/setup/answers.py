@@ -1,7 +1,10 @@
 """What a site is to be: from a file, or asked one by one, each within its bounds."""
 
+import collections
 import ipaddress
+import os
 import re
+import stat
 import sys
 import tomllib
 
@@ -10,7 +13,7 @@ from radacctl.money import MOST_DECIMALS
 
 VENDORS = ("mikrotik", "unifi", "pfsense", "openwrt", "other")
 HOST = re.compile(r"(?=.{1,253}$)[a-z0-9]([a-z0-9-]*[a-z0-9])?(\.[a-z0-9]([a-z0-9-]*[a-z0-9])?)+")
-NAME = re.compile(r"[A-Za-z0-9._-]{1,32}")
+NAME = re.compile(r"[A-Za-z0-9_][A-Za-z0-9._-]{0,31}")
 LARGEST_BLOCK, LARGEST_UNIT = 9_007_199_254_740_992, 1_000_000_000
 # The members of a file, with what each is if it is left out. None: it must be there.
 TOP = {
@@ -24,63 +27,105 @@ PAIR = {"own": None, "other": None}
 SQL = {"server": "localhost", "port": 5432, "database": "radius", "login": "radius",
        "password_file": None}
 ACCESS_SERVER = {"name": None, "address": None, "vendor": "other"}
-# Plans and names that setup makes itself.
-TAKEN, TAKEN_NAMES = ("debit",), ("freeradius", "books", "radacctd-setup")
+# Plans, names and addresses that setup or Debian's FreeRADIUS has itself.
+TAKEN = ("debit",)
+TAKEN_NAMES = ("freeradius", "books", "radacctd-setup", "localhost", "localhost_ipv6")
+TAKEN_ADDRESSES = ("127.0.0.1", "127.0.0.8", "127.0.0.9", "::1")
+KINDS = {str: "a text in quotation marks", bool: "true or false", int: "a whole number",
+         list: "a list in brackets", dict: "a table"}
+# In a file of answers: the head of a table, and a line of a member.
+HEAD, MEMBER = re.compile(r"\s*\[\[?\s*([\w-]+)\s*\]"), re.compile(r"\s*[\"']?([\w-]+)[\"']?\s*=")
 
 
 class Wrong(Exception):
-    """Which answer is wrong, and why."""
+    """Which answer is wrong, and what is expected; and where: table, number of it, member."""
+
+    def __init__(self, what, *place):
+        super().__init__(what)
+        self.place = place if len(place) == 3 else ("", 0, *place, None)[:3]
 
 
-def need(holds, what):
+def need(holds, what, *place):
     if not holds:
-        raise Wrong(what)
+        raise Wrong(what, *place)
 
 
-def table(found, known, where):
+def line_of(text, table, index, member):
+    """The number of the line that has a member, or else the head of its table; 0: no line has."""
+    counts, is_here, found = collections.Counter(), table == "", 0
+    for number, line in enumerate(text.splitlines(), 1):
+        if head := HEAD.match(line):
+            is_here = (head[1], counts[head[1]]) == (table, index)
+            counts[head[1]] += 1
+            found = number if is_here else found
+        elif is_here and (it := MEMBER.match(line)) and it[1] == member:
+            return number
+    return found
+
+
+def table(found, known, *place):
     """The members of a table, each that is left out as it is usual."""
-    need(isinstance(found, dict), f"{where} is no table")
-    for name in found:
-        need(name in known, f"{where} has no member `{name}`: {', '.join(known)}")
-    for name, usual in known.items():
-        need(name in found or usual is not None, f"{where} lacks `{name}`")
-    whole = {**known, **found}
-    for name, usual in known.items():
-        if usual is not None:
-            need(type(whole[name]) is type(usual), f"{where}: `{name}` is of another kind")
-    return whole
+    name, index = (*place, "", 0)[:2]
+    where = f"[{name}]" if name else "the file"
+    need(isinstance(found, dict), f"{where} is a table", name, index, None)
+    for it in found:
+        need(it in known, f"{where} has no member `{it}`, only {', '.join(known)}", name, index, it)
+    for it, usual in known.items():
+        need(it in found or usual is not None, f"{where} lacks `{it}`", name, index, None)
+        need(usual is None or type(found.get(it, usual)) is type(usual),
+             f"{where}: `{it}` is {KINDS.get(type(usual))}", name, index, it)
+    return {**known, **found}
 
 
-def plan_of(found):
-    it = table(found, PLAN, "[[plan]]")
+def tables(found, of):
+    """Each table of a list, as [[plan]]."""
+    return [of(it, number) for number, it in enumerate(found)]
+
+
+def plan_of(found, number):
+    it = table(found, PLAN, "plan", number)
+    place = lambda member: ("plan", number, member)
     need(isinstance(it["class"], str) and 1 <= len(it["class"].encode()) <= names.LONGEST,
-         "a plan's class is a text of 1 to 253 octets")
+         "a plan's class is a text of 1 to 253 octets", *place("class"))
     where = f"plan {it['class']}"
-    need(it["class"] not in TAKEN, f"{where}: setup makes that plan itself")
+    need(it["class"] not in TAKEN, f"{where}: setup makes that plan itself", *place("class"))
     need(it["class"].isprintable() and not set(it["class"]) & set('";\\%{'),
-         f"{where}: the class has a character that FreeRADIUS' files would read otherwise")
-    for name, most in (("block", LARGEST_BLOCK), ("unit", LARGEST_UNIT)):
-        need(type(it[name]) is int and 0 <= it[name] <= most,
-             f"{where}: {name} is a whole number up to {most}")
-    need(it["block"] >= 1, f"{where}: a block has at least one octet")
-    need(it["count"] in ("both", "in", "out"), f"{where}: count is both, in or out")
+         f"{where}: the class has no \" ; \\ % {{ and nothing unseen: FreeRADIUS' files would read "
+         "that otherwise", *place("class"))
+    for name, least, most in (("block", 1, LARGEST_BLOCK), ("unit", 0, LARGEST_UNIT)):
+        need(type(it[name]) is int and least <= it[name] <= most,
+             f"{where}: {name} is a whole number from {least} to {most}", *place(name))
+    need(it["count"] in ("both", "in", "out"), f"{where}: count is both, in or out",
+         *place("count"))
     return it
 
 
-def access_server_of(found, has_front):
-    it = table(found, ACCESS_SERVER, "[[access_server]]")
-    need(isinstance(it["name"], str) and NAME.fullmatch(it["name"]),
-         "an access server's name is 1 to 32 of A-Z a-z 0-9 . _ -")
-    where = f"access server {it['name']}"
-    need(it["name"] not in TAKEN_NAMES, f"{where}: that name is taken")
+def network_of(text, what, *place):
+    """An address or a network, as a text has it."""
     try:
-        network = ipaddress.ip_network(it["address"])
-    except (ValueError, TypeError):
-        raise Wrong(f"{where}: {it['address']!r} is no address, and no network") from None
+        # A number is an address to this module, and no operator's.
+        return ipaddress.ip_network(text if isinstance(text, str) else "")
+    except ValueError as why:
+        hint = f": {why}" if "host bits" in str(why) else ""
+        raise Wrong(f"{what}: {text!r} is no address, and no network{hint}", *place) from None
+
+
+def access_server_of(found, number, has_front):
+    it = table(found, ACCESS_SERVER, "access_server", number)
+    place = lambda member: ("access_server", number, member)
+    need(isinstance(it["name"], str) and NAME.fullmatch(it["name"]),
+         "an access server's name is 1 to 32 of A-Z a-z 0-9 . _ -, and no . or - is first",
+         *place("name"))
+    where = f"access server {it['name']}"
+    need(it["name"] not in TAKEN_NAMES, f"{where}: that name is taken", *place("name"))
+    network = network_of(it["address"], where, *place("address"))
     need(has_front or (network.version == 4 and network.num_addresses == 1),
-         f"{where}: without FreeRADIUS it is one address of IPv4")
-    need(it["vendor"] in VENDORS, f"{where}: vendor is one of {', '.join(VENDORS)}")
+         f"{where}: without FreeRADIUS it is one address of IPv4", *place("address"))
+    need(it["vendor"] in VENDORS, f"{where}: vendor is one of {', '.join(VENDORS)}",
+         *place("vendor"))
     it["address"] = str(network) if network.num_addresses > 1 else str(network.network_address)
+    need(it["address"] not in TAKEN_ADDRESSES, f"{where}: {it['address']} is this machine's own",
+         *place("address"))
     it["version"] = network.version
     return it
 
@@ -89,19 +134,19 @@ class Answers:
     """What the site is to be."""
 
     def __init__(self, found):
-        it = table(found, TOP, "the file")
+        it = table(found, TOP)
         self.name, self.has_front = it["name"], it["freeradius"]
         self.host, self.server = it["host"], it["server"]
         self.certificate, self.certificate_key = it["certificate"], it["certificate_key"]
         self.currency, self.decimals = it["currency"], it["decimals"]
         self.cashiers, self.front_desk = it["cashiers"], it["front_desk"]
         self.has_codes = it["codes"] and bool(it["host"])
-        need(isinstance(it["plan"], list), "`plan` is written as [[plan]]")
-        self.plans = [plan_of(each) for each in it["plan"]]
-        self.access_servers = [access_server_of(each, self.has_front)
-                               for each in it["access_server"]]
-        self.pair = table(it["pair"], PAIR, "[pair]") if it["pair"] else None
-        self.sql = table(it["sql"], SQL, "[sql]") if it["sql"] else None
+        need(isinstance(it["plan"], list), "`plan` is written as [[plan]]", "plan")
+        self.plans = tables(it["plan"], plan_of)
+        self.access_servers = tables(it["access_server"], lambda each, number: access_server_of(
+            each, number, self.has_front))
+        self.pair = table(it["pair"], PAIR, "pair") if it["pair"] else None
+        self.sql = table(it["sql"], SQL, "sql") if it["sql"] else None
         # Those of the other machine of a pair, which has made a file of them.
         self.secrets = it["secrets"]
         self.found = it
@@ -111,69 +156,86 @@ class Answers:
 
     def test(self, classes):
         need("default" in classes, "each site has a plan `default`: write a [[plan]] of it")
-        need(len(set(classes)) == len(classes), "two plans have one class")
-        need(self.usual_class in classes, f"class: there is no plan {self.usual_class}")
+        need(self.usual_class in classes, f"class: there is no plan {self.usual_class}", "class")
+        self.test_once(self.plans, "plan", "plans", "class")
         for key in ("name", "address"):
-            found = [it[key] for it in self.access_servers]
-            need(len(set(found)) == len(found), f"two access servers have one {key}")
-        need(0 <= self.decimals <= MOST_DECIMALS, f"decimals is 0 to {MOST_DECIMALS}")
+            self.test_once(self.access_servers, "access_server", "access servers", key)
+        need(0 <= self.decimals <= MOST_DECIMALS, f"decimals is 0 to {MOST_DECIMALS}", "decimals")
         for name, value in self.secrets.items():
             need(isinstance(value, str) and re.fullmatch(r"[A-Za-z0-9-]{16,128}", value),
-                 f"secrets: {name} is no secret of a set-up")
+                 f"secrets: {name} is no secret of a set-up", "secrets", 0, name)
         if self.pair:
             self.test_pair()
         if self.sql:
             self.test_sql()
         self.test_pages()
 
+    def test_once(self, found, name, many, key):
+        for number, it in enumerate(found):
+            is_new = it[key] not in [before[key] for before in found[:number]]
+            need(is_new, f"two {many} have one {key}, {it[key]}", name, number, key)
+
     def test_pair(self):
-        need(self.has_front, "a pair has FreeRADIUS in front")
+        need(self.has_front, "a pair has FreeRADIUS in front", "freeradius")
         for name, value in self.pair.items():
-            try:
-                ipaddress.IPv4Address(value)
-            except (ValueError, TypeError):
-                raise Wrong(f"[pair]: {name} is no address of IPv4") from None
-        need(self.pair["own"] != self.pair["other"], "[pair]: both machines have one address")
+            it = network_of(value, f"[pair]: {name}", "pair", 0, name)
+            need(it.version == 4 and it.num_addresses == 1, f"[pair]: {name} is an address of IPv4",
+                 "pair", 0, name)
+        need(self.pair["own"] != self.pair["other"], "[pair]: both machines have one address",
+             "pair", 0, "other")
 
     def test_sql(self):
-        need(self.has_front, "users in a database need FreeRADIUS in front")
+        need(self.has_front, "users in a database need FreeRADIUS in front", "freeradius")
         for name in ("server", "database", "login"):
-            need(re.fullmatch(r"[A-Za-z0-9._:-]{1,253}", self.sql[name]),
-                 f"[sql]: {name} is 1 to 253 letters, digits or . _ : -")
-        need(1 <= self.sql["port"] <= 65535, "[sql]: port is 1 to 65535")
+            need(re.fullmatch(r"[A-Za-z0-9._:][A-Za-z0-9._:-]{0,252}", self.sql[name]),
+                 f"[sql]: {name} is 1 to 253 letters, digits or . _ : -", "sql", 0, name)
+        need(1 <= self.sql["port"] <= 65535, "[sql]: port is 1 to 65535", "sql", 0, "port")
         path = self.sql["password_file"]
         need(isinstance(path, str) and re.fullmatch(r"/[A-Za-z0-9._/-]+", path),
-             "[sql]: password_file is a path from the root")
+             "[sql]: password_file is a path from the root", "sql", 0, "password_file")
 
     def test_pages(self):
-        texts = (self.name, self.currency)
-        need(all(it.isprintable() for it in texts), "name and currency are printable texts")
+        for name in ("name", "currency"):
+            need(getattr(self, name).isprintable(), f"{name} is a printable text", name)
         if self.host:
-            need(HOST.fullmatch(self.host), f"host: {self.host!r} is no name of a host")
-            need(self.name and self.currency, "pages need `name` and `currency`")
+            need(HOST.fullmatch(self.host), f"host: {self.host!r} is no name of a host, as "
+                 "wifi.example.org", "host")
+            need(self.name and self.currency, "pages need `name` and `currency`", "host")
         need(bool(self.certificate) == bool(self.certificate_key),
-             "give certificate and certificate_key, or neither")
-        for path in filter(None, (self.certificate, self.certificate_key)):
-            need(re.fullmatch(r"/[A-Za-z0-9._/-]+", path), f"{path!r} is no path from the root")
+             "give certificate and certificate_key, or neither", "certificate")
+        for name in ("certificate", "certificate_key"):
+            need(re.fullmatch(r"(/[A-Za-z0-9._/-]+)?", getattr(self, name)),
+                 f"{name} is a path from the root", name)
         for it in self.cashiers:
-            need(isinstance(it, str) and re.fullmatch(r"[\w.@-]{1,32}", it),
-                 "cashiers is a list of names, each 1 to 32 letters, digits or . _ - @")
-        need(self.host or not self.cashiers, "cashiers need pages: give `host`")
-        for it in (*self.front_desk, *filter(None, [self.server])):
-            try:
-                ipaddress.ip_network(it)
-            except (ValueError, TypeError):
-                raise Wrong(f"{it!r} is no address, and no network") from None
+            need(isinstance(it, str) and re.fullmatch(r"[\w.@][\w.@-]{0,31}", it),
+                 "cashiers is a list of names, each 1 to 32 letters, digits or . _ - @, and - is "
+                 "not first", "cashiers")
+        need(self.host or not self.cashiers, "cashiers need pages: give `host`", "cashiers")
+        for it in self.front_desk:
+            network_of(it, "front_desk", "front_desk")
+        if self.server:
+            it = network_of(self.server, "server", "server")
+            need(it.num_addresses == 1, "server is one address of this machine", "server")
 
 
 def read(path):
+    """The answers of a file. One with secrets is for its owner alone."""
+    text = ""
     try:
         with open(path, "rb") as file:
-            return Answers(tomllib.load(file))
+            status = os.fstat(file.fileno())
+            text = file.read().decode()
+        found = Answers(tomllib.loads(text.replace("\r\n", "\n")))
+        need(not found.secrets or not stat.S_IMODE(status.st_mode) & 0o077,
+             f"others may read {path}, which has secrets: chmod 600 {path}")
+        return found
     except OSError as fault:
         raise Wrong(f"cannot read {path}: {fault.strerror}") from None
     except (tomllib.TOMLDecodeError, UnicodeDecodeError) as fault:
         raise Wrong(f"{path} is no TOML: {fault}") from None
+    except Wrong as why:
+        line = line_of(text, *why.place)
+        raise Wrong(f"{path}, line {line}: {why}" if line else f"{path}: {why}") from None
 
 
 # What is asked of a person: the question, and what an empty line means.

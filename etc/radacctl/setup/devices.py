@@ -93,7 +93,7 @@ class Text:
 
     def __call__(self, _):
         if self.answers.has_front:
-            secret = front.secret_of(self.device["name"]) or ""
+            secret = front.secret_of(self.device["name"])
         else:
             secret = self.config.clients[self.device["name"]]["secret"]
         return text_of(self.device, self.answers, secret)

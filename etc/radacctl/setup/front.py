@@ -1,5 +1,7 @@
 """The steps to FreeRADIUS in front of radacctd."""
 
+import contextlib
+import ipaddress
 import re
 import secrets
 
@@ -64,7 +66,7 @@ def of(answers, config):
     books = config.clients["books"] if answers.pair else None
     yield of_group(raddb("radacctd", "access-servers.conf"),
                    lambda old: clients(old, answers, books))
-    kept = files.text(site.shared("freeradius", "kept"))
+    kept = files.sample("freeradius", "kept")
     yield of_group(raddb("radacctd", "kept"), lambda old: kept if old is None else old)
     yield File(raddb("radiusd.conf"), lambda old: main(old, answers))
     yield File(raddb("sites-available/default"), lambda old: default(old, answers))
@@ -103,7 +105,7 @@ def is_reloaded():
 
 def settings(old, book_secret):
     """settings.conf with radacctd's secret; what a site has changed in it stays."""
-    text = old or files.text(site.shared("freeradius", "settings.conf"))
+    text = old or files.sample("freeradius", "settings.conf")
     return re.sub(r"(?m)^(\tsecret = ).*$", lambda it: it[1] + book_secret, text, count=1)
 
 
@@ -112,10 +114,11 @@ def clients(old, answers, books=None):
     text = old if old is not None else HEAD
     if books and not re.search(r"(?m)^client books ", text):
         text = text.rstrip("\n") + "\n\n" + BOOKS.format(**books)
-    known = {name for name, _ in freeradius.CLIENT.findall(freeradius.without_comments(text))}
+    known = dict(freeradius.CLIENT.findall(freeradius.without_comments(text)))
     test = {"name": TEST_USER, "address": TEST_ADDRESS, "vendor": "mikrotik", "version": 4}
     for it in [*answers.access_servers, test]:
         if it["name"] in known:
+            test_address(it, known[it["name"]])
             continue
         is_one = "/" not in it["address"]
         cut = "yes" if it["vendor"] in CUTS and is_one and it is not test else "no"
@@ -128,12 +131,22 @@ def clients(old, answers, books=None):
     return text
 
 
+def test_address(wanted, block):
+    """Of a client that is there nothing is changed: another address is for a person to decide."""
+    found = freeradius.value(block, "ip(?:v4|v6)?addr")
+    with contextlib.suppress(ValueError):
+        if ipaddress.ip_network(found) != ipaddress.ip_network(wanted["address"]):
+            raise steps.Failed(f"access-servers.conf has the client {wanted['name']} with the "
+                               f"address {found}, not {wanted['address']}: change one of both")
+
+
 def secret_of(name):
-    """The secret that FreeRADIUS has with an access server, or None."""
-    for found, block in freeradius.blocks(freeradius.CLIENT, "radacctd", "access-servers.conf"):
-        if found == name:
-            return freeradius.value(block, "secret")
-    return None
+    """The secret that FreeRADIUS has with an access server."""
+    found = freeradius.blocks(freeradius.CLIENT, "radacctd", "access-servers.conf")
+    secret = freeradius.value(dict(found).get(name, ""), "secret")
+    if not secret:
+        raise steps.Failed(f"access-servers.conf has no secret of {name}")
+    return secret
 
 
 def main(old, answers):
@@ -167,6 +180,12 @@ def login(answers):
     return lines + f'\t\t&Class = "{answers.usual_class}"\n\t}}\n\tradacctd_login\n'
 
 
+def with_class(text, answers):
+    """A virtual server whose block of the set-up has the usual class of the answers."""
+    block = rf'({re.escape(MARK)} who pays[^\n]*\n\tupdate reply {{\n\t\t&Class = )"[^"\n]*"'
+    return re.sub(block, lambda it: f'{it[1]}"{answers.usual_class}"', text)
+
+
 def lacks(text, section, word):
     return word not in freeradius.section(freeradius.without_comments(text), section).split()
 
@@ -178,15 +197,17 @@ def default(old, answers):
         text = sql.without_sql(text)
     if lacks(text, "accounting", "radacctd_accounting"):
         text = within(text, "accounting", "\tradacctd_accounting\n")
-    if lacks(text, "post-auth", "radacctd_login"):
-        text = within(text, "post-auth", login(answers))
-    return re.sub(r"(?m)^(\s*)filter_username\b", r"\1radacctd_filter", text, count=1)
+    return with_login(text, answers)
 
 
 def inner(old, answers):
-    text = there(old, "sites-available/inner-tunnel")
+    return with_login(there(old, "sites-available/inner-tunnel"), answers)
+
+
+def with_login(text, answers):
     if lacks(text, "post-auth", "radacctd_login"):
         text = within(text, "post-auth", login(answers))
+    text = with_class(text, answers)
     return re.sub(r"(?m)^(\s*)filter_username\b", r"\1radacctd_filter", text, count=1)
 
 

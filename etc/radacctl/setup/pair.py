@@ -51,7 +51,7 @@ def in_front(answers, config):
         yield Link(f"/usr/local/sbin/{name}", own(name))
     for name in UNITS:
         yield Link(f"{SYSTEMD}/{name}", own(name))
-    socket = files.text(own("radacctd-state.socket")).replace("ADDRESS", answers.pair["own"])
+    socket = files.sample("pair", "radacctd-state.socket").replace("ADDRESS", answers.pair["own"])
     yield File(f"{SYSTEMD}/radacctd-state.socket", socket, 0o644)
     yield Folder(f"{SYSTEMD}/radacctd-mirror.service.d")
     yield Link(f"{SYSTEMD}/radacctd-mirror.service.d/pair.conf", own("mirror-of-pair.conf"))
@@ -61,7 +61,7 @@ def in_front(answers, config):
 
 
 def conf_of(answers, secret):
-    text = files.text(own("pair.conf"))
+    text = files.sample("pair", "pair.conf")
     for name, value in (("own", answers.pair["own"]), ("other", answers.pair["other"]),
                         ("secret", secret)):
         text = re.sub(rf"(?m)^(\t{name} = ).*$", lambda it, to=value: it[1] + to, text, count=1)
@@ -129,7 +129,7 @@ def shown(value):
 
 def desks(answers):
     """The file for nginx that sells by the outbox, and asks either machine."""
-    text = files.text(own("desks-outbox.conf"))
+    text = files.sample("pair", "desks-outbox.conf")
     text = text.replace("10.0.0.5", "OWN").replace("10.0.0.6", answers.pair["other"])
     return text.replace("OWN", answers.pair["own"])
 

@@ -4,6 +4,7 @@ The account is radacctd-setup. What is left on it is taken by a debit, so it has
 nothing after. A run that was killed left something: the next one takes that first.
 """
 
+import contextlib
 import http.client
 import os
 import secrets
@@ -39,6 +40,18 @@ class Proof:
     def do(self):
         self.wait_for_balances()
         self.take_back("what an earlier run left")
+        try:
+            self.try_all()
+        except steps.Failed:
+            with contextlib.suppress(steps.Failed):
+                self.take_back("what was tried")
+            raise
+        print(f"all of it is taken back: {ACCOUNT} has 0")
+        files.remove(DONE)
+        files.make(DONE, b"")
+        files.sync_folder(os.path.dirname(DONE))
+
+    def try_all(self):
         before = self.balance() or 0
         self.sell(3 * self.price)
         self.wait(before + 3 * self.price, "the sale")
@@ -53,10 +66,6 @@ class Proof:
         if self.answers.has_front and self.plan["unit"]:
             self.wait_for_login(False)
             print("a login without money is refused")
-        print(f"all of it is taken back: {ACCOUNT} has 0")
-        files.remove(DONE)
-        files.make(DONE, b"")
-        files.sync_folder(os.path.dirname(DONE))
 
     def wait_for_balances(self):
         """Waits until the balances are newer than now: so they have all that was sold before."""
@@ -105,8 +114,11 @@ class Proof:
         """Takes what is on the account, which the balances show within seconds."""
         left = self.balance() or 0
         if left < 0:
-            raise steps.Failed(f"{ACCOUNT} has {left}: somebody used the account of the set-up")
-        if left:
+            # A debit was on its way to a book when a run that was killed was given again.
+            print(f"{ACCOUNT} had {left}: a sale puts that right")
+            self.sell(-left)
+            self.wait(0, what)
+        elif left:
             number = f"SETUP-{secrets.token_hex(8).upper()}"
             tool = os.path.join(site.SBIN, "radacctl")
             steps.given([tool, "debit", ACCOUNT, str(left), number], seconds=60)

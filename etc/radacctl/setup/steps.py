@@ -18,8 +18,8 @@ import time
 from radacctl import files
 from radacctl.doctor import look, machine
 
-# Lines that have a secret are not printed.
-SECRET = re.compile(r"secret|token|password|Desk-Key", re.I)
+# Lines that have a secret are not printed: one that is named so, or a line that is nothing else.
+SECRET = re.compile(r"secret|token|password|Desk-Key|^[+-][A-Za-z0-9-]{16,}$", re.I)
 MOST_LINES = 12
 
 
@@ -93,7 +93,9 @@ class File:
     def wanted(self, old):
         if isinstance(self.change, str):
             return self.change.encode()
-        return self.change(old.decode() if old is not None else None).encode()
+        # Octets that are no UTF-8, in a comment of a site say, stay as they are.
+        text = old.decode("utf-8", "surrogateescape") if old is not None else None
+        return self.change(text).encode("utf-8", "surrogateescape")
 
     def rights(self, status):
         """Owner, group and mode. A file of another program keeps its own."""
@@ -121,7 +123,12 @@ class File:
         return f"change {self.path}, and keep what it was next to it{self.shown(old, new)}"
 
     def shown(self, old, new):
-        """The lines that change, but for those with a secret, if they are few."""
+        """The lines that change, but for those with a secret, if they are few.
+
+        A file for its owner alone may have secrets that no word on their line tells.
+        """
+        if self.mode is not None and not self.mode & 0o077:
+            return ""
         texts = [it.decode("utf-8", "replace").splitlines() for it in (old, new)]
         found = [it for it in difflib.unified_diff(*texts, lineterm="", n=0)
                  if it[:1] in "+-" and it[:3] not in ("+++", "---")]
@@ -135,23 +142,30 @@ class File:
         with files.opened_folder(above) as folder:
             old, status = self.found()
             new = self.wanted(old)
-            if old is not None and old != new:
-                keep(folder, name)
-            self.write(folder, name, new, self.rights(status))
+            is_kept = old is not None and old != new
+            self.write(folder, name, new, self.rights(status), is_kept)
 
-    def write(self, folder, name, octets, rights):
+    def write(self, folder, name, octets, rights, is_kept=False):
+        """Puts a new file into place. What was there is kept once the new one is whole."""
         part = f"{name}~setup-new"
-        with contextlib.suppress(FileNotFoundError):
-            os.remove(part, dir_fd=folder)
-        way = os.O_WRONLY | os.O_CREAT | os.O_EXCL | os.O_NOFOLLOW
-        with os.fdopen(os.open(part, way, 0o600, dir_fd=folder), "wb") as file:
-            os.fchown(file.fileno(), *rights[:2])
-            os.fchmod(file.fileno(), rights[2])
-            file.write(octets)
-            file.flush()
-            os.fsync(file.fileno())
-        os.rename(part, name, src_dir_fd=folder, dst_dir_fd=folder)
-        os.fsync(folder)
+        try:
+            with contextlib.suppress(FileNotFoundError):
+                os.remove(part, dir_fd=folder)
+            way = os.O_WRONLY | os.O_CREAT | os.O_EXCL | os.O_NOFOLLOW
+            with os.fdopen(os.open(part, way, 0o600, dir_fd=folder), "wb") as file:
+                os.fchown(file.fileno(), *rights[:2])
+                os.fchmod(file.fileno(), rights[2])
+                file.write(octets)
+                file.flush()
+                os.fsync(file.fileno())
+            if is_kept:
+                keep(folder, name)
+            os.rename(part, name, src_dir_fd=folder, dst_dir_fd=folder)
+            os.fsync(folder)
+        except OSError as why:
+            with contextlib.suppress(OSError):
+                os.remove(part, dir_fd=folder)
+            raise Failed(f"cannot write {self.path}: {why.strerror or why}") from None
 
 
 def keep(folder, name):

@@ -4,6 +4,7 @@ import json
 import os
 import re
 import secrets
+import tempfile
 import time
 
 from radacctl import files, money, site
@@ -30,22 +31,22 @@ def of(answers, config):
         yield Link(f"{FOLDER}/{name}", own("radacctd", name))
     if answers.pair:
         yield File(f"{FOLDER}/desks-outbox.conf", pair.desks(answers), 0o644)
-    login = files.text(own("radacctd", "login.conf"))
+    login = files.sample("nginx", "radacctd", "login.conf")
     yield File(f"{FOLDER}/login.conf", lambda old: login if old is None else old, 0o644)
     key = f'proxy_set_header Desk-Key "{config.keys["cashier"]}";\n'
     yield File(f"{FOLDER}/cashier.conf", key, 0o600)
     for name in answers.cashiers:
         yield Cashier(name)
     yield File(f"{FOLDER}/cashiers", lambda old: old or "", 0o640, of_group=site.WEB_USER)
-    yield File(CONF, lambda old: server(answers, own("radacctd.conf")), 0o644)
+    yield File(CONF, lambda old: server(answers), 0o644)
     yield Folder("/etc/radacctd-web")
     yield Link("/etc/radacctd-web/plans.json", PLANS)
     yield File(money.SETTINGS, lambda old: settings(old, answers), 0o644)
-    yield from logs(own)
+    yield from logs()
     yield member(site.WEB_USER)
     yield no_fcgiwrap()
     if answers.has_codes:
-        yield from codes(config, own)
+        yield from codes(config)
     yield Command("take Debian's own page of nginx away", lambda: not os.path.lexists(DEFAULT),
                   "rm", "-f", DEFAULT)
     yield running()
@@ -60,27 +61,44 @@ def certificate(answers):
     """The certificate that was named, or one that browsers warn of."""
     if answers.certificate:
         return
-    words = ("openssl", "req", "-x509", "-newkey", "rsa:2048", "-nodes", "-days", "3650", "-subj",
-             f"/CN={answers.host}", "-addext", f"subjectAltName=DNS:{answers.host}", "-keyout",
-             PRIVATE_KEY, "-out", CERTIFICATE)
-    # Both are there, and one belongs to the other: a run that was killed makes both anew.
-    are_there = lambda: os.path.exists(CERTIFICATE) and os.path.exists(PRIVATE_KEY) and same_key()
-    what = f"make a certificate of {answers.host}, of which browsers warn"
-    yield Command(what, are_there, *words)
+    yield Certificate(answers.host)
     yield File(PRIVATE_KEY, lambda old: old or "", 0o600)
 
 
-def same_key():
-    try:
-        one = steps.given(["openssl", "x509", "-in", CERTIFICATE, "-noout", "-pubkey"])
-        return one == steps.given(["openssl", "pkey", "-in", PRIVATE_KEY, "-pubout"])
-    except steps.Failed:
-        return False
+class Certificate:
+    """One that nobody else has signed. What was there is kept, be it half of a bought one."""
+
+    def __init__(self, host):
+        self.host = host
+
+    def text(self):
+        return f"make a certificate of {self.host}, of which browsers warn"
+
+    def is_done(self):
+        """One belongs to the other; and it is of this host, or somebody else has signed it."""
+        x509 = ("openssl", "x509", "-in", CERTIFICATE, "-noout")
+        try:
+            one, other = (steps.given(it) for it in (
+                [*x509, "-pubkey"], ["openssl", "pkey", "-in", PRIVATE_KEY, "-pubout"]))
+            said = steps.given([*x509, "-subject", "-issuer", "-checkhost", self.host])
+        except steps.Failed:
+            return False
+        subject, issuer, *_ = [it.partition("=")[2] for it in said.splitlines()]
+        return one == other and (subject != issuer or "does match" in said)
+
+    def do(self):
+        words = ("openssl", "req", "-x509", "-newkey", "rsa:2048", "-nodes", "-days", "3650",
+                 "-subj", f"/CN={self.host}", "-addext", f"subjectAltName=DNS:{self.host}")
+        with tempfile.TemporaryDirectory(dir="/run") as folder:
+            made = [os.path.join(folder, it) for it in ("key", "pem")]
+            steps.given([*words, "-keyout", made[0], "-out", made[1]])
+            for path, own, mode in zip((PRIVATE_KEY, CERTIFICATE), made, (0o600, 0o644)):
+                File(path, files.text(own), mode).do()
 
 
-def server(answers, own):
+def server(answers):
     """The file for nginx with the site's names."""
-    text = files.text(own)
+    text = files.sample("nginx", "radacctd.conf")
     if answers.pair:
         text = text.replace("radacctd/desks-one.conf;", "radacctd/desks-outbox.conf;", 1)
     pem = answers.certificate or CERTIFICATE
@@ -92,7 +110,10 @@ def server(answers, own):
 
 def settings(old, answers):
     """The settings of the pages; further members of a site stay."""
-    found = json.loads(old) if old else {}
+    try:
+        found = {**(json.loads(old) if old else {})}
+    except (ValueError, TypeError):
+        raise steps.Failed(f"{money.SETTINGS} is no object of settings: mend it, or move it away")
     found |= {"name": answers.name, "url": f"https://{answers.host}",
               "currency": answers.currency, "decimals": answers.decimals}
     return json.dumps(found, indent=2, ensure_ascii=False) + "\n"
@@ -116,11 +137,16 @@ class Cashier:
         password = found[1] if found else "-".join(
             "".join(secrets.choice(LETTERS) for _ in range(5)) for _ in range(4))
         line = f"{self.name} {password}\n"
-        notes = lambda old: old if line in (old or "") else (old or "") + line
+        notes = lambda old: old if line in (old or "") else with_line(old, line)
         write(File(PASSWORDS, notes, 0o600))
         made = steps.given(["htpasswd", "-niB", self.name], password).strip() + "\n"
-        write(File(f"{FOLDER}/cashiers", lambda old: (old or "") + made, 0o640,
+        write(File(f"{FOLDER}/cashiers", lambda old: with_line(old, made), 0o640,
                    of_group=site.WEB_USER))
+
+
+def with_line(text, line):
+    """A text with a line more. What has no end of its line yet gets one."""
+    return (text.rstrip("\n") + "\n" if text else "") + line
 
 
 def write(file):
@@ -131,16 +157,16 @@ def write(file):
         file.write(folder, name, file.wanted(old), file.rights(status))
 
 
-def logs(own):
+def logs():
     place = "/etc/tmpfiles.d/radacctd-logs.conf"
-    yield File(place, files.text(own("radacctd-logs.tmpfiles")), 0o644)
+    yield File(place, files.sample("nginx", "radacctd-logs.tmpfiles"), 0o644)
     log = "/var/log/nginx/radacctd-sales.log"
     is_shut = lambda: os.path.exists(log) and not os.stat(log).st_mode & 0o007
     yield Command("make the log of sales, which few may read", is_shut, "systemd-tmpfiles",
                   "--create", place)
 
 
-def codes(config, own):
+def codes(config):
     """Printed codes: a user who has the stock, and a socket for nginx."""
     user = "radacctd-redeem"
     prefix = os.path.normpath(f"{site.INSTALLED}/../../lib/sysusers.d")
@@ -171,7 +197,7 @@ def fail2ban(answers, own):
     """Shuts out who guesses keys, logins or codes, and never the front desk."""
     place = "/etc/fail2ban/jail.d"
     networks = " ".join(["127.0.0.1/8", "::1", *answers.front_desk])
-    sample = files.text(own("fail2ban", "radacctd.jail.conf"))
+    sample = files.sample("nginx", "fail2ban", "radacctd.jail.conf")
     jail = re.sub(r"(?m)^# ignoreip = .*$", f"ignoreip = {networks}", sample)
     yield Link("/etc/fail2ban/filter.d/radacctd.conf", own("fail2ban", "radacctd.filter.conf"))
     yield File(f"{place}/radacctd.conf", lambda old: jail, 0o644)
