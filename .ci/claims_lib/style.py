@@ -25,7 +25,7 @@ MOST = {
     "docs/DESK.md": 2030,
     "docs/FEED.md": 320,
     "docs/FILES.md": 1300,
-    "docs/FORWARD.md": 1240,
+    "docs/FORWARD.md": 1110,
     "docs/FREERADIUS.md": 2860,
     "docs/FRONTDESK.md": 650,
     "docs/GATE.md": 1150,
