@@ -36,7 +36,7 @@ MOST = {
     "docs/SEMANTICS.md": 1130,
     "docs/SHARDS.md": 1660,
     "docs/SITE.md": 1290,
-    "docs/SIZING.md": 830,
+    "docs/SIZING.md": 680,
     "docs/TROUBLE.md": 2370,
     "docs/VOUCHERS.md": 1270,
     "docs/WATCHING.md": 370,
