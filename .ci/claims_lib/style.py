@@ -24,7 +24,7 @@ MOST = {
     "docs/DEFINITIONS.md": 1990,
     "docs/DESK.md": 2030,
     "docs/FEED.md": 320,
-    "docs/FILES.md": 1300,
+    "docs/FILES.md": 1160,
     "docs/FORWARD.md": 1110,
     "docs/FREERADIUS.md": 2860,
     "docs/FRONTDESK.md": 650,
