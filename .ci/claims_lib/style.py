@@ -33,7 +33,7 @@ MOST = {
     "docs/INSTALL.md": 1340,
     "docs/PAIR.md": 2260,
     "docs/PROOFS.md": 2680,
-    "docs/SEMANTICS.md": 1130,
+    "docs/SEMANTICS.md": 1020,
     "docs/SHARDS.md": 1660,
     "docs/SITE.md": 1290,
     "docs/SIZING.md": 680,
