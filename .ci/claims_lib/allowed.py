@@ -132,7 +132,6 @@ ALLOWED = {
         "target/radacctd_VERSION_amd64.deb": "bin/package makes it",
     },
     "docs/GONE.md": {
-        **each("stands for all that begin so", "/etc/radacctd*", "/etc/default/radacctd*"),
         **each("a folder of root's, as in the steps", "/root", "/root/copy"),
         "radacctd_0.1.0_amd64.deb": "bin/package makes it",
     },

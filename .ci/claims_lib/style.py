@@ -29,7 +29,7 @@ MOST = {
     "docs/FREERADIUS.md": 2860,
     "docs/FRONTDESK.md": 650,
     "docs/GATE.md": 1150,
-    "docs/GONE.md": 920,
+    "docs/GONE.md": 790,
     "docs/INSTALL.md": 1340,
     "docs/PAIR.md": 2260,
     "docs/PROOFS.md": 2680,
