@@ -27,7 +27,7 @@ MOST = {
     "docs/FILES.md": 1160,
     "docs/FORWARD.md": 1110,
     "docs/FREERADIUS.md": 2860,
-    "docs/FRONTDESK.md": 650,
+    "docs/FRONTDESK.md": 590,
     "docs/GATE.md": 1150,
     "docs/GONE.md": 790,
     "docs/INSTALL.md": 1340,
