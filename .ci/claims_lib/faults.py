@@ -1,21 +1,108 @@
-"""Each fault and each reason of a drop has a row with its cure on docs/TROUBLE.md, and no other."""
+"""The tables of docs/TROUBLE.md: each fault that ends a command, and each reason of a drop.
+
+Texts, names, statuses, numbers and the order of the tests are those of the sources, and so is what
+a reason means. Causes and cures stand here. A fault or a reason without a cure is a finding.
+"""
 
 import re
 
+from claims_lib import contracts
 from claims_lib.tree import text_of
 
-PAGE = "docs/TROUBLE.md"
 FAULT = "crates/acct_program_commands/src/fault.rt"
 STATUS = "crates/acct_program/src/status.rt"
 REASON = "crates/acct_wire/src/reason.rt"
 # 14 is tested between 11 and 12.
 ORDER = [*range(1, 12), 14, 12, 13]
-
-
-def rows(checker, title):
-    for block in checker.pages[PAGE]:
-        if block.kind == "row" and block.section.title == title and not block.text.startswith("|-"):
-            yield block.line, block.cells()
+WOULD_OVERWRITE = (
+    "`--status` or `--balances` leads to the book, its log, the configuration or another program's"
+    " file"
+)
+BLOCKED = "disk failed, full or damaged; out of memory; a damaged row"
+NEARER = "the cutoff, or `--silent`, is nearer than `--oldest-report`"
+# Each fault with its cause, and what to do.
+CURES = {
+    "file: cannot read": (
+        "the configuration is missing, unreadable, a named pipe, or longer than 16,777,216 octets",
+        "path and rights",
+    ),
+    "file: would be overwritten": (WOULD_OVERWRITE, "another name; `check` tests both"),
+    "config: KIND in TABLE INDEX": (
+        "the configuration is wrong",
+        "[SITE, the first fault](SITE.md#the-first-fault)",
+    ),
+    "db: cannot open": (
+        "[the list below](#why-a-book-cannot-be-opened)",
+        "read the line `explained:`",
+    ),
+    "db: NotABook": (
+        "no book, or one that `sqlite3` changed; from `init`: the book is there",
+        "another path, or [DAMAGE](DAMAGE.md#another-program-changed-the-book)",
+    ),
+    "db: WrongSchema": (
+        "a book of another version; from `migrate`: its number is neither 1 nor 2",
+        "[`migrate`](BOOK.md#a-book-of-an-earlier-version), or that version; if it is 3, nothing",
+    ),
+    "db: PlansDiffer": (
+        "plans differ from the book's, and `--explain` names one; from `migrate`: also a plan with"
+        " `count` `in` or `out` under schema 1",
+        "restore it, or [add it](SITE.md#add-a-plan); for `migrate` the plans of the older book",
+    ),
+    "db: Unbalanced": (
+        "[an audit](BOOK.md#audit-a-book) found a wrong balance",
+        "[restore the copy](DAMAGE.md#restore-the-last-copy)",
+    ),
+    "db: Unavailable": (BLOCKED, "start it again; check disk and memory"),
+    "db: Memory": ("out of memory", "free memory"),
+    "out of memory": ("the same; `feed` prints `unavailable` on standard output", "free memory"),
+    "forward: less than 30 days ago": (
+        "`--at` is less than 30 days back",
+        "an [earlier cutoff](FORWARD.md#what-is-taken)",
+    ),
+    "forward: less than --oldest-report ago": (
+        NEARER,
+        "an [earlier cutoff](FORWARD.md#late-reports)",
+    ),
+    "forward: no report for 7 days; give --yes if the clock is right": (
+        "the last report is older than a week",
+        "the clock, or [`--yes`](FORWARD.md#late-reports)",
+    ),
+    "socket: cannot bind": (
+        "not an address of this machine, a taken port, or a missing right",
+        "`ss -lunp`, `ss -ltnp`",
+    ),
+}
+# What ends a command without one of these texts.
+OTHERS = (
+    (
+        "usage, or `error: invalid data`",
+        "2",
+        "bad command line, not UTF-8, or out of memory while reading it",
+        "`--help`",
+    ),
+    ("no text", "1", "standard output is closed or full", "give it again"),
+)
+FRONT = "[put FreeRADIUS in front](ACCESS-SERVERS.md)"
+BROKEN = "the access server is broken"
+TO_DO = {
+    "UnknownClient": "a stranger, or add the address that the access server or its proxy sends from",
+    "TooShort": "something else talks to this port",
+    "BadLength": "cut in flight, or no RADIUS client",
+    "WrongCode": "a login or Status-Server:"
+    " [what a FreeRADIUS proxy needs](FREERADIUS.md#freeradius-as-a-plain-proxy)",
+    "BadAuthenticator": "compare the secrets",
+    "BadAttribute": BROKEN,
+    "NoStatus": BROKEN,
+    "UnknownStatus": "known are Start, Stop, Interim-Update, Accounting-On, -Off: turn off tunnel"
+    f" accounting, or {FRONT}",
+    "NoSessionId": BROKEN,
+    "BadField": FRONT,
+    "TotalTooLarge": "its counters are broken",
+    "TooOld": "by Acct-Delay-Time older than `--oldest-report`: nothing after so long an outage"
+    " ([late reports](FORWARD.md#late-reports)); else mend the access server",
+    "BalanceLimit": "-2^62 to 2^62: check the account's plan",
+    "Unavailable": "if it lasts, check disk and memory: a failed write shuts the book",
+}
 
 
 def statuses():
@@ -29,7 +116,9 @@ def faults():
     text = text_of(FAULT)
     own = re.findall(r'Fault::(\w+) => (?:\{\s*)?f\.write_str\(\s*"([^"]+)"', text)
     store = re.findall(r'StoreFault::\w+ => "([^"]+)"', text)
-    return own + [("Store", it) for it in store] + [("Config", "config: KIND in TABLE INDEX")]
+    found = own + [("Store", it) for it in store] + [("Config", "config: KIND in TABLE INDEX")]
+    # Nobody reads what could not be written.
+    return [it for it in found if it[0] != "CannotWrite"]
 
 
 def status_of(variant):
@@ -42,33 +131,32 @@ def status_of(variant):
     return ""
 
 
-def check_faults(checker):
-    listed = {}
-    for line, cells in rows(checker, "Faults of a command"):
-        for text in re.findall(r"`([^`]+)`", cells[0]):
-            listed.setdefault(text, (line, cells[1]))
-    for variant, text in faults():
-        line, status = listed.get(text, (1, ""))
-        if variant == "CannotWrite":
-            continue
-        if text not in listed:
-            checker.find(1, f"no row for the fault `{text}`")
-        elif status != status_of(variant):
-            checker.find(line, f"`{text}` ends with {status_of(variant)}, not {status}")
+def fault_rows(checker):
+    """A row for each fault, in the order in which the cures stand here."""
+    variants = {text: variant for variant, text in faults()}
+    for text in sorted(set(variants) ^ set(CURES)):
+        checker.find(1, f"`{text}`: no such fault, or no cure: see claims_lib/faults.py")
+    yield "| Text | Status | Cause | What to do |"
+    yield "|---|---|---|---|"
+    for text, (cause, cure) in CURES.items():
+        yield f"| `{text}` | {status_of(variants.get(text, ''))} | {cause} | {cure} |"
+    for cells in OTHERS:
+        yield f"| {' | '.join(cells)} |"
 
 
-def check_reasons(checker):
-    """The reasons in the order in which they are tested."""
-    numbers = {number: name for name, number in re.findall(r"^    (\w+) = (\d+),", text_of(REASON),
-                                                            re.M)}
-    wanted = [(str(it), numbers.get(str(it))) for it in ORDER]
-    given = [(cells[0], cells[1]) for _, cells in rows(checker, "Why a datagram is dropped")
-             if cells[0].isdigit()]
-    if given != wanted or len(wanted) != len(numbers):
-        checker.find(1, "Why a datagram is dropped has not each reason in the order of the tests")
+def reason_rows(checker):
+    """A row for each reason, in the order in which they are tested."""
+    found = re.findall(r"^    /// (.+)\n    (\w+) = (\d+),", text_of(REASON), re.M)
+    known = {int(number): (name, about) for about, name, number in found}
+    names = {name for name, _ in known.values()}
+    if sorted(known) != sorted(ORDER) or names != set(TO_DO):
+        checker.find(1, "a reason has no place or no cure: see claims_lib/faults.py")
+    yield "| No. | Reason | Cause | What to do |"
+    yield "|---|---|---|---|"
+    for number in ORDER:
+        name, about = known.get(number, ("", ""))
+        about = contracts.first_of(re.sub(r" \(RFC[^)]*\)", "", about)).rstrip(".")
+        yield f"| {number} | {name} | {about} | {TO_DO.get(name, '')} |"
 
 
-def check(checker):
-    checker.page = PAGE
-    check_faults(checker)
-    check_reasons(checker)
+MAKERS = {"faults": fault_rows, "reasons": reason_rows}

@@ -3,7 +3,7 @@
 import os
 import re
 
-from claims_lib import faults, figures, followed, hazards, history, made, openers, pictures
+from claims_lib import figures, followed, hazards, history, made, openers, pictures
 from claims_lib import promises, reading, style
 from claims_lib.allowed import ALLOWED
 from claims_lib.tree import FOR_TESTS, text_of
@@ -264,7 +264,6 @@ def check(checker):
     check_allowed(checker)
     figures.check(checker)
     openers.check(checker)
-    faults.check(checker)
     style.check(checker)
     promises.check(checker)
     followed.check(checker)

@@ -37,7 +37,7 @@ MOST = {
     "docs/SHARDS.md": 1660,
     "docs/SITE.md": 1290,
     "docs/SIZING.md": 680,
-    "docs/TROUBLE.md": 2370,
+    "docs/TROUBLE.md": 1660,
     "docs/VOUCHERS.md": 1270,
     "docs/WATCHING.md": 370,
 }
