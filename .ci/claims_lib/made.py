@@ -13,13 +13,14 @@ network. MAKERS has each name with the function that gives the lines.
 import os
 import re
 
-from claims_lib import contracts, doctor, faults, frames, history, made_tables, notions
-from claims_lib import signatures
+from claims_lib import configured, contracts, doctor, faults, frames, history, made_tables
+from claims_lib import notions, signatures
 from claims_lib.tree import ROOT, text_of
 
 PART = re.compile(r"^<!-- made: ([^\n]+?) -->\n(.*?)^<!-- end -->$", re.M | re.S)
 MAKERS = {}
-for source in (contracts, doctor, faults, frames, history, made_tables, notions, signatures):
+for source in (configured, contracts, doctor, faults, frames, history, made_tables, notions,
+               signatures):
     MAKERS.update(source.MAKERS)
 HOW = "make it again: .ci/claims --write"
 

@@ -35,7 +35,7 @@ MOST = {
     "docs/PROOFS.md": 2680,
     "docs/SEMANTICS.md": 1020,
     "docs/SHARDS.md": 1660,
-    "docs/SITE.md": 1290,
+    "docs/SITE.md": 1060,
     "docs/SIZING.md": 680,
     "docs/TROUBLE.md": 1660,
     "docs/VOUCHERS.md": 1270,

@@ -1,0 +1,36 @@
+"""The table of the configuration on docs/SITE.md, made of its manual page."""
+
+import re
+
+from claims_lib.tree import text_of
+
+PAGE = "man/radacctd.toml.5"
+TABLES = ("An access server", "A plan", "A key of the desk")
+
+
+def plain(text):
+    """What a part of a manual page says, with names in backticks."""
+    text = re.sub(r"^\.(?:Ql|Ic|Li|Xr|Pa) (\S+)(?: ([;:,.)]+))?$", r"`\1`\2", text, flags=re.M)
+    text = re.sub(r"^\.\w+ ?", "", text, flags=re.M)
+    return " ".join(text.split())
+
+
+def rows(checker):
+    """Each table of the configuration with its names, and what the manual page says of each."""
+    page = text_of(PAGE)
+    yield "| Table | Name | Value |"
+    yield "|---|---|---|"
+    for title in TABLES:
+        found = re.search(rf"^\.Ss {title}\n(.*?)^\.(?:Ss|Sh) ", page, re.M | re.S)
+        head = re.search(r"at most ([\d,]+) tables\n\.Ic \[\[(\w+)\]\]", found[1]) if found else None
+        if not head:
+            checker.find(1, f"{PAGE} has no part `{title}` with its number of tables")
+            continue
+        first = f"{head[2]}, at most {head[1]}"
+        for name, text in re.findall(r"^\.It Ic (\w+)\n(.*?)(?=^\.It |^\.El)", found[1],
+                                     re.M | re.S):
+            yield f"| {first} | `{name}` | {plain(text)} |".replace("|  |", "| |")
+            first = ""
+
+
+MAKERS = {"configuration": rows}
