@@ -297,7 +297,15 @@ def killed(keys):
         ends[killed_once(keys, before, [], pick.uniform(0.02, longest))[1]] += 1
     print(f"          40 kills at random, {ends[True]} before the rename")
     check("some of these, too", len(ends), 2)
-    check("the file is as before", (keys.text(), keys.left()), (before, []))
+    check("the configuration is as before", keys.text(), before)
+    # What a killed run had locked is empty, and nobody has it: the next one takes it away.
+    lock = keys.config + ".lock"
+    odd = [it for it in keys.left() if it != os.path.basename(lock)]
+    is_free = not os.path.exists(lock) or run(["flock", "-n", lock, "true"])[0] == 0
+    check("beside it is at most the file of a lock that nobody has", (odd, is_free), ([], True))
+    keys.new("last-1")
+    keys("revoke", "last-1")
+    check("and the next run leaves none", (keys.text(), keys.left()), (before, []))
 
 
 def killed_once(keys, before, words, seconds):

@@ -3,6 +3,7 @@
 import os
 import re
 import subprocess
+import tempfile
 import tomllib
 import unittest
 
@@ -100,6 +101,34 @@ class Stock(unittest.TestCase):
         taken = stock.after(state, stock.TAKEN, "al", "a")
         self.assertEqual(stock.after(taken, stock.REFUSED, "al", "b").account, "al")
         self.assertEqual(stock.after(state, stock.REFUSED, "al", "a"), stock.FREE)
+
+
+    def test_what_a_code_is_worth(self):
+        codes = []
+        for at in range(40):
+            letters = "ACDEFHJKMNPQR" + stock.LETTERS[at % 23]
+            codes.append(stock.code_of(letters + stock.check_letter(letters)))
+        rows = [f"{it},{100 + at},vouchers-1\n" for at, it in enumerate(codes[:23])]
+        with tempfile.TemporaryDirectory() as folder:
+            path = os.path.join(folder, "stock.csv")
+            for text, old in (("code,sum,sheet\n", rows), ("code,sum\n", [f"{codes[0]},100\n"])):
+                with open(path, "w", encoding="ascii") as file:
+                    file.write(text + "".join(old))
+                    # A line without its end was never written whole; and no sheet is a code.
+                    file.write(f"{codes[22]},9,{codes[1]},\n{codes[2]},7" if old == rows else "")
+                found = [stock.worth(path, it) for it in codes[:3]]
+                self.assertEqual(found, [100, 101, 102] if old == rows else [100, None, None])
+            self.assertIsNone(stock.worth(os.path.join(folder, "none"), codes[0]))
+
+    def test_the_state_is_that_of_the_code_alone(self):
+        text = b"1,given,%s,al,a b\n1,given,%s,bo,a\n2,taken,%s,al,a\n"
+        one, other = (stock.code_of(it + stock.check_letter(it)) for it in (
+            "ACDEFHJKMNPQRT", "ACDEFHJKMNPQRU"))
+        text %= one.encode(), other.encode(), one.encode()
+        found = [list(stock.events_in(text, it)) for it in (one, other, None)]
+        self.assertEqual([[it[0] for it in rows] for rows in found],
+                         [["given", "taken"], ["given"], ["given", "given", "taken"]])
+        self.assertEqual(list(stock.events_in(b"", one)), [])
 
 
 class Shards(unittest.TestCase):

@@ -94,9 +94,17 @@ def stock_lines(path):
 
 def worth(path, code):
     """What the stock says that a code is worth, or None."""
-    line = rb"(?m)^%s,([0-9]{1,13})(?:,.*)?$" % code.encode()
-    found = re.search(line, stock_lines(path))
-    return int(found[1]) if found else None
+    found = next(lines_with(b"\n" + stock_lines(path), b"\n%s," % code.encode()), b",").split(b",")
+    return int(found[1]) if re.fullmatch(b"[0-9]{1,13}", found[1]) else None
+
+
+def lines_with(text, mark):
+    """The lines of a text that have a mark. It is sought as octets: a stock may be long."""
+    at = 0
+    while (at := text.find(mark, at)) >= 0:
+        begin, end = text.rfind(b"\n", 0, at + 1) + 1, text.find(b"\n", at + 1)
+        yield text[begin : end if end >= 0 else len(text)]
+        at += len(mark)
 
 
 def is_withdrawn(paths, code):
@@ -186,9 +194,9 @@ def events_in(text, code=None):
     """The events of all codes or of one: event, code, account and desks. What is none is left out:
     the user who redeems can write what they like.
     """
-    lines = text.decode("ascii", "replace").split("\n")
     if code is not None:
-        lines = [it for it in lines if f",{code}," in it]
+        text = b"\n".join(lines_with(text, b",%s," % code.encode()))
+    lines = text.decode("ascii", "replace").split("\n")
     for row in csv.reader(it for it in lines if it.isprintable()):
         if len(row) == 5 and EVENT.fullmatch(row[1]) and code_of(row[2]) == row[2]:
             yield [names.text_of_cell(it) for it in row[1:]]
