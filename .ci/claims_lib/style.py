@@ -20,7 +20,7 @@ MOST = {
     "docs/CODEC.md": 1490,
     "docs/CONTRACTS.md": 100,
     "docs/DAMAGE.md": 1140,
-    "docs/DECISIONS.md": 2720,
+    "docs/DECISIONS.md": 2040,
     "docs/DEFINITIONS.md": 1990,
     "docs/DESK.md": 2030,
     "docs/FEED.md": 320,

@@ -1,6 +1,6 @@
 "use strict";
-// Sales and shifts, in a store on this browser's disk. interop/shifts.py plays them against a model
-// of its own.
+// Sales and shifts, in a store on this browser's disk: a browser that is killed loses what
+// localStorage had not written. interop/shifts.py plays them against a model of its own.
 //
 // A sale is sold once a book has taken it, and counts in the shift of that moment: `sold` is the
 // shift's number. One that is taken back has `back`, with the number of the shift that did it. So a
