@@ -137,6 +137,17 @@ class Shards(unittest.TestCase):
         self.assertEqual({shards.shard_of(b"%d" % it) for it in range(999)}, set(shards.SHARDS))
 
 
+    def test_a_number_is_for_one_book_however_it_is_spelled(self):
+        """A spreadsheet marks what begins with - by an apostrophe: it is the same number."""
+        one, other = "al", next(it for it in ("bo", "cy", "di", "ed") if (
+            shards.shard_of(it.encode()) != shards.shard_of(b"al")))
+        for mark in ("", "'"):
+            rows = [["-1", one, "5"], [mark + "-1", other, "5"]]
+            parts = shards.Parts(rows)
+            self.assertEqual(parts.refused, {3: "VoucherDiffers"})
+        self.assertEqual(shards.Parts([["-1", one, "5"], ["'-1", one, "5"]]).refused, {})
+
+
 class Program(unittest.TestCase):
     TOOL = os.path.join(ROOT, "etc", "tools", "radacctl")
 

@@ -247,8 +247,8 @@ class Parts:
             spelled = names.text_of_cell(row[1]) if row[1:] else ""
             account = urllib.parse.unquote_to_bytes(spelled.encode("latin-1"))
             shard = shard_of(account)
-            # Two books would both credit the number.
-            if len(row) == 3 and seen.setdefault(row[0], shard) != shard:
+            # Two books would both credit the number, however a spreadsheet marked it.
+            if len(row) == 3 and seen.setdefault(names.text_of_cell(row[0]), shard) != shard:
                 self.refused[number] = "VoucherDiffers"
                 continue
             self.rows[shard].append(row)
