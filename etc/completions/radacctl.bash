@@ -2,7 +2,7 @@
 _radacctl() {
     local current=${COMP_WORDS[COMP_CWORD]} words=''
     if ((COMP_CWORD == 1)); then
-        mapfile -t COMPREPLY < <(compgen -W 'setup doctor edit key sell debit voucher redeem report night site rewrite pages shards --help' -- "$current")
+        mapfile -t COMPREPLY < <(compgen -W 'setup doctor edit key sell debit voucher redeem packages guest allow report night site rewrite pages shards --help' -- "$current")
         return
     fi
     case ${COMP_WORDS[1]} in
@@ -14,6 +14,9 @@ _radacctl() {
         debit) words='--help --config --db --secret-file --host --port --journal --file --list' ;;
         voucher) words='--help --stock --second --settings --topups --yes --count --sum --to --url --name --list --withdraw' ;;
         redeem) words='--help' ;;
+        packages) words='list print sell withdraw make tick --help' ;;
+        guest) words='new end list mend --help --config --key-file --host --port --give-up --url --wait' ;;
+        allow) words='--help --month --sum --lapse --dry-run --balances --notes --key-file --host --port --give-up --config --db --secret-file --journal --debit-port' ;;
         report) words='day month --help --folder --csv --top --debit-class --settings --sales' ;;
         night) words='--audit' ;;
         site) words='save test packages units restore plans --help' ;;

@@ -21,12 +21,13 @@ import os
 import signal
 
 from radacctl import program
-from radacctl.doctor import book, copies, faults, front, kind, machine, pair, web
+from radacctl.doctor import book, copies, faults, front, kind, machine, packages, pair, web
 
 SIDES = {
     "the machine": machine,
     "the configuration": book,
     "FreeRADIUS": front,
+    "packages": packages,
     "the pages": web,
     "the copies": copies,
     "the pair": pair,

@@ -36,6 +36,7 @@ host = "accounts.example.org"       # the name of the pages; without it there ar
 currency = "EUR"
 decimals = 2
 cashiers = ["anna", "ben"]
+# packages = true                   # codes that log in, and guests: PACKAGES has the rest
 front_desk = ["10.0.1.0/24"]        # never shut out, however often a password is mistyped
 # certificate = "/etc/letsencrypt/live/accounts.example.org/fullchain.pem"
 # certificate_key = "/etc/letsencrypt/live/accounts.example.org/privkey.pem"

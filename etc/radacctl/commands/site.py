@@ -65,6 +65,7 @@ PLACES = [
     "/etc/systemd/system/nginx.service.d",
     "/var/lib/radacctd-vouchers",
     "/var/lib/radacctd-withdrawn",
+    "/var/lib/radacctd-logins",
     "/var/lib/radacctd-books",
     "/var/lib/private/radacctd-outbox",
     "/var/lib/radacctd-outbox",

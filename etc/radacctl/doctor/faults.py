@@ -78,6 +78,18 @@ CRITICALS = {
         "restart radacctd and the mirror; look at the clock",
     ),
     "mirror-plans": ("logins go by other plans than the book", "restart the mirror"),
+    "packages-steps": (
+        "FreeRADIUS lacks a step of packages",
+        "`radacctl setup`, or [the step](PACKAGES.md#switch-it-on)",
+    ),
+    "packages-lost": (
+        "the logins of packages cannot be read: logins are refused",
+        "put back the folder of the last copy ([GONE](GONE.md))",
+    ),
+    "packages-key": (
+        "the key of printed codes is another one: no code logs in",
+        "put the old key back into packages.conf",
+    ),
     "nginx-wrong": ("nginx' configuration has a fault", "`nginx -t` names the line"),
     "pages-silent": ("nginx does not answer for a page", "nginx' error log"),
     "key-unknown": (
@@ -147,6 +159,18 @@ WARNINGS = {
     "unsent": (
         "reports were filed, and nobody was charged",
         "[look at them, and send them again](FREERADIUS.md#reports-that-do-not-reach-radacctd)",
+    ),
+    "packages-file": (
+        "the file of packages is wrong, or names a plan that is not in force",
+        "what the line says",
+    ),
+    "packages-wait": (
+        "a guest was begun, or a debit decided, and not finished for ten minutes",
+        "`journalctl -u radacctd-packages`",
+    ),
+    "packages-logged": (
+        "FreeRADIUS logs what guests type: printed codes are in its log",
+        "set auth to no in the section log of radiusd.conf",
     ),
     "certificate-ends": ("a certificate ends within three weeks", "renew it"),
     "pages-plans": (

@@ -55,6 +55,8 @@ class Kind:
         self.has_pages = is_there(NGINX, "/etc/nginx/radacctd/cashier.conf")
         self.has_pair = is_there(PAIR, f"{site.RADDB}/radacctd/pair.conf")
         self.has_codes = is_there(REDEEM_KEY, REDEEM)
+        self.has_packages = is_there(f"{site.RADDB}/mods-enabled/radacctd-packages",
+                                     f"{site.RADDB}/radacctd/packages.conf")
         if self.has_shards:
             found = glob.glob("/etc/radacctd-s?.toml")
             found += glob.glob("/etc/systemd/system/*/radacctd@s?.service")
@@ -69,6 +71,8 @@ class Kind:
         if self.has_front:
             found += ["freeradius.service", "radacctd-mirror.service", "radacctd-front.service"]
             found.append("radacctd-clock.timer")
+        if self.has_packages:
+            found.append("radacctd-packages.timer")
         if self.has_pages:
             found.append("nginx.service")
         if self.has_codes:
@@ -81,6 +85,7 @@ class Kind:
 
     def words(self):
         parts = [(self.has_front, "behind FreeRADIUS"), (self.has_pages, "with pages")]
-        parts += [(self.has_codes, "with printed codes"), (self.has_pair, "one of a pair")]
+        parts += [(self.has_codes, "with printed codes"), (self.has_packages, "with packages")]
+        parts.append((self.has_pair, "one of a pair"))
         parts.append((self.has_shards, f"{len(self.books)} of 16 books"))
         return ", ".join(["a site", *(text for is_so, text in parts if is_so)])

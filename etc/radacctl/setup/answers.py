@@ -19,8 +19,8 @@ LARGEST_BLOCK, LARGEST_UNIT = 9_007_199_254_740_992, 1_000_000_000
 TOP = {
     "name": "", "freeradius": True, "server": "", "host": "", "certificate": "",
     "certificate_key": "", "currency": "", "decimals": 2, "cashiers": [], "codes": True,
-    "front_desk": [], "class": "", "plan": None, "access_server": [], "pair": {}, "secrets": {},
-    "sql": {},
+    "front_desk": [], "class": "", "packages": False, "plan": None,
+    "access_server": [], "pair": {}, "secrets": {}, "sql": {},
 }  # fmt: skip
 PLAN = {"class": None, "block": None, "unit": None, "count": "both"}
 PAIR = {"own": None, "other": None}
@@ -141,6 +141,7 @@ class Answers:
         self.currency, self.decimals = it["currency"], it["decimals"]
         self.cashiers, self.front_desk = it["cashiers"], it["front_desk"]
         self.has_codes = it["codes"] and bool(it["host"])
+        self.has_packages = it["packages"]
         need(isinstance(it["plan"], list), "`plan` is written as [[plan]]", "plan")
         self.plans = tables(it["plan"], plan_of)
         self.access_servers = tables(it["access_server"], lambda each, number: access_server_of(
@@ -164,6 +165,10 @@ class Answers:
         for name, value in self.secrets.items():
             need(isinstance(value, str) and re.fullmatch(r"[A-Za-z0-9-]{16,128}", value),
                  f"secrets: {name} is no secret of a set-up", "secrets", 0, name)
+        need(self.has_front or not self.has_packages, "packages need FreeRADIUS in front",
+             "packages")
+        need(not (self.pair and self.has_packages), "packages are not for a pair of machines",
+             "packages")
         if self.pair:
             self.test_pair()
         if self.sql:

@@ -6,7 +6,7 @@ import re
 import secrets
 
 from radacctl import files, freeradius, site
-from radacctl.setup import pair, sql, steps
+from radacctl.setup import packages, pair, sql, steps
 from radacctl.setup.alone import Command, File, Folder, secret, unit
 from radacctl.setup.steps import Fresh, Link
 
@@ -78,6 +78,8 @@ def of(answers, config):
         yield Folder(site.RADACCT + name, 0o700, site.RADIUS_USER, site.RADIUS_USER)
     if answers.pair:
         yield from pair.in_front(answers, config)
+    if answers.has_packages:
+        yield from packages.of(answers)
     yield member(site.RADIUS_USER)
     yield Command("let systemd read its units", is_reloaded, "systemctl", "daemon-reload")
     yield from parts_running()
@@ -85,6 +87,8 @@ def of(answers, config):
     for name in ("radacctd-mirror.service", "radacctd-front.service", "radacctd-clock.timer",
                  "freeradius.service"):
         yield unit(name)
+    if answers.has_packages:
+        yield unit(packages.UNIT)
 
 
 def of_group(path, change):
@@ -152,6 +156,7 @@ def secret_of(name):
 def main(old, answers):
     """radiusd.conf with the files of the site, before its modules."""
     wanted = INCLUDES + ("$INCLUDE radacctd/pair.conf\n" if answers.pair else "")
+    wanted += packages.INCLUDE if answers.has_packages else ""
     lacks = [it for it in wanted.splitlines(True) if it.strip() not in there(old, "radiusd.conf")]
     if not lacks:
         return old
@@ -197,11 +202,13 @@ def default(old, answers):
         text = sql.without_sql(text)
     if lacks(text, "accounting", "radacctd_accounting"):
         text = within(text, "accounting", "\tradacctd_accounting\n")
-    return with_login(text, answers)
+    text = with_login(text, answers)
+    return packages.default(text) if answers.has_packages else text
 
 
 def inner(old, answers):
-    return with_login(there(old, "sites-available/inner-tunnel"), answers)
+    text = with_login(there(old, "sites-available/inner-tunnel"), answers)
+    return packages.inner(text) if answers.has_packages else text
 
 
 def with_login(text, answers):
@@ -229,7 +236,9 @@ def running():
     """FreeRADIUS runs with the files as they are, which it has tested."""
     parts = ("radacctd/balances-mirror", "radacctd/front-counts", "radacctd/kept-sessions")
     paths = [freeradius.path(it) for it in freeradius.OURS if it not in parts]
-    paths += [freeradius.path("radacctd", it) for it in (*freeradius.SETTINGS, "pair.conf")]
+    more = ("pair.conf", "packages.conf")
+    paths += [freeradius.path("radacctd", it) for it in (*freeradius.SETTINGS, *more)]
+    paths += [freeradius.path(it) for it in packages.OURS]
     paths += [freeradius.path(it) for it in (
         "radiusd.conf", "sites-available/default", "sites-available/inner-tunnel",
         "mods-config/files/authorize", "sites-enabled/radacctd-pair", "mods-enabled/sql")]

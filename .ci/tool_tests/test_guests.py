@@ -1,0 +1,375 @@
+"""Guests are made in whole or not at all, allowances credited once a month: killed at each step."""
+
+import contextlib
+import csv
+import io
+import json
+import os
+import tempfile
+import types
+import unittest
+from unittest import mock
+
+from radacctl import desk as desks
+from radacctl import files, lapses, logins, money, names, site
+from radacctl.commands import allow, debit, guest, key, packages as sold
+from tool_tests.test_packages import Books, Here, MEMORY, PACKAGE
+
+CONFIG = '[[plan]]\nclass = "default"\nblock = 1\nunit = 1\n'
+CASHIER = "cash-key-00000001"
+# What a site puts something of its own in the place of.
+SETTINGS_IN, LOG_ENDED, ENDED_IN = money.settings_in, logins.log_ended, logins.ended_in
+RUN, CHANGE, MAKE, REMOVE = logins.Store.run, key.change, files.make, files.remove
+
+
+class Killed(BaseException):
+    """The process is gone: whatever it would do from now on does nothing."""
+
+
+class Site:
+    """A site in a folder, whose desk and configuration are files and a table."""
+
+    def __init__(self, case):
+        folder = tempfile.TemporaryDirectory(dir=MEMORY)
+        case.addCleanup(folder.cleanup)
+        self.folder, self.money, self.numbers = folder.name, {}, {}
+        self.left, self.count, self.answers = None, 0, []
+        self.config, self.card = self.path("radacctd.toml"), self.path("card.html")
+        self.log = self.path("ended.csv")
+        texts = {"radacctd.toml": CONFIG, "packages.toml": PACKAGE, "cashier.key": CASHIER,
+                 "balances.csv": "account,balance,overrun\n", "settings.json": json.dumps(
+                     {"decimals": 2, "currency": "EUR", "url": "https://a.example", "name": "H"})}
+        for name, text in texts.items():
+            self.write(name, text)
+        self.patches(case)
+        self.store().make(logins.TABLES)
+        self.uses().make(logins.USES_TABLES)
+
+    def path(self, name):
+        return os.path.join(self.folder, name)
+
+    def write(self, name, text):
+        with open(self.path(name), "w", encoding="utf-8") as file:
+            file.write(text)
+        os.chmod(self.path(name), 0o600)
+
+    def store(self):
+        return logins.Store(self.path("l.db"))
+
+    def uses(self):
+        return logins.Store(self.path("u.db"))
+
+    def patches(self, case):
+        settings = lambda path=None: SETTINGS_IN(self.path("settings.json"))
+        found = [
+            (logins, "Child", Here), (site, "RADDB", self.folder), (sold, "store", self.store),
+            (sold, "uses", self.uses), (money, "settings_in", settings),
+            (site, "BALANCES", self.path("balances.csv")), (logins, "LOG", self.log),
+            (guest, "LOCK", self.path("lock")), (key, "fault_of", lambda *_: ""),
+            (key, "desks_of", lambda _: []), (key, "say", lambda _: None),
+            (guest, "say", lambda _: None), (guest, "qr", lambda text: f"<svg>{text}</svg>"),
+            (desks, "ask", self.effect(self.ask)), (guest.time, "sleep", lambda _: None),
+            (logins.Store, "run", self.effect(RUN)),
+            (key, "change", self.effect(CHANGE)), (files, "make", self.effect(MAKE)),
+            (files, "remove", self.effect(REMOVE)),
+            (logins, "log_ended", self.effect(lambda accounts, state, now, path=None:
+                                              LOG_ENDED(accounts, state, now, self.log))),
+            (logins, "ended_in", lambda path=None: ENDED_IN(self.log)),
+        ]
+        for where, name, new in found:
+            patched = mock.patch.object(where, name, new)
+            patched.start()
+            case.addCleanup(patched.stop)
+        reads = mock.patch.object(sold.packages, "read", lambda: (
+            sold.packages.packages_of(PACKAGE, money.Money(2, "EUR")), money.Money(2, "EUR")))
+        wifi = mock.patch.object(sold.packages, "wifi", lambda: None)
+        for it in (reads, wifi):
+            it.start()
+            case.addCleanup(it.stop)
+
+    def effect(self, does):
+        """What does something that stays: the kill comes before or behind it."""
+        def call(*words, **more):
+            if self.left is None:
+                return does(*words, **more)
+            if self.left <= 0:
+                raise Killed
+            self.left -= 1
+            if self.left == 0 and self.is_before:
+                raise Killed
+            found = does(*words, **more)
+            if self.left == 0:
+                raise Killed
+            return found
+        return call
+
+    def ask(self, where, method, path, its_key, body):
+        """The desk: each number once."""
+        if its_key != CASHIER:
+            return 401, b'{"error":"no key"}'
+        if self.answers and (said := self.answers.pop(0)) == "away":
+            return 503, b'{"error":"unavailable"}'
+        asked = json.loads(body)
+        sale = (names.octets_of(asked["account"]), asked["sum"])
+        if self.numbers.setdefault(asked["voucher"], sale) != sale:
+            return 409, b'{"error":"voucher differs"}'
+        is_new = asked["voucher"] not in self.money
+        self.money[asked["voucher"]] = sale
+        if self.answers and self.answers.pop(0) == "lost":
+            raise ConnectionResetError("reset")
+        return (201, b'{"result":"new"}') if is_new else (200, b'{"result":"repeat"}')
+
+    def killed_at(self, at, work):
+        """Runs work until its step `at`; whether it was killed."""
+        self.left, self.is_before = at // 2 + 1, at % 2 == 0
+        try:
+            work()
+        except Killed:
+            return True
+        finally:
+            self.left = None
+        return False
+
+
+def words_of(site_of, *more):
+    it = guest.parser().parse_args(
+        ["--config", site_of.config, "--key-file", site_of.path("cashier.key"), "--give-up", "0",
+         *more])
+    if getattr(it, "card", None):
+        it.card = os.path.abspath(it.card)
+    return it
+
+
+class Guests(unittest.TestCase):
+    def setUp(self):
+        self.site = Site(self)
+        for stream in (contextlib.redirect_stdout(io.StringIO()),
+                       contextlib.redirect_stderr(io.StringIO())):
+            stream.__enter__()
+            self.addCleanup(stream.__exit__, None, None, None)
+
+    def new(self, name="Müller", card="card.html"):
+        return guest.new(words_of(self.site, "new", name, "week", "--card", self.site.path(card)))
+
+    def rows(self):
+        return self.site.store().read("SELECT account, state, notes, password FROM login")
+
+    def whole_or_nothing(self):
+        """How many guests there are, each with login, key, card and money; else the test fails."""
+        rows, text = self.rows(), files.text(self.site.config)
+        cards = [it for it in os.listdir(self.site.folder) if it.endswith(".html")]
+        self.assertEqual({row[1] for row in rows} - {"live"}, set())
+        self.assertEqual(sorted(it[0] for it in self.site.money.values()),
+                         sorted(row[0] for row in rows))
+        self.assertEqual(text.count("[[key]]"), len(rows))
+        self.assertEqual(len(cards), len(rows))
+        for account, _, notes, password in rows:
+            self.assertIn(json.loads(notes)["token"], text)
+            self.assertIn(password, "".join(files.text(self.site.path(it)) for it in cards))
+        return len(rows)
+
+    def test_a_guest_has_all_of_it(self):
+        self.assertEqual(self.new(), 0)
+        self.assertEqual(self.whole_or_nothing(), 1)
+        [(account, *_)] = self.rows()
+        self.assertRegex(account.decode(), r"^muller-\d{4}-[a-z0-9]{4}$")
+
+    def test_killed_at_each_step(self):
+        found, at = set(), 0
+        while True:
+            self.site = Site(self)
+            was_killed = self.site.killed_at(at, self.new)
+            guest.mend(words_of(self.site, "mend"))
+            found.add(self.whole_or_nothing())
+            if not was_killed:
+                break
+            at += 1
+        self.assertGreater(at, 12)
+        self.assertEqual(found, {0, 1})
+
+    def test_each_step_fails(self):
+        """A full disk, say: nothing is left, at once."""
+        for where, name in ((key, "change"), (files, "make"), (guest, "note")):
+            with self.subTest(name), mock.patch.object(where, name, side_effect=OSError(28, "full")):
+                self.assertRaises(OSError, self.new) if name != "make" else self.assertRaises(
+                    guest.NotMade, self.new)
+            self.assertEqual(self.whole_or_nothing(), 0)
+
+    def test_a_card_that_is_there_stays(self):
+        self.site.write("card.html", "another one's")
+        self.assertRaises(guest.NotMade, self.new)
+        self.assertEqual(files.text(self.site.card), "another one's")
+        self.assertEqual((self.rows(), self.site.money), ([], {}))
+
+    def test_no_answer(self):
+        """The sale was lost, or its answer: it is asked again, and credited once."""
+        for answers in (["away"], ["go", "lost"]):
+            self.site = Site(self)
+            self.site.answers = list(answers)
+            self.assertEqual(self.new(), 3)
+            self.assertEqual([row[1] for row in self.rows()], ["making"])
+            guest.mend(words_of(self.site, "mend"))
+            self.assertEqual(self.whole_or_nothing(), 1)
+
+    def test_a_key_that_the_desk_refuses(self):
+        self.site.write("cashier.key", "other-key-00000001")
+        self.assertRaises(guest.NotMade, self.new)
+        self.assertEqual(self.whole_or_nothing(), 0)
+
+    def test_a_lost_answer_and_a_wrong_key_take_nothing_back(self):
+        self.site.answers = ["go", "lost"]
+        self.assertEqual(self.new(), 3)
+        self.site.write("cashier.key", "other-key-00000001")
+        guest.mend(words_of(self.site, "mend"))
+        self.assertEqual([row[1] for row in self.rows()], ["making"])
+        self.site.write("cashier.key", CASHIER)
+        guest.mend(words_of(self.site, "mend"))
+        self.assertEqual(self.whole_or_nothing(), 1)
+
+    def test_no_account_is_made_twice(self):
+        """Not one of the book, of a database that is lost, of a key, of a user."""
+        letters = iter(["aaaa", "bbbb", "cccc", "dddd", "eeee"])
+        day = guest.time.strftime("%m%d")
+        taken = [f"muller-{day}-{it * 4}" for it in "abcd"]
+        self.site.write("balances.csv", f"account,balance,overrun\n{taken[0]},0,0\n")
+        self.site.write("radacctd.toml", f'{CONFIG}[[key]]\ntoken = "{"k" * 20}"\n'
+                        f'account = "{taken[1]}"\n')
+        os.makedirs(self.site.path("mods-config/files"))
+        self.site.write("mods-config/files/authorize", f'{taken[2]} Cleartext-Password := "x"\n')
+        logins.log_ended([taken[3].encode()], "ended", 1)
+        with mock.patch.object(guest, "letters", lambda _: next(letters)):
+            found = guest.new_account("Müller", self.site.store(), self.site.config)
+        self.assertEqual(found, f"muller-{day}-eeee")
+
+    def test_names(self):
+        wanted = {"Müller & Söhne": "muller-sohne", "王": "guest", "=1+2": "1-2", "Jörg Ł": "jorg",
+                  "Straße": "strasse", "x" * 60: "x" * 24, "'; DROP TABLE": "drop-table"}
+        self.assertEqual({it: guest.slug_of(it) for it in wanted}, wanted)
+
+    def test_end_killed_at_each_step(self):
+        at = 0
+        while True:
+            self.site = Site(self)
+            self.new()
+            account = self.rows()[0][0].decode()
+            work = lambda: guest.end(words_of(self.site, "end", account))
+            was_killed = self.site.killed_at(at, work)
+            work()
+            self.assertEqual([row[1] for row in self.rows()], ["ended"])
+            self.assertEqual(files.text(self.site.config).count("[[key]]"), 0)
+            self.assertEqual(logins.ended_in(), {account.encode(): "ended"})
+            if not was_killed:
+                break
+            at += 1
+        self.assertGreater(at, 6)
+
+    def test_a_name_is_no_formula_in_a_list(self):
+        self.new("=1+2")
+        said = io.StringIO()
+        with contextlib.redirect_stdout(said):
+            guest.show(words_of(self.site, "list", "=1"))
+        row = list(csv.reader(io.StringIO(said.getvalue())))[1]
+        self.assertEqual(row[1], "'=1+2")
+
+    def test_wifi_texts(self):
+        open_one = guest.wifi_text({"name": 'a;b"', "security": "open"}, "x", "y")
+        self.assertEqual(open_one, 'WIFI:T:nopass;S:a\\;b\\";;')
+        closed = guest.wifi_text({"name": "H", "security": "enterprise"}, "m-1", "p-2")
+        self.assertEqual(closed, "WIFI:T:WPA2-EAP;S:H;E:PEAP;PH2:MSCHAPV2;I:m-1;P:p-2;;")
+
+
+class Allow(unittest.TestCase):
+    """Each account once a month, and what it had left at most once."""
+
+    def setUp(self):
+        self.site = Site(self)
+        self.books, self.before = Books(), {b"al": 70, "ü 1".encode(): 30, b"bo": -5}
+        books = mock.patch.object(debit, "Books", lambda _: self.books)
+        books.start()
+        self.addCleanup(books.stop)
+        take = self.books.take
+        self.books.take = self.site.effect(take)
+        for stream in (contextlib.redirect_stdout(io.StringIO()),
+                       contextlib.redirect_stderr(io.StringIO())):
+            stream.__enter__()
+            self.addCleanup(stream.__exit__, None, None, None)
+        self.site.write("list.csv", "account,sum\nal,5.00\n%C3%BC 1,6.00\nbo,7\n")
+
+    def allow(self, *more, month="2026-12"):
+        self.balances()
+        return allow.main([self.site.path("list.csv"), "--month", month, "--notes",
+                           self.site.path("notes.csv"), "--balances", self.site.path("balances.csv"),
+                           "--key-file", self.site.path("cashier.key"), "--give-up", "0", *more])
+
+    def balance(self):
+        found = dict(self.before)
+        for account, total in self.site.money.values():
+            found[account] = found.get(account, 0) + total
+        for number, total in self.books.taken.items():
+            found[names.octets_of(self.books.known[number][0])] -= total
+        return found
+
+    def balances(self):
+        rows = "".join(f"{names.shown(it)},{left},0\n" for it, left in self.balance().items())
+        self.site.write("balances.csv", "account,balance,overrun\n" + rows)
+
+    def test_once_a_month(self):
+        for _ in range(3):
+            self.assertEqual(self.allow(), 0)
+        self.assertEqual(self.balance(), {b"al": 570, "ü 1".encode(): 630, b"bo": 695})
+        self.allow(month="2027-01")
+        self.assertEqual(self.balance()[b"al"], 1070)
+
+    def test_what_is_left_lapses_once(self):
+        wanted = {b"al": 500, "ü 1".encode(): 600, b"bo": 695}
+        for _ in range(3):
+            self.assertEqual(self.allow("--lapse"), 0)
+            self.assertEqual(self.balance(), wanted)
+
+    def test_a_later_run_with_lapse_takes_nothing_of_this_month(self):
+        self.allow()
+        self.allow("--lapse")
+        self.assertEqual(self.balance()[b"al"], 570)
+        os.remove(self.site.path("notes.csv"))
+        self.allow("--lapse")
+        self.allow("--lapse")
+        self.assertEqual(self.balance()[b"al"], 570)
+
+    def test_killed_at_each_step(self):
+        at, wanted = 0, {b"al": 500, "ü 1".encode(): 600, b"bo": 695}
+        while self.killed(at):
+            self.assertEqual(self.allow("--lapse"), 0)
+            self.assertEqual(self.balance(), wanted)
+            at += 1
+        self.assertGreater(at, 8)
+
+    def killed(self, at):
+        self.site.money.clear()
+        self.site.numbers.clear()
+        self.books.taken.clear()
+        self.books.known.clear()
+        with contextlib.suppress(FileNotFoundError):
+            os.remove(self.site.path("notes.csv"))
+        return self.site.killed_at(at, lambda: self.allow("--lapse"))
+
+    def test_another_sum_is_refused(self):
+        self.allow()
+        self.site.write("list.csv", "account,sum\nal,9.00\n")
+        self.assertEqual(self.allow(), 1)
+        self.assertEqual(self.balance()[b"al"], 570)
+
+    def test_a_wrong_list_sends_nothing(self):
+        for text in ("account,sum\nal,5\nal,5\n", "account,sum\n'x,5\n", "account\nal\n", "",
+                     "account,sum\nal,x\n", "account,sum\nal,5,6\n", "account,sum\n1.5E+11,5\n"):
+            self.site.write("list.csv", text)
+            with self.subTest(text):
+                self.assertRaises(SystemExit, self.allow)
+                self.assertEqual(self.site.money, {})
+
+    def test_numbers_are_numbers(self):
+        for account in (b"al", "é".encode() * 126):
+            row = allow.row_of(account, 5, "2026-12")
+            for number in (row.number, row.lapse, guest.number_of("x"), lapses.number_of(account)):
+                self.assertRegex(number, f"^(?:{desks.NUMBER.pattern})$")
+        self.assertNotEqual(allow.row_of(b"al", 5, "2026-12").number,
+                            allow.row_of(b"al", 5, "2027-12").number)

@@ -1,0 +1,313 @@
+"""Packages and the logins of them: the file, codes, what ends, and the debit of what is left."""
+
+import contextlib
+import io
+import os
+import sqlite3
+import tempfile
+import types
+import unittest
+from unittest import mock
+
+from radacctl import lapses, logins, money, names, packages, site
+from radacctl.commands import debit
+
+MONEY = money.Money(2, "EUR")
+PACKAGE = '''
+[[package]]
+name = "week"
+title = "5 GB, 7 days"
+price = "9.00"
+credit = "5.00"
+plan = "default"
+devices = 2
+valid = "7 days"
+down = 20000
+up = 5000
+reply.mikrotik = ["Mikrotik-Group := guests"]
+'''
+KEY = "0123456789abcdef" * 2
+AP = "127.0.2.1"
+# Where nothing waits for a disk.
+MEMORY = "/dev/shm" if os.path.isdir("/dev/shm") else None
+STRANGE = ["müller 1", "=1+2", 'a"b,c', "50%", "-x", "é" * 100]
+
+
+class Here:
+    """Does in this process what a child would do: a test needs no other user."""
+
+    def __init__(self, _):
+        self.names = {}
+        exec(logins.CHILD, self.names)
+
+    def ask(self, line, _):
+        return self.names["answer"](line)
+
+
+class PackagesFile(unittest.TestCase):
+    def test_a_package_is_what_it_says(self):
+        it = packages.packages_of(PACKAGE, MONEY)["week"]
+        self.assertEqual((it.price, it.credit, it.seconds), (900, 500, 7 * 86_400))
+        self.assertEqual(it.validity(), "7 days from the first use")
+        kinds = {kind: (name, value) for kind, name, _, value in it.replies[:1]}
+        self.assertEqual(kinds, {"mikrotik": ("Mikrotik-Rate-Limit", "5000k/20000k")})
+        self.assertIn(("wispr", "WISPr-Bandwidth-Max-Down", ":=", "20000000"), it.replies)
+
+    def test_each_wrong_member_is_named(self):
+        rows = [
+            ('name = "week"', 'name = "Week"', "a name is 1 to 24"),
+            ('credit = "5.00"', 'credit = "0"', "credit is a sum"),
+            ('credit = "5.00"', 'credit = "5.001"', "credit is a sum"),
+            ("devices = 2", "devices = 0", "devices is 1 to 1000"),
+            ('valid = "7 days"', 'valid = "0 days"', "valid is as"),
+            ('valid = "7 days"', 'valid = "99999 days"', "at most ten years"),
+            ('valid = "7 days"', 'until = "tomorrow"', "until is as"),
+            ("up = 5000", "", "down and up, or neither"),
+            ('plan = "default"', "plan = \"x'; DROP\"", "is no Class"),
+            ("Mikrotik-Group := guests", "Mikrotik-Group := `id`", "is no attribute"),
+            ("Mikrotik-Group := guests", "Mikrotik-Group := %{x}", "is no attribute"),
+            ("reply.mikrotik", "reply.cisco", "reply has all, mikrotik"),
+            ("devices = 2", "device = 2", "has no member `device`"),
+            ("devices = 2", 'devices = "2"', "`devices` is of another kind"),
+        ]
+        for old, new, why in rows:
+            with self.subTest(new), self.assertRaisesRegex(packages.Wrong, why):
+                packages.packages_of(PACKAGE.replace(old, new), MONEY)
+
+    def test_two_of_one_name_and_no_toml(self):
+        for text in (PACKAGE * 2, "[[package", "[other]\n"):
+            self.assertRaises(packages.Wrong, packages.packages_of, text, MONEY)
+
+    def test_wifi_is_of_two_kinds(self):
+        text = PACKAGE + '[wifi]\nname = "Hotel"\nsecurity = "wep"\n'
+        self.assertRaises(packages.Wrong, packages.packages_of, text, MONEY)
+
+    def test_a_date_is_local(self):
+        text = PACKAGE.replace('valid = "7 days"', 'until = "2026-12-31T12:00"')
+        it = packages.packages_of(text, MONEY)["week"]
+        self.assertEqual(it.validity(), "until 2026-12-31 12:00")
+
+
+class Codes(unittest.TestCase):
+    def test_the_account_says_nothing_of_the_code_without_the_key(self):
+        code = "ACDEF-HJKMN-PQRTU"
+        one, other = (logins.digest_of(code, it) for it in (KEY, KEY[::-1]))
+        self.assertNotEqual(logins.account_of(one), logins.account_of(other))
+        self.assertRegex(logins.account_of(one), "^t-[0-9a-f]{12}$")
+        self.assertEqual(one, logins.digest_of(code.replace("-", ""), KEY))
+
+
+class Site:
+    """The databases, the mirror and the log of a site in a folder."""
+
+    def __init__(self, folder):
+        self.folder = folder
+        self.store, self.uses = (logins.Store(os.path.join(folder, it)) for it in ("l.db", "u.db"))
+        self.store.make(logins.TABLES)
+        self.uses.make(logins.USES_TABLES)
+        self.log, self.mirror = os.path.join(folder, "log.csv"), os.path.join(folder, "m.db")
+        with contextlib.closing(sqlite3.connect(self.mirror)) as it, it:
+            it.execute("CREATE TABLE mirror (one, written, as_of, made)")
+            it.execute("CREATE TABLE balance (account BLOB PRIMARY KEY, balance INTEGER)")
+            it.execute("INSERT INTO mirror VALUES (1, 0, 0, 1)")
+
+    def balances(self, as_of, found):
+        with contextlib.closing(sqlite3.connect(self.mirror)) as it, it:
+            it.execute("UPDATE mirror SET as_of = ?", (as_of,))
+            it.executemany("REPLACE INTO balance VALUES (?, ?)", found.items())
+
+    def login(self, account, ends=None, state="live", begins="first use"):
+        terms = f'{{"begins": "{begins}", "credit": 5}}'
+        self.store.run(
+            ("INSERT INTO package (name, terms) VALUES ('week', ?) ON CONFLICT DO NOTHING",
+             (terms,)),
+            ("INSERT INTO login SELECT ?, NULL, 'x', id, 'default', 1, 100, '', ?, 0, NULL, NULL, "
+             "?, NULL FROM package WHERE terms = ?", (account, state, ends, terms)))
+
+    def state(self, account):
+        return self.store.read("SELECT state FROM login WHERE account = ?", account)[0][0]
+
+    def hears(self, account, moment, ended=0, session="53"):
+        self.uses.run(("REPLACE INTO use VALUES (?, 'aa', ?, ?, ?, ?)",
+                       (account, AP, session, moment, ended)))
+
+
+class Books:
+    """What takes debits, as the real one: the journal first, then the server, each number once."""
+
+    def __init__(self, given=None, fails=()):
+        self.journal = types.SimpleNamespace(given=lambda number: self.known.get(number))
+        self.known, self.taken, self.fails = dict(given or {}), {}, list(fails)
+
+    def take(self, account, total, number):
+        name = names.shown(account)
+        if self.known.setdefault(number, [name, str(total)]) != [name, str(total)]:
+            raise debit.Refused("given before")
+        if self.fails and self.fails.pop(0):
+            raise debit.NoAnswer("no answer")
+        self.taken[number] = max(total, self.taken.get(number, 0))
+
+
+class Ends(unittest.TestCase):
+    """What is left of a login that is over is debited once."""
+
+    def setUp(self):
+        folder = tempfile.TemporaryDirectory(dir=MEMORY)
+        self.addCleanup(folder.cleanup)
+        children = mock.patch.object(logins, "Child", Here)
+        children.start()
+        self.addCleanup(children.stop)
+        self.site = Site(folder.name)
+        patched = mock.patch.object(site, "RADDB", folder.name)
+        patched.start()
+        self.addCleanup(patched.stop)
+        said = contextlib.redirect_stderr(io.StringIO())
+        said.__enter__()
+        self.addCleanup(said.__exit__, None, None, None)
+
+    def lapse(self, now, books, is_steady=True):
+        it = lapses.Lapse(self.site.store, self.site.uses, None, self.site.log, self.site.mirror)
+        it.books = books
+        return it.run(now, is_steady)
+
+    def test_only_once_over_quiet_and_known(self):
+        books, account = Books(), b"al"
+        self.site.login(account, ends=1000)
+        self.site.hears(account, 1500)
+        self.site.balances(9999, {account: 70})
+        rows = [("not over", 900, True), ("last reports are awaited", 1800, True),
+                ("a session is heard of", 2399, True), ("the clock was set", 9000, False)]
+        for name, now, is_steady in rows:
+            with self.subTest(name):
+                self.lapse(now, books, is_steady)
+                self.assertEqual((books.taken, self.site.state(account)), ({}, "live"))
+        self.site.balances(2399, {})
+        self.assertEqual(self.lapse(3000, books), (0, 1))
+        self.site.balances(2999, {})
+        self.assertEqual(self.lapse(3000, books), (1, 0))
+        self.assertEqual(books.taken, {lapses.number_of(account): 70})
+        self.assertEqual(self.site.state(account), "lapsed")
+        self.site.balances(9999, {account: 500})
+        self.lapse(99_999, books)
+        self.assertEqual(books.taken, {lapses.number_of(account): 70})
+
+    def test_a_sum_is_decided_once(self):
+        """No answer, a sale meanwhile, the next run: what was decided is taken, and no more."""
+        books, account = Books(fails=[True]), b"al"
+        self.site.login(account, ends=1000)
+        self.site.balances(5000, {account: 70})
+        self.lapse(5000, books)
+        self.assertEqual((books.taken, self.site.state(account)), ({}, "live"))
+        self.site.balances(6000, {account: 570})
+        self.lapse(6000, books)
+        self.assertEqual(books.taken, {lapses.number_of(account): 70})
+
+    def test_an_older_database_takes_nothing_more(self):
+        """It was put back from before the debit; a sale came since."""
+        account = b"al"
+        books = Books(given={lapses.number_of(account): ["al", "70"]})
+        self.site.login(account, ends=1000)
+        self.site.balances(5000, {account: 500})
+        self.lapse(5000, books)
+        self.assertEqual(books.taken, {lapses.number_of(account): 70})
+
+    def test_each_step_killed(self):
+        """A kill before or behind each statement: the same runs again end with one debit."""
+        for at in range(8):
+            with self.subTest(at), tempfile.TemporaryDirectory(dir=MEMORY) as folder:
+                self.site = Site(folder)
+                self.kill_at(at)
+
+    def kill_at(self, at):
+        books, account, calls = Books(), b"al", []
+        self.site.login(account, ends=1000)
+        self.site.balances(5000, {account: 70})
+        run, take, log = logins.Store.run, books.take, logins.log_ended
+
+        def killed(does):
+            def call(*words, **more):
+                calls.append(0)
+                if len(calls) == at + 1 and at % 2:
+                    raise KeyboardInterrupt
+                found = does(*words, **more)
+                if len(calls) == at + 1:
+                    raise KeyboardInterrupt
+                return found
+            return call
+
+        books.take = killed(take)
+        with mock.patch.object(logins.Store, "run", killed(run)), \
+                mock.patch.object(logins, "log_ended", killed(log)), \
+                contextlib.suppress(KeyboardInterrupt):
+            self.lapse(5000, books)
+        books.take = take
+        # What the debit took is gone from the balance.
+        left = 70 - sum(books.taken.values())
+        self.site.balances(6000, {account: left})
+        self.lapse(6000, books)
+        self.assertEqual(books.taken, {lapses.number_of(account): 70})
+        self.assertEqual(self.site.state(account), "lapsed")
+
+    def test_strange_names(self):
+        books = Books()
+        for name in STRANGE:
+            self.site.login(name.encode(), ends=1000)
+            self.site.balances(5000, {name.encode(): 7})
+        self.assertEqual(self.lapse(5000, books), (len(STRANGE), 0))
+        self.assertEqual(len(books.taken), len(STRANGE))
+        self.assertEqual(logins.ended_in(self.site.log), {it.encode(): "lapsed" for it in STRANGE})
+
+    def test_an_older_database_revives_nobody(self):
+        for name in STRANGE:
+            self.site.login(name.encode())
+        lapses.end(self.site.store, [it.encode() for it in STRANGE], "withdrawn", 50, self.site.log)
+        self.site.store.run(("UPDATE login SET state = 'live'", ()))
+        self.assertEqual(logins.mend(self.site.store, self.site.log), len(STRANGE))
+        self.assertEqual({self.site.state(it.encode()) for it in STRANGE}, {"withdrawn"})
+        self.assertEqual(logins.mend(self.site.store, self.site.log), 0)
+
+    def test_a_log_that_cannot_be_written_ends_nobody(self):
+        self.site.login(b"al")
+        with self.assertRaises(Exception):
+            lapses.end(self.site.store, [b"al"], "ended", 50, "/proc/none/log.csv")
+        self.assertEqual(self.site.state(b"al"), "live")
+
+    def test_a_sale_at_the_desk_begins_the_validity(self):
+        self.site.login(b"al", begins="sale")
+        self.site.login(b"bo")
+        self.site.balances(0, {b"al": 5, b"bo": 5})
+        self.assertEqual(lapses.note_sales(self.site.store, 1000, self.site.mirror), 2)
+        rows = self.site.store.read("SELECT sold, ends FROM login ORDER BY account")
+        self.assertEqual(rows, [(1000, 1100), (1000, None)])
+        lapses.note_sales(self.site.store, 2000, self.site.mirror)
+        self.assertEqual(self.site.store.read("SELECT sold, ends FROM login ORDER BY account"), rows)
+
+    def test_steady(self):
+        looks = [(1000.0, 10.0, 0), (1060.0, 70.0, 60), (4660.0, 3670.0, 3660),
+                 # A step ahead, and one back.
+                 (99_720.0, 3730.0, 0), (99_780.0, 3790.0, 60), (4840.0, 3850.0, 0)]
+        for wall, up, wanted in looks:
+            self.assertEqual(lapses.steady(self.site.store, wall, up), wanted)
+        with mock.patch.object(lapses, "boot", lambda: "another"):
+            self.assertEqual(lapses.steady(self.site.store, 4900.0, 5.0), 0)
+
+
+class Stores(unittest.TestCase):
+    def test_all_or_nothing(self):
+        with tempfile.TemporaryDirectory(dir=MEMORY) as folder:
+            store = logins.Store(os.path.join(folder, "l.db"))
+            store.make(logins.TABLES)
+            with self.assertRaises(logins.Differs):
+                store.run(("INSERT INTO key VALUES (1, 'a')", ()),
+                          ("UPDATE login SET state = 'x'", (), 1))
+            with self.assertRaises(logins.Fault):
+                store.run(("INSERT INTO key VALUES (1, 'a')", ()), ("no SQL", ()))
+            self.assertEqual(store.read("SELECT count(*) FROM key"), [(0,)])
+            store.make(logins.TABLES)
+
+    def test_a_lost_file_is_no_empty_one(self):
+        with tempfile.TemporaryDirectory(dir=MEMORY) as folder:
+            store = logins.Store(os.path.join(folder, "l.db"))
+            with self.assertRaises(logins.Fault):
+                store.read("SELECT 1")
+            self.assertEqual(os.listdir(folder), [])

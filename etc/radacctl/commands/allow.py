@@ -1,0 +1,213 @@
+"""Credits each account of a list once a month.
+
+    radacctl allow LIST --month 2026-12 [--sum SUM] [--lapse] [--dry-run]
+
+LIST is a CSV file with a column `account`, and a column `sum` unless --sum says one for all. Sums
+are in the site's money, as 5.00. Each account gets its sum once for a month, however often this is
+given, and by whichever list: the voucher's number is made of the month and the account. If a list
+says another sum than the one that was credited, it is refused and said.
+
+With --lapse what an account had left is taken once the month's sum is credited, by a debit LAPSE-..
+of its own. What is left is looked up in the balances before, and noted on the disk: a second run
+takes nothing more. Without --lapse what is left stays, for this month.
+
+--dry-run tests the list, and sends nothing. Options of a sale: --key-file, --host, --port and
+--give-up, as `radacctl sell` has them; of a debit: --config, --db, --secret-file, --journal and
+--debit-port, as `radacctl debit` has them. --balances FILE, else
+/var/lib/radacctd-balances/balances.csv. --notes FILE: what was left of each account, on the disk
+before its sum is credited, else /var/lib/radacctd-books/allowed.csv.
+
+It ends with 0 if all was done, with 1 if not, which it says, with 2 for a bad command line, and with
+3 if there was no answer: then give the same again.
+"""
+
+import collections
+import csv
+import hashlib
+import io
+import os
+import re
+import time
+
+from radacctl import desk as desks
+from radacctl import files, money as moneys, names, program, site, stock
+from radacctl.commands import debit
+from radacctl.commands import packages as sold
+from radacctl.commands import sell as sells
+from radacctl.program import fail, say
+
+STOPPED = "stopped; give the same again: nothing is credited or taken twice"
+MONTH = re.compile(r"20[0-9]{2}-(?:0[1-9]|1[0-2])")
+NOTES, NOTES_HEADER = "/var/lib/radacctd-books/allowed.csv", b"moment,number,account,left\n"
+# An account of a list, and the numbers of its voucher and of its debit.
+Row = collections.namedtuple("Row", "account sum number lapse")
+
+
+def digest_of(account, month):
+    return hashlib.sha256(f"{month} ".encode() + account).hexdigest()[:16].upper()
+
+
+def row_of(account, total, month):
+    spelled, digest = month.replace("-", ""), digest_of(account, month)
+    return Row(account, total, f"ALLOW-{spelled}-{digest}", f"LAPSE-{spelled}-{digest}")
+
+
+def rows_of(path, month, total, money):
+    """The accounts of a list, if each line of it is right: nothing is sent of one that is not."""
+    try:
+        with open(path, encoding="utf-8-sig", errors="surrogateescape", newline="") as file:
+            header, *lines = [it for it in csv.reader(file) if it] or [[]]
+    except OSError as why:
+        return fail(f"cannot read {path}: {why.strerror}")
+    wanted = ["account"] + (["sum"] if total is None else [])
+    if any(it not in header for it in wanted):
+        return fail(f"{path} has no column {' and '.join(wanted)}: its first line is "
+                    f"{','.join(header)}")
+    found, faults = {}, []
+    for at, line in enumerate(lines, 2):
+        try:
+            account, own = fields_of(header, line, total, money)
+            if account in found:
+                raise ValueError(f"`{names.shown(account)}` is in the list twice")
+            found[account] = row_of(account, own, month)
+        except ValueError as why:
+            faults.append(f"record {at}: {why}")
+    if faults:
+        return fail("\n".join([f"{path} is not taken:", *faults[:20]]))
+    return list(found.values())
+
+
+def fields_of(header, line, total, money):
+    if len(line) != len(header):
+        raise ValueError(f"it has {len(line)} fields, not {len(header)}")
+    cells = dict(zip(header, map(names.text_of_cell, line)))
+    account = names.octets_of(cells["account"])
+    if why := names.why_not(account):
+        raise ValueError(f"the account `{names.shown(account)}`: {why}")
+    own = total if total is not None else money.units(cells["sum"])
+    if own is None:
+        raise ValueError(f"{cells['sum']!r} is no sum as {money.plain(500)}")
+    return account, own
+
+
+class Notes:
+    """What each account had left before its sum was credited: at most so much is taken, ever."""
+
+    def __init__(self, path):
+        folder = os.path.dirname(path)
+        if not os.path.isdir(folder):
+            os.mkdir(folder, 0o700)
+            files.sync_folder(os.path.dirname(folder))
+        self.log, self.least = stock.Log(path, NOTES_HEADER), {}
+        text = self.log.text()[len(NOTES_HEADER):].decode("ascii", "replace")
+        for row in csv.reader(io.StringIO(text, newline="")):
+            if len(row) == 4 and row[3].isdigit():
+                self.keep(row[1], int(row[3]))
+
+    def keep(self, number, left):
+        self.least[number] = min(left, self.least.get(number, left))
+
+    def add(self, row, left):
+        """Notes what is left, on the disk, unless less was noted before."""
+        if left >= self.least.get(row.number, left + 1):
+            return
+        self.log.add(stock.lines_of([[int(time.time()), row.number, names.shown(row.account),
+                                      left]]))
+        self.keep(row.number, left)
+
+
+class Allowing:
+    """Credits each account, and takes what it had left before."""
+
+    def __init__(self, words, rows):
+        self.words, self.rows, self.faults = words, rows, []
+        self.desk = sells.Desk(words, desks.keys_in(words.key_file, sells.MOST_KEYS)[0])
+        self.counts, self.taken = collections.Counter(), 0
+        self.books, self.left = None, {}
+        if words.lapse:
+            self.books = debit.Books(debit_words(words))
+            self.left = names.balances_of(files.text(words.balances), words.balances)
+        self.notes = Notes(words.notes)
+
+    def run(self):
+        for at, row in enumerate(self.rows, 1):
+            is_known = row.number in self.notes.least
+            # Also without --lapse: so a later run with it takes nothing of this month.
+            self.notes.add(row, max(self.left.get(row.account, 0), 0))
+            found = self.desk.outcome(sells.Record(at, row.number, row.account, row.sum))
+            self.counts[found] += 1
+            if found == "repeat" and not is_known:
+                # Credited by somebody who noted nothing: what is left now has this month in it.
+                self.notes.add(row, 0)
+            elif found not in ("new", "repeat"):
+                self.faults.append(f"`{names.shown(row.account)}`: {found}")
+            if self.books and found in ("new", "repeat"):
+                self.take(row)
+
+    def take(self, row):
+        given = self.books.journal.given(row.lapse)
+        left = int(given[1]) if given else self.notes.least[row.number]
+        if left > 0:
+            try:
+                self.books.take(row.account, left, row.lapse)
+                self.taken += 1
+            except debit.Refused as why:
+                self.faults.append(f"`{names.shown(row.account)}`: {why}")
+
+
+def debit_words(words):
+    more = ["--config", words.config, "--db", words.db, "--secret-file", words.secret_file,
+            "--journal", words.journal, *(["--port", words.debit_port] if words.debit_port else [])]
+    return debit.parser().parse_args([*more, "--list"])
+
+
+def allow(words, rows, money):
+    total = money.shown(sum(it.sum for it in rows))
+    if words.dry_run:
+        print(f"{len(rows)} accounts, {total} together")
+        return 0
+    allowing, status = Allowing(words, rows), 0
+    try:
+        allowing.run()
+    except (sells.Stop, debit.NoAnswer) as why:
+        say(f"{getattr(why, 'line', '') or why}: give the same again")
+        status = getattr(why, "status", 3)
+    new, repeat = allowing.counts["new"], allowing.counts["repeat"]
+    print(f"credited {new}, before {repeat}, refused {len(allowing.faults)}, "
+          f"lapsed {allowing.taken}, of {len(rows)}")
+    for it in allowing.faults:
+        say(it)
+    return status or (1 if allowing.faults else 0)
+
+
+def parser():
+    it = program.parser(__doc__)
+    it.add_argument("list", metavar="LIST")
+    it.add_argument("--month", required=True)
+    it.add_argument("--sum")
+    it.add_argument("--lapse", action="store_true")
+    it.add_argument("--dry-run", action="store_true")
+    it.add_argument("--balances", default=site.BALANCES, metavar="FILE")
+    it.add_argument("--notes", default=NOTES, metavar="FILE")
+    sold.add_desk(it)
+    usual = debit.parser()
+    for name in ("config", "db", "secret-file", "journal"):
+        it.add_argument(f"--{name}", default=usual.get_default(name.replace("-", "_")))
+    it.add_argument("--debit-port", metavar="PORT")
+    return it
+
+
+def main(words):
+    it = parser()
+    words = it.parse_args(words)
+    if not MONTH.fullmatch(words.month):
+        it.error("--month is as 2026-12")
+    os.umask(0o077)
+    money = sold.site_money()
+    total = money.units(words.sum) if words.sum is not None else None
+    if words.sum is not None and total is None:
+        it.error(f"--sum is a sum as {money.plain(500)}")
+    try:
+        return allow(words, rows_of(words.list, words.month, total, money), money)
+    except (desks.WrongKey, debit.Refused, stock.Fault, site.Missing, ValueError, OSError) as why:
+        return fail(why)

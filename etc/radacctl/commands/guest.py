@@ -1,0 +1,381 @@
+"""Makes a guest in one step, and ends one: login, password, page and card.
+
+    radacctl guest [OPTIONS] new NAME PACKAGE [--card FILE]
+    radacctl guest [OPTIONS] end ACCOUNT
+    radacctl guest list [TEXT]
+    radacctl guest mend
+
+`new` makes an account that nobody ever had, of NAME, the day and four letters by chance. It gives
+it a password, a key of the guest's page and the package, of /etc/radacctd-packages.toml, and
+credits what that gives. --card writes a card to print, an HTML file. It has name and password, and
+QR codes of the Wi-Fi and of the page. Without it both are printed.
+
+All of it is made, or nothing. If it is killed, or the desk gives no answer, nobody can log in by
+the account. The next `new`, `end` or `mend` takes back what was begun, or completes it if the desk
+was asked already; so does radacctd-packages.timer, each minute.
+
+`end` ends login, key and sessions at once. What is left lapses: it is debited once, when the last
+reports are in. `list` prints guests whose name or account has TEXT, in any case, as CSV.
+
+Options: --config FILE (/etc/radacctd.toml); --key-file, --host, --port and --give-up of a sale, as
+`radacctl sell` has them; --url URL, the address of the pages, else that of their settings; --wait
+SECONDS, how long the server is asked for a key (10).
+
+It ends with 0 if all was done, with 1 if nothing was, with 2 for a bad command line, and with 3 if
+there was no answer: then `radacctl guest list` says what became of it.
+"""
+
+import contextlib
+import csv
+import datetime
+import fcntl
+import hashlib
+import html
+import http.client
+import json
+import os
+import re
+import secrets
+import subprocess
+import sys
+import time
+import unicodedata
+
+from radacctl import desk as desks
+from radacctl import files, lapses, logins, money, names, packages, program, site, stock
+from radacctl.commands import key as keys
+from radacctl.commands import packages as sold
+from radacctl.commands import sell as sells
+from radacctl.program import fail, say
+
+STOPPED = "stopped; the next `radacctl guest` completes it, or takes it back"
+LOCK = "/run/radacctd-guest.lock"
+LETTERS = keys.LETTERS
+# How far a guest is made: nothing was sent yet, or the desk was asked.
+BEGUN, ASKED = "begun", "asked"
+CARD = """<!doctype html>
+<html lang="en">
+<meta charset="utf-8">
+<title>Wi-Fi</title>
+<style>
+@page {{ size: A6; margin: 6mm; }}
+body {{ font: 11pt sans-serif; color: #000; background: #fff; }}
+body {{ text-align: center; max-width: 92mm; margin: auto; }}
+svg {{ width: 32mm; height: 32mm; }}
+code {{ font: 13pt monospace; overflow-wrap: anywhere; }}
+p {{ margin: 1.5mm 0; }}
+</style>
+<p><b>{house}</b>{wifi}</p>
+<p>Name: <code>{account}</code><br>Password / Passwort: <code>{password}</code></p>
+<p>{title}, {price}<br>{validity}</p>
+{codes}
+<p>Please do not pass it on.<br>Bitte nicht weitergeben.</p>
+</html>
+"""
+
+
+class NotMade(Exception):
+    """Why there is no guest."""
+
+
+@contextlib.contextmanager
+def locked(patience=60):
+    """One at a time makes, ends or mends guests."""
+    handle = os.open(LOCK, os.O_RDWR | os.O_CREAT | os.O_NOFOLLOW | os.O_CLOEXEC, 0o600)
+    try:
+        stock.wait_for(lambda: fcntl.flock(handle, fcntl.LOCK_EX | fcntl.LOCK_NB), LOCK, patience)
+        yield
+    finally:
+        os.close(handle)
+
+
+def slug_of(name):
+    """What an account keeps of a name: what each keyboard has."""
+    plain = unicodedata.normalize("NFKD", name.replace("ß", "ss")).encode("ascii", "ignore").decode()
+    return "-".join(re.findall("[a-z0-9]+", plain.lower()))[:24].strip("-") or "guest"
+
+
+def letters(count):
+    return "".join(secrets.choice(LETTERS) for _ in range(count))
+
+
+def new_account(name, logins_store, config):
+    """An account that nobody has or had: not in the database, the book, the keys or the users."""
+    taken = {names.shown(row[0]) for row in logins_store.read("SELECT account FROM login")}
+    taken |= sold.known_accounts() | {names.shown(it) for it in logins.ended_in()}
+    taken |= {it.get("account", "") for it in keys.config_of(keys.read(config), config)
+              .get("key", [])}
+    users = files.text(os.path.join(site.RADDB, "mods-config/files/authorize"))
+    while True:
+        account = f"{slug_of(name)}-{time.strftime('%m%d')}-{letters(4)}"
+        if account not in taken and account not in users:
+            return account
+
+
+def number_of(account):
+    """The number of the one sale of a guest's package."""
+    return f"G-{hashlib.sha256(account.encode()).hexdigest()[:24].upper()}"
+
+
+def new(words):
+    if not words.name.isprintable() or not 1 <= len(words.name) <= 60:
+        fail("NAME is 1 to 60 characters that can be printed", 2)
+    package, site_money = sold.found_package(words.package)
+    url = url_of(words)
+    with locked():
+        logins_store = sold.store()
+        mend_all(logins_store, words)
+        account = new_account(words.name, logins_store, words.config)
+        guest = {"step": BEGUN, "name": words.name, "card": words.card,
+                 "token": keys.new_token("") if url else None, "sum": package.credit}
+        password = f"{letters(5)}-{letters(5)}"
+        insert(logins_store, account, password, package, guest)
+        try:
+            add_key(account, guest, words)
+            write_card(account, password, package, site_money, guest, url)
+            note(logins_store, account, {**guest, "step": ASKED})
+        except BaseException:
+            take_back(logins_store, account, guest, words)
+            raise
+        if not complete(logins_store, account, guest, words):
+            return 3
+    where = f"the card is {words.card}" if words.card else f"{account}, password {password}"
+    print(f"{words.name}: {where}; {package.title}, {site_money.shown(package.price)}")
+    return 0
+
+
+def url_of(words):
+    """The address of the pages, or nothing."""
+    try:
+        url = (words.url or money.settings_in()["url"]).rstrip("/")
+    except (OSError, ValueError):
+        url = ""
+    if url and not re.fullmatch(r"https://[^\s#?\"<>]+", url):
+        fail("--url is as https://accounts.example.org")
+    return url
+
+
+def insert(logins_store, account, password, package, guest):
+    number = sold.package_row(logins_store, package)
+    logins_store.run((
+        "INSERT INTO login VALUES (?, NULL, ?, ?, ?, ?, ?, '', 'making', ?, NULL, NULL, ?, ?)",
+        (account.encode(), password, number, package.plan, package.devices, package.seconds,
+         int(time.time()), package.until, json.dumps(guest))))
+
+
+def note(logins_store, account, guest):
+    logins_store.run(("UPDATE login SET notes = ? WHERE account = ?",
+                      (json.dumps(guest), account.encode()), 1))
+
+
+def add_key(account, guest, words):
+    """A key of the guest's page, which ends with the guest."""
+    if not guest["token"]:
+        return
+    today = f"{datetime.datetime.now():%Y-%m-%d}"
+    block = f'# radacctd-key: made {today}\n[[key]]\ntoken = "{guest["token"]}"\n'
+
+    def decide(_, config):
+        if len(config.get("key", [])) >= keys.MOST_KEYS:
+            fail(f"{keys.MOST_KEYS} keys are all that fit: end guests")
+        return f"{block}account = {json.dumps(account)}\n", []
+
+    changed = keys.change(words.config, decide)
+    keys.wait_for_server(words, changed)
+
+
+def write_card(account, password, package, site_money, guest, url):
+    if not guest["card"]:
+        return
+    texts = {"house": house(), "account": account, "password": password, "title": package.title,
+             "price": site_money.shown(package.price), "validity": package.validity()}
+    texts = {name: html.escape(it) for name, it in texts.items()}
+    wifi = packages.wifi()
+    found = [qr(wifi_text(wifi, account, password))] if wifi else []
+    if guest["token"]:
+        found.append(qr(f"{url}/#k={guest['token']}"))
+    texts["wifi"] = f"<br>Wi-Fi: <b>{html.escape(wifi['name'])}</b>" if wifi else ""
+    try:
+        files.make(guest["card"], CARD.format(codes="\n".join(found), **texts).encode())
+        files.sync_folder(os.path.dirname(guest["card"]))
+    except FileExistsError:
+        guest["card"] = None
+        raise NotMade("the card is there already: name another file") from None
+    except OSError as why:
+        raise NotMade(f"cannot write {guest['card']}: {why.strerror}") from None
+
+
+def house():
+    try:
+        return money.settings_in()["name"] or "Wi-Fi"
+    except (OSError, ValueError):
+        return "Wi-Fi"
+
+
+def wifi_text(wifi, account, password):
+    """What a phone reads from a QR code to join a network."""
+    spell = lambda text: re.sub(r'([\\;,:"])', r"\\\1", text)
+    if wifi["security"] == "open":
+        return f"WIFI:T:nopass;S:{spell(wifi['name'])};;"
+    return (f"WIFI:T:WPA2-EAP;S:{spell(wifi['name'])};E:PEAP;PH2:MSCHAPV2;I:{spell(account)};"
+            f"P:{spell(password)};;")
+
+
+def qr(text):
+    """A QR code as SVG; qrencode reads the text, so that no list of processes has it."""
+    command = ["qrencode", "-t", "SVG", "-m", "1", "--inline", "-o", "-"]
+    try:
+        done = subprocess.run(command, input=text, capture_output=True, text=True, check=True)
+    except (OSError, subprocess.CalledProcessError):
+        raise NotMade("a card needs qrencode: apt install qrencode") from None
+    return re.sub(r"<\?xml.*?\?>|<!--.*?-->|<!DOCTYPE.*?>", "", done.stdout, flags=re.S).strip()
+
+
+def complete(logins_store, account, guest, words, is_lost=False):
+    """Asks the desk for the sale, and lets the guest log in; or takes all back if it refuses.
+
+    If an earlier try had no answer (`is_lost`), it may have been credited: then nothing is taken
+    back but by the desk's own word that it has no such sale.
+    """
+    found, is_lost = asked(account, guest["sum"], words, is_lost)
+    if found in (desks.NEW, desks.REPEAT):
+        kept = json.dumps({"name": guest["name"], "token": guest["token"]})
+        lapses.sold(logins_store, account.encode(), int(time.time()))
+        logins_store.run(("UPDATE login SET state = 'live', notes = ? WHERE account = ? AND "
+                          "state = 'making'", (kept, account.encode())))
+        return True
+    if not is_lost or found in (desks.DIFFERS, desks.LIMIT):
+        take_back(logins_store, account, guest, words)
+        raise NotMade(f"the desk did not take the sale: {found}")
+    say(f"{account}: no answer of the desk. Nobody logs in by it until it has answered: it is asked "
+        "again each minute, or by radacctl guest mend")
+    return False
+
+
+def asked(account, total, words, is_lost):
+    """What the desk said of the sale, and whether a try without an answer may have reached it."""
+    try:
+        key = desks.keys_in(words.key_file, sells.MOST_KEYS)[0]
+    except desks.WrongKey as why:
+        say(why)
+        return desks.NO_KEY, is_lost
+    body = desks.topup(names.for_desk(account.encode()), total, number_of(account))
+    end = time.monotonic() + words.give_up
+    while True:
+        try:
+            status, said = desks.ask((words.host, words.port), "POST", "/topups", key, body)
+            found = desks.meaning(status, desks.object_of(said))
+            is_lost |= found in (desks.AWAY, desks.STRANGE)
+        except ConnectionRefusedError:
+            found = desks.AWAY
+        except (OSError, http.client.HTTPException):
+            found, is_lost = desks.AWAY, True
+        if found != desks.AWAY or time.monotonic() > end:
+            return found, is_lost
+        time.sleep(1)
+
+
+def take_back(logins_store, account, guest, words):
+    """Removes key, card and account of a guest to whom nothing was sold. The account goes last."""
+    end_key(guest.get("token"), words)
+    card = guest.get("card")
+    if card and os.path.isfile(card) and account in files.text(card):
+        files.remove(card)
+    logins_store.run(("DELETE FROM login WHERE account = ? AND state = 'making'",
+                      (account.encode(),)))
+
+
+def end_key(token, words):
+    if token and token in keys.read(words.config):
+        keys.wait_for_server(words, keys.change(words.config, lambda *_: ("", [token])))
+
+
+def mend_all(logins_store, words):
+    """Completes or takes back what a killed run left, and ends the keys of guests who ended."""
+    logins.mend(logins_store)
+    for account, notes in logins_store.read("SELECT account, notes FROM login "
+                                            "WHERE state = 'making'"):
+        guest = json.loads(notes)
+        if guest["step"] == BEGUN:
+            take_back(logins_store, account.decode(), guest, words)
+            continue
+        with contextlib.suppress(NotMade):
+            complete(logins_store, account.decode(), guest, words, is_lost=True)
+    for account, notes in logins_store.read(
+            "SELECT account, notes FROM login WHERE state NOT IN ('making', 'live') "
+            "AND json_extract(notes, '$.token') IS NOT NULL"):
+        guest = json.loads(notes)
+        end_key(guest["token"], words)
+        note(logins_store, account.decode(), {"name": guest["name"], "token": None})
+
+
+def end(words):
+    with locked():
+        logins_store, now = sold.store(), int(time.time())
+        rows = logins_store.read("SELECT state FROM login WHERE account = ? AND digest IS NULL",
+                                 names.octets_of(words.account))
+        if not rows:
+            fail(f"there is no guest {words.account}: radacctl guest list")
+        account = names.octets_of(words.account)
+        if rows[0][0] == logins.LIVE:
+            sold.own_log()
+            lapses.end(logins_store, [account], logins.ENDED, now)
+        mend_all(logins_store, words)
+        told = lapses.disconnect(logins_store, sold.uses(), now, 900, [account])
+    print(f"{words.account} has ended; told {told} sessions to end. What is left lapses")
+    return 0
+
+
+def mend(words):
+    with locked():
+        mend_all(sold.store(), words)
+    return 0
+
+
+def show(words):
+    rows = sold.store().read(
+        "SELECT account, json_extract(notes, '$.name'), package.name, state, first, ends "
+        "FROM login JOIN package ON package.id = login.package WHERE digest IS NULL "
+        "ORDER BY made, account")
+    table, wanted = [["account", "name", "package", "state", "first", "ends"]], words.text.casefold()
+    for account, name, package, state, first, ends in rows:
+        spelled = names.shown(account)
+        if wanted in spelled.casefold() or wanted in (name or "").casefold():
+            table.append([spelled, name or "", package, state, sold.moment_of(first),
+                          sold.moment_of(ends)])
+    writer = csv.writer(sys.stdout, lineterminator="\n")
+    # A name keeps its letters, and is no formula.
+    writer.writerows([names.cell(str(it)) for it in row] for row in table)
+    return 0
+
+
+def parser():
+    it = program.parser(__doc__)
+    it.add_argument("--config", default=site.CONFIG, metavar="FILE")
+    sold.add_desk(it)
+    it.add_argument("--url")
+    it.add_argument("--wait", type=int, default=10, metavar="SECONDS")
+    acts = it.add_subparsers(dest="act", required=True, metavar="new | end | list | mend")
+    act = acts.add_parser("new")
+    act.add_argument("name", metavar="NAME")
+    act.add_argument("package", metavar="PACKAGE")
+    act.add_argument("--card", metavar="FILE")
+    acts.add_parser("end").add_argument("account", metavar="ACCOUNT")
+    acts.add_parser("list").add_argument("text", nargs="?", default="", metavar="TEXT")
+    acts.add_parser("mend")
+    return it
+
+
+def main(words):
+    words = parser().parse_args(words)
+    words.config = os.path.realpath(words.config)
+    if getattr(words, "card", None):
+        words.card = os.path.abspath(words.card)
+    os.umask(0o077)
+    acts = {"new": new, "end": end, "list": show, "mend": mend}
+    try:
+        return acts[words.act](words)
+    except NotMade as why:
+        fail(why)
+    except (logins.Fault, stock.Fault, site.Missing, OSError) as why:
+        fail(why)

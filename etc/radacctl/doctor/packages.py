@@ -1,0 +1,86 @@
+"""Packages: FreeRADIUS' lines, the databases of logins, the key of codes, what was not finished."""
+
+import os
+import re
+import time
+
+from radacctl import files, freeradius, logins, packages, site
+from radacctl.doctor import book
+from radacctl.doctor.faults import Fault
+from radacctl.setup import packages as wanted
+from radacctl.setup.steps import Failed
+
+# How long a guest may be begun, or a debit decided, in seconds.
+UNFINISHED = 600
+CURE = "radacctl setup, with packages = true in its file: PACKAGES.md"
+
+
+def look_at(kind):
+    if not kind.has_packages:
+        return
+    yield from lines()
+    yield from databases()
+    yield from file_of_packages()
+    log = freeradius.section(freeradius.text("radiusd.conf"), "log")
+    if re.search(r"(?m)^\s*auth(_accept|_reject)?\s*=\s*yes", log):
+        yield Fault("packages-logged", "radiusd.conf logs the names of logins, which may be codes",
+                    "set auth = no in its section log, and restart freeradius")
+
+
+def lines():
+    """What the set-up writes into FreeRADIUS' files."""
+    for place, own in wanted.OURS.items():
+        if files.text(freeradius.path(place)) != files.sample("packages", own):
+            yield Fault("packages-steps", f"{freeradius.path(place)} is not that of this version",
+                        CURE)
+    if wanted.INCLUDE.strip() not in freeradius.text("radiusd.conf"):
+        yield Fault("packages-steps", "radiusd.conf does not include radacctd/packages.conf", CURE)
+    for name, change in (("default", wanted.default), ("inner-tunnel", wanted.inner)):
+        text = files.text(freeradius.path("sites-enabled", name))
+        try:
+            lacks = text and change(text) != text
+        except Failed:
+            lacks = True
+        if lacks:
+            yield Fault("packages-steps", f"sites-enabled/{name} lacks a line of packages", CURE)
+
+
+def databases():
+    """Both can be read, the key is that of the codes, and nothing is left unfinished."""
+    found = logins.settings()
+    store = logins.Store(found["logins"] or logins.FILE)
+    late = time.time() - UNFINISHED
+    try:
+        logins.Store(found["uses"] or logins.USES).read("SELECT count(*) FROM use, try")
+        keys = store.read("SELECT digest FROM key")
+        counts = [
+            store.read("SELECT count(*) FROM login WHERE state = 'making' AND made < ?", late),
+            store.read("SELECT count(*) FROM lapse WHERE is_taken = 0 AND moment < ?", late),
+        ]
+    except (logins.Fault, site.Missing, OSError) as why:
+        yield Fault("packages-lost", f"logins are refused: {why}",
+                    f"stop freeradius, and put {logins.FOLDER} of the last copy back")
+        return
+    if not re.fullmatch("[0-9a-f]{32,64}", found["key"]):
+        yield Fault("packages-key", f"radacctd/{logins.CONF} has the sample's key, or none",
+                    "openssl rand -hex 32 makes one, before the first code is printed")
+    elif keys and keys[0][0] != logins.mark_of(found["key"]):
+        yield Fault("packages-key", f"radacctd/{logins.CONF} has another key than the codes",
+                    "put the old one back, and restart freeradius")
+    for [(count,)], what in zip(counts, ("guests are begun", "debits are decided")):
+        if count:
+            yield Fault("packages-wait", f"{count} {what}, and not finished",
+                        "journalctl -u radacctd-packages -n 20")
+
+
+def file_of_packages():
+    try:
+        known, _ = packages.read()
+    except packages.Wrong as why:
+        yield Fault("packages-file", str(why), "correct it: PACKAGES.md has its members")
+        return
+    plans = book.plans_in(f"{os.path.dirname(site.BALANCES)}/plans.csv")
+    for it in known.values():
+        if plans is not None and it.plan not in plans:
+            yield Fault("packages-file", f"the package {it.name} has the plan {it.plan}, which is "
+                        "not in force", "add it to the book, or name another one: SITE.md")

@@ -1,0 +1,248 @@
+"""The logins of packages: two databases that FreeRADIUS reads, which belong to its user.
+
+`logins.db` has who may log in, by which package, and when it was first used; the copy of the night
+has it. `uses.db` has the devices of now, and wrong tries: a lost one is made anew.
+
+A login is in one of these states, and in no earlier one again:
+
+    making      a guest who is being made: nobody logs in
+    live        it may be sold and used
+    withdrawn, ended    nobody logs in; what is left is to lapse
+    lapsed      nobody logs in, and what was left is debited
+
+Each state behind `live` is in a log of root's, too, before it counts: a database that was put back
+from an older copy is mended by it. Root changes a database only as the user whose folder it is in.
+"""
+
+import contextlib
+import csv
+import hashlib
+import io
+import json
+import os
+import select
+import subprocess
+import weakref
+
+from radacctl import files, freeradius, names, site, stock
+
+FOLDER, USES_FOLDER = "/var/lib/radacctd-logins", "/var/lib/radacctd-uses"
+FILE, USES = f"{FOLDER}/logins.db", f"{USES_FOLDER}/uses.db"
+# What ended, in a folder that outlives a database that was put back.
+LOG, LOG_HEADER = "/var/lib/radacctd-withdrawn/logins.csv", b"moment,account,state\n"
+CONF = "packages.conf"
+MAKING, LIVE, WITHDRAWN, ENDED, LAPSED = "making", "live", "withdrawn", "ended", "lapsed"
+ORDER = [MAKING, LIVE, WITHDRAWN, ENDED, LAPSED]
+FORMAT = 1
+TABLES = [
+    # Each package as it was when the first login of it was made.
+    "CREATE TABLE package (id INTEGER PRIMARY KEY, name TEXT NOT NULL, terms TEXT NOT NULL UNIQUE)",
+    "CREATE TABLE reply (package INTEGER NOT NULL, kind TEXT NOT NULL, attribute TEXT NOT NULL, "
+    "op TEXT NOT NULL, value TEXT NOT NULL)",
+    # `digest` of a printed code, or `password` of a guest. `class`, `devices` and `seconds` are the
+    # package's. `ends` is unknown until its validity begins. `notes` is what a guest was made with.
+    "CREATE TABLE login (account BLOB PRIMARY KEY, digest TEXT UNIQUE, password TEXT, "
+    "package INTEGER NOT NULL, class TEXT NOT NULL, devices INTEGER NOT NULL, "
+    "seconds INTEGER NOT NULL, sheet TEXT NOT NULL, state TEXT NOT NULL, made INTEGER NOT NULL, "
+    "sold INTEGER, first INTEGER, ends INTEGER, notes TEXT) WITHOUT ROWID",
+    "CREATE INDEX login_sheet ON login (sheet)",
+    "CREATE INDEX login_ends ON login (state, ends)",
+    # What is debited of a login, decided once.
+    "CREATE TABLE lapse (account BLOB PRIMARY KEY, number TEXT NOT NULL UNIQUE, "
+    "sum INTEGER NOT NULL, moment INTEGER NOT NULL, is_taken INTEGER NOT NULL) WITHOUT ROWID",
+    # Since when the clock has been steady: boot, and both clocks of the last look.
+    "CREATE TABLE clock (one INTEGER PRIMARY KEY, boot TEXT, since REAL, up REAL, wall REAL)",
+    "CREATE TABLE key (one INTEGER PRIMARY KEY, digest TEXT NOT NULL)",
+]
+USES_TABLES = [
+    # `session` is empty for a login whose session was not reported yet.
+    "CREATE TABLE use (account BLOB NOT NULL, station TEXT NOT NULL, source TEXT NOT NULL, "
+    "session TEXT NOT NULL, heard INTEGER NOT NULL, ended INTEGER NOT NULL, "
+    "PRIMARY KEY (account, station, source, session)) WITHOUT ROWID",
+    "CREATE INDEX use_station ON use (station, source)",
+    "CREATE TABLE try (source TEXT NOT NULL, station TEXT NOT NULL, count INTEGER NOT NULL, "
+    "moment INTEGER NOT NULL, PRIMARY KEY (source, station)) WITHOUT ROWID",
+]
+# Does statements in one transaction, as the user of the folder: octets are {"hex": ..} in JSON. A
+# statement that says how many rows it is to change undoes all if it changes another number.
+CHILD = """
+import contextlib, json, os, sqlite3, sys
+
+into = lambda it: bytes.fromhex(it["hex"]) if isinstance(it, dict) else it
+out = lambda it: {"hex": it.hex()} if isinstance(it, bytes) else it
+
+def work(asked):
+    path = asked["path"]
+    if asked["make"]:
+        os.umask(0o077)
+        with contextlib.closing(sqlite3.connect(path)) as db:
+            db.execute("PRAGMA journal_mode = WAL").fetchall()
+    how = {"uri": True, "timeout": asked["patience"], "isolation_level": None}
+    with contextlib.closing(sqlite3.connect(f"file:{path}?mode=rw", **how)) as db:
+        db.execute("PRAGMA synchronous = FULL")
+        db.execute("BEGIN IMMEDIATE" if asked["writes"] else "BEGIN")
+        found = []
+        for sql, values, wanted in asked["statements"]:
+            done = db.execute(sql, [into(it) for it in values])
+            found.append([[out(it) for it in row] for row in done.fetchall()])
+            if wanted is not None and done.rowcount != wanted:
+                return {"differs": done.rowcount}
+        db.execute("COMMIT")
+        return {"rows": found}
+
+def answer(line):
+    try:
+        return json.dumps(work(json.loads(line)))
+    except Exception as why:
+        return json.dumps({"fault": str(why)})
+"""
+LOOP = """
+for line in sys.stdin:
+    print(answer(line), flush=True)
+"""
+
+
+class Fault(Exception):
+    """Why a database cannot be read or written."""
+
+
+class Differs(Fault):
+    """A statement changed other rows than it was to: somebody else was faster. Nothing is done."""
+
+
+def settings():
+    """What a site decides: the values of packages.conf."""
+    block = freeradius.text("radacctd", CONF)
+    return {name: freeradius.value(block, name) for name in ("logins", "uses", "key", "interval",
+                                                             "window", "tries", "strangers")}
+
+
+def digest_of(code, key):
+    """What FreeRADIUS makes of a code that was typed."""
+    return hashlib.sha256((key + code.replace("-", "")).encode()).hexdigest()
+
+
+def account_of(digest):
+    """The serial number of a code: its account."""
+    return f"t-{digest[:12]}"
+
+
+def mark_of(key):
+    """What tells whether a key is the one that codes were printed with."""
+    return hashlib.sha256(f"radacctd packages {key}".encode()).hexdigest()
+
+
+def octets(value):
+    return {"hex": value.hex()} if isinstance(value, bytes) else value
+
+
+class Child:
+    """The process of the folder's user, which does what it gets on a line."""
+
+    def __init__(self, path):
+        words = [*files.as_owner(path), "/usr/bin/python3", "-I", "-c", CHILD + LOOP]
+        self.process = subprocess.Popen(words, stdin=subprocess.PIPE, stdout=subprocess.PIPE,
+                                        stderr=subprocess.PIPE, text=True, cwd="/")
+        weakref.finalize(self, end_of, self.process)
+
+    def ask(self, line, seconds):
+        try:
+            self.process.stdin.write(line + "\n")
+            self.process.stdin.flush()
+            if select.select([self.process.stdout], [], [], seconds)[0]:
+                return self.process.stdout.readline()
+        except (OSError, ValueError):
+            pass
+        self.process.kill()
+        return ""
+
+
+def end_of(process):
+    """Lets a child end, and waits for it."""
+    for it in (process.stdin, process.stdout, process.stderr):
+        with contextlib.suppress(OSError):
+            it.close()
+    process.wait()
+
+
+class Store:
+    """A database, read and written as the user whose folder it is in."""
+
+    def __init__(self, path=FILE, patience=10):
+        self.path, self.patience, self.child = path, patience, None
+
+    def run(self, *statements, writes=True, make=False):
+        """The rows of each statement, all of one transaction.
+
+        A statement is a text, its values, and how many rows it must change, if that matters.
+        """
+        asked = {"path": os.path.abspath(self.path), "patience": self.patience, "make": make,
+                 "writes": writes, "statements": [
+                     [sql, [octets(it) for it in values], wanted[0] if wanted else None]
+                     for sql, values, *wanted in statements]}
+        self.child = self.child or Child(self.path)
+        line = self.child.ask(json.dumps(asked), self.patience + 60)
+        if not line:
+            self.child = None
+            raise Fault(f"{self.path}: its user's process ended, or did not answer in time")
+        said = json.loads(line)
+        if "fault" in said:
+            raise Fault(f"{self.path}: {said['fault']}")
+        if "differs" in said:
+            raise Differs(f"{self.path}: {said['differs']} rows were changed")
+        into = lambda it: bytes.fromhex(it["hex"]) if isinstance(it, dict) else it
+        return [[tuple(into(it) for it in row) for row in rows] for rows in said["rows"]]
+
+    def read(self, sql, *values):
+        return self.run((sql, values), writes=False)[0]
+
+    def make(self, tables):
+        """Makes the tables of a file that is new, or was not finished."""
+        there = self.run(("SELECT sql FROM sqlite_master WHERE sql IS NOT NULL", ()), make=True)[0]
+        lacks = [it for it in tables if (it,) not in there]
+        if lacks and there:
+            raise Fault(f"{self.path} has other tables")
+        if lacks:
+            self.run(*((it, ()) for it in lacks), (f"PRAGMA user_version = {FORMAT}", ()))
+
+
+class Log(stock.Log):
+    """Which logins ended: root's, on the disk before the database says so."""
+
+    def __init__(self, path=LOG):
+        super().__init__(path, LOG_HEADER)
+
+
+def ended_in(path=LOG):
+    """The last state of each login that ended, by its account."""
+    found = {}
+    text = stock.whole_lines(path, LOG_HEADER).decode("ascii", "replace")
+    for row in csv.reader(io.StringIO(text, newline="")):
+        if len(row) == 3 and row[2] in ORDER[2:]:
+            account = names.octets_of(names.text_of_cell(row[1]))
+            if ORDER.index(row[2]) > ORDER.index(found.get(account, LIVE)):
+                found[account] = row[2]
+    return found
+
+
+def log_ended(accounts, state, now, path=LOG):
+    """Adds accounts to the log of what ended; they are on the disk then, or it is a fault."""
+    log = Log(path)
+    try:
+        log.add(stock.lines_of([now, names.shown(it), state] for it in accounts))
+    finally:
+        log.close()
+
+
+def mend(store, path=LOG):
+    """Ends what the log says has ended: a database may be older. Returns how many it revived."""
+    ended = ended_in(path)
+    if not ended:
+        return 0
+    rows = dict(store.read("SELECT account, state FROM login"))
+    wrong = [(account, state) for account, state in ended.items()
+             if account in rows and ORDER.index(rows[account]) < ORDER.index(state)]
+    if wrong:
+        store.run(*(("UPDATE login SET state = ? WHERE account = ?", (state, account))
+                    for account, state in wrong))
+    return len(wrong)

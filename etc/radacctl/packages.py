@@ -1,0 +1,219 @@
+"""Packages: what a front desk sells. One file says what each costs, gives, and how long it is valid.
+
+    [[package]]
+    name = "week"               # what tools and receipts call it; 1 to 24 of a-z 0-9 -
+    title = "5 GB, 7 days"      # what a card says
+    price = "9.00"              # what a guest pays, in the site's money
+    credit = "5.00"             # what is put on the account, in the same
+    plan = "default"            # the Class by which it is used up
+    devices = 2                 # how many devices may use it at once
+    valid = "7 days"            # minutes, hours or days; begins with the
+    from = "first use"          # first use, or the sale
+    down = 20000                # kbit/s to the guest, and
+    up = 5000                   # from the guest; without them there is no limit
+
+A table [wifi] has the `name` of the network, for cards, and its `security`: open or enterprise.
+In place of `valid` and `from` may be `until = "2026-12-31T12:00"`. A table [package.reply] has
+further attributes of an Access-Accept for a kind of access server, as mikrotik = ["A := b"].
+
+A code or a guest keeps the package that it was made with: a change is for those made later.
+"""
+
+import datetime
+import json
+import os
+import re
+import tomllib
+
+from radacctl import files, names
+from radacctl import money as moneys
+
+FILE = "/etc/radacctd-packages.toml"
+NAME = re.compile(r"[a-z0-9][a-z0-9-]{0,23}")
+VALID = re.compile(r"([1-9][0-9]{0,4}) (minute|hour|day)s?")
+UNITS = {"minute": 60, "hour": 3600, "day": 86_400}
+FIRST, SALE, UNTIL = "first use", "sale", "until"
+LONGEST, MOST_DEVICES, FASTEST = 3660 * 86_400, 1000, 4_000_000
+# How access servers are told what: the client's `radacctd_speed`, or else its `radacctd_quota`.
+KINDS = ("all", "mikrotik", "chillispot", "pfsense", "wispr", "none")
+REPLY = re.compile(r"([A-Za-z][A-Za-z0-9-]{1,62}) (:=|\+=|=) ([A-Za-z0-9 ._:/,@+=-]{1,200})")
+DICTIONARIES = "/usr/share/freeradius"
+MEMBERS = {
+    "name": str, "title": str, "price": str, "credit": str, "plan": str, "devices": int,
+    "valid": str, "from": str, "until": str, "down": int, "up": int, "reply": dict,
+}  # fmt: skip
+NEEDED = ("name", "price", "credit", "plan")
+
+
+class Wrong(Exception):
+    """Which member of the file is wrong, and why."""
+
+
+def need(holds, what):
+    if not holds:
+        raise Wrong(what)
+
+
+class Package:
+    """One package, all of whose members are within their bounds."""
+
+    def __init__(self, found, money):
+        need(isinstance(found, dict), "a package is written as [[package]]")
+        where = f"package {found.get('name', '?')}"
+        for name, value in found.items():
+            need(name in MEMBERS, f"{where} has no member `{name}`: {', '.join(MEMBERS)}")
+            need(type(value) is MEMBERS[name], f"{where}: `{name}` is of another kind")
+        for name in NEEDED:
+            need(name in found, f"{where} lacks `{name}`")
+        self.name = found["name"]
+        need(NAME.fullmatch(self.name), f"{where}: a name is 1 to 24 of a-z 0-9 and -")
+        self.title = found.get("title", self.name)
+        need(self.title.isprintable() and 1 <= len(self.title) <= 60,
+             f"{where}: title is 1 to 60 characters that can be printed")
+        self.price = sum_of(found["price"], money, f"{where}: price", least=0)
+        self.credit = sum_of(found["credit"], money, f"{where}: credit")
+        self.plan = plan_of(found["plan"], where)
+        self.devices = found.get("devices", 1)
+        need(1 <= self.devices <= MOST_DEVICES, f"{where}: devices is 1 to {MOST_DEVICES}")
+        self.begins, self.seconds, self.until = validity_of(found, where)
+        self.down, self.up = (speed_of(found, it, where) for it in ("down", "up"))
+        need((self.down is None) == (self.up is None), f"{where}: give down and up, or neither")
+        self.replies = [*speeds(self.down, self.up), *replies_of(found.get("reply", {}), where)]
+
+    def terms(self):
+        """What decides whether two packages of a name are the same, as a text."""
+        return json.dumps(vars(self), sort_keys=True, ensure_ascii=False)
+
+    def validity(self):
+        """How long it is valid, for people."""
+        if self.begins == UNTIL:
+            return f"until {datetime.datetime.fromtimestamp(self.until):%Y-%m-%d %H:%M}"
+        name, length = next((it, each) for it, each in reversed(UNITS.items())
+                            if self.seconds % each == 0)
+        count = self.seconds // length
+        return f"{count} {name}{'s' * (count != 1)} from the {self.begins}"
+
+
+def sum_of(text, money, where, least=1):
+    if least == 0 and re.fullmatch(r"0+([.,]0+)?", text):
+        return 0
+    units = money.units(text)
+    need(units is not None, f"{where} is a sum as {money.plain(900)}, not {text!r}")
+    return units
+
+
+def plan_of(name, where):
+    """A Class that the files of FreeRADIUS and the tools can have as it is."""
+    need(1 <= len(name.encode()) <= names.LONGEST and name.isprintable()
+         and not set(name) & set('";\\%{\''), f"{where}: plan {name!r} is no Class of a set-up")
+    return name
+
+
+def validity_of(found, where):
+    """When it begins, how many seconds it has, and when it ends at the latest."""
+    if "until" in found:
+        need("valid" not in found and "from" not in found, f"{where}: give until, or valid and from")
+        try:
+            moment = datetime.datetime.fromisoformat(found["until"])
+        except ValueError:
+            raise Wrong(f"{where}: until is as 2026-12-31T12:00") from None
+        return UNTIL, LONGEST, int(moment.timestamp())
+    found_valid = VALID.fullmatch(found.get("valid", ""))
+    need(found_valid, f"{where}: valid is as \"7 days\", \"24 hours\" or \"90 minutes\"")
+    seconds = int(found_valid[1]) * UNITS[found_valid[2]]
+    need(seconds <= LONGEST, f"{where}: valid is at most ten years")
+    begins = found.get("from", FIRST)
+    need(begins in (FIRST, SALE), f"{where}: from is \"{FIRST}\" or \"{SALE}\"")
+    return begins, seconds, None
+
+
+def speed_of(found, name, where):
+    speed = found.get(name)
+    need(speed is None or 1 <= speed <= FASTEST, f"{where}: {name} is 1 to {FASTEST} kbit/s")
+    return speed
+
+
+def speeds(down, up):
+    """The attributes of a speed, each with its kind of access server."""
+    if down is None:
+        return
+    # RouterOS reads it from its own side: what it receives comes from the guest.
+    yield "mikrotik", "Mikrotik-Rate-Limit", ":=", f"{up}k/{down}k"
+    for kind in ("wispr", "pfsense", "chillispot"):
+        yield kind, "WISPr-Bandwidth-Max-Down", ":=", str(down * 1000)
+        yield kind, "WISPr-Bandwidth-Max-Up", ":=", str(up * 1000)
+    yield "chillispot", "ChilliSpot-Bandwidth-Max-Down", ":=", str(down)
+    yield "chillispot", "ChilliSpot-Bandwidth-Max-Up", ":=", str(up)
+
+
+def replies_of(found, where):
+    """The attributes that a site names itself."""
+    known = dictionary()
+    for kind, texts in found.items():
+        need(kind in KINDS, f"{where}: reply has {', '.join(KINDS)}, not {kind}")
+        need(isinstance(texts, list), f"{where}: reply.{kind} is a list")
+        for text in texts:
+            match = REPLY.fullmatch(text) if isinstance(text, str) else None
+            need(match, f"{where}: {text!r} is no attribute as \"Mikrotik-Group := guests\"")
+            need(not known or match[1] in known, f"{where}: FreeRADIUS has no {match[1]}")
+            yield (kind, *match.groups())
+
+
+def dictionary(folder=DICTIONARIES):
+    """The names of FreeRADIUS' attributes, or none if it is not on this machine."""
+    found = set()
+    for name in os.listdir(folder) if os.path.isdir(folder) else []:
+        if name.startswith("dictionary."):
+            with open(os.path.join(folder, name), encoding="utf-8", errors="replace") as file:
+                found |= set(re.findall(r"(?m)^ATTRIBUTE\s+(\S+)", file.read()))
+    return found
+
+
+def packages_of(text, money):
+    """The packages of a text, by their names."""
+    try:
+        found = tomllib.loads(text)
+    except tomllib.TOMLDecodeError as why:
+        raise Wrong(f"it is no TOML: {why}") from None
+    need(set(found) <= {"package", "wifi"} and isinstance(found.get("package", []), list),
+         "it has [[package]], [wifi] and nothing else")
+    wifi_of(found)
+    packages = [Package(it, money) for it in found.get("package", [])]
+    by_name = {it.name: it for it in packages}
+    need(len(by_name) == len(packages), "two packages have one name")
+    return by_name
+
+
+def wifi_of(found):
+    """The network of a card, or None."""
+    it = found.get("wifi")
+    if it is None:
+        return None
+    need(isinstance(it, dict) and set(it) == {"name", "security"}, "[wifi] has name and security")
+    need(isinstance(it["name"], str) and it["name"].isprintable() and 1 <= len(it["name"]) <= 32,
+         "[wifi]: name is that of the network")
+    need(it["security"] in ("open", "enterprise"), "[wifi]: security is open or enterprise")
+    return it
+
+
+def wifi(path=FILE):
+    """The same of the file, which was read without a fault before."""
+    return wifi_of(tomllib.loads(files.text(path)))
+
+
+def read(path=FILE, settings=moneys.SETTINGS):
+    """The packages of the site, and its money."""
+    try:
+        pages = moneys.settings_in(settings)
+        money = moneys.Money(pages["decimals"], pages["currency"])
+    except FileNotFoundError:
+        money = moneys.Money()
+    except (OSError, ValueError) as why:
+        raise Wrong(f"the site's money: {why}") from None
+    try:
+        with open(path, encoding="utf-8") as file:
+            return packages_of(file.read(), money), money
+    except (OSError, UnicodeDecodeError) as why:
+        raise Wrong(f"cannot read {path}: {getattr(why, 'strerror', None) or why}") from None
+    except Wrong as why:
+        raise Wrong(f"{path}: {why}") from None

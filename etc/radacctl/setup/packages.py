@@ -1,0 +1,96 @@
+"""The steps to packages: codes that log in, and guests. A site without them has none of these."""
+
+import re
+import secrets
+
+from radacctl import files, freeradius, logins, packages, site
+from radacctl.setup import steps
+from radacctl.setup.steps import Command, File, Folder, Link
+
+# Each file of radacctd's: its place in FreeRADIUS' folder, and its own.
+OURS = {"mods-enabled/radacctd-packages": "modules", "policy.d/radacctd-packages": "policy"}
+INCLUDE = "$INCLUDE radacctd/packages.conf\n"
+UNIT = "radacctd-packages.timer"
+SAMPLE = """\
+# What the front desk sells: radacctl packages, radacctl guest. docs/PACKAGES.md has the members.
+# A code or a guest keeps the package that it was made with.
+#
+# [wifi]
+# name = "Hotel"
+# security = "open"           # or enterprise
+#
+# [[package]]
+# name = "week"
+# title = "5 GB, 7 days"
+# price = "9.00"
+# credit = "5.00"
+# plan = "default"
+# devices = 2
+# valid = "7 days"
+# from = "first use"          # or sale; or until = "2026-12-31T12:00" in place of both
+# down = 20000                # kbit/s
+# up = 5000
+"""
+# In each server: the section, the line at its beginning, and the word that it has then.
+FIRST = {"authorize": "radacctd_packages", "post-auth": "radacctd_packages_right"}
+
+
+def of(_):
+    """The steps before FreeRADIUS is restarted."""
+    for place, own in OURS.items():
+        yield Link(freeradius.path(place), site.shared("packages", own))
+    yield File(freeradius.path("radacctd", logins.CONF), settings, 0o640,
+               of_group=site.RADIUS_USER)
+    yield File(packages.FILE, lambda old: SAMPLE if old is None else old, 0o644)
+    for folder in (logins.FOLDER, logins.USES_FOLDER):
+        yield Folder(folder, 0o700, site.RADIUS_USER, site.RADIUS_USER)
+    yield Command("make the databases of logins", are_made,
+                  f"{site.SBIN}/radacctl", "packages", "make")
+
+
+def settings(old):
+    """packages.conf with a key of its own. A key that is there stays: else no code would log in."""
+    text = old or files.sample("packages", logins.CONF)
+    return re.sub(r"(?m)^(\tkey = )change-me.*$", lambda it: it[1] + secrets.token_hex(32), text)
+
+
+def are_made():
+    try:
+        logins.Store().read("SELECT count(*) FROM login")
+        logins.Store(logins.USES).read("SELECT count(*) FROM use")
+    except (logins.Fault, site.Missing, OSError):
+        return False
+    return True
+
+
+def begun(text, section, line):
+    """A virtual server whose section begins with a line, unless it has it."""
+    if line in freeradius.section(freeradius.without_comments(text), section).split():
+        return text
+    found = re.search(rf"(?m)^[ \t]*{section}[ \t]*\{{[^\n]*\n", text)
+    if not found:
+        raise steps.Failed(f"a virtual server has no section {section}: PACKAGES.md")
+    return f"{text[: found.end()]}\t{line}\n{text[found.end():]}"
+
+
+def behind(text, word, line):
+    """A virtual server that has a line behind another one, unless it has it."""
+    if re.search(rf"(?m)^[ \t]*{line}[ \t]*$", text):
+        return text
+    found = re.search(rf"(?m)^([ \t]*){word}[ \t]*\n", text)
+    if not found:
+        raise steps.Failed(f"a virtual server has no line {word}: PACKAGES.md")
+    return f"{text[: found.end()]}{found[1]}{line}\n{text[found.end():]}"
+
+
+def inner(text):
+    for section, line in FIRST.items():
+        text = begun(text, section, line)
+    return text
+
+
+def default(text):
+    text = behind(inner(text), "radacctd_login", "radacctd_packages_login")
+    text = begun(text, "Post-Auth-Type REJECT", "radacctd_packages_refused")
+    text = begun(text, "preacct", "radacctd_packages_name")
+    return behind(text, "radacctd_accounting", "radacctd_packages_report")

@@ -1,0 +1,1 @@
+"""The parts of interop/packages that need the built program."""
