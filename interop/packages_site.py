@@ -1,4 +1,4 @@
-"""A site with packages in a folder: FreeRADIUS with the files of etc/packages, and its databases."""
+"""A site with packages in a folder: FreeRADIUS with the files of etc/packages, databases."""
 
 import os
 import re

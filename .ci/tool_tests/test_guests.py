@@ -190,7 +190,8 @@ class Guests(unittest.TestCase):
     def test_each_step_fails(self):
         """A full disk, say: nothing is left, at once."""
         for where, name in ((key, "change"), (files, "make"), (guest, "note")):
-            with self.subTest(name), mock.patch.object(where, name, side_effect=OSError(28, "full")):
+            full = mock.patch.object(where, name, side_effect=OSError(28, "full"))
+            with self.subTest(name), full:
                 self.assertRaises(OSError, self.new) if name != "make" else self.assertRaises(
                     guest.NotMade, self.new)
             self.assertEqual(self.whole_or_nothing(), 0)
@@ -298,8 +299,8 @@ class Allow(unittest.TestCase):
     def allow(self, *more, month="2026-12"):
         self.balances()
         return allow.main([self.site.path("list.csv"), "--month", month, "--notes",
-                           self.site.path("notes.csv"), "--balances", self.site.path("balances.csv"),
-                           "--key-file", self.site.path("cashier.key"), "--give-up", "0", *more])
+                           self.site.path("notes.csv"), "--balances",
+                           self.site.path("balances.csv"), "--key-file", self.site.path("cashier.key"), "--give-up", "0", *more])
 
     def balance(self):
         found = dict(self.before)

@@ -280,7 +280,16 @@ class Ends(unittest.TestCase):
         rows = self.site.store.read("SELECT sold, ends FROM login ORDER BY account")
         self.assertEqual(rows, [(1000, 1100), (1000, None)])
         lapses.note_sales(self.site.store, 2000, self.site.mirror)
-        self.assertEqual(self.site.store.read("SELECT sold, ends FROM login ORDER BY account"), rows)
+        again = self.site.store.read("SELECT sold, ends FROM login ORDER BY account")
+        self.assertEqual(again, rows)
+
+    def test_what_ended_while_the_clock_was_ahead(self):
+        self.site.login(b"al")
+        self.site.login(b"bo", ends=99_999)
+        lapses.end(self.site.store, [b"al"], "ended", 50_000, self.site.log)
+        lapses.bring_back(self.site.store, 1000)
+        rows = self.site.store.read("SELECT ends FROM login ORDER BY account")
+        self.assertEqual(rows, [(1000,), (99_999,)])
 
     def test_steady(self):
         looks = [(1000.0, 10.0, 0), (1060.0, 70.0, 60), (4660.0, 3670.0, 3660),

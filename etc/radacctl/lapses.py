@@ -81,6 +81,12 @@ def sold(store, account, now):
                "= 'sale' THEN ? + seconds ELSE ends END WHERE account = ?", (now, now, account)))
 
 
+def bring_back(store, now):
+    """What ended while the clock was ahead ended now."""
+    store.run(("UPDATE login SET ends = ? WHERE state IN ('withdrawn', 'ended') AND ends > ?",
+               (now, now + 60)))
+
+
 def end(store, accounts, state, now, log=logins.LOG):
     """Lets nobody log in by some accounts any more: in the log of root's first."""
     logins.log_ended(accounts, state, now, log)

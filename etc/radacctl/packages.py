@@ -1,4 +1,4 @@
-"""Packages: what a front desk sells. One file says what each costs, gives, and how long it is valid.
+"""Packages: what a front desk sells. One file says what each costs, gives, and how long it holds.
 
     [[package]]
     name = "week"               # what tools and receipts call it; 1 to 24 of a-z 0-9 -
@@ -112,7 +112,7 @@ def plan_of(name, where):
 def validity_of(found, where):
     """When it begins, how many seconds it has, and when it ends at the latest."""
     if "until" in found:
-        need("valid" not in found and "from" not in found, f"{where}: give until, or valid and from")
+        need(not {"valid", "from"} & set(found), f"{where}: give until, or valid and from")
         try:
             moment = datetime.datetime.fromisoformat(found["until"])
         except ValueError:

@@ -17,8 +17,8 @@ takes nothing more. Without --lapse what is left stays, for this month.
 /var/lib/radacctd-balances/balances.csv. --notes FILE: what was left of each account, on the disk
 before its sum is credited, else /var/lib/radacctd-books/allowed.csv.
 
-It ends with 0 if all was done, with 1 if not, which it says, with 2 for a bad command line, and with
-3 if there was no answer: then give the same again.
+It ends with 0 if all was done, with 1 if not, which it says, with 2 for a bad command line, and
+with 3 if there was no answer: then give the same again.
 """
 
 import collections

@@ -91,7 +91,8 @@ def locked(patience=60):
 
 def slug_of(name):
     """What an account keeps of a name: what each keyboard has."""
-    plain = unicodedata.normalize("NFKD", name.replace("ß", "ss")).encode("ascii", "ignore").decode()
+    plain = unicodedata.normalize("NFKD", name.replace("ß", "ss"))
+    plain = plain.encode("ascii", "ignore").decode()
     return "-".join(re.findall("[a-z0-9]+", plain.lower()))[:24].strip("-") or "guest"
 
 
@@ -247,8 +248,8 @@ def complete(logins_store, account, guest, words, is_lost=False):
     if not is_lost or found in (desks.DIFFERS, desks.LIMIT):
         take_back(logins_store, account, guest, words)
         raise NotMade(f"the desk did not take the sale: {found}")
-    say(f"{account}: no answer of the desk. Nobody logs in by it until it has answered: it is asked "
-        "again each minute, or by radacctl guest mend")
+    say(f"{account}: no answer of the desk. Nobody logs in by it until it has answered: it is "
+        "asked again each minute, or by radacctl guest mend")
     return False
 
 
@@ -337,7 +338,8 @@ def show(words):
         "SELECT account, json_extract(notes, '$.name'), package.name, state, first, ends "
         "FROM login JOIN package ON package.id = login.package WHERE digest IS NULL "
         "ORDER BY made, account")
-    table, wanted = [["account", "name", "package", "state", "first", "ends"]], words.text.casefold()
+    table = [["account", "name", "package", "state", "first", "ends"]]
+    wanted = words.text.casefold()
     for account, name, package, state, first, ends in rows:
         spelled = names.shown(account)
         if wanted in spelled.casefold() or wanted in (name or "").casefold():

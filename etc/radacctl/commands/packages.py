@@ -48,7 +48,7 @@ from radacctl.program import fail, say
 STOPPED = "stopped; give the same again: nothing is sold or taken twice"
 SHEET = re.compile(r"[a-z0-9-]{1,24}-[0-9]{8}-[a-z0-9]{5}")
 SERIAL = re.compile(r"t-[0-9a-f]{12}")
-LINK = re.compile(r"https?://[^\s\"<>{}]{1,120}\{code\}[^\s\"<>{}]{0,120}(\{code\}[^\s\"<>{}]{0,60})?")
+LINK = re.compile(r'https?://[^\s"<>{}]{1,120}\{code\}[^\s"<>{}]{0,99}(\{code\}[^\s"<>{}]{0,60})?')
 MOST, LETTERS = 1000, "acdefhjkmnpqrtuwxy34679"
 LOCK = "/run/radacctd-packages.lock"
 STATES = """SELECT package.name, count(*), total(state = 'live'), total(sold IS NOT NULL),
@@ -201,23 +201,25 @@ def sell(words):
     if over:
         fail(f"{len(over)} of these codes are {found[over[0]][1]}, as {over[0].decode()}: "
              "nothing was sold")
-    now = int(time.time())
-    for account in found:
-        lapses.sold(logins_store, account, now)
     records = [sells.Record(at, number_of(account), account, credit)
                for at, (account, _, credit, _) in enumerate(found.values(), 1)]
-    prices = [row[3] for row in found.values()]
-    return credit(words, records, prices)
+    return credit(words, logins_store, records, [row[3] for row in found.values()])
 
 
-def credit(words, records, prices):
-    """Sends sales to the desk, each once however often it is given."""
+def credit(words, logins_store, records, prices):
+    """Sends sales to the desk, each once however often it is given.
+
+    If this is killed before a sale is noted, the timer finds it in the balances.
+    """
     try:
         key = desks.keys_in(words.key_file, sells.MOST_KEYS)[0]
     except desks.WrongKey as why:
         return fail(why)
     sale = sells.Sale(sells.Desk(words, key), 1)
     sale.send(records, 1, len(records))
+    for record in records:
+        if sale.outcomes.get(record.number) in ("new", "repeat"):
+            lapses.sold(logins_store, record.account, int(time.time()))
     price = sum(it for number, it in enumerate(prices, 1) if sale.outcomes.get(number) == "new")
     print(f"price {site_money().shown(price)}")
     return sells.report(sale.outcomes, {}, sale.stop)
@@ -333,7 +335,9 @@ def tick(words):
     use_store = uses_made()
     lapses.tidy(use_store, now)
     long = lapses.steady(logins_store)
-    lapses.note_sales(logins_store, now, words.mirror)
+    if long >= min(words.steady, lapses.STEADY // 6):
+        lapses.note_sales(logins_store, now, words.mirror)
+        lapses.bring_back(logins_store, now)
     lapse = lapses.Lapse(logins_store, use_store, debit_words(words), logins.LOG, words.mirror)
     lapses.disconnect(logins_store, use_store, now, lapse.wait)
     mend_guests(logins_store, words)
@@ -352,15 +356,21 @@ def mend_guests(logins_store, words):
 
 
 def uses_made():
-    """The devices of now; a file that was lost is made anew."""
+    """The devices of now; a file that was lost or damaged is made anew, as nothing is lost by it."""
     found = uses()
     folder = os.path.dirname(found.path)
     if not os.path.isdir(folder):
         os.mkdir(folder, 0o700)
         if os.getuid() == 0:
             shutil.chown(folder, site.RADIUS_USER, site.RADIUS_USER)
-    if not os.path.exists(found.path):
+    try:
+        found.read("SELECT count(*) FROM use, try")
+    except logins.Fault:
+        # FreeRADIUS makes an empty file of one that is missing. Root removes names, and no more.
+        for ending in ("", "-wal", "-shm"):
+            files.remove(found.path + ending)
         found.make(logins.USES_TABLES)
+        say(f"{found.path} is made anew")
     return found
 
 
