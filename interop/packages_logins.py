@@ -94,7 +94,16 @@ def states(site, account):
     check("a guest by name and password", (found[0], found[1].get("Session-Timeout")),
           (True, "3600"))
     check("by another password", fate(site.radius.login(guest, "acdef-hjkmm")), REJECTED)
-    check("by another case of the name", site.radius.login(guest.upper(), "acdef-hjkmn")[0], False)
+    named = site.add("hour", account="anna-1127-acde", password="acdef-hjkmn", sold=now)
+    site.has({account: 500, guest: 100, named: 100})
+    restart(site)
+    found = site.radius.login("Anna-1127-acde", "acdef-hjkmn", [station(3)])
+    check("a phone wrote a capital letter", (found[0], found[1].get("User-Name")), (True, named))
+    site.radius.reports("ap1", report("Start", "S-C", "Anna-1127-acde", [station(3)], plan="up"))
+    check("its reports are its account's", f'User-Name = "{named}"' in queued(site), True)
+    lines = report("Start", "S-D", "AnnaB", [station(4)], plan="up")
+    check("another name stays as it is",
+          (site.radius.reports("ap1", lines), 'User-Name = "AnnaB"' in queued(site)), (True, True))
 
 
 def restart(site):
@@ -146,8 +155,9 @@ def nobody_sees(site, account):
         check(f"a report of {name} is answered", done, True)
     found = subprocess.run(["grep", "-rha", "User-Name = ", site.radius.folder + "/radacct"],
                            capture_output=True, text=True).stdout
-    check("queue and detail have the account", {it.strip() for it in found.splitlines()},
-          {f'User-Name = "{account}"'})
+    found = {it.strip() for it in found.splitlines()}
+    check("queue and detail have the account", [f'User-Name = "{account}"' in found, len(found)],
+          [True, 3])
     check("no file has a code", site.files_with([CODE, CODE.replace("-", "")]), [])
     done = site.radius.reports("ap1", report("Start", "S-9", OTHER.replace("W", "X"), [station(1)]))
     check("a name that only looks like a code stays itself",

@@ -19,7 +19,8 @@ def moved(folder):
     """Lets the modules look for a site below a folder."""
     path = lambda name: os.path.join(folder, name)
     site.RADDB, site.BALANCES = path("raddb"), path("balances.csv")
-    site.program = lambda: os.environ.get("RADACCTD") or os.path.join(site.REPOSITORY, "bin/radacctd")
+    usual = os.path.join(site.REPOSITORY, "bin", "radacctd")
+    site.program = lambda: os.environ.get("RADACCTD") or usual
     logins.LOG, command.LOCK = path("withdrawn/logins.csv"), path("tick.lock")
     guest.LOCK, lapses.MIRROR = path("guest.lock"), path("run/balances.db")
     log = (logins.LOG,)
