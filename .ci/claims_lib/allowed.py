@@ -19,6 +19,7 @@ FREERADIUS = each(
     '"accept"',
     '"last"',
     '"refuse"',
+    ".../etc",
     "%{NAS-Identifier}",
     "Session-Timeout",
     "Simultaneous-Use := 1",
