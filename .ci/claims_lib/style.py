@@ -37,7 +37,7 @@ MOST = {
     "docs/SHARDS.md": 1660,
     "docs/SITE.md": 1060,
     "docs/SIZING.md": 680,
-    "docs/TROUBLE.md": 1720,
+    "docs/TROUBLE.md": 1750,
     "docs/VOUCHERS.md": 1270,
     "docs/WATCHING.md": 370,
 }
