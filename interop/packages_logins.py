@@ -4,6 +4,7 @@ import concurrent.futures
 import contextlib
 import hashlib
 import os
+import shutil
 import socket
 import sqlite3
 import subprocess
@@ -13,6 +14,7 @@ import front
 from front import check
 from front_sender import attribute
 from packages_site import INTERVAL, Site, report, started, station
+from release import Missing
 
 PARTS = {}
 CODE, OTHER = "ACDEF-HJKMN-PQRTU", "ACDEF-HJKMN-PQRTW"
@@ -276,6 +278,54 @@ def broken(folder):
         site.forget()
         check("mended: a login is accepted", site.radius.login(CODE, CODE)[0], True)
         locked(site, paths)
+        for name in paths:
+            with mounted(site, name) as fill:
+                full(site, name, fill)
+
+
+@contextlib.contextmanager
+def mounted(site, name):
+    """A small file system in the place of a folder: yields what fills it."""
+    if os.geteuid() or not shutil.which("mount"):
+        raise Missing("root, who mounts a small file system")
+    folder = os.path.join(site.folder, name)
+    site.radius.kill()
+    site.store.child = site.uses.child = None
+    kept = {it: open(os.path.join(folder, it), "rb").read() for it in os.listdir(folder)
+            if not it.endswith("-shm")}
+    subprocess.run(["mount", "-t", "tmpfs", "-o", "size=600k", "tmpfs", folder], check=True)
+    try:
+        for it, octets in kept.items():
+            with open(os.path.join(folder, it), "wb") as file:
+                file.write(octets)
+        site.radius.start()
+        yield lambda: fill(os.path.join(folder, "full"))
+        site.radius.kill()
+    finally:
+        site.store.child = site.uses.child = None
+        subprocess.run(["umount", "-l", folder], check=True)
+
+
+def fill(path):
+    handle = os.open(path, os.O_WRONLY | os.O_CREAT)
+    with contextlib.suppress(OSError):
+        while True:
+            os.write(handle, bytes(512))
+    os.close(handle)
+
+
+def full(site, name, fill_it):
+    """No octet more can be written: what a login would note is not noted, so it is refused."""
+    site.forget()
+    check(f"{name}: before it is full", site.radius.login(CODE, CODE, [station(1)])[0], True)
+    site.store.run(("UPDATE login SET first = NULL, ends = NULL", ()))
+    fill_it()
+    found = [site.radius.login(CODE, CODE, [station(at)])[0] for at in range(2, 5)]
+    check(f"{name}: full: logins are refused", found, 3 * [False])
+    check(f"{name}: full: reports are answered", answered(site), True)
+    os.remove(os.path.join(site.folder, name, "full"))
+    site.forget()
+    check(f"{name}: with space again", site.radius.login(CODE, CODE, [station(1)])[0], True)
 
 
 def saved(path):

@@ -33,9 +33,20 @@ class Book(front.Book):
             f'[[client]]\nname = "books"\naddress = "127.0.0.9"\nsecret = "{BOOKS_SECRET}"\n'
             '[[plan]]\nclass = "debit"\nblock = 1\nunit = 1\n')
 
+    def export(self, what):
+        """An export, for which the server is killed and started again: it has its book alone."""
+        is_running = self.process is not None and self.process.poll() is None
+        if is_running:
+            self.kill()
+        found = super().export(what)
+        if is_running:
+            self.start()
+        return found
+
     def money(self):
-        """The balance of each account, by an export."""
-        rows = csv.DictReader(io.StringIO(self.export("balances")))
+        """The balance of each account, by the file that the server writes."""
+        with open(self.balances, encoding="ascii", newline="") as file:
+            rows = list(csv.DictReader(file))
         return {urllib.parse.unquote(it["account"]): int(it["balance"]) for it in rows}
 
     def vouchers(self, begin):
@@ -67,7 +78,7 @@ class Whole(Site):
             os.chmod(os.path.join(folder, name), 0o600)
         self.conf()
 
-    def conf(self):
+    def conf(self, interval=INTERVAL):
         path = os.path.join(self.folder, "raddb/radacctd/packages.conf")
         if self.radius is None:
             import packages_site
@@ -75,10 +86,11 @@ class Whole(Site):
             text = re.sub("change-me-0+", packages_site.KEY, packages_site.text_of("packages.conf"))
             for name in ("logins", "uses"):
                 text = text.replace(f"/var/lib/radacctd-{name}/", f"{self.folder}/{name}/")
-            front.written(path, text)
+            if not os.path.exists(path):
+                front.written(path, text)
         with open(path, encoding="utf-8") as file:
             text = file.read()
-        front.written(path, text.replace("interval = 300", f"interval = {INTERVAL}"))
+        front.written(path, re.sub(r"interval = \d+", f"interval = {interval}", text))
 
     def has(self, balances):
         """Radacctd writes them."""
@@ -195,17 +207,20 @@ def sold(folder):
 def lapsed(site, account):
     """The last report is awaited; then what is left is taken, once."""
     waits_for("the last report is charged", lambda: site.box.money().get(account), 20)
+    site.conf(300)
     site.tool("packages tick")
     check("nothing is taken before three intervals", site.box.debits(), {})
-    tick = lambda: site.tool("packages tick") and site.box.debits()
+    site.conf()
+    tick = lambda: site.tool("packages tick") and site.box.money()[account]
     number = number_of(account)
-    waits_for("then what is left is taken", tick, {number: (account, 20)})
+    waits_for("then what is left is taken", tick, 0)
+    check("by a debit", site.box.debits(), {number: (account, 20)})
     site.buys(account, 70, "V-LATE")
     for _ in range(2):
         time.sleep(2)
         site.tool("packages tick")
-    check("a later sale stays", (site.box.debits(), site.box.money()[account]),
-          ({number: (account, 20)}, 70))
+    check("a later sale stays", site.box.debits(), {number: (account, 20)})
+    waits_for("on the account", lambda: site.box.money()[account], 70)
 
 
 def number_of(account):
@@ -244,9 +259,9 @@ def lapses(folder):
         for _ in range(2):
             waits_for("given again, it is done", lambda: site.tool(
                 "packages tick", "--steady", "0")[0], 0)
-        waits_for("each was debited once", site.box.debits,
-                  {number_of(it): (it, total) for it, total in left.items()})
-        check("nobody has anything", set(site.box.money().values()), {0})
+        check("each was debited once", site.box.debits(),
+              {number_of(it): (it, total) for it, total in left.items()})
+        waits_for("nobody has anything", lambda: set(site.box.money().values()), {0})
         states = site.store.read("SELECT DISTINCT state FROM login")
         check("all are lapsed", states, [("lapsed",)])
 
@@ -284,7 +299,7 @@ def guests(folder):
         begun = time.monotonic()
         status, _ = site.tool("guest new", "Müller", "week", "--card", f"{folder}/card-x.html")
         check("a guest is made", status, 0)
-        within = 1.2 * (time.monotonic() - begun)
+        within = 2 * (time.monotonic() - begun)
         for at in range(KILLS):
             card = os.path.join(folder, f"card-{at}.html")
             site.killed("guest new", "Müller", "week", "--card", card, within=within)
@@ -321,8 +336,9 @@ def ended(site):
     check("nobody logs in by it", state[0][0] in ("ended", "lapsed"), True)
     with open(site.box.config, encoding="utf-8") as file:
         check("its key is gone", account in file.read(), False)
-    tick = lambda: site.tool("packages tick") and site.box.debits().get(number_of(account))
-    waits_for("what is left lapses", tick, (account, 50))
+    tick = lambda: site.tool("packages tick") and site.box.money().get(account)
+    waits_for("what is left lapses", tick, 0)
+    check("by one debit", site.box.debits(), {number_of(account): (account, 50)})
     check("another guest is live", site.store.read(
         "SELECT state FROM login WHERE account = x'6f74686572'"), [("live",)])
 
@@ -357,4 +373,4 @@ def allowed(folder):
         check("each is credited once", sums, dict.fromkeys(left, 500))
         wanted = sorted((it, total) for it, total in left.items() if total)
         check("what was left is taken once", sorted(site.box.debits().values()), wanted)
-        check("each has the month's sum", site.box.money(), dict.fromkeys(left, 500))
+        waits_for("each has the month's sum", site.box.money, dict.fromkeys(left, 500))

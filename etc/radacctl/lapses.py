@@ -120,7 +120,6 @@ class Lapse:
 
     def run(self, now, is_steady):
         """Lapses what may lapse now; returns how many did, and how many wait."""
-        self.resend(now)
         as_of, money = balances(self.mirror)
         heard, done, waiting = self.heard(now), 0, 0
         for account, since in self.over(now, is_steady):
@@ -132,14 +131,8 @@ class Lapse:
             done += self.lapse(account, money.get(account, 0), now)
         return done, waiting
 
-    def resend(self, now):
-        """What was decided and not answered is sent again, as it was decided."""
-        for account, number, total in self.store.read(
-                "SELECT account, number, sum FROM lapse WHERE is_taken = 0"):
-            self.take(account, number, total, now)
-
     def lapse(self, account, left, now):
-        """Decides the sum, once, and takes it."""
+        """Decides the sum, once, and takes it. What was not answered is sent as it was decided."""
         number = number_of(account)
         if left > 0:
             journal = self.journal()
