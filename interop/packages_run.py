@@ -22,7 +22,8 @@ def moved(folder):
     usual = os.path.join(site.REPOSITORY, "bin", "radacctd")
     site.program = lambda: os.environ.get("RADACCTD") or usual
     logins.LOG, command.LOCK = path("withdrawn/logins.csv"), path("tick.lock")
-    guest.LOCK, lapses.MIRROR = path("guest.lock"), path("run/balances.db")
+    guest.LOCK, guest.DRAFTS = path("guest.lock"), path("guests")
+    lapses.MIRROR = path("run/balances.db")
     log = (logins.LOG,)
     changed = {
         money.settings_in: (path("settings.json"),),

@@ -22,6 +22,19 @@ SETTINGS_IN, LOG_ENDED, ENDED_IN = money.settings_in, logins.log_ended, logins.e
 RUN, CHANGE, MAKE, REMOVE = logins.Store.run, key.change, files.make, files.remove
 
 
+def failing(does, at):
+    """What finds the disk full at its call `at`, and does its work else."""
+    calls = []
+
+    def call(*words, **more):
+        calls.append(0)
+        if len(calls) == at:
+            raise OSError(28, "full")
+        return does(*words, **more)
+
+    return call
+
+
 class Killed(BaseException):
     """The process is gone: whatever it would do from now on does nothing."""
 
@@ -65,7 +78,7 @@ class Site:
             (logins, "Child", Here), (site, "RADDB", self.folder), (sold, "store", self.store),
             (sold, "uses", self.uses), (money, "settings_in", settings),
             (site, "BALANCES", self.path("balances.csv")), (logins, "LOG", self.log),
-            (guest, "LOCK", self.path("lock")), (key, "fault_of", lambda *_: ""),
+            (guest, "LOCK", self.path("lock")), (guest, "DRAFTS", self.path("drafts")), (key, "fault_of", lambda *_: ""),
             (key, "desks_of", lambda _: []), (key, "say", lambda _: None),
             (guest, "say", lambda _: None), (guest, "qr", lambda text: f"<svg>{text}</svg>"),
             (desks, "ask", self.effect(self.ask)), (guest.time, "sleep", lambda _: None),
@@ -163,8 +176,9 @@ class Guests(unittest.TestCase):
                          sorted(row[0] for row in rows))
         self.assertEqual(text.count("[[key]]"), len(rows))
         self.assertEqual(len(cards), len(rows))
-        for account, _, notes, password in rows:
-            self.assertIn(json.loads(notes)["token"], text)
+        self.assertEqual(list(guest.drafts()), [])
+        for account, _, _, password in rows:
+            self.assertIn(f'account = "{account.decode()}"', text)
             self.assertIn(password, "".join(files.text(self.site.path(it)) for it in cards))
         return len(rows)
 
@@ -189,11 +203,13 @@ class Guests(unittest.TestCase):
 
     def test_each_step_fails(self):
         """A full disk, say: nothing is left, at once."""
-        for where, name in ((key, "change"), (files, "make"), (guest, "note")):
-            full = mock.patch.object(where, name, side_effect=OSError(28, "full"))
-            with self.subTest(name), full:
-                self.assertRaises(OSError, self.new) if name != "make" else self.assertRaises(
-                    guest.NotMade, self.new)
+        for where, name, at in ((key, "change", 1), (files, "make", 1), (files, "make", 2),
+                                (files, "make", 3), (os, "rename", 1), (os, "rename", 2),
+                                (os, "rename", 3), (guest, "qr", 1)):
+            full = mock.patch.object(where, name, failing(getattr(where, name), at))
+            with self.subTest(f"{name} {at}"), full:
+                self.assertRaises((OSError, guest.NotMade, SystemExit), self.new)
+            guest.mend(words_of(self.site, "mend"))
             self.assertEqual(self.whole_or_nothing(), 0)
 
     def test_a_card_that_is_there_stays(self):

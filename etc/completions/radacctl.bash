@@ -14,7 +14,7 @@ _radacctl() {
         debit) words='--help --config --db --secret-file --host --port --journal --file --list' ;;
         voucher) words='--help --stock --second --settings --topups --yes --count --sum --to --url --name --list --withdraw' ;;
         redeem) words='--help' ;;
-        packages) words='list print sell withdraw make tick --help' ;;
+        packages) words='list print sell withdraw make mend tick --help' ;;
         guest) words='new end list mend --help --config --key-file --host --port --give-up --url --wait' ;;
         allow) words='--help --month --sum --lapse --dry-run --balances --notes --key-file --host --port --give-up --config --db --secret-file --journal --debit-port' ;;
         report) words='day month --help --folder --csv --top --debit-class --settings --sales' ;;

@@ -51,6 +51,9 @@ from radacctl.program import fail, say
 STOPPED = "stopped; the next `radacctl guest` completes it, or takes it back"
 LOCK = "/run/radacctd-guest.lock"
 LETTERS = keys.LETTERS
+# What guests are made with, until they are: files of root's, since FreeRADIUS' user writes the
+# database, and is to credit nothing and remove no file.
+DRAFTS, DRAFT = "/var/lib/radacctd-books/guests", re.compile(r"([a-z0-9-]{1,48})\.json")
 # How far a guest is made: nothing was sent yet, or the desk was asked.
 BEGUN, ASKED = "begun", "asked"
 CARD = """<!doctype html>
@@ -130,11 +133,12 @@ def new(words):
         guest = {"step": BEGUN, "name": words.name, "card": words.card,
                  "token": keys.new_token("") if url else None, "sum": package.credit}
         password = f"{letters(5)}-{letters(5)}"
-        insert(logins_store, account, password, package, guest)
+        keep_draft(account, guest)
         try:
+            insert(logins_store, account, password, package, words.name)
             add_key(account, guest, words)
             write_card(account, password, package, site_money, guest, url)
-            note(logins_store, account, {**guest, "step": ASKED})
+            keep_draft(account, {**guest, "step": ASKED})
         except BaseException:
             take_back(logins_store, account, guest, words)
             raise
@@ -156,17 +160,36 @@ def url_of(words):
     return url
 
 
-def insert(logins_store, account, password, package, guest):
+def keep_draft(account, guest):
+    """Writes what a guest is being made with, whole and on the disk."""
+    if not os.path.isdir(DRAFTS):
+        os.makedirs(DRAFTS, mode=0o700)
+        files.sync_folder(os.path.dirname(DRAFTS))
+    path = os.path.join(DRAFTS, f"{account}.json")
+    files.remove(path + ".new")
+    files.make(path + ".new", json.dumps(guest).encode())
+    os.rename(path + ".new", path)
+    files.sync_folder(DRAFTS)
+
+
+def drafts():
+    """The guests that were begun and not finished."""
+    for name in sorted(os.listdir(DRAFTS) if os.path.isdir(DRAFTS) else []):
+        if found := DRAFT.fullmatch(name):
+            yield found[1], json.loads(files.text(os.path.join(DRAFTS, name)))
+
+
+def drop_draft(account):
+    files.remove(os.path.join(DRAFTS, f"{account}.json"))
+    files.sync_folder(DRAFTS)
+
+
+def insert(logins_store, account, password, package, name):
     number = sold.package_row(logins_store, package)
     logins_store.run((
         "INSERT INTO login VALUES (?, NULL, ?, ?, ?, ?, ?, '', 'making', ?, NULL, NULL, ?, ?)",
         (account.encode(), password, number, package.plan, package.devices, package.seconds,
-         int(time.time()), package.until, json.dumps(guest))))
-
-
-def note(logins_store, account, guest):
-    logins_store.run(("UPDATE login SET notes = ? WHERE account = ?",
-                      (json.dumps(guest), account.encode()), 1))
+         int(time.time()), package.until, json.dumps({"name": name}))))
 
 
 def add_key(account, guest, words):
@@ -240,10 +263,10 @@ def complete(logins_store, account, guest, words, is_lost=False):
     """
     found, is_lost = asked(account, guest["sum"], words, is_lost)
     if found in (desks.NEW, desks.REPEAT):
-        kept = json.dumps({"name": guest["name"], "token": guest["token"]})
         lapses.sold(logins_store, account.encode(), int(time.time()))
-        logins_store.run(("UPDATE login SET state = 'live', notes = ? WHERE account = ? AND "
-                          "state = 'making'", (kept, account.encode())))
+        logins_store.run(("UPDATE login SET state = 'live' WHERE account = ? AND state = 'making'",
+                          (account.encode(),)))
+        drop_draft(account)
         return True
     if not is_lost or found in (desks.DIFFERS, desks.LIMIT):
         take_back(logins_store, account, guest, words)
@@ -277,37 +300,37 @@ def asked(account, total, words, is_lost):
 
 
 def take_back(logins_store, account, guest, words):
-    """Removes key, card and account of a guest to whom nothing was sold. The account goes last."""
-    end_key(guest.get("token"), words)
-    card = guest.get("card")
-    if card and os.path.isfile(card) and account in files.text(card):
+    """Removes key, card and account of a guest to whom nothing was sold. The draft goes last."""
+    end_keys({account.encode()}, words)
+    card = guest["card"]
+    if card and os.path.isfile(card) and f"<code>{account}</code>" in files.text(card):
         files.remove(card)
     logins_store.run(("DELETE FROM login WHERE account = ? AND state = 'making'",
                       (account.encode(),)))
+    drop_draft(account)
 
 
-def end_key(token, words):
-    if token and token in keys.read(words.config):
-        keys.wait_for_server(words, keys.change(words.config, lambda *_: ("", [token])))
+def end_keys(accounts, words):
+    """Ends the guests' keys of some accounts, and no other one."""
+    which = lambda text: [it.members["token"] for it in keys.guests(text)
+                          if names.octets_of(it.members["account"]) in accounts]
+    if which(keys.read(words.config)):
+        changed = keys.change(words.config, lambda text, _: ("", which(text)))
+        keys.wait_for_server(words, changed)
 
 
 def mend_all(logins_store, words):
     """Completes or takes back what a killed run left, and ends the keys of guests who ended."""
     logins.mend(logins_store)
-    for account, notes in logins_store.read("SELECT account, notes FROM login "
-                                            "WHERE state = 'making'"):
-        guest = json.loads(notes)
+    for account, guest in drafts():
         if guest["step"] == BEGUN:
-            take_back(logins_store, account.decode(), guest, words)
+            take_back(logins_store, account, guest, words)
             continue
         with contextlib.suppress(NotMade):
-            complete(logins_store, account.decode(), guest, words, is_lost=True)
-    for account, notes in logins_store.read(
-            "SELECT account, notes FROM login WHERE state NOT IN ('making', 'live') "
-            "AND json_extract(notes, '$.token') IS NOT NULL"):
-        guest = json.loads(notes)
-        end_key(guest["token"], words)
-        note(logins_store, account.decode(), {"name": guest["name"], "token": None})
+            complete(logins_store, account, guest, words, is_lost=True)
+    ended = logins_store.read("SELECT account FROM login WHERE digest IS NULL AND "
+                              "state NOT IN ('making', 'live')")
+    end_keys({it for (it,) in ended}, words)
 
 
 def end(words):

@@ -4,7 +4,7 @@
     radacctl packages print PACKAGE --count COUNT [--to FOLDER] [--link URL] [--name NAME]
     radacctl packages sell WHAT..
     radacctl packages withdraw WHAT..
-    radacctl packages make | tick
+    radacctl packages make | mend | tick
 
 What a package costs, gives and how long it is valid is in /etc/radacctd-packages.toml. `list`
 prints the packages, and of each how many logins are live, sold, in use and over. With a SHEET it
@@ -20,7 +20,8 @@ is a serial number, as t-0123456789ab, or a sheet. A sale at the desk's page cou
 
 `withdraw` ends codes that were lost or stolen, and their sessions. What is left on them lapses.
 
-`make` makes the databases, once, as the set-up does. `tick` is what radacctd-packages.timer gives
+`make` makes the databases, once, as the set-up does. `mend` ends what had ended, if the databases
+are those of an older copy: each start of FreeRADIUS gives it. `tick` is what radacctd-packages.timer gives
 each minute: it ends sessions that are over, and takes once what is left on a login that ended, as a
 debit LAPSE-.. of its own. It does so once no report was heard for three intervals, and, at the end
 of a validity, once the clock has been steady for an hour.
@@ -320,6 +321,14 @@ def make(_):
     return 0
 
 
+def mend(_):
+    own_log()
+    count = logins.mend(store())
+    if count:
+        say(f"{count} logins were live again, as in an older copy: they are ended")
+    return 0
+
+
 def tick(words):
     """Ends what is over. One at a time; the next minute has another."""
     lock = os.open(words.lock, os.O_RDWR | os.O_CREAT | os.O_NOFOLLOW | os.O_CLOEXEC, 0o600)
@@ -384,7 +393,7 @@ def debit_words(words):
 def parser():
     it = program.parser(__doc__)
     acts = it.add_subparsers(dest="act", required=True,
-                             metavar="list | print | sell | withdraw | make | tick")
+                             metavar="list | print | sell | withdraw | make | mend | tick")
     acts.add_parser("list").add_argument("sheet", nargs="?", metavar="SHEET")
     act = acts.add_parser("print")
     act.add_argument("package", metavar="PACKAGE")
@@ -399,6 +408,7 @@ def parser():
     act.add_argument("what", nargs="+", metavar="WHAT")
     act.add_argument("--yes", action="store_true")
     acts.add_parser("make")
+    acts.add_parser("mend")
     act = acts.add_parser("tick")
     act.add_argument("--steady", type=int, default=lapses.STEADY, metavar="SECONDS")
     act.add_argument("--mirror", default=lapses.MIRROR, metavar="FILE")
@@ -427,7 +437,7 @@ def main(words):
         it.error(f"--count takes 1 to {MOST}")
     os.umask(0o077)
     acts = {"list": show, "print": print_codes, "sell": sell, "withdraw": withdraw, "make": make,
-            "tick": tick}
+            "mend": mend, "tick": tick}
     try:
         return acts[words.act](words)
     except (logins.Fault, stock.Fault, site.Missing, OSError) as why:

@@ -1,5 +1,6 @@
 """The steps to packages: codes that log in, and guests. A site without them has none of these."""
 
+import os
 import re
 import secrets
 
@@ -11,6 +12,13 @@ from radacctl.setup.steps import Command, File, Folder, Link
 OURS = {"mods-enabled/radacctd-packages": "modules", "policy.d/radacctd-packages": "policy"}
 INCLUDE = "$INCLUDE radacctd/packages.conf\n"
 UNIT = "radacctd-packages.timer"
+# A database that was put back revives nobody, not even until the timer's next turn.
+DROP_IN = "/etc/systemd/system/freeradius.service.d/radacctd-packages.conf"
+START = """\
+# radacctl setup wrote this file: FreeRADIUS begins with the logins that have not ended.
+[Service]
+ExecStartPre=-+{} packages mend
+"""
 SAMPLE = """\
 # What the front desk sells: radacctl packages, radacctl guest. docs/PACKAGES.md has the members.
 # A code or a guest keeps the package that it was made with.
@@ -44,14 +52,22 @@ def of(_):
     yield File(packages.FILE, lambda old: SAMPLE if old is None else old, 0o644)
     for folder in (logins.FOLDER, logins.USES_FOLDER):
         yield Folder(folder, 0o700, site.RADIUS_USER, site.RADIUS_USER)
-    yield Command("make the databases of logins", are_made,
-                  f"{site.SBIN}/radacctl", "packages", "make")
+    tool = f"{site.SBIN}/radacctl"
+    yield Command("make the databases of logins", are_made, tool, "packages", "make")
+    yield Folder(os.path.dirname(DROP_IN))
+    yield File(DROP_IN, START.format(tool), 0o644)
+    yield Command("let systemd read FreeRADIUS' unit", is_read, "systemctl", "daemon-reload")
 
 
 def settings(old):
     """packages.conf with a key of its own. A key that is there stays: else no code would log in."""
     text = old or files.sample("packages", logins.CONF)
     return re.sub(r"(?m)^(\tkey = )change-me.*$", lambda it: it[1] + secrets.token_hex(32), text)
+
+
+def is_read():
+    found = steps.given(["systemctl", "show", "freeradius", "-p", "NeedDaemonReload"])
+    return "NeedDaemonReload=no" in found
 
 
 def are_made():
