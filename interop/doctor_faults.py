@@ -38,6 +38,10 @@ def edited(expression, path):
     return kept(path, f"sed '{expression}' {path} > /root/new; cat /root/new > {path}")
 
 
+def piped(path):
+    return f"mv {path} /root/kept; mkfifo {path}", f"rm {path}; mv /root/kept {path}"
+
+
 def printed(line):
     """A line in the journal of the service, as root may write it: a real one takes a full disk."""
     fields = f"MESSAGE={line}\\nOBJECT_SYSTEMD_UNIT=radacctd.service\\n"
@@ -163,6 +167,13 @@ BREAKS = {
     "copy-sql": (f"(echo 'sql {{'; echo 'dialect = \"postgresql\"'; echo '}}') > {SQL}",
                  f"rm {SQL}"),
     "copy-exports": (f"mv {COPIES}/exports /root/", f"mv /root/exports {COPIES}/"),
+}
+# What the doctor cannot look at, by the side that it names: each is no sound site. A pipe in the
+# place of a file would hold who opens it.
+UNSEEN = {
+    "the configuration": piped("/etc/default/radacctd"),
+    "FreeRADIUS": piped(f"{RADDB}/mods-enabled/eap"),
+    "the pages": ("mv /usr/bin/openssl /root/", "mv /root/openssl /usr/bin/"),
 }
 # The server stops for so long that balances grow old, at radacctd and at logins.
 STOPPED = (("balances-old", "mirror-old"), "kill -STOP $(systemctl show -P MainPID radacctd)",

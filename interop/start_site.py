@@ -65,10 +65,17 @@ def database(box):
     return password
 
 
-def set_up(box, path=ANSWERS):
-    """Runs it to its end: how long it took, in seconds, and what it printed."""
+# Writes each command with its words and its environment, as any user may read them in /proc.
+TRACE = ["strace", "-f", "-qq", "-v", "-s", "4096", "-e", "trace=execve", "-e", "signal=none", "-o"]
+
+
+def set_up(box, path=ANSWERS, trace=None):
+    """Runs it to its end: how long it took, in seconds, and what it printed. `trace` is a file of
+    all commands that it gave.
+    """
     begun = time.monotonic()
-    status, said = box.run(f"radacctl setup --yes {path}")
+    words = box.words(f"radacctl setup --yes {path}")
+    status, said = machine.run([*TRACE, trace, *words] if trace else words)
     check("the set-up ends well", (status, said[-500:] if status else ""), (0, ""))
     if status:
         raise SystemExit("without a site nothing else is tried")

@@ -334,7 +334,9 @@ class Unseen(unittest.TestCase):
     def test_programs_that_fail(self):
         for status in (1, 124, 127, -9):
             self.unseen(machine.failed, status=status)
-            self.unseen(machine.clock, self.kind, status=status)
+            with said((status, "it is missing")):
+                [fault] = machine.clock(self.kind)
+            self.assertEqual(fault.name, "clock-unset")
             self.unseen(machine.units, self.kind, status=status)
             self.unseen(book.journal, self.kind.books[0], status=status)
             self.unseen(pairs.compared, status=status)

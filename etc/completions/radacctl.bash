@@ -8,8 +8,8 @@ _radacctl() {
     case ${COMP_WORDS[1]} in
         setup) words='--help --dry-run --yes --sample' ;;
         doctor) words='--help --only --quiet --list' ;;
-        edit) words='--config --db --log --wait' ;;
-        key) words='new revoke expire list merge --help --config --db --log --url --wait --prefix' ;;
+        edit) words='--help --config --db --log --wait' ;;
+        key) words='new revoke expire list --help --config --db --log --url --wait --prefix' ;;
         sell) words='--help --key-file --host --port --in-flight --give-up --known --dry-run' ;;
         debit) words='--help --config --db --secret-file --host --port --journal --file --list' ;;
         voucher) words='--help --stock --second --settings --topups --yes --count --sum --to --url --name --list --withdraw' ;;

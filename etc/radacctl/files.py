@@ -140,7 +140,10 @@ def rows(path, query, *values, is_still=False):
     mark = "mode=ro&immutable=1" if is_still else "mode=ro"
     uri = f"file:{urllib.parse.quote(os.path.abspath(path))}?{mark}"
     words = [*as_owner(path), "/usr/bin/python3", "-I", "-c", QUERY, uri, query, *values]
-    done = subprocess.run(words, capture_output=True, text=True, cwd="/", timeout=120)
+    try:
+        done = subprocess.run(words, capture_output=True, text=True, cwd="/", timeout=120)
+    except subprocess.TimeoutExpired:
+        raise OSError(f"{path}: it cannot be read in two minutes") from None
     if done.returncode:
         why = done.stderr.strip().rpartition(": ")[2] or f"status {done.returncode}"
         raise OSError(f"{path}: {why}")

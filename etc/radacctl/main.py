@@ -27,7 +27,7 @@ COMMANDS = {
     "shards": ("works with 16 books", "radacctd-shards"),
 }
 # These are programs of their own.
-SCRIPTS = {"edit": "radacctd-edit", "night": "radacctd-nightly"}
+SCRIPTS = {"night": "radacctd-nightly"}
 HELP = """\
 usage: radacctl COMMAND [..]
 

@@ -48,12 +48,10 @@ import stat
 import time
 import tomllib
 
-from radacctl import desk, files, money, names, program, site
+from radacctl import desk, files, money, names, plans, program, site
 from radacctl.names import shown
 
 CLIENT, CLASS = "books", "debit"
-READ_PLAN = "SELECT block, unit, mode FROM price_plan JOIN plan_count USING (class)"
-READ_PLAN += " WHERE class = CAST(? AS BLOB)"
 FILE_HEADER = ["account", "sum", "number"]
 HEADER = ["moment", "event", "number", "account", "sum"]
 GIVEN, ANSWERED = "given", "answered"
@@ -110,28 +108,27 @@ def client_of(config, path, secret):
 
 
 def test_plan_of_config(config, path):
-    for plan in config.get("plan", []):
-        if plan.get("class") == CLASS:
-            if (plan.get("block"), plan.get("unit"), plan.get("count", "both")) != (1, 1, "both"):
-                raise Refused(f"the plan {CLASS} of {path} is not of block 1, unit 1, count both")
-            return
-    raise Refused(f"{path} has no plan {CLASS}. It wants these lines:\n{LINES}")
+    found = plans.in_config(config).get(CLASS.encode())
+    if found is None:
+        raise Refused(f"{path} has no plan {CLASS}. It wants these lines:\n{LINES}")
+    if found != (1, 1, "both"):
+        raise Refused(f"the plan {CLASS} of {path} is not of block 1, unit 1, count both")
 
 
 def test_plan_of_book(path):
     """Tests that the book keeps the plan. A plan is added while no server has the book, and never
-    removed: so the server that has the book now has the plan too. `immutable` reads beside it.
+    removed: so the server that has the book now has the plan too.
     """
     try:
-        rows = files.rows(path, READ_PLAN, CLASS, is_still=True)
+        found = plans.of_book(path).get(CLASS.encode())
     except OSError as why:
         raise Refused(f"cannot read the plans of {why}: be root, or give it again") from None
-    if not rows:
+    if found is None:
         raise Refused(
             f"{path} does not keep the plan {CLASS} yet, so a debit would be priced by `default`.\n"
             "Stop the server, give `radacctd plans`, and start it again."
         )
-    if rows != [(1, 1, 0)]:
+    if found != (1, 1, "both"):
         raise Refused(f"the plan {CLASS} of {path} is not of block 1, unit 1, count both")
 
 
@@ -140,9 +137,9 @@ def source_of(words, secret):
     try:
         with open(words.config, "rb") as file:
             config = tomllib.load(file)
+        test_plan_of_config(config, words.config)
     except (OSError, ValueError) as fault:
         raise Refused(f"cannot read {words.config}: {fault}") from None
-    test_plan_of_config(config, words.config)
     address = client_of(config, words.config, secret)
     test_plan_of_book(words.db)
     return address

@@ -41,7 +41,6 @@ import secrets
 import socket
 import stat
 import subprocess
-import sys
 import time
 import tomllib
 
@@ -164,21 +163,21 @@ def with_more(text, block):
 
 
 @contextlib.contextmanager
-def locked(path):
-    """Holds the lock of a configuration, which radacctd-edit takes for its rename, too.
+def locked(path, ending=LOCK, patience=PATIENCE, fault=""):
+    """Holds the lock of a configuration, which `radacctl edit` takes for its rename, too.
 
     The service's user may read the configuration, and so could lock that for ever.
     """
     is_held = False
     while not is_held:
         # Others that change the file take their turns meanwhile, and none of them takes a minute.
-        end = time.monotonic() + PATIENCE
-        file = open_lock(path + LOCK)
+        end = time.monotonic() + patience
+        file = open_lock(path + ending)
         while not is_locked(file):
             if time.monotonic() > end:
-                fail(f"another program has {path} locked: try again", 3)
+                fail(fault or f"another program has {path} locked: try again", 3)
             time.sleep(0.02)
-        is_held = is_same(file, path + LOCK)
+        is_held = is_same(file, path + ending)
         if not is_held:
             file.close()
     with file:
@@ -186,7 +185,7 @@ def locked(path):
             yield
         finally:
             with contextlib.suppress(OSError):
-                os.remove(path + LOCK)
+                os.remove(path + ending)
 
 
 def open_lock(path):
@@ -250,7 +249,7 @@ def fault_of(new, path):
         return f"{checker} is missing, which checks it"
     words = [checker, "check", "--config", new, "--explain"]
     how = {"stdin": subprocess.DEVNULL, "stdout": subprocess.PIPE, "stderr": subprocess.STDOUT}
-    process = subprocess.Popen(words, text=True, **how)
+    process = subprocess.Popen(words, text=True, errors="replace", **how)
     try:
         said = process.communicate(timeout=LONGEST_CHECK)[0]
     except subprocess.TimeoutExpired:
@@ -291,7 +290,7 @@ def test_same(text, was, wanted, path):
     except tomllib.TOMLDecodeError:
         now = {}
     if now.get("key", []) != wanted or {**now, "key": 0} != {**was, "key": 0}:
-        fail(f"the keys of {path} are not written as [[key]]: change them by radacctd-edit")
+        fail(f"the keys of {path} are not written as [[key]]: change them by radacctl edit")
 
 
 def put_in_place(path, text, is_needed):
@@ -572,16 +571,14 @@ def by_token(text):
     return {it.members.get("token"): it for it in tables(text)}
 
 
-def merge(words):
+def merged(base, now, copy, path):
     """Gives a copy the changes that the keys of a configuration had since an earlier text of it.
 
-    It prints the copy as it then is. It ends with 5 if more than keys differs between both texts.
-    Without the earlier text a key that this tool made is as the configuration has it.
+    The copy as it then is, and whether no more than keys differs between both texts. Without the
+    earlier text a key that this tool made is as the configuration has it.
     """
-    now, copy = read(words.now), read(words.copy)
-    base = read(words.base) if words.base else ""
     has, had, known = map(by_token, (now, base, copy))
-    if words.base:
+    if base:
         ended = set(had) - set(has)
         more = [it for token, it in has.items() if token not in had and token not in known]
     else:
@@ -591,11 +588,10 @@ def merge(words):
     for table in more:
         copy = with_more(copy, table.text.replace("\r\n", "\n"))
     if any(f'"{token}"' in copy or f"'{token}'" in copy for token in ended):
-        fail(f"{words.copy} has a key that was ended, and not as a [[key]] of its own: remove it")
-    sys.stdout.buffer.write(copy.encode())
+        fail(f"{path} has a key that was ended, and not as a [[key]] of its own: remove it")
     both = [without(text, {*has, *had}).rstrip() for text in (now, base)]
     same = all(has[it].text == had[it].text for it in set(has) & set(had))
-    return 0 if not words.base or (both[0] == both[1] and same) else 5
+    return copy, not base or (both[0] == both[1] and same)
 
 
 def parser():
@@ -614,10 +610,6 @@ def parser():
     acts.add_parser("revoke").add_argument("account", metavar="ACCOUNT | KEY")
     acts.add_parser("expire")
     acts.add_parser("list")
-    # For the editor of the configuration.
-    act = acts.add_parser("merge")
-    for name in ("base", "now", "copy"):
-        act.add_argument(name)
     return it
 
 
@@ -630,5 +622,5 @@ def main(words):
         it.error("--days takes 1 to 3660")
     words.config = os.path.realpath(words.config)
     os.umask(0o077)
-    acts = {"new": new, "revoke": revoke, "expire": expire, "list": show, "merge": merge}
+    acts = {"new": new, "revoke": revoke, "expire": expire, "list": show}
     return acts[words.act](words)

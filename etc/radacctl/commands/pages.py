@@ -64,7 +64,7 @@ def main(words):
         else:
             write(settings, SETTINGS)
     except OSError as fault:
-        fail(f"{fault.filename}: {fault.strerror}")
+        fail(f"{fault.filename or words.to}: {fault.strerror}")
     if not os.path.exists(words.plans):
         fail(f"{words.plans} is not there yet: systemctl restart radacctd writes it")
     return 0

@@ -49,13 +49,13 @@ import sys
 import time
 import urllib.parse
 
-from radacctl import names, program, site
+from radacctl import names, plans, program, site
 from radacctl.names import octets_of, shown
 
 SHARDS = [f"s{digit}" for digit in "0123456789abcdef"]
 HEADER = ["shard", "address", "radius", "desk"]
 BALANCES = ["account", "balance", "overrun"]
-PLANS = ["class", "block", "unit", "count"]
+PLANS = list(plans.HEADER)
 VOUCHERS = ["voucher", "account", "sum"]
 TABLE = "/etc/radacctd-shards.csv"
 # FreeRADIUS asks a book by it whether it answers at all; it has no octets and no money.
@@ -407,13 +407,14 @@ def join_plans(folder):
     if not any(os.path.exists(os.path.join(folder, f"{it}-plans.csv")) for it in SHARDS):
         return
     first, *others = [plans_in(folder, shard) for shard in SHARDS]
-    plans = {it: row for it, row in first.items() if all(other.get(it) == row for other in others)}
+    all_have = {it: row for it, row in first.items()
+                if all(other.get(it) == row for other in others)}
     made = io.StringIO(newline="")
     writer = csv.writer(made, lineterminator="\n")
-    writer.writerows([PLANS, *((name, *row) for name, row in plans.items())])
+    writer.writerows([PLANS, *((name, *row) for name, row in all_have.items())])
     found = {
         octets_of(name).decode(): {"block": int(block), "unit": int(unit), "count": count}
-        for name, (block, unit, count) in plans.items()
+        for name, (block, unit, count) in all_have.items()
     }
     text = json.dumps(found, indent=2) + "\n"
     for name, text in (("plans.csv", made.getvalue()), ("plans.json", text)):

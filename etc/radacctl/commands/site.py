@@ -43,10 +43,9 @@ import tarfile
 import tempfile
 import time
 import tomllib
-import urllib.parse
 import zlib
 
-from radacctl import files, freeradius, program, site
+from radacctl import files, freeradius, plans, program, site
 from radacctl.files import FOLDER, opened_folder as opened, regular
 from radacctl.program import say
 
@@ -94,7 +93,6 @@ GROUP, SUMMARY = site.READERS, "radacctd-site.json"
 # What a later version adds 1 to, if this one could not restore its archives.
 FORMAT = 1
 CHUNK, TRIES, QUIET = 1 << 20, 100, 0.1  # octets, runs, seconds
-MODES = {0: "both", 1: "in", 2: "out"}
 
 
 class Wrong(Exception):
@@ -635,33 +633,16 @@ def run(words):
         say(f"{' '.join(words)}: {done.stderr.strip()}")
 
 
-def plans_of_book(path):
-    """The plans that a book keeps, which no server adds to: so the file alone has them."""
-    uri = f"file:{urllib.parse.quote(os.path.abspath(path))}?mode=ro&immutable=1"
-    text = "SELECT class, block, unit, mode FROM price_plan JOIN plan_count USING (class)"
-    with contextlib.closing(sqlite3.connect(uri, uri=True)) as book:
-        return {row[0]: row[1:] for row in book.execute(text + " ORDER BY price_plan.rowid")}
-
-
-def plans_of_config(path):
-    with open(path, "rb") as file:
-        found = tomllib.load(file).get("plan", [])
-    number = {name: mode for mode, name in MODES.items()}
-    return {
-        it["class"].encode(): (it["block"], it["unit"], number[it.get("count", "both")])
-        for it in found
-    }
-
-
-def plans(words):
-    book = plans_of_book(words.book)
+def show_plans(words):
+    book = plans.of_book(words.book)
     if words.config is None:
-        for name, (block, unit, mode) in book.items():
+        for name, (block, unit, count) in book.items():
             text = json.dumps(name.decode("utf-8"), ensure_ascii=False)
             print(f"[[plan]]\nclass = {text}\nblock = {block}\nunit = {unit}")
-            print(f'count = "{MODES[mode]}"\n')
+            print(f'count = "{count}"\n')
         return
-    config = plans_of_config(words.config)
+    with open(words.config, "rb") as file:
+        config = plans.in_config(tomllib.load(file))
     for name in {**book, **config}:
         shown = name.decode("utf-8", "backslashreplace")
         if name not in book:
@@ -684,7 +665,7 @@ def parser():
 
 
 ACTS = {"save": save, "test": test, "packages": show, "units": show}
-ACTS |= {"restore": restore, "plans": plans}
+ACTS |= {"restore": restore, "plans": show_plans}
 
 
 def main(words):

@@ -8,7 +8,7 @@ import re
 import time
 import tomllib
 
-from radacctl import desk, files, names, site
+from radacctl import desk, files, names, plans, site
 from radacctl.doctor import look
 from radacctl.doctor.faults import Fault
 from radacctl.doctor.kind import TABLE
@@ -74,7 +74,7 @@ def configuration(book):
         return
     found = content(book)
     yield from secrets(book, found)
-    yield from plans(book, found)
+    yield from plans_of(book, found)
     for name, most in LIMITS.items():
         if len(found.get(name, [])) > most - SPARE:
             cure = "radacctl key expire; for more use 16 books: SHARDS.md"
@@ -98,23 +98,20 @@ def secrets(book, found):
 def plans_in(path):
     """The plans of a file of plans in force, by their classes; None if it cannot be read."""
     rows = list(csv.reader(files.text(path).splitlines()))
-    if not rows or rows[0] != ["class", "block", "unit", "count"]:
+    if not rows or rows[0] != list(plans.HEADER):
         return None
     return {row[0]: tuple(row[1:]) for row in rows[1:]}
 
 
-def plans(book, found):
+def plans_of(book, found):
     """The configuration has the plans in force, and no other one."""
     force = plans_in(book.plans)
     if force is None:
         yield Fault("plan-waits", f"{book.plans} is missing: nobody knows the plans in force",
                     f"systemctl restart {book.unit}")
         return
-    wanted = {
-        names.shown(it["class"].encode()): (str(it["block"]), str(it["unit"]),
-                                            it.get("count", "both"))
-        for it in found.get("plan", [])
-    }
+    wanted = {names.shown(it): tuple(map(str, plan))
+              for it, plan in plans.in_config(found).items()}
     for name in sorted(set(wanted) - set(force)):
         yield Fault("plan-waits", f"plan {name} of {book.config} is not in force",
                     f"systemctl stop {book.unit}; radacctd plans --config {book.config} "

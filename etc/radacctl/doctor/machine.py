@@ -106,7 +106,12 @@ def clock(kind):
             status = look.status_of(path)
             if status:
                 yield from to_come(path, status.st_mtime)
-    found = look.must("timedatectl", "show", "-p", "NTP", "-p", "NTPSynchronized")
+    try:
+        found = look.must("timedatectl", "show", "-p", "NTP", "-p", "NTPSynchronized")
+    except look.Unseen as why:
+        yield Fault("clock-unset", f"nobody can say whether the clock is kept: {why}",
+                    "apt install dbus systemd-timesyncd")
+        return
     if "NTPSynchronized=yes" not in found:
         which = "is switched on, and has no answer" if "NTP=yes" in found else "is switched off"
         yield Fault("clock-unset", f"the clock is not synchronised: NTP {which}",

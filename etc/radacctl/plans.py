@@ -1,0 +1,34 @@
+"""Plans: block, unit and count by the octets of a class, as a book keeps them and a file has them."""
+
+from radacctl import files
+
+# What is counted, by the book's numbers.
+COUNTS = ("both", "in", "out")
+QUERY = "SELECT class, block, unit, mode FROM price_plan JOIN plan_count USING (class)"
+QUERY += " ORDER BY price_plan.rowid"
+HEADER = ("class", "block", "unit", "count")
+
+
+def of_rows(rows):
+    return {name: (block, unit, COUNTS[mode]) for name, block, unit, mode in rows}
+
+
+def of_book(path):
+    """The plans that a book keeps, read beside the server that has it: none of them changes while
+    it is served. OSError says why it cannot be read.
+    """
+    rows = files.rows(path, QUERY, is_still=True)
+    return of_rows([row[0].encode("latin-1"), *row[1:]] for row in rows)
+
+
+def in_config(config):
+    """The plans of a configuration, in its order. ValueError says that they are of another form."""
+    try:
+        return {it["class"].encode(): (it["block"], it["unit"], it.get("count", "both"))
+                for it in config.get("plan", [])}
+    except (AttributeError, KeyError, TypeError):
+        raise ValueError("its plans are no [[plan]] with class, block and unit") from None
+
+
+def shown(plan):
+    return "block {}, unit {}, count {}".format(*plan)
