@@ -1,0 +1,111 @@
+"""Pages whose commands scripts of interop type: each still has what its script takes from it. The
+scripts need machines, and run seldom; who shortens a page sees here in a second what it breaks.
+"""
+
+import os
+import re
+import sys
+import unittest
+
+from tool_tests import ROOT
+
+sys.path.insert(0, os.path.join(ROOT, "interop"))
+
+import desk_page
+import install_page
+import pair_page
+import shards_page
+import units_shards
+
+# A page, a part of it, all of its steps, and those with commands that a script types.
+STEPS = (
+    ("FREERADIUS", "Set it up", 9, {1, 8, 9}),
+    ("FREERADIUS", "Move from the first edition", 4, {3}),
+    ("SITE", "Add a plan", 4, {1, 2, 3, 4}),
+    ("PAIR", "Set it up", 12, {2, 3, 4, 5, 6, 7, 8, 9, 11}),
+    ("PAIR", "Restore a lost book", 7, {1, 3, 4, 5, 6, 7}),
+    ("PAIR", "Add a plan", 3, {2}),
+    ("PAIR", "Start it again", 3, {1, 2, 3}),
+    ("FORWARD", "Run it", 6, {1, 2, 3, 4, 5, 6}),
+    ("FORWARD", "Late reports", 4, {2}),
+    ("FORWARD", "Two books of the same reports", 4, {3}),
+    ("GONE", "Restore the site", 9, {1, 2, 3, 4, 5, 6, 7, 8}),
+)
+# The same of SHARDS, whose parts have headings of their own levels.
+SHARDS = (
+    ("### The books, on each machine", {2, 3, 4, 5}),
+    ("### Balances and counts", {1, 2, 3}),
+    ("### FreeRADIUS", {2, 3, 5}),
+    ("### nginx and the desk", {2, 3, 4}),
+    ("## Move a book", {1, 2, 4, 5, 6, 7}),
+)
+
+
+def text_of(page):
+    with open(os.path.join(ROOT, "docs", f"{page}.md"), encoding="utf-8") as file:
+        return file.read()
+
+
+def first_words(lines):
+    return [it.split()[0] for it in lines]
+
+
+class Followed(unittest.TestCase):
+    def test_numbered_steps_are_there(self):
+        for page, title, count, typed in STEPS:
+            with self.subTest(f"{page}, {title}"):
+                path = os.path.join(ROOT, "docs", f"{page}.md")
+                found = pair_page.steps(pair_page.section(path, title))
+                self.assertEqual(sorted(found), list(range(1, count + 1)))
+                self.assertEqual(typed - {it for it in found if found[it]}, set())
+
+    def test_shards(self):
+        for title, typed in SHARDS:
+            with self.subTest(title):
+                found = shards_page.commands(title)
+                self.assertEqual(typed - {it for it in found if found[it]}, set())
+        part = shards_page.part("## Sell, correct, make keys")
+        self.assertEqual(len(re.findall(r"\| `(radacctd-shards [^`]*)` \|", part)), 6)
+        self.assertEqual(len(re.findall(r"(?s) {7}\[Service\]\n.*?(?=\n\n|\Z)", part)), 2)
+        self.assertGreater(len(units_shards.steps("### The books")), 6)
+        parts = (
+            ("FREERADIUS.md", "## Set it up", "8. Make the folders"),
+            ("FREERADIUS.md", "8. Make the folders", "9. Start the mirror"),
+            ("SHARDS.md", "3. Copy the policy", "4. In `sites-en"),
+            ("SHARDS.md", "5. Make the folders of", "Logins, quotas"),
+        )
+        for part in parts:
+            self.assertIn("\n", units_shards.page_of_freeradius(*part))
+
+    def test_desk(self):
+        proxy = desk_page.steps_of("DESK.md", "## Put a proxy in front", "| Page | For |")
+        self.assertEqual(proxy[0].split()[:2], ["apt", "install"])
+        self.assertIn("radacctd-pages", proxy)
+        redeem = desk_page.steps_of("DESK.md", "To set it up:", "With 16 books there is no redeem")
+        self.assertIn("systemctl enable --now radacctd-redeem.socket", redeem)
+        jail = desk_page.steps_of("DESK.md", "closes no sale:", "- **No browser")
+        self.assertEqual(jail[-1], "systemctl restart fail2ban")
+
+    def test_install(self):
+        steps = text_of("INSTALL").split("## The first start\n")[1].split("\nIf the start fails")[0]
+        steps = re.findall(r"^       (\S.*)$", steps, re.MULTILINE)
+        self.assertEqual(
+            first_words(steps), ["install", "radacctd", "install", "radacctd", "systemctl"]
+        )
+        upgrade = install_page.section("Upgrade").split("\n### ")[0]
+        self.assertEqual(len(re.findall(r"(?m)^ {7}(\S.*)$", upgrade)), 4)
+        book = install_page.section("Back up and restore")
+        self.assertEqual(len(re.findall(r"(?m)^\d\. `(.*)`$", book)), 3)
+        removal = install_page.section("Removal").split("From the repository:")[1]
+        self.assertEqual(len(re.findall(r"(?m)^\d\. `([^`]*)`", removal)), 3)
+
+    def test_start(self):
+        text = text_of("START")
+        text = text[text.index("## A hotel") : text.index("## A second machine")]
+        lines = re.findall(r"(?m)^ {7}(\S.*)$", text)
+        self.assertEqual(first_words(lines)[:2], ["apt", "radacctl"])
+        self.assertEqual(lines[-1], "radacctl doctor")
+
+
+if __name__ == "__main__":
+    unittest.main()
