@@ -90,7 +90,7 @@ def systemd(folder):
             check("the doctor finds nothing", start_site.is_sound(box, 240), [])
             said = box.run(f"radacctl setup --yes {start_site.ANSWERS}")
             check("a second time", said, (0, "nothing is to be done\n"))
-            box.write("/etc/radacctd-packages.toml", FILE, 0o644)
+            box.write("/etc/radacctd-packages/packages.toml", FILE, 0o644)
             site = Site(box)
             check("the unit's run ends well", site.tick(), "success")
             a_code(site, folder)
@@ -152,7 +152,7 @@ def copies(site, account):
     box = site.box
     box.must("systemctl start radacctd-nightly")
     said = box.must("tar -tzf $(ls -d /var/backups/radacctd/20* | tail -1)/site.tar.gz")
-    wanted = ("var/lib/radacctd-logins/logins.db", "etc/radacctd-packages.toml",
+    wanted = ("var/lib/radacctd-logins/logins.db", "etc/radacctd-packages/packages.toml",
               "var/lib/radacctd-withdrawn/logins.csv")
     check("the night's copy has them", [it for it in wanted if it not in said], [])
     name = account.encode().hex()

@@ -28,7 +28,7 @@ import tomllib
 from radacctl import files, names
 from radacctl import money as moneys
 
-FILE = "/etc/radacctd-packages.toml"
+FILE = "/etc/radacctd-packages/packages.toml"
 NAME = re.compile(r"[a-z0-9][a-z0-9-]{0,23}")
 VALID = re.compile(r"([1-9][0-9]{0,4}) (minute|hour|day)s?")
 UNITS = {"minute": 60, "hour": 3600, "day": 86_400}

@@ -6,9 +6,9 @@
     radacctl guest mend
 
 `new` makes an account that nobody ever had, of NAME, the day and four letters by chance. It gives
-it a password, a key of the guest's page and the package, of /etc/radacctd-packages.toml, and
-credits what that gives. --card writes a card to print, an HTML file. It has name and password, and
-QR codes of the Wi-Fi and of the page. Without it both are printed.
+it a password, a key of the guest's page and the package, which /etc/radacctd-packages/packages.toml
+has, and credits what that gives. --card writes a card to print, an HTML file. It has name and
+password, and QR codes of the Wi-Fi and of the page. Without it both are printed.
 
 All of it is made, or nothing. If it is killed, or the desk gives no answer, nobody can log in by
 the account. The next `new`, `end` or `mend` takes back what was begun, or completes it if the desk

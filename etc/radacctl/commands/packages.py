@@ -6,9 +6,9 @@
     radacctl packages withdraw WHAT..
     radacctl packages make | mend | tick
 
-What a package costs, gives and how long it is valid is in /etc/radacctd-packages.toml. `list`
-prints the packages, and of each how many logins are live, sold, in use and over. With a SHEET it
-prints its codes as CSV, by their serial numbers.
+What a package costs, gives and how long it is valid is in /etc/radacctd-packages/packages.toml.
+`list` prints the packages, and of each how many logins are live, sold, in use and over. With a
+SHEET it prints its codes as CSV, by their serial numbers.
 
 `print` makes COUNT codes, 1 to 1000, and a sheet of A4, FOLDER/SHEET.pdf. A code is name and
 password. It has 63 random bits. Its account is a serial number, which is on the voucher, too. The
@@ -21,9 +21,9 @@ is a serial number, as t-0123456789ab, or a sheet. A sale at the desk's page cou
 `withdraw` ends codes that were lost or stolen, and their sessions. What is left on them lapses.
 
 `make` makes the databases, once, as the set-up does. `mend` ends what had ended, if the databases
-are those of an older copy: each start of FreeRADIUS gives it. `tick` is what radacctd-packages.timer gives
-each minute: it ends sessions that are over, and takes once what is left on a login that ended, as a
-debit LAPSE-.. of its own. It does so once no report was heard for three intervals, and, at the end
+are those of an older copy: each start of FreeRADIUS gives it. `tick` is what
+radacctd-packages.timer gives each minute: it ends sessions that are over, and takes once what is
+left on a login that ended, as a debit LAPSE-.. of its own. It does so once no report was heard for three intervals, and, at the end
 of a validity, once the clock has been steady for an hour.
 
 It ends with 0 if all was done, with 1 if not, which it says, and with 2 for a bad command line.
@@ -365,7 +365,7 @@ def mend_guests(logins_store, words):
 
 
 def uses_made():
-    """The devices of now; a file that was lost or damaged is made anew, as nothing is lost by it."""
+    """The devices of now; a file that was lost or damaged is made anew: nothing is lost by it."""
     found = uses()
     folder = os.path.dirname(found.path)
     if not os.path.isdir(folder):

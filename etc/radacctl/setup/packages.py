@@ -49,6 +49,7 @@ def of(_):
         yield Link(freeradius.path(place), site.shared("packages", own))
     yield File(freeradius.path("radacctd", logins.CONF), settings, 0o640,
                of_group=site.RADIUS_USER)
+    yield Folder(os.path.dirname(packages.FILE))
     yield File(packages.FILE, lambda old: SAMPLE if old is None else old, 0o644)
     for folder in (logins.FOLDER, logins.USES_FOLDER):
         yield Folder(folder, 0o700, site.RADIUS_USER, site.RADIUS_USER)
