@@ -75,7 +75,6 @@ ALLOWED = {
         **each("systemd's and chrony's own", "chrony-wait", "time-sync.target"),
         **each("the kit's clap prints it", "error: invalid data"),
         "book-wal": "the kit's SQLite names a log after its book",
-        **each("TOML's own word", "false"),
     },
     "CHANGELOG.md": {
         "BOOK.replaced-DATE-TIME": "restore makes it",

@@ -14,13 +14,13 @@ import os
 import re
 
 from claims_lib import configured, contracts, doctor, faults, frames, history, made_tables
-from claims_lib import notions, signatures, tables
+from claims_lib import notions, signatures, tables, variants
 from claims_lib.tree import ROOT, text_of
 
 PART = re.compile(r"^<!-- made: ([^\n]+?) -->\n(.*?)^<!-- end -->$", re.M | re.S)
 MAKERS = {}
 for source in (configured, contracts, doctor, faults, frames, history, made_tables, notions,
-               signatures, tables):
+               signatures, tables, variants):
     MAKERS.update(source.MAKERS)
 HOW = "make it again: .ci/claims --write"
 
