@@ -11,7 +11,7 @@ from claims_lib.tree import text_of
 # The most words of a page by hand, and of all pages together.
 MOST = {
     "CHANGELOG.md": 1220,
-    "README.md": 780,
+    "README.md": 760,
     "docs/ACCESS-SERVERS.md": 1380,
     "docs/ARCHITECTURE.md": 1100,
     "docs/BENCHES.md": 1110,
@@ -24,7 +24,7 @@ MOST = {
     "docs/DEFINITIONS.md": 1990,
     "docs/DESK.md": 1980,
     "docs/FEED.md": 320,
-    "docs/FILES.md": 960,
+    "docs/FILES.md": 770,
     "docs/FORWARD.md": 1110,
     "docs/FREERADIUS.md": 2800,
     "docs/FRONTDESK.md": 590,

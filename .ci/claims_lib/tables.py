@@ -1,5 +1,6 @@
 """The tables of a book on docs/BOOK.md: columns and types are those of the statements that make
-them. What each means stands here, and a column without a meaning is a finding.
+them. And the columns of an export on docs/FILES.md, as its header has them. What each means stands
+here, and a column without a meaning is a finding.
 """
 
 import re
@@ -66,4 +67,37 @@ def rows(checker):
         last = table
 
 
-MAKERS = {"tables": rows}
+EXPORT = "crates/acct_files/src/session_lines.rt"
+# The columns of an export that are not those of the table, or have another name or form there.
+EXPORTED = {
+    "client": "the access server's name; `(CLASS)` if sessions were [carried forward](FORWARD.md)",
+    "session": "the Acct-Session-Id",
+    "input": "octets from the user, of the report that counts most: of several of the greatest total,"
+    " then of the greatest input",
+    "total": "both together",
+    "charged": "the price: the plan's unit for each started block of what it counts",
+    "first": "the earliest moment of its reports",
+    "last": "the latest moment of its reports",
+    "state": "`open`; `closed` by a restart of the access server; `stopped` by a Stop",
+    "framed": "the first Framed-IP-Address as a dotted quad, else empty",
+}
+
+
+def export_rows(checker):
+    """A row for each column of the export of sessions."""
+    header = re.search(r"fn begin.*?&\[(.*?)\]", text_of(EXPORT), re.S)
+    names = re.findall(r'b"(\w+)"', header[1]) if header else []
+    if not names:
+        checker.find(1, f"{EXPORT} has no header: see claims_lib/tables.py")
+    for name in sorted(set(EXPORTED) - set(names)):
+        checker.find(1, f"{name}: no column of an export: see claims_lib/tables.py")
+    yield "| Column | Meaning |"
+    yield "|---|---|"
+    for name in names:
+        about = EXPORTED.get(name) or MEANINGS.get(f"session.{name}")
+        if not about:
+            checker.find(1, f"{name}: no meaning: see claims_lib/tables.py")
+        yield f"| {name} | {about} |"
+
+
+MAKERS = {"tables": rows, "export-sessions": export_rows}
