@@ -23,7 +23,7 @@ def moved(folder):
     site.program = lambda: os.environ.get("RADACCTD") or usual
     logins.LOG, command.LOCK = path("withdrawn/logins.csv"), path("tick.lock")
     guest.LOCK, guest.DRAFTS = path("guest.lock"), path("guests")
-    lapses.MIRROR = path("run/balances.db")
+    lapses.MIRROR, command.SHEETS = path("run/balances.db"), path("sheets.csv")
     log = (logins.LOG,)
     changed = {
         money.settings_in: (path("settings.json"),),

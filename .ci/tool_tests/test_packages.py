@@ -11,6 +11,7 @@ from unittest import mock
 
 from radacctl import files, lapses, logins, money, names, packages, site
 from radacctl.commands import debit
+from radacctl.commands import packages as command
 from radacctl.doctor import packages as doctor
 from radacctl.setup import packages as setup_packages
 from radacctl.setup import steps
@@ -302,6 +303,27 @@ class Ends(unittest.TestCase):
             self.assertEqual(lapses.steady(self.site.store, wall, up), wanted)
         with mock.patch.object(lapses, "boot", lambda: "another"):
             self.assertEqual(lapses.steady(self.site.store, 4900.0, 5.0), 0)
+
+
+class Sheets(unittest.TestCase):
+    """What a code gives is in root's log: FreeRADIUS' user writes the database."""
+
+    def test_a_sum_is_not_that_of_the_database(self):
+        with tempfile.TemporaryDirectory(dir=MEMORY) as folder, \
+                mock.patch.object(logins, "Child", Here), \
+                mock.patch.object(command, "SHEETS", os.path.join(folder, "sheets.csv")), \
+                contextlib.redirect_stderr(io.StringIO()):
+            found = Site(folder)
+            found.login(b"t-0123456789ab")
+            found.store.run(("UPDATE login SET digest = 'd', sheet = 'week-20261127-acdef'", ()),
+                            ("UPDATE package SET terms = '{\"credit\": 999999}'", ()))
+            for what in ("t-0123456789ab", "week-20261127-acdef.pdf"):
+                self.assertRaises(SystemExit, command.named, found.store, what)
+            command.log_sheet([1, "week-20261127-acdef", "week", 50, 900])
+            for what in ("t-0123456789ab", "week-20261127-acdef.pdf"):
+                self.assertEqual(command.named(found.store, what),
+                                 [(b"t-0123456789ab", "live", 50, 900)])
+            self.assertRaises(SystemExit, command.named, found.store, "t-' OR 1=1")
 
 
 class Stores(unittest.TestCase):

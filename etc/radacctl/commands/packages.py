@@ -30,6 +30,7 @@ It ends with 0 if all was done, with 1 if not, which it says, and with 2 for a b
 """
 
 import contextlib
+import csv
 import fcntl
 import io
 import os
@@ -52,6 +53,8 @@ SERIAL = re.compile(r"t-[0-9a-f]{12}")
 LINK = re.compile(r'https?://[^\s"<>{}]{1,120}\{code\}[^\s"<>{}]{0,99}(\{code\}[^\s"<>{}]{0,60})?')
 MOST, LETTERS = 1000, "acdefhjkmnpqrtuwxy34679"
 LOCK = "/run/radacctd-packages.lock"
+# What the codes of a sheet give and cost: root's, since FreeRADIUS' user writes the database.
+SHEETS, SHEETS_HEADER = "/var/lib/radacctd-books/sheets.csv", b"moment,sheet,package,credit,price\n"
 STATES = """SELECT package.name, count(*), total(state = 'live'), total(sold IS NOT NULL),
     total(first IS NOT NULL), total(state <> 'live' OR ends <= ?)
     FROM login JOIN package ON package.id = login.package GROUP BY package.name ORDER BY 1"""
@@ -134,6 +137,7 @@ def print_codes(words):
     except OSError as why:
         fail(f"cannot write {path}: {why.strerror}")
     now = int(time.time())
+    log_sheet([now, sheet, package.name, package.credit, package.price])
     logins_store.run(*((
         "INSERT INTO login VALUES (?, ?, NULL, ?, ?, ?, ?, ?, 'live', ?, NULL, NULL, ?, NULL)",
         (account.encode(), digest, number, package.plan, package.devices, package.seconds, sheet,
@@ -141,6 +145,24 @@ def print_codes(words):
     print(f"{len(made)} codes of {package.name}, {money.shown(package.price)} each: {path}. "
           f"None is sold yet: radacctl packages sell {sheet}")
     return 0
+
+
+def log_sheet(row):
+    """Adds a sheet to root's log, before one of its codes can be sold."""
+    folder = os.path.dirname(SHEETS)
+    if not os.path.isdir(folder):
+        os.mkdir(folder, 0o700)
+        files.sync_folder(os.path.dirname(folder))
+    log = stock.Log(SHEETS, SHEETS_HEADER)
+    log.add(stock.lines_of([row]))
+    log.close()
+
+
+def sheets_sold():
+    """What a code of each sheet gives, and costs."""
+    text = stock.whole_lines(SHEETS, SHEETS_HEADER).decode("ascii", "replace")
+    rows = [it for it in csv.reader(io.StringIO(text, newline="")) if len(it) == 5]
+    return {row[1]: (int(row[3]), int(row[4])) for row in rows}
 
 
 def new_sheet(name, folder):
@@ -175,18 +197,20 @@ def known_accounts():
 
 
 def named(logins_store, what):
-    """The accounts of a sheet or a serial number: account, state and terms of each."""
+    """The accounts of a sheet or a serial number: account, state, credit and price of each."""
     if SERIAL.fullmatch(what):
         condition, value = "account = ?", what.encode()
     elif SHEET.fullmatch(os.path.basename(what).removesuffix(".pdf")):
         condition, value = "sheet = ?", os.path.basename(what).removesuffix(".pdf")
     else:
         return fail(f"{what} is no serial number, as t-0123456789ab, and no sheet")
-    found = logins_store.read(
-        "SELECT account, state, json_extract(terms, '$.credit'), json_extract(terms, '$.price') "
-        f"FROM login JOIN package ON package.id = login.package WHERE digest IS NOT NULL "
-        f"AND {condition} ORDER BY account", value)
-    return found or fail(f"no code is of {what}")
+    found = logins_store.read("SELECT account, state, sheet FROM login WHERE digest IS NOT NULL "
+                              f"AND {condition} ORDER BY account", value)
+    known = sheets_sold()
+    lost = {sheet for _, _, sheet in found} - set(known)
+    if lost:
+        fail(f"{SHEETS} has no {min(lost)}: nobody knows what its codes give")
+    return [(*it[:2], *known[it[2]]) for it in found] or fail(f"no code is of {what}")
 
 
 def number_of(account):
