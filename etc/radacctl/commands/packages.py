@@ -310,7 +310,7 @@ def show(words):
         made, live, sold, used, over = (int(it) for it in counts.get(name, (0,) * 5))
         it = known.get(name)
         terms = (f"{money.shown(it.price)}, gives {money.shown(it.credit)}, {it.validity()}, "
-                 f"{it.devices} devices") if it else "no longer in the file"
+                 f"{it.devices} device{'s' * (it.devices != 1)}") if it else "no longer in the file"
         print(f"{name}: {terms}; made {made}, live {live}, sold {sold}, used {used}, over {over}")
     return 0
 
