@@ -26,7 +26,7 @@ MOST = {
     "docs/FEED.md": 320,
     "docs/FILES.md": 770,
     "docs/FORWARD.md": 1110,
-    "docs/FREERADIUS.md": 2800,
+    "docs/FREERADIUS.md": 2830,
     "docs/FRONTDESK.md": 590,
     "docs/GATE.md": 1120,
     "docs/GONE.md": 790,
