@@ -6,7 +6,6 @@ since. Each of these may be lost, be there whole or in part, and in any order.
 """
 
 import functools
-import itertools
 import os
 import random
 import re
@@ -21,6 +20,8 @@ HEADER, FRAME = 32, 24
 MAGIC = (0x377F0682, 0x377F0683)
 MAGIC_OCTET = b"\x37"
 SIZES = [1 << it for it in range(9, 17)]
+# The number of a frame that counts the zeros of its commit.
+COUNTS = 0xFF000000
 
 
 def traced(path):
@@ -68,10 +69,9 @@ def event_of(name, words, result, files):
         return None
     elif name == "pwrite64":
         octets, place = octets_of(TEXT.search(words)[1]), int(words.rsplit(",", 1)[1])
-        if result != len(octets):
-            raise SystemExit(f"a write of {len(octets)} octets took {result}")
-        return ("write", file, place, octets)
-    elif name == "ftruncate":
+        # A write past a limit of the file is short, or fails.
+        return ("write", file, place, octets[:result]) if result > 0 else None
+    elif name == "ftruncate" and result == 0:
         return ("length", file, int(words.split(",")[1]))
     elif name in ("fdatasync", "fsync") and result == 0:
         return ("sync", file)
@@ -106,6 +106,8 @@ class Disk:
         pending = list(self.pending)
         if how == "none" or not pending:
             return bytes(octets)
+        if how == "sector":
+            return garbled(octets, pending, rng)
         if how == "some" and rng.random() < 0.5:
             rng.shuffle(pending)
         if how == "first":
@@ -120,6 +122,19 @@ class Disk:
             if fate != "lost":
                 tear(octets, place, new, rng, fate, 0 if has_garbage else end)
         return bytes(grown(octets, end, rng))
+
+
+def garbled(octets, pending, rng):
+    """All writes are there, but that a whole sector of the last one is garbage: with octets that were
+    not being written.
+    """
+    for place, new in pending:
+        put(octets, place, new)
+    place, new = pending[-1]
+    if new is not None:
+        begin = rng.randrange(place, place + len(new)) // SECTOR * SECTOR
+        octets[begin : begin + SECTOR] = rng.randbytes(len(octets[begin : begin + SECTOR]))
+    return bytes(octets)
 
 
 def put(octets, place, new):
@@ -257,30 +272,41 @@ def chained(log):
 
 
 def behind_the_break(log):
-    """Which link first breaks the chain of the log, and how many frames commit from there on, up to
-    the first frame behind it that hasn't the header's salts.
+    """Which link first breaks the chain of the log, and whether the commit there was answered.
 
     A link is the header or a frame. The store writes one octet of it last: the first octet of the
     header, and that of the salts of a commit's first frame. With that octet the link is sealed,
-    else it is shut. The store syncs before it seals a link and after that. Only for a frame, if it
-    syncs once, it writes over zeros instead. So no crash leaves a sealed header that breaks its own
-    sum, whatever is behind it.
+    else it is shut. The store syncs before it seals a link and after that, and answers then. With
+    `--sync once` most commits are synced only after it. These are written over zeros, and their
+    first frame counts: its number is no page's. Of one that was cut it is that number or 0. So no
+    crash leaves
+
+    - a sealed header that breaks its own sum;
+    - a break in a commit whose first frame is sealed and does not count;
+    - a frame that counts behind the break, since each commit is answered before the next one.
     """
     if len(log) < HEADER:
-        return "no log", 0
-    salts, last = numbers(log[16:24]), max(chained(log)[0], default=0)
-    behind = [(at, head) for at, head, _ in frames_of(log) if at > last]
-    count = commits_of([head for _, head in behind], salts)
+        return "no log", False
     if not is_signed(log):
-        return ("sealed header" if log[:1] == MAGIC_OCTET else "shut header"), count
+        is_sealed = log[:1] == MAGIC_OCTET
+        return ("sealed header" if is_sealed else "shut header"), is_sealed
     if len(log) < HEADER + FRAME:
-        return "no log", 0
-    if not behind:
-        return "end", count
-    return ("sealed frame" if log[behind[0][0] + 8] == log[16] else "shut frame"), count
+        return "no log", False
+    places, salts = chained(log)[0], numbers(log[16:24])
+    heads = [head for _, head, _ in frames_of(log)]
+    broken = len(places)
+    if broken == len(heads):
+        return "end", False
+    first = 1 + max((it for it in range(broken) if heads[it][1]), default=-1)
+    seal = log[HEADER + first * (places_apart(log)) + 8]
+    is_followed = any(it[2:4] == salts and it[0] == COUNTS for it in heads[broken + 1 :])
+    if seal != log[16]:
+        return "shut commit", is_followed
+    if heads[first][0] in (0, COUNTS):
+        return "commit that counts", is_followed
+    return "sealed commit", True
 
 
-def commits_of(heads, salts):
-    """How many of these frames commit, up to the first one, behind the first, of other salts."""
-    own = itertools.takewhile(lambda head: head[2:4] == salts, heads[1:])
-    return sum(head[2:4] == salts and head[1] != 0 for head in [*heads[:1], *own])
+def places_apart(log):
+    """How many octets a frame has with its page."""
+    return FRAME + numbers(log[8:12])[0]

@@ -10,10 +10,10 @@ from served import CASHIER, Server, check, commits_of, flip, told
 from telling_explained import explained
 
 
-def credited(server, vouchers):
+def credited(server, vouchers, more=()):
     """Credits vouchers of 10 by a server that is then killed."""
     server.init()
-    server.start(1 << 62)
+    server.start(1 << 62, more)
     for number in range(vouchers):
         voucher = f'{{"account":"room%2012","sum":10,"voucher":"V-{number}"}}'
         server.curl("POST", "/topups", CASHIER, voucher)
@@ -88,12 +88,31 @@ def damaged(folder):
     hurt(server, "unsealed", 0)
     serves_the_rest(server, 0)
     server.book = whole
+    # It was synced before it was sealed.
     hurt(server, "last", 32 + (ends[-1] - 1) * size + 24 + 1000)
-    serves_the_rest(server, 19)
+    what = f"frame {ends[-1]} of its log is damaged, and 1 commit ends there or behind it"
+    refused_as_damaged(server, what)
+    serves_the_rest(server, 19, ["--lose-damaged-commits"])
     server.book = whole
     server.start(1 << 62)
     check("nothing is lost of the whole book", server.balance(), 200)
     server.kill()
+
+
+def torn(folder):
+    """With `--sync once`, damage of the last commit looks like a crash, and that of others not."""
+    os.mkdir(folder)
+    server = Server(folder)
+    credited(server, 20, ["--sync", "once"])
+    ends = commits_of(server.book + "-wal")
+    check("each voucher is a commit", len(ends), 20)
+    size = 24 + 4_096
+    whole = hurt(server, "last-but-one", 32 + (ends[-2] - 1) * size + 24 + 1000)
+    what = f"frame {ends[-2]} of its log is damaged, and 2 commits end there or behind it"
+    refused_as_damaged(server, what)
+    server.book = whole
+    hurt(server, "last", 32 + (ends[-1] - 1) * size + 24 + 1000)
+    serves_the_rest(server, 19)
 
 
 def page_sums(folder):

@@ -24,9 +24,9 @@ KEPT = {
         "The book is `book` **and** `book-wal`",
         "those commits, for good",
         "If a device garbled the header as power failed, way 1 may lose nothing",
-        "a lost block of the log",
-        "damage of the octet that seals a frame, the first of its salts",
-        "A server that runs over a removed file goes on answering",
+        "a log that was cut short",
+        "or of the octets that seal a commit",
+        "A removed one ends with the server",
         "damage of the last commit in the log",
     ),
     "docs/DESK.md": (

@@ -11,12 +11,12 @@ FRONT = "etc/freeradius/front-counts"
 # What the program's own line on a metric leaves open. Its text goes with the next change of that
 # source.
 NOTES = {
-    "radacctd_mute_requests_total": "memory ran out",
     "radacctd_faults_total": "slow callers that were closed are among them",
     "radacctd_reports_total": "restarts of access servers, too",
     "radacctd_datagrams_total": "dropped ones, too",
     "radacctd_last_report_time_seconds": "0: none yet",
     "radacctd_config_is_current": "0: the changed file has a fault, or plans that wait",
+    "radacctd_book_is_there": "0: [moved or removed](DAMAGE.md#the-book-is-missing)",
     "radacctd_balances_time_seconds": "0: not yet",
     "radacctd_accounts": "absent without a file of balances",
     "radacctd_overdrawn_accounts": "absent without a file of balances",

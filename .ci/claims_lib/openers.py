@@ -85,7 +85,7 @@ GIVEN = {
     JOBS + "audit_job.rt": "audit_book audited_from",
     JOBS + "checking.rt": "check check_or_audit check_files check_book checked_from",
     JOBS + "command.rt": "carry_out serve_files export exported",
-    JOBS + "database.rt": "made adopted opened",
+    JOBS + "database.rt": "made adopted opened opened_anew emptied",
     JOBS + "making.rt": "make made_and_closed",
     JOBS + "work.rt": "over work_on",
 }

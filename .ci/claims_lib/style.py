@@ -10,7 +10,7 @@ from claims_lib.tree import text_of
 
 # The most words of a page by hand, and of all pages together.
 MOST = {
-    "CHANGELOG.md": 1220,
+    "CHANGELOG.md": 1260,
     "README.md": 760,
     "docs/ACCESS-SERVERS.md": 1380,
     "docs/ARCHITECTURE.md": 1100,
@@ -19,7 +19,7 @@ MOST = {
     "docs/CHANGE.md": 1080,
     "docs/CODEC.md": 1490,
     "docs/CONTRACTS.md": 100,
-    "docs/DAMAGE.md": 1140,
+    "docs/DAMAGE.md": 1160,
     "docs/DECISIONS.md": 2010,
     "docs/DEFINITIONS.md": 1990,
     "docs/DESK.md": 1980,

@@ -9,7 +9,8 @@
 //!    have one, as far as is known. Every fault is counted.
 //! 4. A reply to a datagram leaves from the address that was asked, and the sockets at several
 //!    addresses take turns.
-//! 5. The buffer for a datagram is allocated once, and not for each turn.
+//! 5. While a flag is set, what arrives is received and not handed on. Nobody is answered.
+//! 6. The buffer for a datagram is allocated once, and not for each turn.
 ghost use Rattle.std.specs.Prelude.{◌≡◌, ◌+◌, ◌-◌, ◌<◌, ◌^◌, false, None, IfOk, IfSome, OnOk, take};
 ghost use Rattle.std.specs.List.{list_any};
 ghost use Rattle.acct_net.specs.Bound.{AreBoundAt};
@@ -23,6 +24,7 @@ use acct_model::Octets;
 use acct_service::{Event, Exchange, Fault, What, moment_of};
 use acct_wire::Reason;
 use std::alloc::Global;
+use std::cell::Cell;
 use std::io;
 use std::io::ErrorKind;
 use std::net::{Ipv4Addr, Net, OpenListener, SocketAddrV4};
@@ -42,6 +44,8 @@ pub struct Sockets<'r, R: Net> {
     event_loop: EventLoop<'r, R>,
     turns: u64,
     failures: u64,
+    // While this is set, nothing is handed on.
+    silenced: Option<&'r Cell<bool>>,
     ghost waited: { event_loop.readiness.waits ≡ turns },
 }
 
@@ -51,6 +55,7 @@ impl<'r, R: Net> Drop for Sockets<'r, R> {
             event_loop: _,
             turns: _,
             failures: _,
+            silenced: _,
         } = self;
     }
 }
@@ -87,7 +92,37 @@ impl<'r, R: Net + Clock> Sockets<'r, R> {
             event_loop: EventLoop::new(runtime, alloc, datagrams, desk)?,
             turns: 0,
             failures: 0,
+            silenced: None,
         })
+    }
+
+    /// The same sockets. While the flag is set, what arrives at them is received and not handed on:
+    /// a datagram is lost, and a caller is dropped, as by a server that is not there.
+    pub fn silenced_by(self, flag: &'r Cell<bool>) -> Sockets<'r, R>
+        ensures sockets { result.event_loop ≡ self.entry.event_loop }
+        ensures counts { (result.turns ≡ self.entry.turns)
+            × (result.failures ≡ self.entry.failures) }
+    {
+        let Sockets {
+            event_loop,
+            turns,
+            failures,
+            silenced: _,
+        } = self;
+        Sockets {
+            event_loop,
+            turns,
+            failures,
+            silenced: Some(flag),
+        }
+    }
+
+    // Whether nothing is handed on.
+    fn is_silenced(&self) -> bool {
+        match self.silenced {
+            Some(flag) => flag.get(),
+            None => false,
+        }
     }
 
     /// The ports of datagrams, at the first address, and of callers.
@@ -125,7 +160,10 @@ impl<'r, R: Net + Clock> Exchange for Sockets<'r, R> {
         if event.is_err() {
             self.failures += 1;
         }
-        event
+        match event {
+            Ok(Some(_)) if self.is_silenced() => Ok(None),
+            event => event,
+        }
     }
 
     /// Sends octets to the source of an event. What a caller does not take of them at once is

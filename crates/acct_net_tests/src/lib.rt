@@ -22,6 +22,8 @@ mod responses;
 #[cfg(test)]
 mod seed;
 #[cfg(test)]
+mod silence;
+#[cfg(test)]
 mod sizes;
 #[cfg(test)]
 mod turns;

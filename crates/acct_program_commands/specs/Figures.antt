@@ -30,13 +30,13 @@ drops_metric_text why count =
 abbrev pub tally_text : Tally → List ℕ
 tally_text tally =
     metric_text (codes "counter") (codes "radacctd_events_total")
-    (codes "Datagrams and requests that came.") tally.events
+    (codes "Datagrams and requests that were received.") tally.events
     ++ metric_text (codes "counter") (codes "radacctd_replies_total")
     (codes "Replies and responses that were taken.") tally.replies
     ++ metric_text (codes "counter") (codes "radacctd_mute_requests_total")
-    (codes "Requests that got no response for want of memory.") tally.mute
+    (codes "Requests that got no response, since memory ran out.") tally.mute
     ++ metric_text (codes "counter") (codes "radacctd_faults_total")
-    (codes "Turns and replies that failed.") tally.faults
+    (codes "Faults of receiving and of sending.") tally.faults
 
 -- the line of each of these reasons, including those without drops
 abbrev pub drops_lines : List ℕ → List Reason → List ℕ
@@ -56,22 +56,22 @@ moments_text started_at last_event_at =
     metric_text (codes "gauge") (codes "radacctd_start_time_seconds")
     (codes "When the server started, in seconds since 1970.") started_at
     ++ metric_text (codes "gauge") (codes "radacctd_last_event_time_seconds")
-    (codes "When the last event came, in seconds since 1970, or 0.") last_event_at
+    (codes "When the last event was received, in seconds since 1970, or 0.") last_event_at
 
 -- how many datagrams and desk requests were received, how many of the datagrams were reports that
 -- were accepted, and when the last ones were received
 abbrev pub arrivals_text : Arrivals → ℕ → Arrivals → List ℕ
 arrivals_text datagrams reports requests =
     metric_text (codes "counter") (codes "radacctd_datagrams_total")
-    (codes "Datagrams that came.") datagrams.count
+    (codes "Datagrams that were received.") datagrams.count
     ++ metric_text (codes "counter") (codes "radacctd_reports_total")
     (codes "Reports that were accepted, new or sent again.") reports
     ++ metric_text (codes "counter") (codes "radacctd_desk_requests_total")
-    (codes "Requests that came at the desk.") requests.count
+    (codes "Requests that the desk received.") requests.count
     ++ metric_text (codes "gauge") (codes "radacctd_last_report_time_seconds")
-    (codes "When the last datagram came, in seconds since 1970, or 0.") datagrams.last_at
+    (codes "When the last datagram was received, in seconds since 1970, or 0.") datagrams.last_at
     ++ metric_text (codes "gauge") (codes "radacctd_last_desk_request_time_seconds")
-    (codes "When the last request came at the desk, in seconds since 1970, or 0.")
+    (codes "When the desk received the last request, in seconds since 1970, or 0.")
     requests.last_at
 
 -- when the file of balances was written
@@ -110,6 +110,9 @@ state_text state =
     metric_text (codes "gauge") (codes "radacctd_config_is_current")
     (codes "Whether the configuration in force is the one in the file.")
     (value_of state.is_current)
+    ++ metric_text (codes "gauge") (codes "radacctd_book_is_there")
+    (codes "Whether the book's names lead to its open files; if not, nothing is answered.")
+    (value_of state.has_book)
     ++ balances_text state.balances
     ++ known_text (codes "radacctd_book_octets") (codes "The octets of the file of the book.")
     state.book_octets

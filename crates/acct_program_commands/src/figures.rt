@@ -47,6 +47,8 @@ pub struct Figures {
 pub struct State {
     /// Whether the configuration in force is the one in the file.
     pub is_current: bool,
+    /// Whether the names of the book lead to the files that are open.
+    pub has_book: bool,
     /// The last writing of the file of balances, if it was written.
     pub balances: Option<BalancesWritten>,
     /// The octets of the book's file, if they are known.
@@ -158,16 +160,16 @@ fn write_tally<W: Write>(output: &mut W, tally: &Tally) -> io::Result<()>
         (tally_text tally.now)) }
 {
     let name = "radacctd_events_total";
-    let about = "Datagrams and requests that came.";
+    let about = "Datagrams and requests that were received.";
     write_metric(output, COUNTER, name, about, tally.events)?;
     let name = "radacctd_replies_total";
     let about = "Replies and responses that were taken.";
     write_metric(output, COUNTER, name, about, tally.replies)?;
     let name = "radacctd_mute_requests_total";
-    let about = "Requests that got no response for want of memory.";
+    let about = "Requests that got no response, since memory ran out.";
     write_metric(output, COUNTER, name, about, tally.mute)?;
     let name = "radacctd_faults_total";
-    let about = "Turns and replies that failed.";
+    let about = "Faults of receiving and of sending.";
     write_metric(output, COUNTER, name, about, tally.faults)?;
     Ok(())
 }
@@ -231,7 +233,7 @@ fn write_moments<W: Write>(output: &mut W, figures: &Figures) -> io::Result<()>
     let about = "When the server started, in seconds since 1970.";
     write_metric(output, GAUGE, name, about, figures.started_at)?;
     let name = "radacctd_last_event_time_seconds";
-    let about = "When the last event came, in seconds since 1970, or 0.";
+    let about = "When the last event was received, in seconds since 1970, or 0.";
     write_metric(output, GAUGE, name, about, figures.last_event_at)
 }
 
@@ -247,19 +249,19 @@ fn write_arrivals<W: Write>(
         (arrivals_text datagrams.now reports requests.now)) }
 {
     let name = "radacctd_datagrams_total";
-    let about = "Datagrams that came.";
+    let about = "Datagrams that were received.";
     write_metric(output, COUNTER, name, about, datagrams.count)?;
     let name = "radacctd_reports_total";
     let about = "Reports that were accepted, new or sent again.";
     write_metric(output, COUNTER, name, about, reports)?;
     let name = "radacctd_desk_requests_total";
-    let about = "Requests that came at the desk.";
+    let about = "Requests that the desk received.";
     write_metric(output, COUNTER, name, about, requests.count)?;
     let name = "radacctd_last_report_time_seconds";
-    let about = "When the last datagram came, in seconds since 1970, or 0.";
+    let about = "When the last datagram was received, in seconds since 1970, or 0.";
     write_metric(output, GAUGE, name, about, datagrams.last_at)?;
     let name = "radacctd_last_desk_request_time_seconds";
-    let about = "When the last request came at the desk, in seconds since 1970, or 0.";
+    let about = "When the desk received the last request, in seconds since 1970, or 0.";
     write_metric(output, GAUGE, name, about, requests.last_at)?;
     Ok(())
 }
@@ -272,6 +274,9 @@ fn write_state<W: Write>(output: &mut W, state: &State) -> io::Result<()>
     let name = "radacctd_config_is_current";
     let about = "Whether the configuration in force is the one in the file.";
     write_metric(output, GAUGE, name, about, value_of(state.is_current))?;
+    let name = "radacctd_book_is_there";
+    let about = "Whether the book's names lead to its open files; if not, nothing is answered.";
+    write_metric(output, GAUGE, name, about, value_of(state.has_book))?;
     write_balances(output, state.balances)?;
     let about = "The octets of the file of the book.";
     write_known(output, "radacctd_book_octets", about, state.book_octets)?;

@@ -1,15 +1,18 @@
 //! What the program's server does between slices of turns. It writes the file of balances, if that
-//! is due, and takes another configuration, if its text changed.
+//! is due, looks where the names of its book lead, and takes another configuration, if its text
+//! changed.
 ghost use Rattle.std.specs.Prelude.{◌≡◌, false};
 ghost use Rattle.acct_book.specs.Step.{OnlyLooks};
 ghost use Rattle.acct_program_commands.specs.NewSite.{LooksAndTakes};
 
 use crate::balances_file::KeptBalances;
+use crate::book_names::BookNames;
 use crate::file_changes::ReplacesFiles;
 use crate::gauges::Gauges;
 use crate::new_site::take_site;
 use crate::site_source::SiteSource;
 use acct_book::Book;
+use acct_reads::ReadsFiles;
 use acct_service::{Rounds, moment_of};
 use acct_site::Config;
 use std::alloc::Global;
@@ -23,6 +26,7 @@ pub struct FileRounds<'r, R, S: Drop, E: Drop> {
     runtime: &'r R,
     source: S,
     balances: Option<KeptBalances<'r, R>>,
+    names: Option<BookNames<'r, R>>,
     gauges: &'r Gauges,
     errors: E,
 }
@@ -33,6 +37,7 @@ impl<'r, R, S: Drop, E: Drop> Drop for FileRounds<'r, R, S, E> {
             runtime: _,
             source: _,
             balances: _,
+            names: _,
             gauges: _,
             errors: _,
         } = self;
@@ -45,6 +50,7 @@ impl<'r, R: ReplacesFiles + Clock, S: SiteSource + Drop, E: Write + Drop> FileRo
         runtime: &'r R,
         source: S,
         balances: Option<KeptBalances<'r, R>>,
+        names: Option<BookNames<'r, R>>,
         gauges: &'r Gauges,
         errors: E,
     ) -> FileRounds<'r, R, S, E>
@@ -54,6 +60,7 @@ impl<'r, R: ReplacesFiles + Clock, S: SiteSource + Drop, E: Write + Drop> FileRo
             runtime,
             source,
             balances,
+            names,
             gauges,
             errors,
         }
@@ -78,6 +85,7 @@ impl<'r, R: ReplacesFiles + Clock, S: SiteSource + Drop, E: Write + Drop> Rounds
             let errors = &mut self.errors;
             balances.keep(alloc, &config.plans, book, moment, self.gauges, errors);
         }
+        look_at(&mut self.names, moment, self.gauges, &mut self.errors);
         let read = self.source.look(alloc, moment)?;
         let taken = take_site(alloc, read, &config.plans, &mut self.errors);
         self.gauges.note_config(taken.is_current);
@@ -89,5 +97,17 @@ impl<'r, R: ReplacesFiles + Clock, S: SiteSource + Drop, E: Write + Drop> Rounds
 
     fn is_over(&self) -> bool {
         false
+    }
+}
+
+// Looks where the names of a book lead, if they are known.
+fn look_at<R: ReadsFiles, E: Write>(
+    names: &mut Option<BookNames<'_, R>>,
+    moment: u64,
+    gauges: &Gauges,
+    errors: &mut E,
+) {
+    if let Some(names) = names {
+        names.look(moment, gauges, errors);
     }
 }

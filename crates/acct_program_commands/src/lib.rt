@@ -4,6 +4,7 @@
 mod audit_command;
 mod balances_file;
 mod book_clock;
+mod book_names;
 mod check;
 mod config_file;
 mod counted_lines;
@@ -30,6 +31,7 @@ mod watching;
 pub use audit_command::run_audit;
 pub use balances_file::KeptBalances;
 pub use book_clock::note_clock;
+pub use book_names::BookNames;
 pub use check::{check_from, run_check, write_sizes};
 pub use config_file::{config_from, config_in, read_config};
 pub use drop_log::{DropLog, Pair};

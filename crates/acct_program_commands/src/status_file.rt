@@ -105,6 +105,7 @@ impl<'r, R: ReadsFiles> StateSource<'r, R> {
     fn read(&self) -> State {
         State {
             is_current: self.gauges.is_current(),
+            has_book: !self.gauges.is_away(),
             balances: self.gauges.balances(),
             book_octets: octets_of(self.runtime, &self.book),
             log_octets: octets_of(self.runtime, &self.log),

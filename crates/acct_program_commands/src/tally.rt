@@ -17,7 +17,7 @@ pub struct Tally {
     pub drops: u64,
     /// Requests that got no response because memory ran out.
     pub mute: u64,
-    /// Turns and replies that failed.
+    /// Faults of receiving and of sending.
     pub faults: u64,
 }
 

@@ -51,6 +51,7 @@ fn figures(count: u64, last_at: u64) -> Figures {
         requests: Arrivals::none(),
         state: State {
             is_current: true,
+            has_book: true,
             balances: None,
             book_octets: Some(5),
             log_octets: Some(7),

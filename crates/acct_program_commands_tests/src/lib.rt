@@ -7,6 +7,8 @@ mod auditing;
 #[cfg(test)]
 mod balances;
 #[cfg(test)]
+mod book_names;
+#[cfg(test)]
 mod checking;
 #[cfg(test)]
 mod counts;

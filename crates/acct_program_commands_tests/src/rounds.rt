@@ -188,7 +188,7 @@ fn each_round_writes_what_is_new(rt: HostRuntime) -> Result<(), Fail> {
         number: &number,
         polled_at: &polled_at,
     };
-    let mut rounds = FileRounds::new(&rt, source, Some(kept), &gauges, &mut told);
+    let mut rounds = FileRounds::new(&rt, source, Some(kept), None, &gauges, &mut told);
     assert!(rt; go_rounds(&rt, &mut rounds, (&number, &polled_at), &gauges)?);
     drop(rounds);
     assert!(rt; told.as_slice() == TOLD.as_bytes());

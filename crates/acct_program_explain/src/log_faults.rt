@@ -17,13 +17,19 @@ pub(crate) fn tell_damage<R: ReadsFiles, E: Write>(
     errors: &mut E,
 ) -> bool {
     let _ = match damage_beside(runtime, alloc, file) {
-        None => return false,
-        Some(Damage::Header) => writeln!(
+        // The caller finds why a log cannot be read.
+        Ok(None) | Err(_) => return false,
+        Ok(Some(Damage::Header)) => writeln!(
             errors,
             "explained: {file}: the header of its log is damaged, and each commit in it is \
              lost{to_do}"
         ),
-        Some(Damage::Frame { frame, commits }) => writeln!(
+        Ok(Some(Damage::Frame { frame, commits: 1 })) => writeln!(
+            errors,
+            "explained: {file}: frame {frame} of its log is damaged, and 1 commit ends there or \
+             behind it{to_do}"
+        ),
+        Ok(Some(Damage::Frame { frame, commits })) => writeln!(
             errors,
             "explained: {file}: frame {frame} of its log is damaged, and {commits} commits end \
              there or behind it{to_do}"

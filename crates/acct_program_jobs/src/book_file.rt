@@ -18,7 +18,9 @@ pub struct BookFile<'a> {
 impl<'a> BookFile<'a> {
     /// The files that a command line names.
     pub fn of(paths: &'a Paths, loses_commits: bool) -> BookFile<'a>
-        ensures { result.loses_commits ≡ loses_commits }
+        ensures config { result.config.now ≡ paths.now.config }
+        ensures database { result.database.now ≡ paths.now.database }
+        ensures loses { result.loses_commits ≡ loses_commits }
     {
         BookFile {
             config: &paths.config,

@@ -38,8 +38,10 @@ impl<'a> Checking<'a> {
         audits: bool,
         loses_commits: bool,
     ) -> Checking<'a>
+        ensures config { result.config.now ≡ config.now }
         ensures database { option_copied result.database ≡ option_copied database.entry }
         ensures audits { result.audits ≡ audits }
+        ensures loses { result.loses_commits ≡ loses_commits }
     {
         Checking {
             config,
@@ -50,7 +52,11 @@ impl<'a> Checking<'a> {
     }
 
     // The files of the book.
-    fn files(self, database: &'a Text) -> BookFile<'a> {
+    fn files(self, database: &'a Text) -> BookFile<'a>
+        ensures config { result.config.now ≡ self.entry.config.now }
+        ensures database { result.database.now ≡ database.now }
+        ensures loses { result.loses_commits ≡ self.entry.loses_commits }
+    {
         BookFile {
             config: self.config,
             database,

@@ -23,9 +23,10 @@ use acct_sql::{SqlBook, SqlBookError};
 use acct_sql_log::{
     DATABASE_HEADER_OCTETS, LOG_HEADER_OCTETS, damage_beside, has_lost_book, log_name,
 };
-use sqlite::{Connection, FileFrom, FileStore, Files, Start};
+use sqlite::{Connection, FileFrom, FileStore, Files, Options, Start};
 use sqlite_disk::Disk;
 use std::alloc::Global;
+use std::hash::{BuildHasher, RandomState};
 
 /// A book in a file that held what `S` says.
 pub type FileBook<S> = SqlBook<FileStore<FileFrom<S>>>;
@@ -70,7 +71,7 @@ pub fn made<S: Start>(
     if sums.is_some() {
         keep_private(runtime, file);
     }
-    let connection = opened(runtime, file, sums == Some(true), start)?;
+    let connection = opened_anew(runtime, files, sums == Some(true), start)?;
     made_of(runtime.alloc(), making, connection, plans)
 }
 
@@ -98,7 +99,7 @@ pub fn adopted<S: Start>(
     if !may_be_database(runtime, files.database) || !is_readable(runtime, files) {
         return Err((Fault::CannotOpen, Left::Nothing));
     }
-    let connection = opened(runtime, files.database, false, start)?;
+    let connection = opened_anew(runtime, files, false, start)?;
     taken(runtime.alloc(), connection, plans)
 }
 
@@ -139,11 +140,14 @@ fn may_be_database<R: ReadsFiles + AllocGlobal>(runtime: &R, file: &Text) -> boo
     }
 }
 
-// Whether the log of a database may be read: it is not damaged, or what is behind the damage may be
-// lost.
+// Whether the log of a database may be read: it was read to its end and is not damaged, or what is
+// behind the damage may be lost.
 fn is_readable<R: ReadsFiles + AllocGlobal>(runtime: &R, files: BookFile<'_>) -> bool {
     files.loses_commits
-        || damage_beside(runtime, runtime.alloc(), files.database.as_str()).is_none()
+        || matches!(
+            damage_beside(runtime, runtime.alloc(), files.database.as_str()),
+            Ok(None)
+        )
 }
 
 // Whether the log of a database has a frame. If there is no memory for its name, it counts as
@@ -233,6 +237,51 @@ fn opened<S: Start>(
         Ok(connection) => Ok(connection),
         Err((_, Some(rest))) => Err((Fault::CannotOpen, Left::Unopened(rest))),
         Err((_, None)) => Err((Fault::CannotOpen, Left::Nothing)),
+    }
+}
+
+// Opens the database in a file, as it was found. If there is none yet, the pages of the new one end
+// in sums if that is requested. If commits of its log may be lost, the log is then emptied: what
+// lies behind the damage would be taken for damage again.
+fn opened_anew<S: Start>(
+    runtime: &HostRuntime,
+    files: BookFile<'_>,
+    has_sums: bool,
+    start: S,
+) -> Result<FileConnection<S>, (Fault, Left<FileFrom<S>>)>
+    ensures found { IfOk result (IsOpenedOn (image_at S.Start)) }
+    ensures idle { IfOk result (λ c. (file_state c).in_transaction ≡ false) }
+    ensures unread { IfErr result (λ e. IsUnread (image_at S.Start) e.0 e.1) }
+{
+    let connection = opened(runtime, files.database, has_sums, start)?;
+    if files.loses_commits {
+        emptied(runtime, connection)
+    } else {
+        Ok(connection)
+    }
+}
+
+// The same database with an empty log: it is closed, and opened again.
+fn emptied<S: Start>(
+    runtime: &HostRuntime,
+    connection: FileConnection<S>,
+) -> Result<FileConnection<S>, (Fault, Left<FileFrom<S>>)>
+    ensures found { (image : Image) → IsOpenedOn image connection → IfOk result (IsOpenedOn image) }
+    ensures idle { IfOk result (λ c. (file_state c).in_transaction ≡ false) }
+    ensures unread { (image : Image) → IfErr result (λ e. IsUnread image e.0 e.1) }
+{
+    let files = match connection.close_files() {
+        Ok(files) => files,
+        Err((_, _store)) => return Err((Fault::CannotOpen, Left::Nothing)),
+    };
+    // The seed is for the salts of the log. If there is none, they still count up.
+    let seed = match RandomState::new(runtime) {
+        Ok(state) => state.hash_one(&0u8),
+        Err(_) => 0,
+    };
+    match Connection::open_files_with(runtime.alloc(), files, Options::new(seed), false) {
+        Ok(connection) => Ok(connection),
+        Err((_, rest)) => Err((Fault::CannotOpen, Left::Unopened(rest))),
     }
 }
 

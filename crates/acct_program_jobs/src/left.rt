@@ -5,7 +5,7 @@ use sqlite_disk::Disk;
 /// What a command leaves of a book's files. It is released as the program ends. Until then its
 /// values say what the files hold.
 pub enum Left<D: Disk> {
-    /// No file was opened as a database.
+    /// No file is open as a database: none was opened, or it was released again.
     Nothing,
     /// An open that failed left this of them.
     Unopened(Leftover<D>),

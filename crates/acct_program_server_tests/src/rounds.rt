@@ -117,7 +117,7 @@ fn answers_by_what_is_new(rt: HostRuntime) -> Result<(), Fail> {
     fs::write(&rt, name, NEW)?;
     let mut told = Vec::new(rt.alloc());
     let gauges = Gauges::new();
-    let mut rounds = FileRounds::new(&rt, site, None, &gauges, &mut told);
+    let mut rounds = FileRounds::new(&rt, site, None, None, &gauges, &mut told);
     let is_served = serves_old_and_new(rt.alloc(), &mut rounds)?;
     drop(rounds);
     let wanted = "config: read again: 1 clients, 1 plans, 1 keys\n";

@@ -117,7 +117,7 @@ fn has_a_round_each(rt: &HostRuntime, looks: &Cell<u64>) -> Result<bool, Fail> {
     let mut exchange = ListExchange::new(alloc, turns(alloc, 5_220, false)?);
     let mut book = MemBook::new(alloc);
     let (gauges, told) = (Gauges::new(), Vec::new(alloc));
-    let mut rounds = FileRounds::new(rt, Alternating { looks }, None, &gauges, told);
+    let mut rounds = FileRounds::new(rt, Alternating { looks }, None, None, &gauges, told);
     let rules = Rules {
         config: &config,
         oldest: None,

@@ -221,6 +221,7 @@ fn figures(batches: u32) -> Figures {
 fn state(batches: u32) -> State {
     State {
         is_current: batches != 2,
+        has_book: true,
         balances: Some(BalancesWritten {
             at: moment_of(batches),
             accounts: if batches > 0 { 1_201 } else { 1_200 },

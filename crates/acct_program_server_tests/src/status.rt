@@ -17,16 +17,16 @@ use std::os::unix::fs::PermissionsExt;
 use std::test::Fail;
 use std::{fs, io};
 
-const TEXT: &str = "# HELP radacctd_events_total Datagrams and requests that came.\n\
+const TEXT: &str = "# HELP radacctd_events_total Datagrams and requests that were received.\n\
     # TYPE radacctd_events_total counter\n\
     radacctd_events_total 901\n\
     # HELP radacctd_replies_total Replies and responses that were taken.\n\
     # TYPE radacctd_replies_total counter\n\
     radacctd_replies_total 802\n\
-    # HELP radacctd_mute_requests_total Requests that got no response for want of memory.\n\
+    # HELP radacctd_mute_requests_total Requests that got no response, since memory ran out.\n\
     # TYPE radacctd_mute_requests_total counter\n\
     radacctd_mute_requests_total 4\n\
-    # HELP radacctd_faults_total Turns and replies that failed.\n\
+    # HELP radacctd_faults_total Faults of receiving and of sending.\n\
     # TYPE radacctd_faults_total counter\n\
     radacctd_faults_total 5\n\
     # HELP radacctd_drops_total Datagrams that were dropped, for each reason.\n\
@@ -49,29 +49,33 @@ const TEXT: &str = "# HELP radacctd_events_total Datagrams and requests that cam
     # TYPE radacctd_start_time_seconds gauge\n\
     radacctd_start_time_seconds 1700000000\n\
     # HELP radacctd_last_event_time_seconds \
-    When the last event came, in seconds since 1970, or 0.\n\
+    When the last event was received, in seconds since 1970, or 0.\n\
     # TYPE radacctd_last_event_time_seconds gauge\n\
     radacctd_last_event_time_seconds 1700003600\n\
-    # HELP radacctd_datagrams_total Datagrams that came.\n\
+    # HELP radacctd_datagrams_total Datagrams that were received.\n\
     # TYPE radacctd_datagrams_total counter\n\
     radacctd_datagrams_total 701\n\
     # HELP radacctd_reports_total Reports that were accepted, new or sent again.\n\
     # TYPE radacctd_reports_total counter\n\
     radacctd_reports_total 350\n\
-    # HELP radacctd_desk_requests_total Requests that came at the desk.\n\
+    # HELP radacctd_desk_requests_total Requests that the desk received.\n\
     # TYPE radacctd_desk_requests_total counter\n\
     radacctd_desk_requests_total 200\n\
     # HELP radacctd_last_report_time_seconds \
-    When the last datagram came, in seconds since 1970, or 0.\n\
+    When the last datagram was received, in seconds since 1970, or 0.\n\
     # TYPE radacctd_last_report_time_seconds gauge\n\
     radacctd_last_report_time_seconds 1700003600\n\
     # HELP radacctd_last_desk_request_time_seconds \
-    When the last request came at the desk, in seconds since 1970, or 0.\n\
+    When the desk received the last request, in seconds since 1970, or 0.\n\
     # TYPE radacctd_last_desk_request_time_seconds gauge\n\
     radacctd_last_desk_request_time_seconds 1700003500\n\
     # HELP radacctd_config_is_current Whether the configuration in force is the one in the file.\n\
     # TYPE radacctd_config_is_current gauge\n\
     radacctd_config_is_current 1\n\
+    # HELP radacctd_book_is_there \
+    Whether the book's names lead to its open files; if not, nothing is answered.\n\
+    # TYPE radacctd_book_is_there gauge\n\
+    radacctd_book_is_there 0\n\
     # HELP radacctd_balances_time_seconds \
     When the file of balances was written, in seconds since 1970, or 0.\n\
     # TYPE radacctd_balances_time_seconds gauge\n\
@@ -110,6 +114,7 @@ fn writes_each_figure(rt: HostRuntime) -> Result<(), Fail> {
         requests: arrivals(200, 1_700_003_500),
         state: State {
             is_current: true,
+            has_book: false,
             balances: Some(BalancesWritten {
                 at: 1_700_003_400,
                 accounts: 34,
@@ -147,6 +152,7 @@ fn figures(tally: Tally, last_event_at: u64) -> Figures {
         requests: Arrivals::none(),
         state: State {
             is_current: true,
+            has_book: true,
             balances: None,
             book_octets: Some(BOOK_OCTETS),
             log_octets: None,

@@ -13,7 +13,7 @@ pub struct Counts {
     pub replies: u64,
     /// Requests that got no response because memory ran out.
     pub mute: u64,
-    /// Turns and replies that failed.
+    /// Faults of receiving and of sending.
     pub faults: u64,
 }
 

@@ -15,8 +15,8 @@ use acct_net::Sockets;
 use acct_program::Status;
 use acct_program_args::{Listening, Serving, Telling, seconds_in};
 use acct_program_commands::{
-    Fault, FileRounds, Gauges, KeptBalances, ReplacesFiles, Shared, SiteSource, StateSource,
-    StatusFile, StoreFault, Watch,
+    BookNames, Fault, FileRounds, Gauges, KeptBalances, ReplacesFiles, Shared, SiteSource,
+    StateSource, StatusFile, StoreFault, Watch,
 };
 use acct_service::{Exchange, Rules, Until, moment_of};
 use acct_site::Config;
@@ -53,7 +53,8 @@ pub struct Errors<E: Drop> {
 /// While it runs it prints on `errors`, if it may, what it drops and how much it receives. It
 /// writes the files that `serving` names, one of which shows the size of the book's file,
 /// `database`. If the configuration of `source` changed, the turns that follow have the new one:
-/// `FileRounds`. It writes the file of balances before it prints that it serves. If that fails, the
+/// `FileRounds`. While a name of the book leads to another file than the one that is open, or to
+/// none, it answers nothing. It writes the file of balances before it prints that it serves. If that fails, the
 /// server begins all the same.
 ///
 /// # Errors
@@ -101,7 +102,8 @@ pub fn run_serve<
         mut balances,
         counts,
     } = files;
-    let sockets = bound(runtime, alloc, &serving.listening)?;
+    let names = BookNames::new(runtime, alloc, database)?;
+    let sockets = bound(runtime, alloc, &serving.listening)?.silenced_by(gauges.away());
     let mut noted = Shared::new(&notices);
     write_first(
         runtime,
@@ -112,7 +114,7 @@ pub fn run_serve<
         &gauges,
         &mut noted,
     );
-    let mut rounds = FileRounds::new(runtime, source, balances, &gauges, noted);
+    let mut rounds = FileRounds::new(runtime, source, balances, Some(names), &gauges, noted);
     let watcher = Watcher {
         clock: runtime,
         drops: watch_on(drops),

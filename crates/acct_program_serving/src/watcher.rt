@@ -58,8 +58,8 @@ impl<'r, R: Clock + ReplacesFiles, D: Write + Drop, E: Write + Drop> Watcher<'r,
 }
 
 /// Makes this many turns of an exchange over a book, in slices, and calls `rounds` after each
-/// slice. Makes fewer only if the book is found shut or stuck. Returns how the run ended. Prints and
-/// flushes `serving` before the first turn, and the counts after the last one.
+/// slice. Makes fewer only if the book is found shut or stuck, or a round ends them. Returns how the
+/// run ended. Prints and flushes `serving` before the first turn, and the counts after the last one.
 ///
 /// The turns answer what they receive, whatever the output does then: they are a run of
 /// `serve_in_slices`.

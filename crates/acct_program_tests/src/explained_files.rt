@@ -23,7 +23,7 @@ enum Asked {
 // What is done with which file, and what is printed.
 type Row = (Asked, &'static str, &'static str);
 
-static ROWS: [Row; 17] = [
+static ROWS: [Row; 18] = [
     (
         Asked::Config,
         "acct_explain_test/site",
@@ -71,6 +71,12 @@ static ROWS: [Row; 17] = [
         Asked::Unopened,
         "acct_explain_test/torn",
         "explained: acct_explain_test/torn: frame 1 of its log is damaged, and 2 commits end there or \
+         behind it: restore a copy, or give --lose-damaged-commits, which loses them\n",
+    ),
+    (
+        Asked::Unopened,
+        "acct_explain_test/one",
+        "explained: acct_explain_test/one: frame 1 of its log is damaged, and 1 commit ends there or \
          behind it: restore a copy, or give --lose-damaged-commits, which loses them\n",
     ),
     (
@@ -130,6 +136,11 @@ fn says_why_a_file_is_refused(rt: HostRuntime) -> Result<(), Fail> {
         &rt,
         "acct_explain_test/hurt-wal",
         damaged_log(rt.alloc(), [0; 8], 2)?.as_slice(),
+    )?;
+    fs::write(
+        &rt,
+        "acct_explain_test/one-wal",
+        damaged_log(rt.alloc(), SUM, 1)?.as_slice(),
     )?;
     fs::write(
         &rt,

@@ -23,6 +23,8 @@ mod feeds;
 #[cfg(test)]
 mod files;
 #[cfg(test)]
+mod log_damage;
+#[cfg(test)]
 mod looking;
 #[cfg(test)]
 mod lost_books;

@@ -1,7 +1,6 @@
 -- The log of a book as a chain: its header is link 0, and its frames are links 1, 2 and so on. The
 -- sum in each link continues from the link before it.
-use Rattle.std.specs.Prelude.{◌≡◌, ◌+◌, ◌-◌, ◌/◌, ◌<◌, ◌==◌, ◌&&◌, ◌||◌, ℕ, zero, suc, Bool, not}
-use Rattle.std.specs.Prelude.{true}
+use Rattle.std.specs.Prelude.{◌≡◌, ◌+◌, ◌-◌, ◌/◌, ◌<◌, ◌==◌, ◌&&◌, ℕ, zero, suc, Bool, not}
 use Rattle.std.specs.Prelude.{if◌then◌else◌, nat_le, List, length, slice_index}
 use Rattle.sqlite_wal.specs.Format.{be32, commit_size, IsSigned, IsFrame}
 use Rattle.sqlite_wal.specs.Recovery.{header, frame, sum_before}
@@ -43,17 +42,10 @@ has_salts head octets = (be32 octets 8 == be32 head 16) && (be32 octets 12 == be
 abbrev pub ends_commit : List ℕ → List ℕ → Bool
 ends_commit head octets = has_salts head octets && not (commit_size octets == 0)
 
--- Each frame behind a link has the salts of the header, among the first frames. A run of the store
--- writes zeros behind its first commit. Parts of a transaction that an earlier run did not end may
--- lie behind them, and were never committed.
-abbrev pub runs_on : List ℕ → ℕ → ℕ → Bool
-runs_on log link zero = true
-runs_on log link (suc i) =
-    runs_on log link i && (nat_le (suc i) link || has_salts (header log) (frame_in log i))
-
--- how many commits end at or behind a link, among the first frames, up to one of other salts
+-- How many commits end at or behind a link, among the first frames, by the marks of the frames. An
+-- earlier run of the log has other salts, and does not count. Parts of a transaction that was given
+-- up may lie there with the salts, and count.
 abbrev pub commits_from : List ℕ → ℕ → ℕ → ℕ
 commits_from log link zero = 0
 commits_from log link (suc i) = commits_from log link i
-    + (if nat_le link (suc i) && (runs_on log link (suc i)
-    && ends_commit (header log) (frame_in log i)) then 1 else 0)
+    + (if nat_le link (suc i) && ends_commit (header log) (frame_in log i) then 1 else 0)

@@ -1,10 +1,11 @@
 -- When a log is damaged.
-use Rattle.std.specs.Prelude.{◌≡◌, ◌<◌, ◌≤◌, ℕ, List, length, Option, MatchOption}
+use Rattle.std.specs.Prelude.{◌≡◌, ◌<◌, ◌≤◌, ◌-◌, ◌⊎◌, ℕ, List, length, Option, MatchOption}
 use Rattle.sqlite_wal.specs.PageSize.{IsPageSize}
 use Rattle.acct_sql_log.specs.declared.damage.Damage.{Damage}
 use Rattle.acct_sql_log.specs.declared.damage.Damage.TheVariants as damage
 use Rattle.acct_sql_log.specs.Chain.{page_size, frame_count, Holds, BreaksAt, IsSealed}
 use Rattle.acct_sql_log.specs.Chain.{commits_from}
+use Rattle.acct_sql_log.specs.Answered.{IsSynced, IsFollowed}
 
 -- The header was sealed, and breaks its own sum. The store syncs before it writes the octet that
 -- seals the header, with `--sync once` too, so no crash leaves such a one.
@@ -13,18 +14,15 @@ pub record IsHeaderDamage (log : List ℕ) : Type 0 where
   pub was_sealed : IsSealed log 0
   pub breaks : ¬ Holds log 0
 
--- The chain breaks at a frame that was sealed, and more than one commit ends at it or behind it.
---
--- A commit is sealed and synced before the next one is written. So of what a crash may leave behind
--- the first break, at most the last commit was sealed.
+-- A frame breaks the chain, and its commit was answered: it was synced before it was sealed, or a
+-- later one was begun.
 pub record IsFrameDamage (log : List ℕ) (frame commits : ℕ) : Type 0 where
   pub sized : IsPageSize (page_size log)
   pub some : 0 < frame
   pub within : frame ≤ frame_count log
   pub first : BreaksAt log frame
-  pub was_sealed : IsSealed log frame
+  pub answered : IsSynced log (frame - 1) ⊎ IsFollowed log (frame - 1) (frame_count log)
   pub counted : commits ≡ commits_from log frame (frame_count log)
-  pub many : 1 < commits
 
 -- what the damage of a log is
 abbrev pub IsDamage : List ℕ → Damage → Type 0

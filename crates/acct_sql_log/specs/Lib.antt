@@ -1,5 +1,7 @@
+pub mod Answered
 pub mod Chain
 pub mod Commits
 pub mod Damage
+pub mod Left
 pub mod Scanner
 pub mod inner

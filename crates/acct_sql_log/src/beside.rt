@@ -1,10 +1,11 @@
 //! The log of a book in a file.
 use crate::commits::has_later_commits;
 use crate::damage::Damage;
-use crate::log_reader::damage_in;
+use crate::log_reader::{Unread, damage_in};
 use crate::sizes::DATABASE_HEADER_OCTETS;
 use acct_reads::ReadsFiles;
 use std::alloc::Global;
+use std::io::ErrorKind;
 
 /// The name of the log of a book in a file. If the file's name is a link, the log is next to the
 /// file to which it leads. None if there is no memory for it.
@@ -20,11 +21,22 @@ fn log_of(alloc: Global, file: &str) -> Option<String> {
     format!(in alloc; "{file}-wal").ok()
 }
 
-/// The damage of the log of a book in a file, if it has any. None if the log isn't there or can't
-/// be read: the open of the book reports that. It writes nothing.
-pub fn damage_beside<R: ReadsFiles>(runtime: &R, alloc: Global, file: &str) -> Option<Damage> {
-    let mut log = opened_log(runtime, alloc, file)?;
-    damage_in(alloc, &mut log).ok()?
+/// The damage of the log of a book in a file, if it has any. A log that isn't there has none. It
+/// writes nothing.
+///
+/// # Errors
+///
+/// `CannotRead` if the log is no regular file, or cannot be opened or read to its end. `NoMemory`
+/// if there is no memory for its name or for a frame.
+pub fn damage_beside<R: ReadsFiles>(
+    runtime: &R,
+    alloc: Global,
+    file: &str,
+) -> Result<Option<Damage>, Unread> {
+    match opened_log(runtime, alloc, file)? {
+        Some(mut log) => damage_in(alloc, &mut log),
+        None => Ok(None),
+    }
 }
 
 /// Whether a log without its book is next to a file: the file is missing or has fewer octets than
@@ -39,18 +51,26 @@ pub fn has_lost_book<R: ReadsFiles>(runtime: &R, alloc: Global, file: &str) -> b
         return false;
     }
     match opened_log(runtime, alloc, file) {
-        Some(mut log) => has_later_commits(alloc, &mut log).unwrap_or(true),
-        None => false,
+        Ok(Some(mut log)) => has_later_commits(alloc, &mut log).unwrap_or(true),
+        _ => false,
     }
 }
 
-// The log of a book in a file, if it is a regular file that can be opened.
-fn opened_log<R: ReadsFiles>(runtime: &R, alloc: Global, file: &str) -> Option<R::Reader> {
-    let name = log_name(runtime, alloc, file)?;
-    // The open of a pipe would wait.
+// The log of a book in a file, if it is there.
+fn opened_log<R: ReadsFiles>(
+    runtime: &R,
+    alloc: Global,
+    file: &str,
+) -> Result<Option<R::Reader>, Unread> {
+    let name = log_name(runtime, alloc, file).ok_or(Unread::NoMemory)?;
     match runtime.metadata(name.as_str()) {
-        Ok(found) if found.is_file() => {}
-        _ => return None,
+        // The open of a pipe would wait.
+        Ok(found) if found.is_file() => match runtime.open(name.as_str()) {
+            Ok(log) => Ok(Some(log)),
+            Err(_) => Err(Unread::CannotRead),
+        },
+        Ok(_) => Err(Unread::CannotRead),
+        Err(error) if error.kind() == ErrorKind::NotFound => Ok(None),
+        Err(_) => Err(Unread::CannotRead),
     }
-    runtime.open(name.as_str()).ok()
 }

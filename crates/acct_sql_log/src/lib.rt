@@ -5,27 +5,28 @@
 //! leave such a break where the last commit was being written. But damage in the middle of a log
 //! ends it there too, and each commit behind it is lost. This crate distinguishes the two:
 //!
-//! 1. The store writes one octet of a commit last, and syncs before and after it (with
-//!    `--sync once`, only after it). A link whose octet isn't there was never committed.
-//! 2. It acknowledges a commit once that is synced, and only then writes the next one. So behind a
-//!    sealed link that a crash has torn, no second commit was sealed.
-//! 3. More than one commit at or behind a sealed link that breaks the chain is damage.
-//! 4. Commits of an earlier run of the log have other salts than its header, and don't count.
-//! 5. The count ends at the first frame behind the break that has other salts. A transaction of
-//!    many pages goes to the log in parts. If it was killed, its parts stay in the log, behind the
-//!    zeros that the next run writes after its first commit.
+//! 1. The store acknowledges a commit once it is synced, and only then writes the next one.
+//! 2. It writes one octet of a commit last, its seal, and syncs before and after it. So a sealed
+//!    commit that breaks the chain is damage.
+//! 3. With `--sync once` most commits are synced only after it. Such a commit is written over zeros
+//!    and begins with a frame that counts them, whose page number no other frame has. A crash may
+//!    tear the last one. So one that breaks the chain is damage if a later one was begun.
+//! 4. Commits of an earlier run of the log have other salts than its header, and don't count. Parts
+//!    of a transaction that was given up may have them. None of these is a frame that counts.
 //!
-//! 6. A header is a link as well. The store writes its first octet last, once all frames are in the
+//! 5. A header is a link as well. The store writes its first octet last, once all frames are in the
 //!    book's file, and syncs before and after it, with `--sync once` too. So a header that has that
 //!    octet and breaks its own sum is damage, whatever follows it.
 //!
-//! Not distinguished from a crash: damage of the octet of rule 1, of the first octet of the header,
-//! or of only the last commit.
+//! Not distinguished from a crash: damage of the first octet of the header; of the last commit that
+//! was synced once; of the seal or the page number of a commit's first frame, if none that was
+//! synced once is behind it.
 #![tactic(auto)]
 
 mod beside;
 mod commits;
 mod damage;
+pub mod laws;
 mod links;
 mod log_reader;
 mod scanner;

@@ -3,6 +3,7 @@ ghost use Rattle.std.specs.Prelude.{◌≡◌, ◌+◌, ◌≤◌, ◌↔◌, le
 ghost use Rattle.sqlite_wal.specs.Format.{be32, stored_sum, IsSigned, IsFrame};
 ghost use Rattle.acct_sql_log.specs.Chain.{ends_commit as ends_commit_of};
 ghost use Rattle.acct_sql_log.specs.Chain.{has_salts as has_salts_of};
+ghost use Rattle.acct_sql_log.specs.Answered.{BeginsCounted, IsSealedLast};
 
 use crate::sizes::LOG_HEADER_OCTETS;
 use sqlite_wal::checksum_of;
@@ -12,9 +13,11 @@ pub const HEADER_OCTETS: usize = LOG_HEADER_OCTETS as usize;
 /// The octets of a frame before its page.
 pub const FRAME_OCTETS: usize = 24;
 /// Where the header has the salts.
-pub const SALTS: usize = 16;
+const SALTS: usize = 16;
 /// Where a frame has the salts.
-pub const FRAME_SALTS: usize = 8;
+const FRAME_SALTS: usize = 8;
+/// The page number of a frame that counts the zeros of its commit.
+const COUNT: u32 = 0xff00_0000;
 /// The first octet of a log.
 pub const FIRST: u8 = 0x37;
 
@@ -77,4 +80,21 @@ pub fn ends_commit(head: &[u8; 32], frame: &[u8]) -> bool
     ensures { result ≡ ends_commit_of head.now frame.now }
 {
     has_salts(head, frame) && number_at(frame, 4) != 0
+}
+
+/// Whether a frame has the salts of a header, and begins a commit that counts the zeros below it.
+pub fn begins_counted(head: &[u8; 32], frame: &[u8]) -> bool
+    requires { 24 ≤ length frame.now }
+    ensures { IsTrue result ↔ BeginsCounted head.now frame.now }
+{
+    has_salts(head, frame) && number_at(frame, 0) == COUNT
+}
+
+/// Whether a frame that begins a commit has its seal, and does not count.
+pub fn is_sealed_last(head: &[u8; 32], frame: &[u8]) -> bool
+    requires { 24 ≤ length frame.now }
+    ensures { IsTrue result ↔ IsSealedLast head.now frame.now }
+{
+    let number = number_at(frame, 0);
+    frame[FRAME_SALTS] == head[SALTS] && number != 0 && number != COUNT
 }

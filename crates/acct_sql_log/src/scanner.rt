@@ -1,22 +1,26 @@
 //! A log, taken link by link.
-ghost use Rattle.std.specs.Prelude.{◌≡◌, ◌+◌, ◌^◌, ◌≤◌, ◌<◌, ◌&&◌, ℕ, List, length, if◌then◌else◌};
-ghost use Rattle.std.specs.Prelude.{IfSome, IsSome, IsNone};
+ghost use Rattle.std.specs.Prelude.{◌≡◌, ◌+◌, ◌^◌, ◌≤◌, ◌<◌, ◌↔◌, ◌&&◌, ◌||◌, ℕ, Bool, List, length};
+ghost use Rattle.std.specs.Prelude.{if◌then◌else◌, Option, IfSome, IsSome, IsNone, IsTrue};
 ghost use Rattle.std.specs.Option.{ForSome};
+ghost use Rattle.acct_sql_log.specs.Answered.{IsSynced, IsUnderWay};
+ghost use Rattle.acct_sql_log.specs.Chain.{frame_in};
 
 use crate::damage::Damage;
-use crate::links::{FRAME_SALTS, SALTS, ends_commit, has_salts, is_frame, is_signed, sum_at};
+use crate::links::{
+    begins_counted, ends_commit, is_frame, is_sealed_last, is_signed, number_at, sum_at,
+};
 
 /// Where the chain breaks first.
 #[derive(Clone, Copy)]
 pub(crate) struct Break {
     /// The number of the frame, from 1.
     link: u64,
-    /// Whether its last octet was written.
-    is_sealed: bool,
+    /// Whether its commit was synced before it was sealed.
+    is_synced: bool,
+    /// Whether a later commit was begun.
+    is_followed: bool,
     /// How many commits end at it or behind it so far.
     commits: u64,
-    /// Whether each frame behind it has the salts of the header so far.
-    runs_on: bool,
 }
 
 /// A log whose links are taken one after the other, from the header on.
@@ -27,6 +31,8 @@ pub struct Scanner {
     taken: u64,
     /// The sum that the next frame goes on from.
     sum: (u32, u32),
+    /// Whether the first frame of the commit that is under way has its seal, and does not count.
+    under_way: Option<bool>,
     broken: Option<Break>,
     ghost few: { ForSome broken (λ found. found.commits ≤ taken) },
 }
@@ -35,7 +41,7 @@ impl Scanner {
     ghost use Rattle.sqlite_wal.specs.Format.{be32, IsSigned};
     ghost use Rattle.sqlite_wal.specs.Recovery.{header};
     ghost use Rattle.sqlite_wal.specs.PageSize.{IsPageSize};
-    ghost use Rattle.acct_sql_log.specs.Chain.{page_size, frame_in, frame_count};
+    ghost use Rattle.acct_sql_log.specs.Chain.{page_size, frame_count};
     ghost use Rattle.acct_sql_log.specs.Damage.{Finds};
     ghost use Rattle.acct_sql_log.specs.Scanner.{HasTaken, IsBreakIn};
 
@@ -54,6 +60,7 @@ impl Scanner {
             head: *head,
             taken: 0,
             sum: sum_at(head, 24),
+            under_way: None,
             broken: None,
         })
     }
@@ -66,37 +73,52 @@ impl Scanner {
             → frame.now ≡ frame_in log frames → HasTaken log (frames + 1) self.new }
         ensures one { self.new.taken ≡ self.old.taken + 1 }
     {
-        let broken = self.broken_with(frame);
+        let is_sealed = self.is_sealed_with(frame);
+        let broken = self.broken_with(frame, is_sealed);
+        self.under_way = still_open(frame, is_sealed);
         self.sum = sum_at(frame, 16);
         self.taken += 1;
         self.broken = broken;
     }
 
+    // Whether the commit of the next frame, if it is this one, was synced before it was sealed.
+    fn is_sealed_with(&self, frame: &[u8]) -> bool
+        requires whole { 24 ≤ length frame.now }
+        ensures { (log : List ℕ) (frames : ℕ) → HasTaken log frames self.now
+            → frame.now ≡ frame_in log frames → IsTrue result ↔ IsSynced log frames }
+    {
+        match self.under_way {
+            Some(is_sealed) => is_sealed,
+            None => is_sealed_last(&self.head, frame),
+        }
+    }
+
     // Where the chain breaks first, if the next frame is this one.
-    fn broken_with(&self, frame: &[u8]) -> Option<Break>
+    fn broken_with(&self, frame: &[u8], is_synced: bool) -> Option<Break>
         requires whole { 24 ≤ length frame.now }
         requires room { self.now.taken + 1 < 2 ^ 64 }
         ensures few { ForSome result (λ found. found.commits ≤ self.now.taken + 1) }
         ensures broken { (log : List ℕ) (frames : ℕ) → HasTaken log frames self.now
-            → frame.now ≡ frame_in log frames → IsBreakIn log (frames + 1) result }
+            → frame.now ≡ frame_in log frames → (IsTrue is_synced ↔ IsSynced log frames)
+            → IsBreakIn log (frames + 1) result }
     {
         let ends = ends_commit(&self.head, frame);
         match self.broken {
             Some(found) => {
-                let runs_on = both(found.runs_on, has_salts(&self.head, frame));
+                let follows = begins_counted(&self.head, frame);
                 Some(Break {
                     link: found.link,
-                    is_sealed: found.is_sealed,
-                    commits: found.commits + one_if(both(runs_on, ends)),
-                    runs_on,
+                    is_synced: found.is_synced,
+                    is_followed: either(found.is_followed, follows),
+                    commits: found.commits + one_if(ends),
                 })
             }
             None if is_frame(&self.head, self.sum, frame) => None,
             None => Some(Break {
                 link: self.taken + 1,
-                is_sealed: frame[FRAME_SALTS] == self.head[SALTS],
+                is_synced,
+                is_followed: false,
                 commits: one_if(ends),
-                runs_on: true,
             }),
         }
     }
@@ -107,7 +129,7 @@ impl Scanner {
             → IsPageSize (page_size log) → Finds log result }
     {
         let found = self.broken?;
-        if found.is_sealed && found.commits > 1 {
+        if found.is_synced || found.is_followed {
             Some(Damage::Frame {
                 frame: found.link,
                 commits: found.commits,
@@ -118,10 +140,30 @@ impl Scanner {
     }
 }
 
+// The commit that is under way behind a frame, if the frame does not end it.
+fn still_open(frame: &[u8], is_sealed: bool) -> Option<bool>
+    requires whole { 24 ≤ length frame.now }
+    ensures { (log : List ℕ) (frames : ℕ) (before : Option Bool) → IsUnderWay log frames before
+        → (IsTrue is_sealed ↔ IsSynced log frames) → frame.now ≡ frame_in log frames
+        → IsUnderWay log (frames + 1) result }
+{
+    if number_at(frame, 4) == 0 {
+        Some(is_sealed)
+    } else {
+        None
+    }
+}
+
 pub(crate) fn both(one: bool, other: bool) -> bool
     ensures { result ≡ (one && other) }
 {
     one && other
+}
+
+pub(crate) fn either(one: bool, other: bool) -> bool
+    ensures { result ≡ (one || other) }
+{
+    one || other
 }
 
 // How many commits a frame ends.

@@ -1,11 +1,12 @@
-use Rattle.std.proofs.Common.{inr, ap, subst}
-use Rattle.acct_program_serving.specs.Serving.{PollsAfter}
+use Rattle.std.proofs.Common.{inr, ap, subst, sym, ◌∙◌}
+use Rattle.acct_program_serving.specs.Serving.{IsBoundTo, PollsAfter}
 use Rattle.acct_program_serving.proofs.HandedOn.{ends_afresh, polls}
 use Rattle.acct_program_serving.proofs.sockets_server.run_serve.Goals as goal
 
 pub returns-clause-serves : goal.returns-clause-serves
 returns-clause-serves g c =
-    let bound = c.in_ok-sockets.ensures in
+    let bound = c.in_ok-bound.ensures in
+    let same = c.silenced_by-sockets.ensures in
     let served = rw c.seconds_in-oldest.ensures at c.serve-sockets.ensures in
     inr (
       c.serve-sockets.result.1,
@@ -18,6 +19,9 @@ returns-clause-serves g c =
             (ap (λ s. g.S.SiteSource.sights s) c.new-rounds.ensures)
             (polls _ (λ r. g.S.SiteSource.sights r.source) (λ _ _ _ _ goes. goes)
             c.new-rounds.result slices c.serve-sockets.new.rounds went)) _ _ _
-            c.write_first.ensures _ _ bound.bound bound.fresh.0 bound.fresh.1 _ _ _ served,
+            c.write_first.ensures _ _
+            (subst (λ loop. IsBoundTo c.args.serving.now.listening loop.datagrams.sockets.items
+            loop.desk.door.address loop.desk.door.port) (sym same.sockets) bound.bound)
+            (same.counts.0 ∙ bound.fresh.0) (same.counts.1 ∙ bound.fresh.1) _ _ _ served,
       ),
     )

@@ -1,0 +1,129 @@
+//! Whether the names of a book still lead to the files that a server has open.
+//!
+//! A server goes on with the files that it opened. If a name leads to another file, or to none, what
+//! it records is in no file that the next start finds. So it is looked at while the server runs.
+use crate::gauges::Gauges;
+use acct_model::Text;
+use acct_reads::ReadsFiles;
+use std::alloc::{AllocError, Global};
+use std::io::{ErrorKind, Write};
+use std::os::unix::fs::MetadataExt;
+
+/// The names of a book's file and of its log, with the files to which each led first.
+pub struct BookNames<'r, R> {
+    runtime: &'r R,
+    book: Name,
+    log: Name,
+    // When they were looked at, in seconds since 1970.
+    looked_at: u64,
+    is_told: bool,
+}
+
+impl<'r, R> Drop for BookNames<'r, R> {
+    fn drop(self) {
+        let BookNames {
+            runtime: _,
+            book: _,
+            log: _,
+            looked_at: _,
+            is_told: _,
+        } = self;
+    }
+}
+
+impl<'r, R: ReadsFiles> BookNames<'r, R> {
+    /// The names of a book that a server has opened.
+    ///
+    /// # Errors
+    ///
+    /// If there is no memory for the names.
+    pub fn new(runtime: &'r R, alloc: Global, book: &Text) -> Result<BookNames<'r, R>, AllocError> {
+        let name = book.as_str();
+        let log = format!(in alloc; "{name}-wal")?;
+        let mut names = BookNames {
+            runtime,
+            book: Name::new(book.copy(alloc)?),
+            log: Name::new(Text { text: log }),
+            looked_at: 0,
+            is_told: false,
+        };
+        names.lead_elsewhere();
+        Ok(names)
+    }
+
+    /// Looks where they lead, once in a second of the clock, and notes in the gauges whether one
+    /// leads elsewhere. If the next look finds that, too, or finds them back, a line says so.
+    pub fn look<E: Write>(&mut self, moment: u64, gauges: &Gauges, errors: &mut E) {
+        if moment == self.looked_at {
+            return;
+        }
+        self.looked_at = moment;
+        let was_away = gauges.is_away();
+        let is_away = self.lead_elsewhere();
+        gauges.note_away(is_away);
+        if is_away && was_away && !self.is_told {
+            self.tell(
+                errors,
+                "leads to another file or to none: nothing is answered",
+            );
+        }
+        if !is_away && self.is_told {
+            self.tell(errors, "leads to its file again");
+        }
+    }
+
+    // Whether one of the names leads to another file than at first, or to none.
+    fn lead_elsewhere(&mut self) -> bool {
+        let book = self.book.leads_elsewhere(self.runtime);
+        let log = self.log.leads_elsewhere(self.runtime);
+        book || log
+    }
+
+    // Writes a line about the book's name.
+    fn tell<E: Write>(&mut self, errors: &mut E, what: &str) {
+        self.is_told = !self.is_told;
+        let name = self.book.path.as_str();
+        let _ = writeln!(errors, "db: the name of {name}, or of its log, {what}");
+        let _ = errors.flush();
+    }
+}
+
+// A file's name, and the file to which it led first.
+#[derive(Drop)]
+struct Name {
+    path: Text,
+    first: Option<FileNumber>,
+}
+
+// What distinguishes a file from each other one of a system.
+#[derive(Clone, Copy, PartialEq, Eq)]
+struct FileNumber {
+    device: u64,
+    number: u64,
+}
+
+impl Name {
+    // A name that was not looked at yet.
+    fn new(path: Text) -> Name {
+        Name { path, first: None }
+    }
+
+    // Whether it leads to another file than at first, or to none. Another error of the look tells
+    // nothing.
+    fn leads_elsewhere<R: ReadsFiles>(&mut self, runtime: &R) -> bool {
+        let found = match runtime.metadata(self.path.as_str()) {
+            Ok(found) => FileNumber {
+                device: found.dev(),
+                number: found.ino(),
+            },
+            Err(error) => return self.first.is_some() && error.kind() == ErrorKind::NotFound,
+        };
+        match self.first {
+            Some(first) => first != found,
+            None => {
+                self.first = Some(found);
+                false
+            }
+        }
+    }
+}

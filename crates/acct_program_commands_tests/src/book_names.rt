@@ -1,0 +1,97 @@
+//! Where the names of a book lead, while a server has it.
+use acct_model::Text;
+use acct_program_commands::{BookNames, Gauges};
+use std::fs;
+use std::test::Fail;
+
+const BOOK: &str = "names-book";
+
+const LOG: &str = "names-book-wal";
+
+const LOST: &str = "db: the name of names-book, or of its log, leads to another file or to none: \
+    nothing is answered\n";
+
+const BACK: &str = "db: the name of names-book, or of its log, leads to its file again\n";
+
+// What is done before a look, at which moment it is, whether the book is away then, and what is
+// printed.
+type Row = (Done, u64, bool, &'static str);
+
+#[derive(Clone, Copy)]
+enum Done {
+    Nothing,
+    // A file gets another name.
+    Moved(&'static str, &'static str),
+    // A file is made, or written over.
+    Written(&'static str),
+    Removed(&'static str),
+}
+
+static ROWS: [Row; 20] = [
+    (Done::Nothing, 10, false, ""),
+    // One look is not enough for a line.
+    (Done::Moved(BOOK, "names-kept"), 11, true, ""),
+    (Done::Moved("names-kept", BOOK), 12, false, ""),
+    (Done::Moved(BOOK, "names-kept"), 13, true, ""),
+    // In the same second it is not looked at.
+    (Done::Nothing, 13, true, ""),
+    (Done::Nothing, 14, true, LOST),
+    (Done::Nothing, 15, true, ""),
+    // A copy in its place is another file.
+    (Done::Written(BOOK), 16, true, ""),
+    (Done::Moved("names-kept", BOOK), 17, false, BACK),
+    (Done::Nothing, 18, false, ""),
+    // What is written into the same file is no other.
+    (Done::Written(BOOK), 19, false, ""),
+    // The log was not there at first. It is noted where it comes. The file stays, as one stays that
+    // a server has open: its number is no other file's.
+    (Done::Written(LOG), 20, false, ""),
+    (Done::Moved(LOG, "names-log"), 21, true, ""),
+    // The clock may step back.
+    (Done::Nothing, 7, true, LOST),
+    (Done::Written("names-other"), 8, true, ""),
+    (Done::Moved("names-other", LOG), 9, true, ""),
+    (Done::Removed(LOG), 10, true, ""),
+    (Done::Removed(BOOK), 11, true, ""),
+    (Done::Written(BOOK), 12, true, ""),
+    (Done::Nothing, 13, true, ""),
+];
+
+#[test]
+fn tells_where_the_names_lead(rt: HostRuntime) -> Result<(), Fail> {
+    let _ = fs::remove_file(&rt, LOG);
+    fs::write(&rt, BOOK, "book")?;
+    assert_eq!(rt; first_wrong(&rt)?, None);
+    Ok(())
+}
+
+// The place of the first row that does not hold.
+fn first_wrong(rt: &HostRuntime) -> Result<Option<usize>, Fail> {
+    let (gauges, mut told) = (Gauges::new(), Vec::new(rt.alloc()));
+    let name = Text::from_str(rt.alloc(), BOOK)?;
+    let mut names = BookNames::new(rt, rt.alloc(), &name)?;
+    for place in 0..ROWS.len() {
+        let Some((done, moment, is_away, wanted)) = ROWS.get(place) else {
+            return Ok(Some(place));
+        };
+        make(rt, *done)?;
+        told.truncate(0);
+        names.look(*moment, &gauges, &mut told);
+        let is_noted = gauges.is_away() == *is_away && gauges.away().get() == *is_away;
+        if !is_noted || told.as_slice() != wanted.as_bytes() {
+            return Ok(Some(place));
+        }
+    }
+    Ok(None)
+}
+
+// Does this to files.
+fn make(rt: &HostRuntime, done: Done) -> Result<(), Fail> {
+    match done {
+        Done::Nothing => {}
+        Done::Moved(from, to) => fs::rename(rt, from, to)?,
+        Done::Written(name) => fs::write(rt, name, "other")?,
+        Done::Removed(name) => fs::remove_file(rt, name)?,
+    }
+    Ok(())
+}
