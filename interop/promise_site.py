@@ -175,6 +175,8 @@ class FreeRadius(Killed, front.FreeRadius):
         self.looks = threading.RLock()
         front.FreeRadius.__init__(self, folder, book, settings=settings)
         self.process = None
+        # How often it ended by itself.
+        self.ended = 0
 
     def start(self):
         if self.is_ended:
@@ -197,6 +199,20 @@ class FreeRadius(Killed, front.FreeRadius):
         with open(self.log, "rb") as file:
             file.seek(begun)
             return b"Ready to process requests" in file.read()
+
+    def revive(self):
+        """Starts it again if it ended by itself, as its unit does. Debian's does so now and then, by
+        signal 11, if many requests come again at once.
+        """
+        if not self.lock.acquire(blocking=False):
+            return
+        try:
+            if self.process is not None and self.process.poll() is not None and not self.is_ended:
+                self.ended += 1
+                self.kill()
+                self.start()
+        finally:
+            self.lock.release()
 
     def tail(self):
         return "".join(self.logged().splitlines(True)[-20:])
