@@ -53,12 +53,13 @@ const press = (it, number, text) => {
   if (found) found.click();
   return Boolean(found);
 };
-const sell = (it, account, sum, desk) => {
+const sell = (it, account, sum, desk, which) => {
   on(it, "desk").value = desk;
   on(it, "desk").oninput();
   on(it, "account").value = account;
   on(it, "sum").value = sum;
-  on(it, "form").requestSubmit();
+  if (which === undefined) on(it, "form").requestSubmit();
+  else on(it, "packages").children[which].click();
   on(it, "yes").click();
 };
 return (async () => { await quiet(); BODY })();
@@ -77,6 +78,14 @@ return both.map((it) => [rows(it, "totals"), before(it)]);
 """
 
 
+# What the desk sells as packages: what a guest pays, and what is put on the account.
+PACKAGES = [
+    {"name": "week", "title": "5 GB, 7 days", "price": 900, "credit": 500, "from": "first use",
+     "seconds": 604800, "devices": 2, "until": None},
+    {"name": "night", "title": "Night", "price": 0, "credit": 123, "from": "sale",
+     "seconds": 43200, "devices": 1, "until": None},
+]
+PRICES = {it["name"]: it["price"] for it in PACKAGES}
 # Five sales, the next one after so many milliseconds, whether or not the one before is done.
 FIVE = """
 const on = (id) => document.getElementById(id);
@@ -125,6 +134,8 @@ class Desk:
         self.books, self.cashier = books, "anna"
         self.modes = dict.fromkeys(books, "up")
         self.credits = {it: {} for it in books}
+        # What a guest paid for each number; and what further files say.
+        self.paid, self.more = {}, {"packages.json": json.dumps({"packages": PACKAGES}).encode()}
         # Each request of a sale: book, number, status, whether the answer arrived, and the cashier.
         self.asked, self.held = [], threading.Event()
         # Those whose page was left before they were answered: it got nothing.
@@ -161,6 +172,8 @@ class Desk:
             body = {"name": "", "currency": "EUR", "decimals": 2, **books}
             return self.send(to, 200, "application/json", json.dumps(body).encode())
         more = [("Radacctd-Cashier", self.cashier.encode().decode("latin-1"))]
+        if name in self.more:
+            return self.send(to, 200, "application/json", self.more[name], more)
         if name == "balances.csv":
             return self.send(to, 200, "text/csv", self.balances(), more)
         return self.send(to, 200, "application/json", b'{"overruns":[]}', more)
@@ -177,6 +190,7 @@ class Desk:
         sale = json.loads(to.rfile.read(int(to.headers["Content-Length"])))
         mode = self.modes[book]
         with self.lock:
+            self.paid[sale["voucher"]] = PRICES.get(sale.get("package"), sale["sum"])
             status = 0 if mode in ("away", "dead") else self.credit(book, sale)
             line = [book, sale["voucher"], status, False, self.cashier]
             self.asked.append(line)
@@ -205,7 +219,7 @@ class Model:
             sale = self.sales.setdefault(number, {"sold": None, "back": None, "who": line[4]})
             if arrived and status in (200, 201) and sale["sold"] is None:
                 sale["sold"] = self.shift
-                sale["account"], sale["sum"] = desk.credits[book][number]
+                sale["account"], sale["sum"] = desk.credits[book][number][0], desk.paid[number]
         self.seen = len(desk.asked)
 
     def rows(self, shift):
@@ -267,6 +281,11 @@ class Play:
 
     def sell(self):
         self.sent(1, "sell(both[words[0]], ...words.slice(1));", self.any(), *self.sale())
+
+    def sell_package(self):
+        """A package is sold by its button, whatever is in the field of the sum."""
+        which = self.random.randrange(len(PACKAGES))
+        self.sent(1, "sell(both[words[0]], ...words.slice(1));", self.any(), *self.sale(), which)
 
     def two_at_once(self):
         """Each window sells before the other one is done."""
@@ -372,7 +391,7 @@ class Play:
         body = "on(it, 'desk').value = words[0]; on(it, 'desk').oninput(); await it.refresh();"
         self.run(f"for (const it of both) {{ {body} }}", self.letters)
 
-    EVENTS = [(sell, 6), (turn, 4), (retry, 3), (end, 2), (end_in_both, 1), (back, 3), (undo, 1)]
+    EVENTS = [(sell, 5), (sell_package, 2), (turn, 4), (retry, 3), (end, 2), (end_in_both, 1), (back, 3), (undo, 1)]
     EVENTS += [(reload, 1), (left, 1), (ended_meanwhile, 2), (two_at_once, 1), (step, 1)]
     EVENTS += [(relieve, 1)]
 
@@ -395,7 +414,7 @@ class Play:
             return fault
         script = "return totalsOf(kept.sales, words[0]).map((it) => it.sum - it.back);"
         shown = sum(sum(self.run(script, it)) for it in range(1, self.model.shift + 1))
-        sold = sum(it[1] for it in self.desk.credits[self.desk.books[0]].values())
+        sold = sum(self.desk.paid[it] for it in self.desk.credits[self.desk.books[0]])
         back = sum(it["sum"] for it in self.model.sales.values() if it["back"])
         books = list(self.desk.credits.values())
         if shown == sold - back and all(it == books[0] for it in books):

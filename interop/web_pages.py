@@ -39,5 +39,5 @@ def text_of(page):
 
 def check_texts(browser, page, wrong_names):
     """Each text that a page that is open shows is there in each language."""
-    said = re.findall(r'\b(?:text|say|tell|button|stop)\("(\w+)"', text_of(page))
+    said = re.findall(r'\b(?:text|say|tell|button|named|stop)\("(\w+)"', text_of(page))
     check(f"{page}: each text is there in each language", browser.js(UNSAID, said, wrong_names), [])

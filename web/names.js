@@ -27,3 +27,7 @@ function whyNot(name) {
   if (name.includes("%{")) return "nameExpands";
   return /^[0-9]+(?:[.,][0-9]+)?E\+[0-9]+$/.test(name) ? "nameRounded" : "";
 }
+
+// A name as people look for it: without case, marks above letters, and what nobody sees.
+const UNSEEN = new RegExp(`[${MARKS}]`, "g");
+const folded = (name) => name.normalize("NFKD").replace(/\p{M}/gu, "").toLowerCase().replaceAll("ß", "ss").replace(UNSEEN, "");

@@ -120,7 +120,7 @@ ALLOWED = {
         "ignoreip": "fail2ban's own",
         **each("nginx' paths", "/desk/", "/redeem/"),
         "revoke": "a command of radacctd-key",
-        "url": "a member of settings.json",
+        **each("a member of settings.json", "time_classes", "url"),
     },
     "docs/FRONTDESK.md": each(
         "an example", "https://accounts.example.org/desk/", "mueller-1126"

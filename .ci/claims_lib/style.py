@@ -10,7 +10,7 @@ from claims_lib.tree import text_of
 
 # The most words of a page by hand, and of all pages together.
 MOST = {
-    "CHANGELOG.md": 1260,
+    "CHANGELOG.md": 1320,
     "README.md": 760,
     "docs/ACCESS-SERVERS.md": 1380,
     "docs/ARCHITECTURE.md": 1100,
@@ -27,7 +27,7 @@ MOST = {
     "docs/FILES.md": 770,
     "docs/FORWARD.md": 1110,
     "docs/FREERADIUS.md": 2830,
-    "docs/FRONTDESK.md": 590,
+    "docs/FRONTDESK.md": 700,
     "docs/GATE.md": 1120,
     "docs/GONE.md": 790,
     "docs/INSTALL.md": 1340,

@@ -2,6 +2,7 @@
 
 import contextlib
 import io
+import json
 import os
 import sqlite3
 import tempfile
@@ -90,6 +91,55 @@ class PackagesFile(unittest.TestCase):
         text = PACKAGE.replace('valid = "7 days"', 'until = "2026-12-31T12:00"')
         it = packages.packages_of(text, MONEY)["week"]
         self.assertEqual(it.validity(), "until 2026-12-31 12:00")
+
+
+class Pages(unittest.TestCase):
+    """What the front desk's page has of the packages."""
+
+    def setUp(self):
+        folder = tempfile.TemporaryDirectory(dir=MEMORY)
+        self.addCleanup(folder.cleanup)
+        self.path, self.text, self.plans = os.path.join(folder.name, "p.json"), PACKAGE, None
+        read = lambda: (packages.packages_of(self.text, MONEY), MONEY)
+        for where, name, new in ((packages, "read", read), (command, "say", lambda _: None),
+                                 (command, "plans_in", lambda _: self.plans)):
+            patched = mock.patch.object(where, name, new)
+            patched.start()
+            self.addCleanup(patched.stop)
+
+    def written(self):
+        command.write_for_pages(self.path)
+        with open(self.path, encoding="utf-8") as file:
+            return json.load(file)["packages"]
+
+    def test_it_has_each_package_whose_plan_is_in_force(self):
+        wanted = {"name": "week", "title": "5 GB, 7 days", "price": 900, "credit": 500,
+                  "devices": 2, "seconds": 604800, "from": "first use", "until": None}
+        self.assertEqual(self.written(), [wanted])
+        self.assertEqual(os.stat(self.path).st_mode & 0o777, 0o644)
+        self.plans = {"gold": (1, 1, "both")}
+        self.assertEqual(self.written(), [])
+
+    def test_it_is_written_only_if_it_changed(self):
+        self.written()
+        with mock.patch.object(files, "make", side_effect=AssertionError):
+            self.written()
+
+    def test_a_wrong_file_or_a_full_disk_keeps_what_is_there(self):
+        before = self.written()
+        for text, at in ((PACKAGE.replace("devices = 2", "devices = 0"), None),
+                         (PACKAGE.replace("9.00", "8.00"), "make"),
+                         (PACKAGE.replace("9.00", "8.00"), "sync_folder")):
+            self.text = text
+            full = mock.patch.object(files, at, side_effect=OSError(28, "full"))
+            with self.subTest(at), full if at else contextlib.nullcontext():
+                found = self.written()
+                self.assertIn(found[0]["price"], (900, 800) if at == "sync_folder" else (900,))
+                self.assertEqual({**found[0], "price": 900}, before[0])
+
+    def test_a_site_without_pages_has_none(self):
+        command.write_for_pages("/nonexistent/folder/p.json")
+        self.assertFalse(os.path.exists("/nonexistent"))
 
 
 class Codes(unittest.TestCase):

@@ -3,6 +3,7 @@
 import contextlib
 import errno
 import io
+import json
 import os
 import shutil
 import stat
@@ -126,6 +127,12 @@ class Site(Folder):
     def test_settings_of_another_form_are_told(self):
         for text in ("{", "[1]", "5"):
             self.assertRaises(steps.Failed, web.settings, text, self.wanted())
+
+    def test_the_pages_have_the_classes_of_seconds(self):
+        self.write(b'radacctd {\n\ttime_classes = "^(hour|day)$"\n}\n')
+        with mock.patch.object(freeradius, "path", lambda *_: self.path):
+            found = json.loads(web.settings('{"books": ["a"]}', self.wanted()))
+        self.assertEqual((found["time_classes"], found["books"]), ("^(hour|day)$", ["a"]))
 
     def test_a_book_of_a_killed_init_is_made_anew(self):
         with mock.patch.object(places, "BOOK", self.path):

@@ -53,6 +53,19 @@ def make(path, octets, mode=0o600):
         raise
 
 
+def replace(path, octets, mode=0o600):
+    """Puts a file into place, whole and on the disk; what was there stays until then."""
+    new = path + ".new"
+    remove(new)
+    make(new, octets, mode)
+    try:
+        os.rename(new, path)
+    except OSError:
+        remove(new)
+        raise
+    sync_folder(os.path.dirname(path))
+
+
 @contextlib.contextmanager
 def opened_folder(path):
     """A folder by its path, none of whose names is followed as a link."""

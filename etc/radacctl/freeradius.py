@@ -65,6 +65,11 @@ def settings():
                                                   "oldest", "if_old", "queue", "unsent")}
 
 
+def time_classes():
+    """The pattern of Classes whose plan counts seconds, or "" if the machine has no such file."""
+    return value(text("radacctd", "settings.conf"), "time_classes")
+
+
 def blocks(pattern, *names):
     """The blocks `client NAME { .. }`, say, of a file: name and text of each."""
     return pattern.findall(text(*names))

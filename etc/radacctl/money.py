@@ -25,7 +25,7 @@ def settings_in(path=SETTINGS):
     decimals = found.setdefault("decimals", 0)
     if type(decimals) is not int or not 0 <= decimals <= MOST_DECIMALS:
         raise ValueError(f"{path}: decimals is a number from 0 to {MOST_DECIMALS}")
-    for name in ("name", "url", "currency"):
+    for name in ("name", "url", "currency", "time_classes"):
         if not isinstance(found.setdefault(name, ""), str):
             raise ValueError(f"{path}: {name} is a text")
     return found

@@ -29,6 +29,8 @@ from radacctl import files, names
 from radacctl import money as moneys
 
 FILE = "/etc/radacctd-packages/packages.toml"
+# What the front desk's page reads of it.
+PAGES = "/etc/radacctd-web/packages.json"
 NAME = re.compile(r"[a-z0-9][a-z0-9-]{0,23}")
 VALID = re.compile(r"([1-9][0-9]{0,4}) (minute|hour|day)s?")
 UNITS = {"minute": 60, "hour": 3600, "day": 86_400}
@@ -199,6 +201,14 @@ def wifi_of(found):
 def wifi(path=FILE):
     """The same of the file, which was read without a fault before."""
     return wifi_of(tomllib.loads(files.text(path)))
+
+
+def for_pages(known, plans=None):
+    """What the front desk's page has of the packages whose plan is in force, as JSON."""
+    found = [{"name": it.name, "title": it.title, "price": it.price, "credit": it.credit,
+              "devices": it.devices, "seconds": it.seconds, "from": it.begins, "until": it.until}
+             for it in known.values() if plans is None or it.plan in plans]
+    return json.dumps({"packages": found}, ensure_ascii=False) + "\n"
 
 
 def read(path=FILE, settings=moneys.SETTINGS):

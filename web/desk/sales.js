@@ -20,6 +20,9 @@ function taken(sale, book, shift) {
 // A book that took a sale has it, whatever another answer says.
 const turnedDown = (sale) => isSold(sale) ? sale : { ...sale, state: "refused" };
 
+// What the guest paid: a package has a price of its own.
+const paidOf = (it) => it.paid ?? it.sum;
+
 // Within its own shift a sale that is taken back was never sold. Later it is money that was paid out.
 function totalsOf(all, shift) {
   const rows = new Map();
@@ -28,8 +31,8 @@ function totalsOf(all, shift) {
     rows.set(name, { desk, who, count: had.count + count, sum: had.sum + sum, back: had.back + back });
   };
   for (const it of all) {
-    if (it.sold === shift && it.back?.shift !== shift) add(it.voucher.split("-")[0], it.cashier, 1, it.sum, 0);
-    if (isSold(it) && it.sold !== shift && it.back?.shift === shift) add(it.back.desk, it.back.who, 0, 0, it.sum);
+    if (it.sold === shift && it.back?.shift !== shift) add(it.voucher.split("-")[0], it.cashier, 1, paidOf(it), 0);
+    if (isSold(it) && it.sold !== shift && it.back?.shift === shift) add(it.back.desk, it.back.who, 0, 0, paidOf(it));
   }
   return [...rows.keys()].sort().map((it) => rows.get(it));
 }

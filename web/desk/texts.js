@@ -28,6 +28,24 @@ const TEXTS = {
   when: ["When", "Wann"],
   state: ["State", "Stand"],
   act: ["Act", "Tun"],
+  pageBack: ["Page before", "Seite davor"],
+  pageOn: ["Next page", "Nächste Seite"],
+  pageIs: ["{0} to {1} of {2}", "{0} bis {1} von {2}"],
+  found: ["Accounts with this in their names:", "Konten mit diesem im Namen:"],
+  foundSome: [
+    "{0} of {1} accounts with this in their names. Type more of it.",
+    "{0} von {1} Konten mit diesem im Namen. Tippen Sie mehr davon."
+  ],
+  package: ["Package", "Paket"],
+  packages: ["Or sell a package:", "Oder verkaufen Sie ein Paket:"],
+  paid: ["Paid", "Bezahlt"],
+  fromUse: ["{0} from the first use", "{0} ab der ersten Nutzung"],
+  fromSale: ["{0} from the sale", "{0} ab dem Verkauf"],
+  validUntil: ["until {0}", "bis {0}"],
+  questionPackage: [
+    "Sell the package {1} for {2} to {0}? It puts {3} on the account.",
+    "Das Paket {1} für {2} an {0} verkaufen? Es bucht {3} auf das Konto."
+  ],
   none: ["None", "Keine"],
   since: ["Since {0}, sold in this browser.", "Seit {0}, in diesem Browser verkauft."],
   receipt: ["Receipt", "Beleg"],

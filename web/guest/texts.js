@@ -14,7 +14,9 @@ const TEXTS = {
   cost: ["Cost", "Preis"],
   number: ["Number", "Nummer"],
   sum: ["Sum", "Betrag"],
-  more: ["Show all", "Alle anzeigen"],
+  pageBack: ["Page before", "Seite davor"],
+  pageOn: ["Next page", "Nächste Seite"],
+  pageIs: ["{0} to {1} of {2}", "{0} bis {1} von {2}"],
   open: ["still on", "läuft noch"],
   ended: ["ended", "beendet"],
   earlier: ["Earlier sessions", "Frühere Sitzungen"],
@@ -27,6 +29,11 @@ const TEXTS = {
   in: ["uploads only", "nur Senden"],
   out: ["downloads only", "nur Laden"],
   free: ["no charge for data", "Daten kosten nichts"],
+  freeTime: ["no charge for time", "Zeit kostet nichts"],
+  later: [
+    "What this buys shows after your first session.",
+    "Wofür es reicht, steht nach Ihrer ersten Sitzung hier."
+  ],
   owe: ["overdrawn", "überzogen"],
   buy: ["Buy a voucher at the front desk.", "Einen Gutschein gibt es an der Rezeption."],
   give: [

@@ -165,11 +165,7 @@ def keep_draft(account, guest):
     if not os.path.isdir(DRAFTS):
         os.makedirs(DRAFTS, mode=0o700)
         files.sync_folder(os.path.dirname(DRAFTS))
-    path = os.path.join(DRAFTS, f"{account}.json")
-    files.remove(path + ".new")
-    files.make(path + ".new", json.dumps(guest).encode())
-    os.rename(path + ".new", path)
-    files.sync_folder(DRAFTS)
+    files.replace(os.path.join(DRAFTS, f"{account}.json"), json.dumps(guest).encode())
 
 
 def drafts():

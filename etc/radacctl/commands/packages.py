@@ -23,8 +23,9 @@ is a serial number, as t-0123456789ab, or a sheet. A sale at the desk's page cou
 `make` makes the databases, once, as the set-up does. `mend` ends what had ended, if the databases
 are those of an older copy: each start of FreeRADIUS gives it. `tick` is what
 radacctd-packages.timer gives each minute: it ends sessions that are over, and takes once what is
-left on a login that ended, as a debit LAPSE-.. of its own. It does so once no report was heard for three intervals, and, at the end
-of a validity, once the clock has been steady for an hour.
+left on a login that ended, as a debit LAPSE-.. of its own. It does so once no report was heard for
+three intervals, and, at the end of a validity, once the clock has been steady for an hour. It also
+writes the packages where the front desk's page reads them.
 
 It ends with 0 if all was done, with 1 if not, which it says, and with 2 for a bad command line.
 """
@@ -361,6 +362,7 @@ def tick(words):
     except BlockingIOError:
         return 0
     own_log()
+    write_for_pages()
     logins_store, now = store(), int(time.time())
     mended = logins.mend(logins_store)
     if mended:
@@ -378,6 +380,22 @@ def tick(words):
     if done:
         print(f"lapsed: {done}")
     return 0
+
+
+def write_for_pages(path=packages.PAGES):
+    """Writes what the front desk's page has of the packages, if it changed. While their file is
+    wrong the page keeps what it has. A site without pages has no folder for it.
+    """
+    if not os.path.isdir(os.path.dirname(path)):
+        return
+    try:
+        known, _ = packages.read()
+        plans = plans_in(f"{os.path.dirname(site.BALANCES)}/plans.csv")
+        wanted = packages.for_pages(known, plans)
+        if files.text(path) != wanted:
+            files.replace(path, wanted.encode(), 0o644)
+    except (packages.Wrong, OSError) as why:
+        say(f"the pages keep the packages that they have: {why}")
 
 
 def mend_guests(logins_store, words):

@@ -4,8 +4,9 @@
 
 FOLDER/plans.json becomes a link to FILE, which the service writes before each start of the server:
 the plans that are in force, and no secret or key. FOLDER/settings.json is made if it is not there:
-the name of the house, the address of the pages, the money's name and its number of decimals. Change
-it with an editor; it is never overwritten.
+the name of the house, the address of the pages, the money's name and its number of decimals, and
+the time_classes of FreeRADIUS' settings, whose plans count seconds. Change it with an editor; it is
+never overwritten.
 
 FILE is /var/lib/radacctd-balances/plans.json, FOLDER is /etc/radacctd-web; the folder is made if it
 is not there. Give the command once. A second time changes nothing.
@@ -21,16 +22,13 @@ from radacctl import files, program
 from radacctl.program import fail
 
 PLANS = "/var/lib/radacctd-balances/plans.json"
-SETTINGS = {"name": "", "url": "", "currency": "", "decimals": 2}
+SETTINGS = {"name": "", "url": "", "currency": "", "decimals": 2, "time_classes": ""}
 
 
 def write(path, value):
     """Writes a file, whole and on the disk or not at all, for everyone to read."""
     text = json.dumps(value, indent=2, ensure_ascii=False) + "\n"
-    files.remove(path + ".new")
-    files.make(path + ".new", text.encode(), 0o644)
-    os.rename(path + ".new", path)
-    files.sync_folder(os.path.dirname(path))
+    files.replace(path, text.encode(), 0o644)
     print(f"{path} is written")
 
 

@@ -6,7 +6,7 @@ import os
 import re
 import ssl
 
-from radacctl import files, money, site
+from radacctl import files, freeradius, money, site
 from radacctl.doctor import kind as kinds
 from radacctl.doctor import look
 from radacctl.doctor.faults import Fault
@@ -105,6 +105,10 @@ def settings():
         elif not found["url"].startswith("https://"):
             yield Fault("pages-settings", f"{money.SETTINGS}: url does not begin with https://",
                         "write it there")
+        classes = freeradius.time_classes()
+        if classes and found["time_classes"] != classes:
+            yield Fault("pages-settings", f"{money.SETTINGS} has other time_classes than FreeRADIUS",
+                        f"write there: {classes}")
     except (OSError, ValueError) as why:
         yield Fault("pages-settings", str(why), "radacctl pages; then write your values there")
     path = f"{WEB}/plans.json"

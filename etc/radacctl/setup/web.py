@@ -7,7 +7,7 @@ import secrets
 import tempfile
 import time
 
-from radacctl import files, money, site
+from radacctl import files, freeradius, money, site
 from radacctl.commands.key import LETTERS
 from radacctl.setup import pair, steps
 from radacctl.setup.alone import NOTES, REDEEM_KEY, Command, File, Folder, is_known_group, unit
@@ -115,7 +115,8 @@ def settings(old, answers):
     except (ValueError, TypeError):
         raise steps.Failed(f"{money.SETTINGS} is no object of settings: mend it, or move it away")
     found |= {"name": answers.name, "url": f"https://{answers.host}",
-              "currency": answers.currency, "decimals": answers.decimals}
+              "currency": answers.currency, "decimals": answers.decimals,
+              "time_classes": freeradius.time_classes()}
     return json.dumps(found, indent=2, ensure_ascii=False) + "\n"
 
 

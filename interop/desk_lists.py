@@ -1,0 +1,209 @@
+"""Rows of interop/pages: packages as buttons, accounts found by a part of a name, long lists by
+pages, plans of seconds. The desk is the stand-in of shifts.py: no program is needed.
+"""
+
+import json
+import os
+import time
+
+import shifts
+import web_pages
+from browser import Browser
+from served import check
+
+OVERDRAWN = 300
+SESSIONS = 10_000
+NAMES = ["muller-1127-acde", "Muller 2", "Zo%C3%AB 1126", "room 12", "a%2Cb", "o'neil-1127-xyxy"]
+# A title that a page would run, if it took it for anything but a text.
+ODD = {"name": "odd", "title": "<img src=x onerror=alert(1)>", "price": 100, "credit": 50,
+       "from": "first use", "seconds": 5400, "devices": 1, "until": None}
+PLANS = {"default": {"block": 1048576, "unit": 1, "count": "both"},
+         "debit": {"block": 1, "unit": 1, "count": "both"},
+         "hour": {"block": 60, "unit": 2, "count": "in"}}
+
+
+class Desk(shifts.Desk):
+    """The stand-in with accounts, debts and a guest."""
+
+    def __init__(self):
+        super().__init__()
+        self.accounts, self.debts, self.sessions, self.plans = {}, [], [], PLANS
+        self.classes = "^hour$"
+
+    def balances(self):
+        rows = super().balances().decode().splitlines()[1:]
+        quoted = [f'"{it}",{left},0' for it, left in self.accounts.items()]
+        return "\n".join(["account,balance,overrun", *quoted, *rows, ""]).encode()
+
+    def get(self, to):
+        answers = {
+            "overruns": lambda: {"overruns": self.debts},
+            "plans.json": lambda: self.plans,
+            "balance": lambda: {"account": "al", "balance": 760, "overrun": 0},
+            "sessions": lambda: {"account": "al", "sessions": self.sessions},
+            "topups": lambda: {"account": "al", "topups": []},
+            "settings.json": lambda: {"name": "", "currency": "EUR", "decimals": 2,
+                                      "time_classes": self.classes},
+        }
+        name = to.path.rsplit("/", 1)[1]
+        if to.path == "/":
+            return self.send(to, 200, "text/html; charset=utf-8",
+                             web_pages.text_of("guest").encode())
+        if name in answers:
+            return self.send(to, 200, "application/json", json.dumps(answers[name]()).encode())
+        return super().get(to)
+
+
+def session(at, kind="default", total=1 << 20):
+    return {"calling": "", "cause": 0, "charged": "1", "class": kind, "client": "ap1",
+            "first": at, "framed": "", "input": total, "last": at, "output": 0, "seconds": 0,
+            "session": f"s{at}", "state": "stopped", "total": total}
+
+
+def typed(browser, account):
+    browser.js("const it = document.getElementById('account'); it.value = arguments[0];"
+               "it.dispatchEvent(new Event('input', { bubbles: true }))", account)
+
+
+def buttons(browser, place):
+    return browser.js("return [...document.querySelectorAll(arguments[0] + ' button')]"
+                      ".filter((it) => it.getClientRects().length).map((it) => it.textContent)",
+                      place)
+
+
+def opened(browser, desk):
+    browser.go(f"http://localhost:{desk.port}/desk/")
+    check("the desk is ready", browser.shows("Ready.", seconds=30), True)
+    browser.js("const d = document.getElementById('desk'); d.value = 'd1'; d.oninput()")
+
+
+def finds(browser, desk):
+    """An account is found by any part of its name, in any case, with or without umlauts."""
+    desk.accounts = dict.fromkeys(NAMES, 500)
+    opened(browser, desk)
+    wanted = {"MÜLL": ["muller-1127-acde", "Muller 2"], "zoe": ["Zoë 1126"],
+              "1127": ["muller-1127-acde", "o'neil-1127-xyxy"], ",B": ["a,b"], "zzz": [], "": []}
+    found = {}
+    for text in wanted:
+        typed(browser, text)
+        found[text] = buttons(browser, "#found")
+    found["MÜLL"].sort(reverse=True)
+    check("accounts are found by any part of a name, in any case", found, wanted)
+    typed(browser, "room 12")
+    check("one that is typed whole is not offered again", buttons(browser, "#found"), [])
+    typed(browser, "oom")
+    browser.click("#found button")
+    got = (browser.js("return document.getElementById('account').value"), browser.focused())
+    check("its button types it, and goes on to the sum", got, ("room 12", "sum"))
+    shown = browser.shows("Balance 5.00 EUR", "#balance")
+    check("with its balance", shown, True)
+    desk.accounts = {f"guest-{at:05}": at for at in range(50_000)}
+    browser.js("return refresh()")
+    begun = time.monotonic()
+    typed(browser, "UEST-0")
+    got = (len(buttons(browser, "#found")), "8 of 10,000" in browser.text("#found-title"))
+    check("of 10,000 accounts 8 are shown", got, (8, True))
+    check("soon", time.monotonic() - begun < 5, True)
+
+
+def sells_packages(browser, desk):
+    """Each package is a button: what is paid is its price, and what is credited its credit."""
+    desk.accounts = {"room 12": 500}
+    desk.more["packages.json"] = json.dumps({"packages": [*shifts.PACKAGES, ODD, {}]}).encode()
+    opened(browser, desk)
+    shown = [it.replace("\u00a0", " ") for it in buttons(browser, "#packages")]
+    check("each package is a button, and what is none is not", shown, [
+        "5 GB, 7 days, 9.00 EUR, 7 days from the first use",
+        "Night, 0.00 EUR, 12 hours from the sale",
+        "<img src=x onerror=alert(1)>, 1.00 EUR, 90 minutes from the first use"])
+    check("a title is a text", browser.js("return document.querySelectorAll('main img').length"), 0)
+    browser.click("#packages button")
+    check("without an account nothing is asked", browser.shows("Type the account"), True)
+    typed(browser, "room 12")
+    browser.click("#packages button")
+    asked = "Sell the package 5 GB, 7 days for 9.00 EUR to room 12? It puts 5.00 EUR on the account."
+    check("a package is asked about", browser.text("#question"), asked)
+    browser.click("#yes")
+    check("then sold", browser.shows("D1-", "#receipt"), True)
+    receipt = browser.text("#receipt")
+    check("the receipt has package and price", ("5 GB, 7 days" in receipt, "9.00 EUR" in receipt,
+                                                "5.00 EUR" in receipt), (True, True, False))
+    check("the credit is on the account", list(desk.credits[""].values()), [("room 12", 500)])
+    check("the total has what was paid", browser.shows("9.00 EUR", "#totals"), True)
+    typed(browser, "t-0123456789ab")
+    browser.js("document.querySelectorAll('#packages button')[1].focus()")
+    browser.keys("\ue007")
+    browser.shows("is new", "#question")
+    browser.keys("\ue007\ue007")
+    time.sleep(1)
+    check("of a new account two more Enters sell nothing", len(desk.credits[""]), 1)
+    check("the button says that it is new", browser.text("#yes"), "Sell to the new account")
+    browser.click("#no")
+    del desk.more["packages.json"]
+    desk.more["packages.json"] = b'{"packages": "none"}'
+    browser.js("return refresh()")
+    check("a file that is none leaves no button", buttons(browser, "#packages"), [])
+
+
+def long_lists(browser, desk):
+    """300 who are overdrawn are a page of 20, who owes most first."""
+    desk.debts = [{"account": f"debt-{at}", "overrun": 100 + at} for at in range(OVERDRAWN)]
+    opened(browser, desk)
+    browser.js("return refresh()")
+    rows = lambda: browser.js("return [...document.getElementById('over').rows].map((it) =>"
+                              " it.cells[0].textContent)")
+    check("20 of 300 are shown", (len(rows()), rows()[0]), (20, "debt-299"))
+    check("and which they are", browser.text("#over-pages span"), "1 to 20 of 300")
+    check("the page stays short", browser.height() < 2500, True)
+    browser.js("document.querySelectorAll('#over-pages button')[1].click()")
+    check("the next page", (rows()[0], browser.text("#over-pages span")),
+          ("debt-279", "21 to 40 of 300"))
+    browser.js("return refresh()")
+    check("stays as balances are read again", rows()[0], "debt-279")
+    for _ in range(20):
+        browser.js("document.querySelectorAll('#over-pages button')[1].click()")
+    check("the last one is the last", rows()[-1], "debt-0")
+    desk.debts = desk.debts[:3]
+    browser.js("return refresh()")
+    hidden = browser.js("return document.getElementById('over-pages').hidden")
+    check("a short list has no pages", (len(rows()), hidden), (3, True))
+
+
+def guest(browser, desk):
+    """10,000 sessions are shown at once, by pages; a plan of seconds counts minutes."""
+    desk.sessions = [session(at) for at in range(SESSIONS)]
+    desk.sessions[-1] = session(SESSIONS, "hour", 3601)
+    begun = time.monotonic()
+    browser.go(f"http://localhost:{desk.port}/#k=guest-key-0000001")
+    check("10,000 sessions are shown", browser.shows("1 to 20 of 10,000", "#sessions-pages"), True)
+    check("soon", time.monotonic() - begun < 8, True)
+    # 7.60 EUR at 2 cents a minute.
+    check("minutes are left", browser.shows("about 380 minutes more", "#octets"), True)
+    check("and no octets", "MB" in browser.text("#octets"), False)
+    check("a session of minutes", "61 minutes" in browser.text("#sessions tr"), True)
+    browser.js("document.querySelectorAll('#sessions-pages button')[1].click()")
+    check("the next page has octets", "1.0 MB" in browser.text("#sessions"), True)
+    for sessions, plans, wanted in (
+        ([], PLANS, "What this buys shows after"),
+        ([], {"default": PLANS["default"], "debit": PLANS["debit"]}, "about 760.0 MB more"),
+        ([session(1, "constructor")], PLANS, "about 760.0 MB more"),
+    ):
+        desk.sessions, desk.plans = sessions, plans
+        browser.click("#again")
+        check(f"{len(sessions)} sessions, {len(plans)} plans: {wanted}",
+              browser.shows(wanted, "#octets"), True)
+    desk.classes, desk.sessions = "(", [session(1, "hour", 60)]
+    browser.go(f"http://localhost:{desk.port}/#k=guest-key-0000001")
+    check("a pattern that is none counts no seconds", browser.shows("MB more", "#octets"), True)
+
+
+def run(folder):
+    browser, desk = Browser(os.path.join(folder, "lists")), Desk()
+    try:
+        browser.open()
+        for part in (finds, sells_packages, long_lists, guest):
+            desk.reset([""])
+            part(browser, desk)
+    finally:
+        browser.kill()
+        desk.end()
