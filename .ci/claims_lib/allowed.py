@@ -26,7 +26,6 @@ FREERADIUS = each(
     "access-servers/*.conf",
     "ap1=10.0.0.1",
     "detail.work",
-    "mods-enabled/radacctd-pair",
     "radacctd-queue.clock",
     "radacctd-queue.fault",
     "radacctd-queue.undated",
@@ -78,6 +77,9 @@ ALLOWED = {
     },
     "CHANGELOG.md": {
         "BOOK.replaced-DATE-TIME": "restore makes it",
+        **each("FreeRADIUS' own file, or a copy of one", "mods-enabled/radacctd-pair"),
+        **each("a copy of a file of etc/freeradius, and lines of it", "radacctd/settings.conf"),
+        **each("a line of a client in FreeRADIUS", "radacctd_stamp", "mirror"),
         "radacctd 0.1.0 (schema 3)": "what --version prints",
     },
     "docs/BOOK.md": {
@@ -115,7 +117,6 @@ ALLOWED = {
     },
     "docs/DESK.md": {
         **each("Debian's packages", "fcgiwrap", "fonts-dejavu-core", "fonts-droid-fallback"),
-        **each("Debian's package", "python3-reportlab", "qrencode"),
         "adm": "a group of the system",
         "ignoreip": "fail2ban's own",
         **each("nginx' paths", "/desk/", "/redeem/"),
@@ -175,7 +176,6 @@ ALLOWED = {
         "radacctd/settings.conf": "a copy of a file of etc/freeradius",
     },
     "man/radacctd-nightly.8": {"exports/DATE": "a folder that it makes"},
-    "docs/SITE.md": {"a%2Cb": "an account of an example"},
     "docs/TROUBLE.md": {
         **each(
             "an example of a line",
@@ -187,7 +187,4 @@ ALLOWED = {
     },
     "man/radacctd.8": {".new": "the end of a name"},
     "man/radacctd.8.in": {".new": "the end of a name"},
-    "docs/WATCHING.md": {
-        'ARGS="--collector.textfile.directory=/var/lib/radacctd-counts"': "node_exporter's own",
-    },
 }

@@ -1,7 +1,10 @@
-"""The table of the configuration on docs/SITE.md, made of its manual page."""
+"""The table of the configuration on docs/SITE.md, made of its manual page, and that of the service's
+settings on docs/INSTALL.md, made of their sample.
+"""
 
 import re
 
+from claims_lib import contracts
 from claims_lib.tree import text_of
 
 PAGE = "man/radacctd.toml.5"
@@ -33,4 +36,19 @@ def rows(checker):
             first = ""
 
 
-MAKERS = {"configuration": rows}
+SAMPLE = "etc/radacctd.default"
+
+
+def settings(_checker):
+    """Each setting of the service with its default, and the first sentence of its comment."""
+    yield "| Name | Default | What it is |"
+    yield "|---|---|---|"
+    for part in text_of(SAMPLE).split("\n\n")[1:]:
+        about = contracts.first_of(" ".join(re.findall(r"(?m)^# (.*)$", part))).rstrip(".")
+        about = re.sub(r"(--[a-z-]+(?: once)?|/var/\S+)", r"`\1`", about)
+        for name, value in re.findall(r'(?m)^#(\w+)="?([^"\n]*)"?$', part):
+            value = f" `{value}` " if value else " "
+            yield f"| `{name}` |{value}| {about} |"
+
+
+MAKERS = {"configuration": rows, "settings": settings}

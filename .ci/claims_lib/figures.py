@@ -22,10 +22,12 @@ FIGURES = (
     ("acct_desk/src/framing.rt", "HEAD_LIMIT", rf"the head exceeds {N}|64 fields, at most {N}"),
     ("acct_desk/src/framing.rt", "BODY_LIMIT", rf"octets, or the body {N}"),
     ("acct_program_commands/src/drop_log.rt", "MOST", rf"keeps {N} such pairs"),
-    ("acct_net_callers/src/caller.rt", "SECONDS_TO_ASK", rf"request is complete \| {N} seconds"),
-    ("acct_net_callers/src/caller.rt", "SECONDS_OF_SILENCE", rf"sends its request \| {N} seconds"),
-    ("acct_net_callers/src/caller.rt", "SECONDS_TO_TAKE", rf"takes its response \| {N} seconds"),
-    ("acct_net_callers/src/caller.rt", "SHORTEST_STAY", rf"keeps its place for \| {N} milliseconds"),
+    ("acct_net_callers/src/caller.rt", "SECONDS_TO_ASK", rf"sends its request \| in {N} seconds"),
+    ("acct_net_callers/src/caller.rt", "SECONDS_OF_SILENCE",
+     rf"sends its request \| in \d+ seconds, silent for at most {N}"),
+    ("acct_net_callers/src/caller.rt", "SECONDS_TO_TAKE",
+     rf"takes its response \| silent for at most {N} seconds"),
+    ("acct_net_callers/src/caller.rt", "SHORTEST_STAY", rf"\| keeps its place {N} milliseconds"),
 )
 
 

@@ -1,0 +1,62 @@
+"""The statuses of the desk, as docs/DESK.md lists them: each with its body, as the sources have it.
+
+The order is the one in which the desk decides. The causes stand here. A body without a cause is a
+finding, and so is a cause of a body that the desk never sends.
+"""
+
+import re
+
+from claims_lib.tree import text_of, without_comments
+
+SOURCES = (
+    "crates/acct_desk/src/refusals.rt",
+    "crates/acct_desk/src/handling.rt",
+    "crates/acct_desk_pages/src/json_response.rt",
+)
+NUMBERS = {
+    "OK": 200, "CREATED": 201, "BAD_REQUEST": 400, "UNAUTHORIZED": 401, "FORBIDDEN": 403,
+    "NOT_FOUND": 404, "METHOD_NOT_ALLOWED": 405, "CONFLICT": 409, "PAYLOAD_TOO_LARGE": 413,
+    "UNPROCESSABLE_ENTITY": 422, "SERVICE_UNAVAILABLE": 503,
+}
+# The words of each body with its cause. Bad requests are found before the key, and after it.
+CAUSES = (
+    ("bad request", "no whole HTTP request, a transfer coding, or a bad or second Content-Length"),
+    ("too large", "the head exceeds 8,192 octets, or the body 4,096"),
+    ("no such path", "none of the five paths, compared octet by octet"),
+    ("wrong method", "the other method; the line `Allow` names the right one"),
+    ("no key", "no `Desk-Key`, or no such key; the first of several counts"),
+    ("not allowed", "a guest's key at a cashier's path, or the reverse"),
+    ("bad request", "the body of a top-up is no JSON"),
+    ("bad topup", "a member of the top-up is missing or out of its bounds"),
+    ("voucher differs", "this number was credited to another account, or with another sum"),
+    ("balance limit", "the balance would leave its range, 2^62 either way"),
+    ("unavailable", "the book could not be read or written"),
+    ("new", "the voucher was credited"),
+    ("repeat", "this very voucher was credited before"),
+)
+
+
+def bodies():
+    """The status and the kind of each body, by its words."""
+    found = {}
+    for path in SOURCES:
+        text = without_comments(text_of(path))
+        call = r'(error|result)_octets\(\s*alloc,\s*StatusCode::(\w+),\s*([^;]*?)"([a-z ]+)",?\s*\)'
+        for kind, status, _, words in re.findall(call, text):
+            found[words] = (NUMBERS[status], kind)
+    return found
+
+
+def rows(checker):
+    found = bodies()
+    for words in sorted(set(found) ^ {it for it, _ in CAUSES}):
+        checker.find(1, f"`{words}`: no such body, or no cause: see claims_lib/statuses.py")
+    yield "| Status | Body | Cause |"
+    yield "|---|---|---|"
+    for words, cause in CAUSES:
+        status, kind = found.get(words, ("", ""))
+        yield f'| {status} | `{{"{kind}":"{words}"}}` | {cause} |'
+    yield "| 200 | a page | a question was answered |"
+
+
+MAKERS = {"statuses": rows}
