@@ -1,5 +1,6 @@
 """Rows of interop/pages: a pair, shards, and cashiers with client certificates."""
 
+import contextlib
 import json
 import os
 import subprocess
@@ -59,6 +60,18 @@ class Site:
     def start(self, at):
         more = ["--balances", self.balances[at], "--balances-every", "1"]
         self.servers[at].start(1 << 62, more)
+
+    def has_written(self, at, account):
+        """Waits until a server's balances have an account. The page knows of no later ones, and a
+        server without events looks after five seconds whether it is time to write them.
+        """
+        until = time.monotonic() + 20
+        while time.monotonic() < until:
+            with contextlib.suppress(OSError), open(self.balances[at], encoding="ascii") as file:
+                if f"\n{account}," in file.read():
+                    return True
+            time.sleep(0.1)
+        return False
 
     def end(self):
         self.proxy.end()
@@ -162,7 +175,7 @@ def shards(folder):
         check("a key gets to its book", (status, json.loads(body)["balance"]), (200, 100))
         check("another key gets to the first", site.proxy.status("/me/balance", key=GUEST), 200)
         check("eve is in a wrong book", site.proxy.sell("eve", 100, "S-3", book="s0"), 201)
-        time.sleep(2)
+        check("whose balances say so", site.has_written(0, "eve"), True)
         browser.open()
         browser.log_in("anna", "anna-has-a-pass")
         browser.go(site.proxy.url("/desk/"))
