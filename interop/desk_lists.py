@@ -1,5 +1,6 @@
 """Rows of interop/pages: packages as buttons, accounts found by a part of a name, long lists by
-pages, plans of seconds. The desk is the stand-in of shifts.py: no program is needed.
+pages, plans of seconds, guests and corrections. The desk and the clerk are stand-ins, as that of
+shifts.py: no program is needed.
 """
 
 import json
@@ -29,6 +30,20 @@ class Desk(shifts.Desk):
         super().__init__()
         self.accounts, self.debts, self.sessions, self.plans = {}, [], [], PLANS
         self.classes = "^hour$"
+        # What the clerk answers to each act, in their order, and what it was asked.
+        self.answers, self.acts = {}, []
+
+    def post(self, to):
+        if to.path != "/desk/clerk":
+            return super().post(to)
+        asked = json.loads(to.rfile.read(int(to.headers["Content-Length"])))
+        self.acts.append(asked)
+        said = self.answers.get(asked["act"], [(503, {"error": "away"})])
+        status, body = said.pop(0) if len(said) > 1 else said[0]
+        return self.send(to, status, "application/json", json.dumps(body).encode())
+
+    def numbers(self, act):
+        return [it.get("number") or it.get("voucher") for it in self.acts if it["act"] == act]
 
     def balances(self):
         rows = super().balances().decode().splitlines()[1:]
@@ -43,7 +58,7 @@ class Desk(shifts.Desk):
             "sessions": lambda: {"account": "al", "sessions": self.sessions},
             "topups": lambda: {"account": "al", "topups": []},
             "settings.json": lambda: {"name": "", "currency": "EUR", "decimals": 2,
-                                      "time_classes": self.classes},
+                                      "time_classes": self.classes, "clerk": True},
         }
         name = to.path.rsplit("/", 1)[1]
         if to.path == "/":
@@ -197,12 +212,142 @@ def guest(browser, desk):
     check("a pattern that is none counts no seconds", browser.shows("MB more", "#octets"), True)
 
 
-def run(folder):
+CARD = {"account": "muller-1128-acde", "password": "aacde-ffhjk", "house": "H", "wifi": "Hotel",
+        "title": "5 GB, 7 days", "price": 900, "credit": 500, "seconds": 604800,
+        "from": "first use", "until": None,
+        "codes": [{"across": 3, "dark": [[0, 0, 3], [1, 1, 1]]}, {"across": 0, "dark": []}]}
+MADE = (200, {"result": "new", "account": CARD["account"], "card": CARD})
+AWAY, BUSY = (503, {"error": "away"}), (429, {"error": "too many"})
+
+
+def asks_guest(browser, name):
+    browser.js("document.getElementById('guest').value = arguments[0]", name)
+    browser.click("#guest-packages button")
+
+
+def makes_guests(browser, desk):
+    """A guest is made by name and package: once, whatever is lost or clicked twice."""
+    desk.answers = {"may": [(200, {"guests": True, "corrections": False})], "guest": [AWAY, MADE]}
+    opened(browser, desk)
+    check("who may make guests has the form", browser.shows("New guest", "#guest-part"), True)
+    browser.js("document.getElementById('guest-part').scrollIntoView()")
+    asks_guest(browser, "  ")
+    check("a guest needs a name", browser.shows("Type the guest's name"), True)
+    asks_guest(browser, "Anna  M\u00fcller")
+    asked = "Make a login for Anna M\u00fcller with the package 5 GB, 7 days for 9.00 EUR?"
+    check("a guest is asked about", browser.text("#question"), asked)
+    check("Enter makes none", browser.focused(), "question")
+    browser.js("const it = document.getElementById('yes'); it.click(); it.click()")
+    check("without an answer it is kept", browser.shows("asked for again by itself"), True)
+    # The stand-in's page has no timers.
+    browser.js("return sendAgain()")
+    check("and comes by itself", browser.shows("can log in as muller-1128-acde", seconds=30), True)
+    numbers = desk.numbers("guest")
+    check("by the same number", (len(numbers), len(set(numbers))), (2, 1))
+    receipt = browser.text("#receipt")
+    wanted = ("Anna M\u00fcller", "muller-1128-acde", "aacde-ffhjk", "Hotel", "9.00 EUR", numbers[0])
+    check("the card has all of it", [it for it in wanted if it not in receipt], [])
+    drawn = browser.js("return [...document.querySelectorAll('#codes path')].map((it) =>"
+                       " it.getAttribute('d'))")
+    check("and its QR code", drawn, ["M0 0h3v1h-3zM1 1h1v1h-1z"])
+    check("what was paid counts", browser.shows("9.00 EUR", "#totals"), True)
+    kept = browser.js("return JSON.stringify(kept)")
+    check("the password is not kept on the disk", CARD["password"] in kept, False)
+    desk.answers["guest"] = [(200, {"result": "repeat", "account": CARD["account"], "card": None})]
+    browser.js("cards.clear()")
+    browser.js("document.querySelector('#sales button').click()")
+    check("later the card is no longer given", browser.shows("no longer shown"), True)
+    for answer, said in ((BUSY, "this hour has had"), ((409, {"error": "keys full"}), "no more guests"),
+                         ((404, {"error": "no such package"}), "No login was made")):
+        desk.answers["guest"] = [answer]
+        asks_guest(browser, "<b>Bert</b>")
+        browser.click("#yes")
+        check(f"{answer[1]['error']}: it is said", browser.shows(said), True)
+    check("and nothing of them counts", [row[4] for row in totals(browser)], ["9.00 EUR"])
+    check("a name is a text", browser.js("return document.querySelectorAll('main b').length"), 0)
+    check("none is sent again", browser.text("#pending").strip(), "None")
+
+
+def totals(browser):
+    rows = browser.js("return [...document.getElementById('totals').rows].map((row) =>"
+                      " [...row.cells].map((it) => it.innerText))")
+    return [[it.replace("\u00a0", " ") for it in row] for row in rows]
+
+
+def finds_guests(browser, desk):
+    """A guest is found by name, and checked out."""
+    guests = [{"account": "muller-1128-acde", "name": "Anna M\u00fcller", "package": "week",
+               "state": "live", "first": None, "ends": None},
+              {"account": "x-1128-acde", "name": "<i>M\u00fcller</i>", "package": "week",
+               "state": "ended", "first": 1, "ends": 2}]
+    desk.answers = {"may": [(200, {"guests": True, "corrections": False})],
+                    "find": [(200, {"guests": guests})], "end": [(200, {"result": "new"})]}
+    opened(browser, desk)
+    browser.shows("New guest", "#guest-part")
+    for text in ("m", "m\u00fc", "m\u00fcll"):
+        typed(browser, text)
+    check("guests are found by name", browser.shows("Anna M\u00fcller", "#guests"), True)
+    check("once typing rests", [it["text"] for it in desk.acts if it["act"] == "find"],
+          ["m\u00fcll"])
+    check("who has ended has no second button", len(buttons(browser, "#guests")), 3)
+    check("a name is a text", browser.js("return document.querySelectorAll('main i').length"), 0)
+    browser.js("window.confirm = () => true; document.querySelectorAll('#guests button')[1].click()")
+    check("checked out", browser.shows("can no longer log in"), True)
+    check("by account", [it for it in desk.acts if it["act"] == "end"],
+          [{"act": "end", "account": "muller-1128-acde"}])
+
+
+def corrects(browser, desk):
+    """A cashier with that right takes a sale back: once, and out of the totals."""
+    desk.answers = {"may": [(200, {"guests": False, "corrections": True})],
+                    "back": [AWAY]}
+    opened(browser, desk)
+    browser.js("return refresh()")
+    check("without the right there is no form for guests",
+          browser.js("return document.getElementById('guest-part').hidden"), True)
+    browser.submit({"account": "room 12", "sum": "5.00"})
+    browser.click("#yes")
+    browser.shows("5.00 EUR", "#totals")
+    browser.js("window.confirm = () => true;"
+               "document.querySelector('#sales button:last-child').click()")
+    check("no command is shown", browser.shows("is taken from room 12", "#correction"), True)
+    browser.js("const it = document.getElementById('took'); it.click(); it.click()")
+    check("it waits for an answer", browser.shows("is being taken back", "#sales"), True)
+    check("and counts until then", totals(browser)[0][4], "5.00 EUR")
+    desk.answers["back"] = [(200, {"result": "new"})]
+    browser.js("return sendAgain()")
+    check("then it is taken back", browser.shows("taken back", "#message", 30), True)
+    check("and out of the totals", totals(browser), [["None"]])
+    number = list(desk.credits[""])[0]
+    wanted = {"act": "back", "account": "room 12", "sum": 500, "voucher": number}
+    asked = [it for it in desk.acts if it["act"] == "back"]
+    check("by the same request", (len(asked) > 1, [it for it in asked if it != wanted]), (True, []))
+    check("nobody undoes that", buttons(browser, "#sales"), ["Receipt"])
+    desk.answers["back"] = [(409, {"error": "differs"})]
+    browser.submit({"account": "room 12", "sum": "6.00"})
+    browser.click("#yes")
+    browser.shows("6.00 EUR", "#totals")
+    browser.js("document.querySelector('#sales button:last-child').click();"
+               "document.getElementById('took').click()")
+    check("one that is refused is said", browser.shows("was not taken back"), True)
+    check("and counts", totals(browser)[0][4], "6.00 EUR")
+
+
+def forgets(browser, desk):
+    browser.go(f"http://localhost:{desk.port}/settings.json")
+    browser.js("return new Promise((go) => { indexedDB.deleteDatabase('desk').onsuccess = go; })")
+
+
+PARTS = (finds, sells_packages, long_lists, guest, makes_guests, finds_guests, corrects)
+
+
+def run(folder, names=()):
     browser, desk = Browser(os.path.join(folder, "lists")), Desk()
     try:
         browser.open()
-        for part in (finds, sells_packages, long_lists, guest):
+        for part in [it for it in PARTS if not names or it.__name__ in names]:
             desk.reset([""])
+            forgets(browser, desk)
             part(browser, desk)
     finally:
         browser.kill()

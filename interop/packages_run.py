@@ -11,6 +11,7 @@ HERE = os.path.dirname(os.path.abspath(__file__))
 sys.path.insert(0, os.path.join(os.path.dirname(HERE), "etc"))
 
 from radacctl import lapses, logins, main, money, packages, site
+from radacctl.clerk import journal, rights
 from radacctl.commands import guest
 from radacctl.commands import packages as command
 
@@ -23,6 +24,7 @@ def moved(folder):
     site.program = lambda: os.environ.get("RADACCTD") or usual
     logins.LOG, command.LOCK = path("withdrawn/logins.csv"), path("tick.lock")
     guest.LOCK, guest.DRAFTS = path("guest.lock"), path("guests")
+    journal.FILE, rights.FILE = path("books/clerk.csv"), path("clerk.toml")
     lapses.MIRROR, command.SHEETS = path("run/balances.db"), path("sheets.csv")
     log = (logins.LOG,)
     changed = {

@@ -43,7 +43,7 @@ class Proxy:
         shutil.copytree(os.path.join(ROOT, "etc", "nginx"), folder)
         for name in ("log", "temp", "site"):
             os.mkdir(os.path.join(folder, name))
-        self.socket = os.path.join(folder, "redeem.socket")
+        self.socket, self.clerk = (os.path.join(folder, f"{it}.socket") for it in ("redeem", "clerk"))
         self.changes = [
             *changes,
             ("listen 443 ssl", f"listen 127.0.0.1:{self.port} ssl"),
@@ -53,6 +53,8 @@ class Proxy:
             ("/usr/local/share/radacctd/web", web_pages.folder()),
             ("/usr/local/sbin/radacctd-redeem", os.path.join(folder, "redeem")),
             ("/run/radacctd-redeem.socket", self.socket),
+            ("/usr/local/libexec/radacctd/clerk-page", os.path.join(folder, "clerk")),
+            ("/run/radacctd-clerk.socket", self.clerk),
             ("/var/log/nginx", self.logs),
             ("/etc/radacctd-web", f"{folder}/site"),
             ("/etc/nginx/radacctd", f"{folder}/radacctd"),

@@ -100,12 +100,17 @@ ALLOWED = {
         **each("FreeRADIUS' own", "home_server"),
         **each("the form of a name", "t-0123456789ab", "LAPSE-"),
     },
+    "docs/CLERK.md": each(
+        "a member of the file of rights: .ci/tools reads each", "corrections", "guests_an_hour",
+        "ends_an_hour", "corrections_an_hour"
+    ),
     "docs/DOCTOR.md": {
         **each("a fault's name: .ci/tools compares them", "book-shut", "drop-secret", "log-odd"),
         "radacctd/settings.conf": "a copy of a file of etc/freeradius",
     },
     "docs/START.md": {
         "/desk/": "nginx' path",
+        **each("a member of the answers", "desk_guests", "desk_corrections"),
         "/root/radacctd-setup": "radacctl setup makes it",
         "[sql]": "a table of the answers",
         "~before-": "a part of a name that radacctl setup makes",

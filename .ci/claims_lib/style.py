@@ -10,8 +10,8 @@ from claims_lib.tree import text_of
 
 # The most words of a page by hand, and of all pages together.
 MOST = {
-    "CHANGELOG.md": 1320,
-    "README.md": 760,
+    "CHANGELOG.md": 1340,
+    "README.md": 770,
     "docs/ACCESS-SERVERS.md": 1380,
     "docs/ARCHITECTURE.md": 1100,
     "docs/BENCHES.md": 1110,

@@ -116,7 +116,7 @@ class Site:
             return found
         return call
 
-    def ask(self, where, method, path, its_key, body):
+    def ask(self, where, method, path, its_key, body, patience=30):
         """The desk: each number once."""
         if its_key != CASHIER:
             return 401, b'{"error":"no key"}'

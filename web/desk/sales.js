@@ -4,7 +4,8 @@
 //
 // A sale is sold once a book has taken it, and counts in the shift of that moment: `sold` is the
 // shift's number. One that is taken back has `back`, with the number of the shift that did it. So a
-// wrong clock moves nothing, and a shift that has ended never changes.
+// wrong clock moves nothing, and a shift that has ended never changes. `asks` is a sale that the clerk
+// was asked to take back, until it has: then `back` has isDone, and nobody undoes it.
 const DAYS_KEPT = 40;
 let store = null, kept = { sales: [], shift: null };
 const otherWindows = "BroadcastChannel" in window ? new BroadcastChannel("sales") : null;
@@ -94,7 +95,7 @@ const endShift = (number) => inStore(async (_, shifts) => {
 // What is older, and counts neither in this shift nor in the one before.
 async function forgetOld() {
   const before = Date.now() - DAYS_KEPT * 86400000, number = kept.shift.number;
-  const isOld = (it) => it.when < before && ![number, number - 1].some((shift) => isOfShift(it, shift));
+  const isOld = (it) => it.when < before && !it.asks && ![number, number - 1].some((shift) => isOfShift(it, shift));
   const old = kept.sales.filter(isOld);
   if (old.length) await inStore(async (all) => { for (const it of old) await got(all.delete(it.voucher)); });
 }

@@ -121,32 +121,47 @@ def number_of(account):
     return f"G-{hashlib.sha256(account.encode()).hexdigest()[:24].upper()}"
 
 
+def is_name(name):
+    return name.isprintable() and 1 <= len(name) <= 60
+
+
 def new(words):
-    if not words.name.isprintable() or not 1 <= len(words.name) <= 60:
+    if not is_name(words.name):
         fail("NAME is 1 to 60 characters that can be printed", 2)
     package, site_money = sold.found_package(words.package)
     url = url_of(words)
     with locked():
         logins_store = sold.store()
         mend_all(logins_store, words)
-        account = new_account(words.name, logins_store, words.config)
-        guest = {"step": BEGUN, "name": words.name, "card": words.card,
-                 "token": keys.new_token("") if url else None, "sum": package.credit}
-        password = f"{letters(5)}-{letters(5)}"
-        keep_draft(account, guest)
-        try:
-            insert(logins_store, account, password, package, words.name)
-            add_key(account, guest, words)
-            write_card(account, password, package, site_money, guest, url)
-            keep_draft(account, {**guest, "step": ASKED})
-        except BaseException:
-            take_back(logins_store, account, guest, words)
-            raise
-        if not complete(logins_store, account, guest, words):
-            return 3
+        account, password, is_sold = make(logins_store, words, words.name, package, site_money,
+                                          url, words.card)
+    if not is_sold:
+        return 3
     where = f"the card is {words.card}" if words.card else f"{account}, password {password}"
     print(f"{words.name}: {where}; {package.title}, {site_money.shown(package.price)}")
     return 0
+
+
+def make(logins_store, words, name, package, site_money, url, card=None, note=lambda account: None):
+    """Makes a guest, all of it or nothing: account, password, and whether the desk has answered.
+
+    `note` gets the account before anything of it is made. The lock is held.
+    """
+    account = new_account(name, logins_store, words.config)
+    guest = {"step": BEGUN, "name": name, "card": card,
+             "token": keys.new_token("") if url else None, "sum": package.credit}
+    password = f"{letters(5)}-{letters(5)}"
+    note(account)
+    keep_draft(account, guest)
+    try:
+        insert(logins_store, account, password, package, name)
+        add_key(account, guest, words)
+        write_card(account, password, package, site_money, guest, url)
+        keep_draft(account, {**guest, "step": ASKED})
+    except BaseException:
+        take_back(logins_store, account, guest, words)
+        raise
+    return account, password, complete(logins_store, account, guest, words)
 
 
 def url_of(words):
@@ -211,18 +226,22 @@ def write_card(account, password, package, site_money, guest, url):
              "price": site_money.shown(package.price), "validity": package.validity()}
     texts = {name: html.escape(it) for name, it in texts.items()}
     wifi = packages.wifi()
-    found = [qr(wifi_text(wifi, account, password))] if wifi else []
-    if guest["token"]:
-        found.append(qr(f"{url}/#k={guest['token']}"))
+    drawn = [qr(it) for it in codes_of(wifi, account, password, guest["token"], url)]
     texts["wifi"] = f"<br>Wi-Fi: <b>{html.escape(wifi['name'])}</b>" if wifi else ""
     try:
-        files.make(guest["card"], CARD.format(codes="\n".join(found), **texts).encode())
+        files.make(guest["card"], CARD.format(codes="\n".join(drawn), **texts).encode())
         files.sync_folder(os.path.dirname(guest["card"]))
     except FileExistsError:
         guest["card"] = None
         raise NotMade("the card is there already: name another file") from None
     except OSError as why:
         raise NotMade(f"cannot write {guest['card']}: {why.strerror}") from None
+
+
+def codes_of(wifi, account, password, token, url):
+    """What the QR codes of a card say: the network, and the guest's page."""
+    return [*([wifi_text(wifi, account, password)] if wifi else []),
+            *([f"{url}/#k={token}"] if token else [])]
 
 
 def house():
@@ -257,16 +276,16 @@ def complete(logins_store, account, guest, words, is_lost=False):
     If an earlier try had no answer (`is_lost`), it may have been credited: then nothing is taken
     back but by the desk's own word that it has no such sale.
     """
-    found, is_lost = asked(account, guest["sum"], words, is_lost)
-    if found in (desks.NEW, desks.REPEAT):
+    result, is_lost = asked(account, guest["sum"], words, is_lost)
+    if result in (desks.NEW, desks.REPEAT):
         lapses.sold(logins_store, account.encode(), int(time.time()))
         logins_store.run(("UPDATE login SET state = 'live' WHERE account = ? AND state = 'making'",
                           (account.encode(),)))
         drop_draft(account)
         return True
-    if not is_lost or found in (desks.DIFFERS, desks.LIMIT):
+    if not is_lost or result in (desks.DIFFERS, desks.LIMIT):
         take_back(logins_store, account, guest, words)
-        raise NotMade(f"the desk did not take the sale: {found}")
+        raise NotMade(f"the desk did not take the sale: {result}")
     say(f"{account}: no answer of the desk. Nobody logs in by it until it has answered: it is "
         "asked again each minute, or by radacctl guest mend")
     return False
@@ -284,14 +303,14 @@ def asked(account, total, words, is_lost):
     while True:
         try:
             status, said = desks.ask((words.host, words.port), "POST", "/topups", key, body)
-            found = desks.meaning(status, desks.object_of(said))
-            is_lost |= found in (desks.AWAY, desks.STRANGE)
+            result = desks.meaning(status, desks.object_of(said))
+            is_lost |= result in (desks.AWAY, desks.STRANGE)
         except ConnectionRefusedError:
-            found = desks.AWAY
+            result = desks.AWAY
         except (OSError, http.client.HTTPException):
-            found, is_lost = desks.AWAY, True
-        if found != desks.AWAY or time.monotonic() > end:
-            return found, is_lost
+            result, is_lost = desks.AWAY, True
+        if result != desks.AWAY or time.monotonic() > end:
+            return result, is_lost
         time.sleep(1)
 
 
@@ -331,19 +350,25 @@ def mend_all(logins_store, words):
 
 def end(words):
     with locked():
-        logins_store, now = sold.store(), int(time.time())
-        rows = logins_store.read("SELECT state FROM login WHERE account = ? AND digest IS NULL",
-                                 names.octets_of(words.account))
-        if not rows:
-            fail(f"there is no guest {words.account}: radacctl guest list")
-        account = names.octets_of(words.account)
-        if rows[0][0] == logins.LIVE:
-            sold.own_log()
-            lapses.end(logins_store, [account], logins.ENDED, now)
-        mend_all(logins_store, words)
-        told = lapses.disconnect(logins_store, sold.uses(), now, 900, [account])
+        told = end_guest(sold.store(), words, names.octets_of(words.account))
+    if told is None:
+        fail(f"there is no guest {words.account}: radacctl guest list")
     print(f"{words.account} has ended; told {told} sessions to end. What is left lapses")
     return 0
+
+
+def end_guest(logins_store, words, account):
+    """Ends a guest; how many sessions were told to end, or None if there is no such guest."""
+    now = int(time.time())
+    rows = logins_store.read("SELECT state FROM login WHERE account = ? AND digest IS NULL",
+                             account)
+    if not rows:
+        return None
+    if rows[0][0] == logins.LIVE:
+        sold.own_log()
+        lapses.end(logins_store, [account], logins.ENDED, now)
+    mend_all(logins_store, words)
+    return lapses.disconnect(logins_store, sold.uses(), now, 900, [account])
 
 
 def mend(words):
@@ -352,18 +377,29 @@ def mend(words):
     return 0
 
 
-def show(words):
-    rows = sold.store().read(
+def folded(text):
+    """A text as people look for it: without case, and without marks above letters."""
+    parts = unicodedata.normalize("NFKD", text)
+    return "".join(it for it in parts if not unicodedata.combining(it)).casefold()
+
+
+def found(logins_store, text):
+    """The guests whose name or account has a text, in any case."""
+    wanted = folded(text)
+    for row in logins_store.read(
         "SELECT account, json_extract(notes, '$.name'), package.name, state, first, ends "
         "FROM login JOIN package ON package.id = login.package WHERE digest IS NULL "
-        "ORDER BY made, account")
+        "ORDER BY made, account"
+    ):
+        spelled, name = names.shown(row[0]), row[1] or ""
+        if wanted in folded(spelled) or wanted in folded(name):
+            yield [spelled, name, *row[2:]]
+
+
+def show(words):
     table = [["account", "name", "package", "state", "first", "ends"]]
-    wanted = words.text.casefold()
-    for account, name, package, state, first, ends in rows:
-        spelled = names.shown(account)
-        if wanted in spelled.casefold() or wanted in (name or "").casefold():
-            table.append([spelled, name or "", package, state, sold.moment_of(first),
-                          sold.moment_of(ends)])
+    for *texts, first, ends in found(sold.store(), words.text):
+        table.append([*texts, sold.moment_of(first), sold.moment_of(ends)])
     writer = csv.writer(sys.stdout, lineterminator="\n")
     # A name keeps its letters, and is no formula.
     writer.writerows([names.cell(str(it)) for it in row] for row in table)

@@ -27,7 +27,7 @@ import sys
 from radacctl import files, program, site
 from radacctl.commands import doctor
 from radacctl.doctor import copies
-from radacctl.setup import alone, answers, devices, front, pair, proof, sql, steps, web
+from radacctl.setup import alone, answers, clerk, devices, front, pair, proof, sql, steps, web
 
 SAMPLE = """\
 name = "Hotel Example"              # on pages and printed vouchers
@@ -37,6 +37,8 @@ currency = "EUR"
 decimals = 2
 cashiers = ["anna", "ben"]
 # packages = true                   # codes that log in, and guests: PACKAGES has the rest
+# desk_guests = ["anna"]            # cashiers who may make guests at the page, and end them
+# desk_corrections = ["anna"]       # cashiers who may take sales back
 front_desk = ["10.0.1.0/24"]        # never shut out, however often a password is mistyped
 # certificate = "/etc/letsencrypt/live/accounts.example.org/fullchain.pem"
 # certificate_key = "/etc/letsencrypt/live/accounts.example.org/privkey.pem"
@@ -81,7 +83,8 @@ def packages_of(wanted):
     found += sql.PACKAGES if wanted.sql else []
     if wanted.host:
         found += web.PACKAGES
-    return [*found, *(web.CODES if wanted.has_codes else [])]
+    found += web.CODES if wanted.has_codes else []
+    return [*dict.fromkeys([*found, *(clerk.PACKAGES if wanted.has_clerk else [])])]
 
 
 def steps_of(wanted, config):

@@ -164,6 +164,10 @@ WARNINGS = {
         "the file of packages is wrong, or names a plan that is not in force",
         "what the line says",
     ),
+    "clerk-file": (
+        "the file of who may do more than sell is wrong or missing: no cashier may",
+        "what the line says",
+    ),
     "packages-wait": (
         "a guest was begun, or a debit decided, and not finished for ten minutes",
         "`journalctl -u radacctd-packages`",

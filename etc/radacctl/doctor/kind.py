@@ -11,6 +11,7 @@ PAIR = "/etc/default/radacctd-pair"
 TABLE = "/etc/radacctd-shards.csv"
 NGINX = "/etc/nginx/conf.d/radacctd.conf"
 REDEEM_KEY = "/etc/radacctd-redeem.key"
+CLERK = "/etc/systemd/system/sockets.target.wants/radacctd-clerk.socket"
 REDEEM = "/etc/systemd/system/sockets.target.wants/radacctd-redeem.socket"
 
 
@@ -55,6 +56,7 @@ class Kind:
         self.has_pages = is_there(NGINX, "/etc/nginx/radacctd/cashier.conf")
         self.has_pair = is_there(PAIR, f"{site.RADDB}/radacctd/pair.conf")
         self.has_codes = is_there(REDEEM_KEY, REDEEM)
+        self.has_clerk = is_there("/etc/radacctd-clerk.toml", CLERK)
         self.has_packages = is_there(f"{site.RADDB}/mods-enabled/radacctd-packages",
                                      f"{site.RADDB}/radacctd/packages.conf")
         if self.has_shards:
@@ -77,6 +79,8 @@ class Kind:
             found.append("nginx.service")
         if self.has_codes:
             found.append("radacctd-redeem.socket")
+        if self.has_clerk:
+            found += ["radacctd-clerk.socket", "radacctd-clerk-work.socket"]
         if self.has_pair:
             found += ["radacctd-outbox.service", "radacctd-state.socket", "radacctd-compare.timer"]
         if self.has_shards:

@@ -7,6 +7,7 @@ import re
 import ssl
 
 from radacctl import files, freeradius, money, site
+from radacctl.clerk import rights
 from radacctl.doctor import kind as kinds
 from radacctl.doctor import look
 from radacctl.doctor.faults import Fault
@@ -33,6 +34,7 @@ def look_at(kind):
     yield from certificates(text)
     yield from modes()
     yield from settings()
+    yield from clerk(kind)
     yield from answers(kind, text)
     yield from programs()
     yield from fail2ban()
@@ -115,6 +117,20 @@ def settings():
     if not os.path.islink(path) or os.path.realpath(path) != PLANS or not os.path.exists(PLANS):
         yield Fault("pages-plans", f"{path} is no link to the plans in force, {PLANS}",
                     "radacctl pages; systemctl restart radacctd")
+
+
+def clerk(kind):
+    """Who may do more than sell: the file is right, and only root may change it."""
+    if not kind.has_clerk:
+        return
+    try:
+        rights.read()
+    except rights.Wrong as why:
+        yield Fault("clerk-file", str(why), "correct it: PACKAGES.md has its members")
+    status = look.status_of(rights.FILE)
+    if status is None or status.st_uid or look.mode_of(status) & 0o022:
+        yield Fault("clerk-file", f"{rights.FILE} is missing, or others than root may change it",
+                    f"radacctl setup, or chown root {rights.FILE} and chmod 644 {rights.FILE}")
 
 
 def answers(kind, text):

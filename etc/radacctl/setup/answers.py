@@ -19,7 +19,8 @@ LARGEST_BLOCK, LARGEST_UNIT = 9_007_199_254_740_992, 1_000_000_000
 TOP = {
     "name": "", "freeradius": True, "server": "", "host": "", "certificate": "",
     "certificate_key": "", "currency": "", "decimals": 2, "cashiers": [], "codes": True,
-    "front_desk": [], "class": "", "packages": False, "plan": None,
+    "front_desk": [], "class": "", "packages": False, "desk_guests": [], "desk_corrections": [],
+    "plan": None,
     "access_server": [], "pair": {}, "secrets": {}, "sql": {},
 }  # fmt: skip
 PLAN = {"class": None, "block": None, "unit": None, "count": "both"}
@@ -142,6 +143,8 @@ class Answers:
         self.cashiers, self.front_desk = it["cashiers"], it["front_desk"]
         self.has_codes = it["codes"] and bool(it["host"])
         self.has_packages = it["packages"]
+        self.clerks = {"guests": it["desk_guests"], "corrections": it["desk_corrections"]}
+        self.has_clerk = any(self.clerks.values())
         need(isinstance(it["plan"], list), "`plan` is written as [[plan]]", "plan")
         self.plans = tables(it["plan"], plan_of)
         self.access_servers = tables(it["access_server"], lambda each, number: access_server_of(
@@ -174,6 +177,7 @@ class Answers:
         if self.sql:
             self.test_sql()
         self.test_pages()
+        self.test_clerks()
 
     def test_once(self, found, name, many, key):
         for number, it in enumerate(found):
@@ -198,6 +202,17 @@ class Answers:
         path = self.sql["password_file"]
         need(isinstance(path, str) and re.fullmatch(r"/[A-Za-z0-9._/-]+", path),
              "[sql]: password_file is a path from the root", "sql", 0, "password_file")
+
+    def test_clerks(self):
+        """Who may do more than sell is a cashier of the page."""
+        need(self.host or not self.has_clerk, "desk_guests and desk_corrections need `host`", "host")
+        need(not (self.pair and self.has_clerk), "no cashier of a pair of machines may do more than "
+             "sell", "desk_guests")
+        need(self.has_packages or not self.clerks["guests"], "desk_guests needs packages = true",
+             "desk_guests")
+        for member, found in zip(("desk_guests", "desk_corrections"), self.clerks.values()):
+            for it in found:
+                need(it in self.cashiers, f"{member}: {it!r} is none of `cashiers`", member)
 
     def test_pages(self):
         for name in ("name", "currency"):

@@ -9,7 +9,7 @@ import time
 
 from radacctl import files, freeradius, money, site
 from radacctl.commands.key import LETTERS
-from radacctl.setup import pair, steps
+from radacctl.setup import clerk, pair, steps
 from radacctl.setup.alone import NOTES, REDEEM_KEY, Command, File, Folder, is_known_group, unit
 from radacctl.setup.front import member
 from radacctl.setup.steps import Fresh, Link
@@ -47,6 +47,8 @@ def of(answers, config):
     yield no_fcgiwrap()
     if answers.has_codes:
         yield from codes(config)
+    if answers.has_clerk:
+        yield from clerk.of(answers)
     yield Command("take Debian's own page of nginx away", lambda: not os.path.lexists(DEFAULT),
                   "rm", "-f", DEFAULT)
     yield running()
@@ -116,7 +118,7 @@ def settings(old, answers):
         raise steps.Failed(f"{money.SETTINGS} is no object of settings: mend it, or move it away")
     found |= {"name": answers.name, "url": f"https://{answers.host}",
               "currency": answers.currency, "decimals": answers.decimals,
-              "time_classes": freeradius.time_classes()}
+              "time_classes": freeradius.time_classes(), "clerk": answers.has_clerk}
     return json.dumps(found, indent=2, ensure_ascii=False) + "\n"
 
 

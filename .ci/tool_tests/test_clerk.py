@@ -1,0 +1,462 @@
+"""What cashiers may do at the front desk's page: once for each number, killed at each step."""
+
+import contextlib
+import io
+import json
+import os
+import re
+import socket
+import subprocess
+import tempfile
+import threading
+import time
+import unittest
+from unittest import mock
+
+from radacctl import files, logins, names
+from radacctl.clerk import forms, journal, rights, work
+from radacctl.commands import debit, guest, key
+from radacctl.doctor import web as doctor
+from radacctl.setup import answers, clerk as steps_of_clerk, steps, web
+from tool_tests import ROOT
+from tool_tests.test_guests import Site
+from tool_tests.test_packages import Books
+
+NUMBERS = [f"D1-261128-ACDEFHJKMN{it}" for it in ("PA", "PC", "PD", "PE", "PF")]
+RIGHTS = 'guests = ["anna", "jörg"]\ncorrections = ["anna"]\nguests_an_hour = 3\n'
+NOW = 1_800_000_000
+SALE = {"act": "back", "account": "room 12", "sum": 500, "voucher": "D1-261128-ACDEFHJKMNPQ"}
+WRONG = [
+    "", "{", "[]", "5", '"may"', "{}", '{"act":"sell"}', '{"act":["may"]}', '{"act":"may","x":1}',
+    '{"act":"find"}', '{"act":"find","text":""}', '{"act":"find","text":5}',
+    '{"act":"find","text":"a\\u0007"}', '{"act":"find","text":"\\ud800"}',
+    '{"act":"find","text":"' + "x" * 61 + '"}',
+    '{"act":"guest","number":"x","name":"a","package":"week"}',
+    '{"act":"guest","number":"D1-261128-ACDEFHJKMNPQ","name":"a\\u202eb","package":"week"}',
+    '{"act":"guest","number":"D1-261128-ACDEFHJKMNPQ","name":"a","package":"../week"}',
+    '{"act":"end","account":"a\\nb"}', '{"act":"end","account":"%zz"}', '{"act":"end","account":""}',
+    '{"act":"end","account":"' + "x" * 254 + '"}',
+    '{"act":"back","account":"a","sum":0,"voucher":"V-1"}',
+    '{"act":"back","account":"a","sum":true,"voucher":"V-1"}',
+    '{"act":"back","account":"a","sum":1e3,"voucher":"V-1"}',
+    '{"act":"back","account":"a","sum":1,"voucher":"v-1"}',
+    '{"act":"back","account":"a","sum":1,"voucher":"V-1\\n"}',
+    "[" * 2000, "x" * 5000,
+]
+
+
+class Forms(unittest.TestCase):
+    def test_what_is_no_request_is_refused(self):
+        for text in WRONG:
+            with self.subTest(text[:60]):
+                self.assertRaises(forms.Refused, forms.asked, text.encode())
+        self.assertRaises(forms.Refused, forms.asked, b'{"act":"find","text":"\xff"}')
+
+    def test_an_account_has_one_spelling(self):
+        found = [forms.asked(json.dumps({"act": "end", "account": it}).encode())["account"]
+                 for it in ("%61l", "al")]
+        self.assertEqual(found, ["al", "al"])
+
+    def test_each_act_has_a_right(self):
+        self.assertEqual(set(forms.ACTS), set(rights.NEEDS))
+
+
+class Rights(unittest.TestCase):
+    def test_a_wrong_file_is_named(self):
+        for text in ("[", "guests = 5", 'guests = [""]', "guests = [5]", "guests_an_hour = -1",
+                     "guests_an_hour = true", "other = 1", 'corrections = "anna"'):
+            self.assertRaises(rights.Wrong, rights.rights_of, text)
+
+    def test_without_the_file_nobody_may(self):
+        found = rights.read("/nonexistent/clerk.toml")
+        self.assertEqual((found["guests"], found["corrections"]), ([], []))
+
+
+class Desk(unittest.TestCase):
+    """A site whose front desk may make guests and take sales back."""
+
+    def setUp(self):
+        self.begin()
+        for stream in (contextlib.redirect_stdout(io.StringIO()),
+                       contextlib.redirect_stderr(io.StringIO())):
+            stream.__enter__()
+            self.addCleanup(stream.__exit__, None, None, None)
+
+    def begin(self):
+        self.site, self.books = Site(self), Books()
+        self.site.write("clerk.toml", RIGHTS)
+        words = ["--config", self.site.config, "--key-file", self.site.path("cashier.key"),
+                 "--give-up", "0", "mend"]
+        take = self.site.effect(self.books.take)
+        books = mock.Mock(take=take)
+        effect = self.site.effect(journal.Journal.add)
+        for where, name, new in (
+            (rights, "FILE", self.site.path("clerk.toml")),
+            (journal, "FILE", self.site.path("books/clerk.csv")),
+            (work, "words", lambda: guest.parser().parse_args(words)),
+            (work.debit, "Books", lambda _: books),
+            (work.packages, "read", work.sold.packages.read),
+            (work.packages, "wifi", lambda: {"name": "Hotel", "security": "enterprise"}),
+            (work.sheets, "bars", lambda text: ([(0, 0, len(text))], 25)),
+            (work.program, "say", lambda _: None),
+            (journal.Journal, "add", lambda own, octets: effect(own, octets)),
+        ):
+            patched = mock.patch.object(where, name, new)
+            patched.start()
+            self.addCleanup(patched.stop)
+
+    def ask(self, who, asked, now=NOW):
+        line = names.shown(who.encode()).encode() + b"\n" + json.dumps(asked).encode() + b"\n"
+        found = json.loads(work.answered(line, now))
+        return found["status"], found["body"]
+
+    def guest(self, number=NUMBERS[0], name="Anna Müller", who="anna", package="week", now=NOW):
+        return self.ask(who, {"act": "guest", "number": number, "name": name, "package": package},
+                        now)
+
+    def rows(self):
+        return self.site.store().read("SELECT account, state, password FROM login")
+
+    def keys(self):
+        return files.text(self.site.config).count("[[key]]")
+
+    def journal(self):
+        return [(it.cashier, it.act, it.state) for it in journal.Journal().lines()]
+
+
+class Guests(Desk):
+    def test_a_second_click_makes_no_second_guest(self):
+        first, second = self.guest(), self.guest()
+        self.assertEqual((first[0], first[1]["result"]), (200, "new"))
+        self.assertEqual((second[0], second[1]["result"]), (200, "repeat"))
+        self.assertEqual(first[1]["card"], second[1]["card"])
+        [(account, state, password)] = self.rows()
+        card = first[1]["card"]
+        self.assertEqual((card["account"], card["password"]), (account.decode(), password))
+        self.assertEqual((state, self.keys(), len(self.site.money)), ("live", 1, 1))
+        self.assertEqual((card["title"], card["price"], card["seconds"]),
+                         ("5 GB, 7 days", 900, 604800))
+        self.assertEqual(len(card["codes"]), 2)
+        self.assertEqual(self.journal(), [("anna", "guest", "begun"), ("anna", "guest", "done")])
+
+    def test_a_number_is_of_one_cashier_name_and_package_for_an_hour(self):
+        self.guest()
+        for more in ({"who": "jörg"}, {"name": "Bert"}):
+            self.assertEqual(self.guest(**more), (409, {"error": "differs"}))
+        account = self.rows()[0][0].decode()
+        wanted = {"result": "repeat", "account": account, "card": None}
+        self.assertEqual(self.guest(now=NOW + 3601), (200, wanted))
+        self.assertEqual(len(self.rows()), 1)
+
+    def test_who_has_no_right_changes_nothing(self):
+        for who in ("bert", "eve", "Anna", "anna ", ""):
+            self.assertEqual(self.guest(who=who), (403, {"error": "not allowed"}))
+        self.assertEqual(self.ask("jörg", SALE), (403, {"error": "not allowed"}))
+        self.assertEqual((self.rows(), self.site.money, self.keys()), ([], {}, 0))
+        self.assertFalse(os.path.exists(journal.FILE))
+        self.assertEqual(self.ask("jörg", {"act": "may"}),
+                         (200, {"guests": True, "corrections": False}))
+
+    def test_an_hour_has_a_limit(self):
+        found = [self.guest(it, f"g {it}")[0] for it in NUMBERS]
+        self.assertEqual(found, [200, 200, 200, 429, 429])
+        self.assertEqual(self.guest(NUMBERS[0], f"g {NUMBERS[0]}")[0], 200)
+        # Also if the clock stepped back.
+        self.assertEqual(self.guest(NUMBERS[3], "g", now=NOW - 3000)[0], 429)
+        self.assertEqual(self.guest(NUMBERS[3], "g", now=NOW + 3601)[0], 200)
+        self.assertEqual(len(self.rows()), 4)
+
+    def test_killed_at_each_step(self):
+        at = 0
+        while True:
+            self.begin()
+            was_killed = self.site.killed_at(at, self.guest)
+            status, body = self.guest()
+            with self.subTest(at):
+                [(account, state, password)] = self.rows()
+                self.assertEqual((status, state), (200, "live"))
+                card = body["card"]
+                self.assertEqual((card["account"], card["password"]), (account.decode(), password))
+                self.assertEqual((self.keys(), len(self.site.money)), (1, 1))
+                self.assertEqual(list(guest.drafts()), [])
+            if not was_killed:
+                break
+            at += 1
+        self.assertGreater(at, 12)
+
+    def test_no_answer_of_the_desk(self):
+        for answers in (["away"], ["go", "lost"]):
+            self.begin()
+            self.site.answers = list(answers)
+            self.assertEqual(self.guest(), (503, {"error": "away"}))
+            self.assertEqual(self.guest()[1]["result"], "repeat")
+            self.assertEqual((len(self.rows()), len(self.site.money)), (1, 1))
+
+    def test_a_desk_that_refuses_leaves_nothing(self):
+        self.site.write("cashier.key", "other-key-00000001")
+        self.assertEqual(self.guest(), (503, {"error": "away"}))
+        self.assertEqual((self.rows(), self.keys()), ([], 0))
+        self.site.write("cashier.key", "cash-key-00000001")
+        self.assertEqual(self.guest()[0], 200)
+        self.assertEqual(len(self.rows()), 1)
+
+    def test_a_full_disk(self):
+        """Before the guest is begun nothing is made; of one that is made the card is given."""
+        add = journal.Journal.add
+        for at, wanted in ((1, 503), (2, 200)):
+            self.begin()
+            calls = []
+
+            def full(own, octets):
+                calls.append(0)
+                if len(calls) == at:
+                    raise OSError(28, "full")
+                return add(own, octets)
+
+            with mock.patch.object(journal.Journal, "add", full):
+                self.assertEqual(self.guest()[0], wanted)
+            self.assertEqual(len(self.rows()), int(wanted == 200))
+            self.assertEqual(self.guest()[0], 200)
+            self.assertEqual(len(self.rows()), 1)
+
+    def test_no_more_keys_fit(self):
+        with mock.patch.object(key, "MOST_KEYS", 0):
+            self.assertEqual(self.guest(), (409, {"error": "keys full"}))
+        self.assertEqual(self.rows(), [])
+
+    def test_a_package_that_is_not_there(self):
+        self.assertEqual(self.guest(package="month"), (404, {"error": "no such package"}))
+
+    def test_strange_names_are_texts(self):
+        strange = ["=1+2", "<b>x</b>", '";\'--', "Ł ü 王", "@sum(1)"]
+        for number, name in zip(NUMBERS, strange[:3]):
+            self.assertEqual(self.guest(number, name)[0], 200)
+        lines = files.text(journal.FILE).splitlines()
+        for line in lines[1:]:
+            for cell in re.findall(r'(?:^|,)("(?:[^"]|"")*"|[^,]*)', line):
+                self.assertNotRegex(cell.strip('"'), r"^[=+\-@]")
+        found = self.ask("anna", {"act": "find", "text": "=1"})[1]["guests"]
+        self.assertEqual([it["name"] for it in found], ["=1+2"])
+
+    def test_guests_are_found_by_any_part_in_any_case(self):
+        self.guest()
+        account = self.rows()[0][0].decode()
+        for text, count in (("müll", 1), ("MULL", 1), ("a m", 1), (account[-4:].upper(), 1),
+                            ("zzz", 0)):
+            found = self.ask("anna", {"act": "find", "text": text})[1]["guests"]
+            self.assertEqual(len(found), count, text)
+        self.assertNotIn("password", found[0] if found else {})
+
+    def test_the_end_killed_at_each_step(self):
+        at = 0
+        while True:
+            self.begin()
+            account = self.guest()[1]["card"]["account"]
+            ends = lambda: self.ask("anna", {"act": "end", "account": account})
+            was_killed = self.site.killed_at(at, ends)
+            self.assertEqual(ends()[0], 200)
+            self.assertEqual(([row[1] for row in self.rows()], self.keys()), (["ended"], 0))
+            self.assertEqual(logins.ended_in(), {account.encode(): "ended"})
+            if not was_killed:
+                break
+            at += 1
+        self.assertGreater(at, 6)
+
+    def test_only_guests_end(self):
+        self.assertEqual(self.ask("anna", {"act": "end", "account": "room 12"}),
+                         (404, {"error": "no such guest"}))
+
+    def test_one_that_ended_gets_no_card(self):
+        account = self.guest()[1]["card"]["account"]
+        self.ask("anna", {"act": "end", "account": account})
+        wanted = {"result": "repeat", "account": account, "card": None}
+        self.assertEqual(self.guest(), (200, wanted))
+        self.assertEqual(len(self.rows()), 1)
+
+
+class Corrections(Desk):
+    def left(self):
+        """What the book has of the account of the sale."""
+        sold = sum(it[1] for it in self.site.money.values() if it[0] == b"room 12")
+        return sold - sum(self.books.taken.values())
+
+    def sold(self):
+        self.site.numbers[SALE["voucher"]] = self.site.money[SALE["voucher"]] = (b"room 12", 500)
+
+    def test_a_sale_is_taken_back_once(self):
+        self.sold()
+        self.assertEqual(self.ask("anna", SALE), (200, {"result": "new"}))
+        self.assertEqual(self.ask("anna", SALE), (200, {"result": "repeat"}))
+        self.assertEqual((self.left(), self.books.taken), (0, {SALE["voucher"]: 500}))
+        self.assertEqual(self.journal(), [("anna", "back", "begun"), ("anna", "back", "done")])
+
+    def test_killed_at_each_step(self):
+        for is_sold in (True, False):
+            at = 0
+            while True:
+                self.begin()
+                if is_sold:
+                    self.sold()
+                was_killed = self.site.killed_at(at, lambda: self.ask("anna", SALE))
+                self.assertEqual(self.ask("anna", SALE)[0], 200)
+                self.assertEqual(self.left(), 0)
+                if not was_killed:
+                    break
+                at += 1
+            self.assertGreater(at, 4)
+
+    def test_another_account_or_sum_is_refused(self):
+        self.sold()
+        for more in ({"account": "bo"}, {"sum": 499}):
+            self.assertEqual(self.ask("anna", {**SALE, **more}), (409, {"error": "differs"}))
+        self.assertEqual(self.books.taken, {})
+        self.assertEqual(self.ask("anna", {**SALE, "account": "bo"})[0], 409)
+        self.assertEqual(self.ask("anna", SALE), (200, {"result": "new"}))
+        self.assertEqual(self.left(), 0)
+        self.assertEqual(self.ask("anna", {**SALE, "account": "bo"})[0], 409)
+
+    def test_no_answer(self):
+        self.sold()
+        self.site.answers = ["away"]
+        self.assertEqual(self.ask("anna", SALE), (503, {"error": "away"}))
+        self.assertEqual(self.books.taken, {})
+        silent = mock.Mock(take=mock.Mock(side_effect=debit.NoAnswer("no")))
+        with mock.patch.object(work.debit, "Books", lambda _: silent):
+            self.assertEqual(self.ask("anna", SALE), (503, {"error": "away"}))
+        self.assertEqual(self.ask("anna", SALE), (200, {"result": "new"}))
+        self.assertEqual(self.left(), 0)
+
+    def test_a_guests_sale_ends_the_guest(self):
+        account = self.guest()[1]["card"]["account"]
+        asked = {"act": "back", "account": account, "sum": 500, "voucher": NUMBERS[0]}
+        self.assertEqual(self.ask("anna", {**asked, "account": "room 12"}),
+                         (409, {"error": "differs"}))
+        self.assertEqual([self.ask("anna", asked)[1]["result"] for _ in range(2)],
+                         ["new", "repeat"])
+        self.assertEqual(([row[1] for row in self.rows()], self.keys()), (["ended"], 0))
+        self.assertEqual(self.books.taken, {})
+
+
+class Answers(Desk):
+    def test_no_line_of_any_kind_stops_it(self):
+        for text in (b"", b"\n", b"anna\n", b"\xff\n{}", b"%FF\n" + json.dumps(SALE).encode(),
+                     *(b"anna\n" + it.encode("utf-8", "surrogatepass") for it in WRONG)):
+            found = json.loads(work.answered(text, NOW))
+            self.assertIn(found["status"], (403, 422))
+
+    def test_a_command_that_ends_is_no_answer(self):
+        with mock.patch.object(work.sold, "store", side_effect=SystemExit(1)):
+            self.assertEqual(self.guest(), (503, {"error": "away"}))
+
+    def test_a_wrong_file_of_rights(self):
+        self.site.write("clerk.toml", "guests = 5")
+        self.assertEqual(self.guest(), (503, {"error": "setup"}))
+
+
+class SetUp(unittest.TestCase):
+    """Names are the answers', limits the site's."""
+
+    SITE = {"plan": [{"class": "default", "block": 1, "unit": 1}], "name": "H", "currency": "EUR",
+            "host": "a.example.org", "cashiers": ["anna", "bert"], "packages": True}
+
+    def test_names_are_written_and_limits_stay(self):
+        wanted = answers.Answers({**self.SITE, "desk_guests": ["anna"]})
+        text = steps_of_clerk.file_of(None, wanted.clerks)
+        self.assertEqual(rights.rights_of(text), {"guests": ["anna"], "corrections": [],
+                                                  **rights.LIMITS})
+        mine = text.replace("guests_an_hour = 60", "guests_an_hour = 7")
+        wanted = answers.Answers({**self.SITE, "desk_corrections": ["bert"]})
+        found = rights.rights_of(steps_of_clerk.file_of(mine, wanted.clerks))
+        self.assertEqual((found["guests"], found["corrections"], found["guests_an_hour"]),
+                         ([], ["bert"], 7))
+        self.assertRaises(steps.Failed, steps_of_clerk.file_of, "guests = 5", wanted.clerks)
+
+    def test_a_site_without_it_has_none(self):
+        self.assertFalse(answers.Answers(self.SITE).has_clerk)
+        self.assertEqual([it for it in web.PACKAGES if it in steps_of_clerk.PACKAGES], [])
+
+    def test_who_is_no_cashier_is_refused(self):
+        pair = {"own": "10.0.0.5", "other": "10.0.0.6"}
+        for more in ({"desk_guests": ["eve"]}, {"desk_guests": [5]}, {"desk_guests": ["anna"],
+                     "packages": False}, {"desk_corrections": ["anna"], "host": ""},
+                     {"desk_corrections": ["anna"], "packages": False, "pair": pair}):
+            with self.subTest(str(more)):
+                self.assertRaises(answers.Wrong, answers.Answers, {**self.SITE, **more})
+
+    def test_the_doctor_names_a_wrong_file(self):
+        kind = mock.Mock(has_clerk=True)
+        with tempfile.TemporaryDirectory() as folder:
+            path = os.path.join(folder, "clerk.toml")
+            with mock.patch.object(rights, "FILE", path):
+                for text, mode, count in (("guests = 5", 0o644, 1), ("", 0o666, 1), ("", 0o644, 0)):
+                    with open(path, "w", encoding="utf-8") as file:
+                        file.write(text)
+                    os.chmod(path, mode)
+                    found = [it.name for it in doctor.clerk(kind)]
+                    self.assertEqual(found, ["clerk-file"] * (count + (os.getuid() != 0)))
+                os.remove(path)
+                self.assertEqual(len(list(doctor.clerk(kind))), 1)
+
+
+class Page(unittest.TestCase):
+    """The first part, as fcgiwrap runs it: it hands a request on, and adds nothing."""
+
+    def run_it(self, body, answer=b'{"status": 200, "body": {"a": 1}}\n', who=b"anna", **more):
+        with tempfile.TemporaryDirectory() as folder:
+            path = os.path.join(folder, "s")
+            got = []
+            with socket.socket(socket.AF_UNIX) as server:
+                server.bind(path)
+                server.listen(1)
+                server.settimeout(5)
+
+                def serve():
+                    with contextlib.suppress(OSError):
+                        one, _ = server.accept()
+                        with one:
+                            while more := one.recv(4096):
+                                got.append(more)
+                            one.sendall(answer)
+
+                thread = threading.Thread(target=serve)
+                thread.start()
+                env = {"RADACCTD_CLERK_WORK": path, "REQUEST_METHOD": "POST",
+                       "CONTENT_LENGTH": str(len(body)), **more}
+                env = {it.encode(): value.encode() for it, value in env.items()}
+                if who is not None:
+                    env[b"RADACCTD_CASHIER"] = who
+                done = subprocess.run([os.path.join(ROOT, "etc", "clerk-page")], input=body,
+                                      capture_output=True, env=env)
+                server.close()
+                thread.join(6)
+        return done.stdout.decode().partition("\r\n\r\n"), b"".join(got), done.stderr
+
+    def test_a_request_is_handed_on(self):
+        (head, _, body), got, _ = self.run_it(b'{"act": "may"}')
+        self.assertEqual((head.split("\r\n")[0], json.loads(body)), ("Status: 200 OK", {"a": 1}))
+        self.assertEqual(got, b'anna\n{"act": "may"}\n')
+
+    def test_a_name_is_one_line(self):
+        got = self.run_it(b'{"act": "may"}', who="j\u00f6rg\nroot\r".encode())[1]
+        self.assertEqual(got.splitlines()[0], b"j%C3%B6rg%0Aroot%0D")
+
+    def test_what_is_refused_gets_no_further(self):
+        for body, who, more, status in (
+            (b'{"act": "rm"}', b"anna", {}, 422), (b'{"act": "may"}', b"", {}, 403),
+            (b'{"act": "may"}', None, {}, 403), (b'{"act": "may"}', b"a" * 600, {}, 403),
+            (b'{"act": "may"}', b"anna", {"REQUEST_METHOD": "GET"}, 422),
+            (b'{"act": "may"}', b"anna", {"CONTENT_LENGTH": "-1"}, 422),
+        ):
+            (head, *_), got, _ = self.run_it(body, who=who, **more)
+            self.assertIn(f"Status: {status} ", head)
+            self.assertEqual(got, b"")
+
+    def test_no_answer_is_said_so(self):
+        for answer in (b"", b"{", b'{"status": 200}\n', b"[]\n"):
+            (head, *_), _, said = self.run_it(b'{"act": "may"}', answer=answer)
+            self.assertIn("Status: 503", head)
+            self.assertNotIn(b"anna", said)
+
+
+if __name__ == "__main__":
+    unittest.main()

@@ -1,0 +1,68 @@
+"""The requests of the front desk's page: which there are, and the form of each member."""
+
+import json
+import re
+
+from radacctl import desk, money, names, packages
+from radacctl.commands import guest
+
+LONGEST = 2048
+# An account as the desk takes it.
+ACCOUNT = re.compile("(?:[ -$&-~]|%[0-9A-F]{2}){1,253}")
+# The number of an act: as of a sale, and made by the page by chance.
+NUMBER = re.compile("[A-Z0-9]{1,8}-[0-9]{6}-[A-Z0-9]{12}")
+
+
+class Refused(Exception):
+    """What the page is answered in the place of a result: a status of HTTP and a word."""
+
+    def __init__(self, status, error):
+        super().__init__(error)
+        self.status, self.error = status, error
+
+
+def is_text(value):
+    return isinstance(value, str) and value.isprintable() and 1 <= len(value) <= 60
+
+
+def is_of(pattern):
+    return lambda value: isinstance(value, str) and bool(pattern.fullmatch(value))
+
+
+def is_units(value):
+    return type(value) is int and 1 <= value <= money.LARGEST_SUM
+
+
+MEMBERS = {
+    "text": is_text,
+    "name": lambda value: is_text(value) and guest.is_name(value),
+    "package": is_of(packages.NAME),
+    "number": is_of(NUMBER),
+    "voucher": is_of(desk.NUMBER),
+    "account": is_of(ACCOUNT),
+    "sum": is_units,
+}
+# Each act, and the members that it has.
+ACTS = {
+    "may": (),
+    "find": ("text",),
+    "guest": ("number", "name", "package"),
+    "end": ("account",),
+    "back": ("account", "sum", "voucher"),
+}
+
+
+def asked(octets):
+    """The act of a request and its members, each of its form; or it is refused."""
+    try:
+        found = json.loads(octets.decode("utf-8")) if len(octets) <= LONGEST else {}
+        wanted = {"act", *ACTS[found["act"]]}
+        is_right = set(found) == wanted and all(MEMBERS[it](found[it]) for it in wanted - {"act"})
+    except (ValueError, LookupError, TypeError, RecursionError):
+        is_right = False
+    if not is_right:
+        raise Refused(422, "bad request")
+    # One spelling for each account, so that two requests for it are the same.
+    if "account" in found:
+        found["account"] = names.for_desk(names.octets_of(found["account"]))
+    return found

@@ -1,0 +1,72 @@
+"""The journal of what cashiers did at the front desk's page: who, when, what, and how it went.
+
+It is root's, and only grows. A line is on the disk before the act that it is of. It is a CSV file
+that a spreadsheet may open: no field of it is a formula. Octets that are no plain characters are %
+and two digits. An account is spelled as in a request to the desk.
+"""
+
+import csv
+import io
+import os
+
+from radacctl import files, names, stock
+
+FILE = "/var/lib/radacctd-books/clerk.csv"
+HEADER = b"moment,cashier,act,number,account,what,state\n"
+# An act was begun, or it is done; or it cannot be done, and changed nothing.
+BEGUN, DONE, REFUSED = "begun", "done", "refused"
+HOUR = 3600
+
+
+def spelled(text):
+    return names.shown(text.encode("utf-8", "surrogateescape"))
+
+
+def plain(field):
+    return names.octets_of(names.text_of_cell(field)).decode("utf-8", "surrogateescape")
+
+
+class Line:
+    """One line: the act of a number."""
+
+    def __init__(self, row):
+        self.moment, self.account = int(row[0]), names.text_of_cell(row[4])
+        self.cashier, self.act, self.number, self.what, self.state = (
+            plain(row[it]) for it in (1, 2, 3, 5, 6))
+
+
+class Journal(stock.Log):
+    """The journal, which one process has at a time: the lock of guests is held."""
+
+    def __init__(self, path=None):
+        path = path or FILE
+        folder = os.path.dirname(path)
+        if not os.path.isdir(folder):
+            os.mkdir(folder, 0o700)
+            files.sync_folder(os.path.dirname(folder))
+        super().__init__(path, HEADER)
+
+    def lines(self):
+        text = stock.whole_lines(self.path, HEADER).decode("ascii", "replace")
+        rows = csv.reader(io.StringIO(text, newline=""))
+        return [Line(row) for row in rows if len(row) == 7 and row[0].isdigit()]
+
+    def note(self, moment, cashier, asked, account, state):
+        """Adds a line of an act; it is on the disk, or it is a fault."""
+        what = asked.get("name") or str(asked.get("sum", ""))
+        if "package" in asked:
+            what += f", {asked['package']}"
+        number = asked.get("number") or asked.get("voucher", "")
+        fields = (spelled(cashier), asked["act"], number, account, spelled(what), state)
+        self.add(stock.lines_of([[moment, *fields]]))
+
+    def last(self, act, number):
+        """The last line of an act of a number, or None."""
+        found = [it for it in self.lines() if (it.act, it.number) == (act, number)]
+        return found[-1] if found else None
+
+    def count(self, act, now):
+        """How many acts of a kind were begun in the last hour, by any moment that the clock had."""
+        begun = [it for it in self.lines() if it.act == act and it.state == BEGUN]
+        recent = [it for it in begun if abs(now - it.moment) < HOUR]
+        return len({it.number or str(at) for at, it in enumerate(recent)})

@@ -1,0 +1,59 @@
+"""Who may do what at the front desk, and how often: /etc/radacctd-clerk.toml.
+
+    guests = ["anna", "bert"]       # who makes guests, finds and ends them
+    corrections = ["anna"]          # who takes sales back
+    guests_an_hour = 60             # how many of each all of them may do in an hour
+    ends_an_hour = 300
+    corrections_an_hour = 20
+
+A name is that of a login that nginx verified, or the subject of a certificate. Each change counts at
+once. Without the file nobody may do anything.
+"""
+
+import tomllib
+
+from radacctl import files
+
+FILE = "/etc/radacctd-clerk.toml"
+GUESTS, CORRECTIONS = "guests", "corrections"
+LIMITS = {"guests_an_hour": 60, "ends_an_hour": 300, "corrections_an_hour": 20}
+MOST = 10_000
+# Whose right each act needs, and its limit.
+NEEDS = {
+    "may": (None, None),
+    "find": (GUESTS, None),
+    "guest": (GUESTS, "guests_an_hour"),
+    "end": (GUESTS, "ends_an_hour"),
+    "back": (CORRECTIONS, "corrections_an_hour"),
+}
+
+
+class Wrong(Exception):
+    """What is wrong with the file."""
+
+
+def rights_of(text):
+    """The names and the limits of a text."""
+    try:
+        found = tomllib.loads(text)
+    except tomllib.TOMLDecodeError as why:
+        raise Wrong(f"it is no TOML: {why}") from None
+    for name, value in found.items():
+        if name in (GUESTS, CORRECTIONS):
+            is_right = isinstance(value, list) and all(isinstance(it, str) and it for it in value)
+        else:
+            is_right = name in LIMITS and type(value) is int and 0 <= value <= MOST
+        if not is_right:
+            raise Wrong(f"`{name}` is no list of names, and no limit from 0 to {MOST}")
+    return {GUESTS: [], CORRECTIONS: [], **LIMITS, **found}
+
+
+def read(path=None):
+    """The same of the site's file."""
+    path = path or FILE
+    try:
+        return rights_of(files.text(path))
+    except Wrong as why:
+        raise Wrong(f"{path}: {why}") from None
+    except OSError as why:
+        raise Wrong(str(why)) from None

@@ -1,0 +1,294 @@
+"""Does one act of the front desk's page, as root: the second of its two parts.
+
+Its standard input and output are the connection of the first part: a line with the cashier's name
+and the request, and a line with the answer. Nothing else is written there. What it says goes to the
+journal of the system, and has no password, no key and no code.
+"""
+
+import contextlib
+import http.client
+import json
+import os
+import sys
+import time
+
+from radacctl import desk as desks
+from radacctl import logins, names, packages, program, sheets, site, stock
+from radacctl.clerk import forms, journal, rights
+from radacctl.clerk.forms import Refused
+from radacctl.commands import debit, guest, key
+from radacctl.commands import packages as sold
+
+# In seconds: how long another act is waited for, the desk's answer, and the server's new keys.
+TURN, GIVE_UP, WAIT = 20, 5, 8
+# How long the card of a guest is given again to the page that made it.
+CARD_AGAIN = 3600
+MOST_FOUND = 20
+
+
+def words():
+    """The command line of `radacctl guest`, with what a page waits for."""
+    return guest.parser().parse_args(["--give-up", str(GIVE_UP), "--wait", str(WAIT), "mend"])
+
+
+def debit_words():
+    """The command line of `radacctl debit`, which has the site's server, secret and journal."""
+    return debit.parser().parse_args(["--list"])
+
+
+def answer_to(who, asked, now):
+    """What the page is answered."""
+    try:
+        found = rights.read()
+    except rights.Wrong as why:
+        program.say(why)
+        raise Refused(503, "setup") from None
+    if asked["act"] == "may":
+        return {it: who in found[it] for it in (rights.GUESTS, rights.CORRECTIONS)}
+    right, limit = rights.NEEDS[asked["act"]]
+    if who not in found[right]:
+        raise Refused(403, "not allowed")
+    if asked["act"] == "find":
+        return {"guests": found_guests(asked["text"])}
+    try:
+        with guest.locked(TURN), contextlib.closing(journal.Journal()) as notes:
+            return Act(who, asked, now, notes, found[limit]).do()
+    except (desks.WrongKey, guest.NotMade, logins.Fault, stock.Fault, site.Missing, OSError) as why:
+        program.say(why)
+        raise Refused(503, "away") from None
+
+
+def found_guests(text):
+    """The last guests of a text, each with what a cashier needs."""
+    try:
+        rows = list(guest.found(sold.store(), text))[-MOST_FOUND:]
+    except (logins.Fault, site.Missing, OSError) as why:
+        program.say(why)
+        raise Refused(503, "away") from None
+    return [dict(zip(("account", "name", "package", "state", "first", "ends"), it)) for it in rows]
+
+
+class Act:
+    """One act, while no other one is done."""
+
+    def __init__(self, who, asked, now, notes, most):
+        self.who, self.asked, self.now, self.notes, self.most = who, asked, now, notes, most
+
+    def do(self):
+        return {"guest": self.make, "end": self.end, "back": self.take_back}[self.asked["act"]]()
+
+    def note(self, account, state):
+        self.notes.note(self.now, self.who, self.asked, account, state)
+
+    def may_begin(self):
+        """Ends if the hour has as many acts of this kind as it may have."""
+        if self.notes.count(self.asked["act"], self.now) >= self.most:
+            raise Refused(429, "too many")
+
+    # ---- a guest
+
+    def make(self):
+        """A guest of a number is made once: the same number again gets the same card."""
+        store = sold.store()
+        guest.mend_all(store, words())
+        had = self.notes.last("guest", self.asked["number"])
+        if had is not None:
+            if (had.cashier, had.what) != (self.who, self.what()):
+                raise Refused(409, "differs")
+            state = self.state_of(store, had.account)
+            if state == logins.MAKING:
+                raise Refused(503, "away")
+            if state is not None:
+                return self.again(store, had, state)
+        # A run that was killed, or refused by the desk, left nothing of the guest.
+        if had is None:
+            self.may_begin()
+        return self.fresh(store)
+
+    def what(self):
+        return f"{self.asked['name']}, {self.asked['package']}"
+
+    def state_of(self, store, account):
+        rows = store.read("SELECT state FROM login WHERE account = ? AND digest IS NULL",
+                          names.octets_of(account))
+        return rows[0][0] if rows else None
+
+    def again(self, store, had, state):
+        """The guest is made. Its card is given for an hour, and not once it has ended."""
+        is_given = state == logins.LIVE and abs(self.now - had.moment) <= CARD_AGAIN
+        return {"result": "repeat", "account": had.account,
+                "card": card_of(store, had.account) if is_given else None}
+
+    def fresh(self, store):
+        try:
+            known, site_money = packages.read()
+        except packages.Wrong as why:
+            program.say(why)
+            raise Refused(503, "setup") from None
+        if self.asked["package"] not in known:
+            raise Refused(404, "no such package")
+        own = words()
+        config = key.config_of(key.read(own.config), own.config)
+        if len(config.get("key", [])) >= key.MOST_KEYS:
+            raise Refused(409, "keys full")
+        package, _ = sold.found_package(self.asked["package"])
+        account, _, is_sold = guest.make(
+            store, own, self.asked["name"], package, site_money, guest.url_of(own),
+            note=lambda account: self.note(account, journal.BEGUN))
+        if not is_sold:
+            raise Refused(503, "away")
+        self.done(account)
+        return {"result": "new", "account": account, "card": card_of(store, account)}
+
+    def done(self, account):
+        """Notes what is done already: a full disk changes nothing of it."""
+        try:
+            self.note(account, journal.DONE)
+        except (stock.Fault, OSError) as why:
+            program.say(f"{self.asked['act']} of {account} is done, but {why}")
+
+    # ---- its end
+
+    def end(self):
+        account, store = self.asked["account"], sold.store()
+        state = self.state_of(store, account)
+        if state is None:
+            raise Refused(404, "no such guest")
+        is_new = state == logins.LIVE
+        if is_new:
+            self.may_begin()
+            self.note(account, journal.BEGUN)
+        # One that has ended may have a key still, if a run was killed.
+        guest.end_guest(store, words(), names.octets_of(account))
+        if is_new:
+            self.done(account)
+        return {"result": "new" if is_new else "repeat"}
+
+    # ---- a sale
+
+    def take_back(self):
+        """Takes back a sale that the book has, once. Of a guest all that is left lapses."""
+        number, account = self.asked["voucher"], self.asked["account"]
+        had = self.notes.last("back", number)
+        # One that was refused changed nothing, and says nothing of the next one.
+        had = None if had is not None and had.state == journal.REFUSED else had
+        made = self.notes.last("guest", number)
+        if had is not None and had.account != account:
+            raise Refused(409, "differs")
+        if had is not None and had.state == journal.DONE:
+            return {"result": "repeat"}
+        if made is not None and made.account != account:
+            raise Refused(409, "differs")
+        if had is None:
+            self.may_begin()
+        if made is not None:
+            self.end_as_correction(account)
+            return {"result": "new"}
+        books = self.books()
+        if had is None:
+            self.note(account, journal.BEGUN)
+        self.test_sale(account, number)
+        self.debit(books, account, number)
+        self.done(account)
+        return {"result": "new"}
+
+    def end_as_correction(self, account):
+        self.note(account, journal.BEGUN)
+        if guest.end_guest(sold.store(), words(), names.octets_of(account)) is None:
+            raise Refused(404, "no such guest")
+        self.done(account)
+
+    def books(self):
+        """What sends debits, once configuration, book and secret have what is needed."""
+        try:
+            return debit.Books(debit_words())
+        except debit.Refused as why:
+            program.say(why)
+            raise Refused(503, "setup") from None
+
+    def test_sale(self, account, number):
+        """The book has this very sale, as it says itself. One that it lacks it gets now, and it is
+        taken back like any other: nothing is lost or won by that.
+        """
+        own = words()
+        its_key = desks.keys_in(own.key_file, 2)[0]
+        body = desks.topup(account, self.asked["sum"], number)
+        try:
+            status, said = desks.ask((own.host, own.port), "POST", "/topups", its_key, body,
+                                     GIVE_UP)
+        except (OSError, http.client.HTTPException) as why:
+            raise OSError(f"no answer of the desk: {type(why).__name__}") from None
+        found = desks.meaning(status, desks.object_of(said))
+        if found in (desks.DIFFERS, desks.LIMIT):
+            self.note(account, journal.REFUSED)
+            raise Refused(409, "differs")
+        if found not in (desks.NEW, desks.REPEAT):
+            raise OSError(f"the desk does not say whether it has {number}: {found}")
+
+    def debit(self, books, account, number):
+        try:
+            books.take(names.octets_of(account), self.asked["sum"], number)
+        except debit.Refused as why:
+            program.say(why)
+            raise Refused(409, "differs") from None
+        except debit.NoAnswer as why:
+            program.say(why)
+            raise Refused(503, "away") from None
+
+
+def card_of(store, account):
+    """What the page shows and prints of a guest: name, password, and the bars of QR codes."""
+    rows = store.read("SELECT password, terms, ends FROM login JOIN package ON package.id = "
+                      "login.package WHERE account = ?", names.octets_of(account))
+    password, terms, own = rows[0][0], json.loads(rows[0][1]), words()
+    config = key.config_of(key.read(own.config), own.config)
+    tokens = [it["token"] for it in config.get("key", [])
+              if key.is_guests(it) and it["account"] == account]
+    token, wifi = next(iter(tokens), None), packages.wifi()
+    texts = guest.codes_of(wifi, account, password, token, guest.url_of(own))
+    return {
+        "account": account, "password": password, "house": guest.house(),
+        "wifi": wifi["name"] if wifi else "", "title": terms["title"], "price": terms["price"],
+        "credit": terms["credit"], "seconds": terms["seconds"], "from": terms["begins"],
+        "until": terms["until"], "codes": [bars_of(it) for it in texts],
+    }
+
+
+def bars_of(text):
+    """A QR code as bars, or none: without a code the card is good all the same."""
+    try:
+        dark, across = sheets.bars(text)
+    except sheets.Fault as why:
+        program.say(why)
+        return {"across": 0, "dark": []}
+    return {"across": across, "dark": dark}
+
+
+def answered(line, now):
+    """The line that the first part gets."""
+    try:
+        who, _, request = line.partition(b"\n")
+        name = names.octets_of(who.decode("ascii")).decode("utf-8")
+        if not name:
+            raise Refused(403, "not allowed")
+        status, body = 200, answer_to(name, forms.asked(request.strip()), now)
+    except Refused as found:
+        status, body = found.status, {"error": found.error}
+    except SystemExit:
+        # A command of radacctl said why on standard error.
+        status, body = 503, {"error": "away"}
+    except UnicodeDecodeError:
+        status, body = 422, {"error": "bad request"}
+    return json.dumps({"status": status, "body": body}).encode() + b"\n"
+
+
+def main():
+    os.umask(0o077)
+    program.NAME = "clerk-work"
+    # What a command prints is for a terminal: here it would get into the answer.
+    out = os.dup(1)
+    os.dup2(os.open(os.devnull, os.O_WRONLY), 1)
+    line = sys.stdin.buffer.read(2 * forms.LONGEST)
+    with os.fdopen(out, "wb") as file:
+        file.write(answered(line, int(time.time())))
+    return 0

@@ -1,0 +1,39 @@
+"""The steps to what cashiers may do beyond a sale. A site without them has none of these."""
+
+import json
+
+from radacctl import site
+from radacctl.clerk import rights
+from radacctl.setup import steps
+from radacctl.setup.alone import Command, File, is_known_group, unit
+
+USER = "radacctd-clerk"
+PACKAGES = ["fcgiwrap", "qrencode"]
+SOCKETS = ("radacctd-clerk.socket", "radacctd-clerk-work.socket")
+HEAD = """\
+# What cashiers may do at the front desk's page beyond a sale, and how often in an hour. `radacctl
+# setup` writes the names; the numbers are yours. A change counts at once.
+"""
+
+
+def of(answers):
+    """The steps, in their order."""
+    yield Command(f"make the user {USER}", lambda: is_known_group(USER), "systemd-sysusers",
+                  f"{prefix()}/{USER}.conf")
+    yield File(rights.FILE, lambda old: file_of(old, answers.clerks), 0o644)
+    for name in reversed(SOCKETS):
+        yield unit(name)
+
+
+def prefix():
+    return f"{site.INSTALLED}/../../lib/sysusers.d"
+
+
+def file_of(old, clerks):
+    """The file with these names, and the limits that it had."""
+    try:
+        had = rights.rights_of(old or "")
+    except rights.Wrong as why:
+        raise steps.Failed(f"{rights.FILE}: {why}") from None
+    lines = [f"{name} = {json.dumps(found, ensure_ascii=False)}" for name, found in clerks.items()]
+    return HEAD + "\n".join([*lines, *(f"{it} = {had[it]}" for it in rights.LIMITS), ""])
