@@ -1,9 +1,7 @@
 "use strict";
 // What each page does in the same way: its texts, its money and its settings.
 
-// Another language is another name here and another column in the TEXTS of each page, and nothing
-// else.
-const LANGUAGES = { en: "English", de: "Deutsch" };
+// LANGUAGES and TEXTS are made of the files in languages: each text has a column for each language.
 const $ = (id) => document.getElementById(id);
 let language = "en", settings = null;
 

@@ -1,0 +1,110 @@
+"""No language of the pages lacks a text, and no text is one too many."""
+
+import importlib.machinery
+import importlib.util
+import os
+import re
+import unittest
+from unittest import mock
+
+from tool_tests import ROOT
+
+PAGES = ("desk", "guest", "redeem")
+SHARED = ("page.js", "names.js")
+# How scripts name a text, and how a page does.
+SAID = re.compile(r'\b(?:text|say|tell|button|named|stop)\("(\w+)"')
+QUOTED = re.compile(r'"(\w+)"|(?:^|[{,]\s*)(\w+):', re.M)
+# What a plan counts, as plans.json says it.
+COUNTED = {"in", "out"}
+NAMED = re.compile(r'data-text="(\w+)"[^>]*>([^<]*)<')
+
+
+def web():
+    loader = importlib.machinery.SourceFileLoader("bin_web", os.path.join(ROOT, "bin", "web"))
+    module = importlib.util.module_from_spec(importlib.util.spec_from_loader("bin_web", loader))
+    loader.exec_module(module)
+    return module
+
+
+def text_of(*names):
+    with open(os.path.join(ROOT, "web", *names), encoding="utf-8") as file:
+        return file.read()
+
+
+def sources(page):
+    """The scripts of a page, and the page."""
+    more = ["sales.js"] if page == "desk" else []
+    return "\n".join([text_of(page, "index.html"), *(text_of(page, it) for it in more),
+                      *map(text_of, SHARED)])
+
+
+class Languages(unittest.TestCase):
+    @classmethod
+    def setUpClass(cls):
+        cls.web = web()
+        cls.found = cls.web.languages()
+
+    def test_there_are_three_and_english_is_the_first(self):
+        self.assertEqual(list(self.found)[:1], ["en"])
+        self.assertLessEqual({"en", "de", "fr"}, set(self.found))
+        names = [it["language"] for it in self.found.values()]
+        self.assertEqual(len(set(names)), len(names))
+
+    def test_each_has_each_text(self):
+        for code, texts in self.found.items():
+            self.assertEqual(set(texts), {"language", *PAGES}, code)
+            for page in PAGES:
+                self.assertEqual(set(texts[page]), set(self.found["en"][page]), f"{code}, {page}")
+
+    def test_each_text_is_one_with_the_same_places(self):
+        places = lambda text: sorted(re.findall(r"\{\d\}", text))
+        for code, texts in self.found.items():
+            for page in PAGES:
+                for name, text in texts[page].items():
+                    with self.subTest(f"{code}, {page}, {name}"):
+                        self.assertTrue(isinstance(text, str) and text.strip() == text and text)
+                        self.assertEqual(places(text), places(self.found["en"][page][name]))
+                        self.assertTrue(re.sub("[\u00a0\u202f]", "", text).isprintable())
+
+    def test_each_text_that_a_page_says_is_there(self):
+        for page in PAGES:
+            source = sources(page)
+            said = set(SAID.findall(source)) | {name for name, _ in NAMED.findall(source)}
+            said |= set(re.findall(r'return "(name\w+)"', source)) if "whyNot(" in text_of(
+                page, "index.html") else set()
+            if page != "redeem":
+                said |= {"pageBack", "pageOn", "pageIs"}
+            else:
+                said -= {"pageIs"}
+            self.assertEqual(said - set(self.found["en"][page]), set(), page)
+
+    def test_no_text_is_one_that_no_page_says(self):
+        for page in PAGES:
+            source = sources(page)
+            words = {it for pair in QUOTED.findall(source) for it in pair if it}
+            words |= {name for name, _ in NAMED.findall(source)}
+            self.assertEqual(set(self.found["en"][page]) - words - COUNTED, set(), page)
+
+    def test_a_page_begins_in_english(self):
+        for page in PAGES:
+            for name, shown in NAMED.findall(text_of(page, "index.html")):
+                if shown:
+                    self.assertEqual(shown, self.found["en"][page][name], f"{page}, {name}")
+
+    def test_a_language_that_lacks_a_text_makes_no_page(self):
+        lacks = {code: {page: dict(it[page]) if page in PAGES else it[page] for page in it}
+                 for code, it in self.found.items()}
+        del lacks["fr"]["desk"]["title"]
+        with mock.patch.object(self.web, "languages", lambda: lacks):
+            self.assertRaises(SystemExit, self.web.texts_of, "desk")
+            self.assertIn('"title"', self.web.texts_of("guest"))
+
+    def test_no_text_ends_a_script(self):
+        odd = {code: {**it, "guest": {**it["guest"], "title": "</script><b>"}}
+               for code, it in self.found.items()}
+        with mock.patch.object(self.web, "languages", lambda: odd):
+            self.assertNotIn("<", self.web.texts_of("guest"))
+
+
+if __name__ == "__main__":
+    unittest.main()
