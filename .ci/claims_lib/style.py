@@ -37,7 +37,7 @@ MOST = {
     "docs/SHARDS.md": 1500,
     "docs/SITE.md": 670,
     "docs/SIZING.md": 640,
-    "docs/TROUBLE.md": 1430,
+    "docs/TROUBLE.md": 1540,
     "docs/VOUCHERS.md": 1100,
     "docs/WATCHING.md": 340,
 }
