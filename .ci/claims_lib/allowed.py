@@ -20,7 +20,6 @@ FREERADIUS = each(
     '"last"',
     '"refuse"',
     ".../etc",
-    "%{NAS-Identifier}",
     "Session-Timeout",
     "Simultaneous-Use := 1",
     "access-servers/*.conf",
