@@ -282,7 +282,7 @@ def behind_the_break(log):
     crash leaves
 
     - a sealed header that breaks its own sum;
-    - a break in a commit whose first frame is sealed and does not count;
+    - a break in a commit whose first frame is sealed, has one of the salts and does not count;
     - a frame that counts behind the break, since each commit is answered before the next one.
     """
     if len(log) < HEADER:
@@ -298,9 +298,12 @@ def behind_the_break(log):
     if broken == len(heads):
         return "end", False
     first = 1 + max((it for it in range(broken) if heads[it][1]), default=-1)
-    seal = log[HEADER + first * (places_apart(log)) + 8]
+    start = HEADER + first * places_apart(log)
+    seal, has_a_salt = log[start + 8], any(
+        log[start + at : start + at + 4] == log[8 + at : 12 + at] for at in (8, 12)
+    )
     is_followed = any(it[2:4] == salts and it[0] == COUNTS for it in heads[broken + 1 :])
-    if seal != log[16]:
+    if seal != log[16] or not has_a_salt:
         return "shut commit", is_followed
     if heads[first][0] in (0, COUNTS):
         return "commit that counts", is_followed

@@ -115,6 +115,26 @@ def torn(folder):
     serves_the_rest(server, 19)
 
 
+def left_by_sqlite3(folder):
+    """`sqlite3` writes into a log of an earlier run, and ends there. Frames of that run lie behind."""
+    os.mkdir(folder)
+    server = Server(folder)
+    credited(server, 56)
+    server.start(1 << 62)
+    for number in range(56, 560):
+        voucher = f'{{"account":"room%2012","sum":10,"voucher":"V-{number}"}}'
+        server.curl("POST", "/topups", CASHIER, voucher)
+    check("the balance before the kill", server.balance(), 5_600)
+    server.kill()
+    count = int.from_bytes(text_of_octets(server.book + "-wal")[12:16], "big")
+    check("the log was begun anew", count > 0, True)
+    commands = ".dbconfig no_ckpt_on_close on\nPRAGMA wal_autocheckpoint=0;\n"
+    commands += "CREATE TABLE extra (number INTEGER);\nDROP TABLE extra;\n"
+    subprocess.run(["sqlite3", server.book], input=commands, text=True, stdout=subprocess.DEVNULL)
+    check("its log is no damaged one", told(server, "check")[0], 0)
+    check("and all is there", server.export("balances")[1:], ["room 12,5600,0"])
+
+
 def page_sums(folder):
     """A book whose pages end in sums: `check` says so, and a flipped bit of a page is refused."""
     os.mkdir(folder)

@@ -39,11 +39,11 @@ impl<'r, R: ReadsFiles> BookNames<'r, R> {
     /// If there is no memory for the names.
     pub fn new(runtime: &'r R, alloc: Global, book: &Text) -> Result<BookNames<'r, R>, AllocError> {
         let name = book.as_str();
-        let log = format!(in alloc; "{name}-wal")?;
+        let log = log_of(runtime, alloc, name)?;
         let mut names = BookNames {
             runtime,
             book: Name::new(book.copy(alloc)?),
-            log: Name::new(Text { text: log }),
+            log: Name::new(log),
             looked_at: 0,
             is_told: false,
         };
@@ -52,14 +52,17 @@ impl<'r, R: ReadsFiles> BookNames<'r, R> {
     }
 
     /// Looks where they lead, once in a second of the clock, and notes in the gauges whether one
-    /// leads elsewhere. If the next look finds that, too, or finds them back, a line says so.
+    /// leads elsewhere. If the next look finds that, too, or finds them back, a line says so. A look
+    /// that fails tells nothing, and all stays as it was.
     pub fn look<E: Write>(&mut self, moment: u64, gauges: &Gauges, errors: &mut E) {
         if moment == self.looked_at {
             return;
         }
         self.looked_at = moment;
         let was_away = gauges.is_away();
-        let is_away = self.lead_elsewhere();
+        let Some(is_away) = self.lead_elsewhere() else {
+            return;
+        };
         gauges.note_away(is_away);
         if is_away && was_away && !self.is_told {
             self.tell(
@@ -72,11 +75,16 @@ impl<'r, R: ReadsFiles> BookNames<'r, R> {
         }
     }
 
-    // Whether one of the names leads to another file than at first, or to none.
-    fn lead_elsewhere(&mut self) -> bool {
+    // Whether one of the names leads to another file than at first, or to none. `None` if neither is
+    // known to, and of one it cannot be told.
+    fn lead_elsewhere(&mut self) -> Option<bool> {
         let book = self.book.leads_elsewhere(self.runtime);
         let log = self.log.leads_elsewhere(self.runtime);
-        book || log
+        match (book, log) {
+            (Some(true), _) | (_, Some(true)) => Some(true),
+            (Some(false), Some(false)) => Some(false),
+            (_, _) => None,
+        }
     }
 
     // Writes a line about the book's name.
@@ -86,6 +94,18 @@ impl<'r, R: ReadsFiles> BookNames<'r, R> {
         let _ = writeln!(errors, "db: the name of {name}, or of its log, {what}");
         let _ = errors.flush();
     }
+}
+
+// The log's name: it is beside the file to which the book's name leads.
+fn log_of<R: ReadsFiles>(runtime: &R, alloc: Global, book: &str) -> Result<Text, AllocError> {
+    let text = match runtime.canonicalize(alloc, book) {
+        Ok(path) => {
+            let path = path.as_str();
+            format!(in alloc; "{path}-wal")?
+        }
+        Err(_) => format!(in alloc; "{book}-wal")?,
+    };
+    Ok(Text { text })
 }
 
 // A file's name, and the file to which it led first.
@@ -108,22 +128,22 @@ impl Name {
         Name { path, first: None }
     }
 
-    // Whether it leads to another file than at first, or to none. Another error of the look tells
-    // nothing.
-    fn leads_elsewhere<R: ReadsFiles>(&mut self, runtime: &R) -> bool {
+    // Whether it leads to another file than at first, or to none. `None` if the look fails for
+    // another reason.
+    fn leads_elsewhere<R: ReadsFiles>(&mut self, runtime: &R) -> Option<bool> {
         let found = match runtime.metadata(self.path.as_str()) {
             Ok(found) => FileNumber {
                 device: found.dev(),
                 number: found.ino(),
             },
-            Err(error) => return self.first.is_some() && error.kind() == ErrorKind::NotFound,
-        };
-        match self.first {
-            Some(first) => first != found,
-            None => {
-                self.first = Some(found);
-                false
+            Err(error) => {
+                return match error.kind() {
+                    ErrorKind::NotFound | ErrorKind::NotADirectory => Some(self.first.is_some()),
+                    _ => None,
+                };
             }
-        }
+        };
+        let first = *self.first.get_or_insert(found);
+        Some(first != found)
     }
 }

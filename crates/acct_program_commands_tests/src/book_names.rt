@@ -2,6 +2,7 @@
 use acct_model::Text;
 use acct_program_commands::{BookNames, Gauges};
 use std::fs;
+use std::os::unix::fs::symlink;
 use std::test::Fail;
 
 const BOOK: &str = "names-book";
@@ -93,5 +94,52 @@ fn make(rt: &HostRuntime, done: Done) -> Result<(), Fail> {
         Done::Written(name) => fs::write(rt, name, "other")?,
         Done::Removed(name) => fs::remove_file(rt, name)?,
     }
+    Ok(())
+}
+
+// A book in a folder of its own, with a name that is a link to it.
+const LINKED: &str = "names-link";
+
+const AT_HOME: &str = "names-home/book";
+
+const LOG_AT_HOME: &str = "names-home/book-wal";
+
+#[test]
+fn looks_where_a_link_leads(rt: HostRuntime) -> Result<(), Fail> {
+    let _ = fs::remove_dir_all(&rt, "names-home");
+    let _ = fs::remove_file(&rt, LINKED);
+    fs::create_dir(&rt, "names-home")?;
+    fs::write(&rt, AT_HOME, "book")?;
+    fs::write(&rt, LOG_AT_HOME, "log")?;
+    symlink(&rt, AT_HOME, LINKED)?;
+    let gauges = Gauges::new();
+    let mut told = Vec::new(rt.alloc());
+    let name = Text::from_str(rt.alloc(), LINKED)?;
+    let mut names = BookNames::new(&rt, rt.alloc(), &name)?;
+    names.look(20, &gauges, &mut told);
+    assert!(rt; !gauges.is_away());
+    // The log is beside the file, not beside the link.
+    fs::rename(&rt, LOG_AT_HOME, "names-home/moved")?;
+    names.look(21, &gauges, &mut told);
+    assert!(rt; gauges.is_away());
+    fs::rename(&rt, "names-home/moved", LOG_AT_HOME)?;
+    names.look(22, &gauges, &mut told);
+    assert!(rt; !gauges.is_away());
+    // A link to itself: where it leads cannot be told, and it stays as it was.
+    fs::remove_file(&rt, LINKED)?;
+    symlink(&rt, LINKED, LINKED)?;
+    names.look(23, &gauges, &mut told);
+    assert!(rt; !gauges.is_away());
+    fs::remove_file(&rt, LINKED)?;
+    symlink(&rt, AT_HOME, LINKED)?;
+    // A file is in the place of the folder: the names lead nowhere.
+    fs::rename(&rt, "names-home", "names-away")?;
+    fs::write(&rt, "names-home", "no folder")?;
+    names.look(24, &gauges, &mut told);
+    assert!(rt; gauges.is_away());
+    fs::remove_file(&rt, "names-home")?;
+    fs::rename(&rt, "names-away", "names-home")?;
+    names.look(25, &gauges, &mut told);
+    assert!(rt; !gauges.is_away());
     Ok(())
 }

@@ -7,16 +7,18 @@ use Rattle.std.specs.Prelude.{◌≡◌, ◌≢◌, ◌+◌, ◌≤◌, ◌<◌,
 use Rattle.std.specs.Prelude.{Option, Some, None, IsTrue}
 use Rattle.sqlite_wal.specs.Format.{page_number, commit_size, count_page}
 use Rattle.sqlite_wal.specs.Recovery.{header}
-use Rattle.acct_sql_log.specs.Chain.{frame_in, has_salts}
+use Rattle.acct_sql_log.specs.Chain.{frame_in, has_salts, has_a_salt}
 
 -- A frame has the salts of a header, and begins a commit that counts the zeros below it.
 abbrev pub BeginsCounted : List ℕ → List ℕ → Type 0
 BeginsCounted head octets = IsTrue (has_salts head octets) × (page_number octets ≡ count_page)
 
--- A frame that begins a commit has its seal, and does not count. Of the number of one that counts,
--- each octet is there or is still 0: the number is that of the count, or 0.
+-- A frame that begins a commit has its seal, is of this run of the log, and does not count. Of the
+-- number of one that counts, each octet is there or is still 0: the number is that of the count, or
+-- 0.
 pub record IsSealedLast (head octets : List ℕ) : Type 0 where
   pub sealed : slice_index octets 8 ≡ slice_index head 16
+  pub salted : IsTrue (has_a_salt head octets)
   pub written : page_number octets ≢ 0
   pub plain : page_number octets ≢ count_page
 

@@ -1,6 +1,6 @@
 -- The log of a book as a chain: its header is link 0, and its frames are links 1, 2 and so on. The
 -- sum in each link continues from the link before it.
-use Rattle.std.specs.Prelude.{◌≡◌, ◌+◌, ◌-◌, ◌/◌, ◌<◌, ◌==◌, ◌&&◌, ℕ, zero, suc, Bool, not}
+use Rattle.std.specs.Prelude.{◌≡◌, ◌+◌, ◌-◌, ◌/◌, ◌<◌, ◌==◌, ◌&&◌, ◌||◌, ℕ, zero, suc, Bool, not}
 use Rattle.std.specs.Prelude.{if◌then◌else◌, nat_le, List, length, slice_index}
 use Rattle.sqlite_wal.specs.Format.{be32, commit_size, IsSigned, IsFrame}
 use Rattle.sqlite_wal.specs.Recovery.{header, frame, sum_before}
@@ -37,6 +37,10 @@ IsSealed log (suc i) = slice_index (frame_in log i) 8 ≡ slice_index (header lo
 -- a frame has the salts of a header
 abbrev pub has_salts : List ℕ → List ℕ → Bool
 has_salts head octets = (be32 octets 8 == be32 head 16) && (be32 octets 12 == be32 head 20)
+
+-- A frame has one of the two salts of a header. One of another run of the log has neither.
+abbrev pub has_a_salt : List ℕ → List ℕ → Bool
+has_a_salt head octets = (be32 octets 8 == be32 head 16) || (be32 octets 12 == be32 head 20)
 
 -- a frame has the salts of a header, and ends a commit
 abbrev pub ends_commit : List ℕ → List ℕ → Bool

@@ -2,7 +2,7 @@
 ghost use Rattle.std.specs.Prelude.{◌≡◌, ◌+◌, ◌≤◌, ◌↔◌, length, IsTrue};
 ghost use Rattle.sqlite_wal.specs.Format.{be32, stored_sum, IsSigned, IsFrame};
 ghost use Rattle.acct_sql_log.specs.Chain.{ends_commit as ends_commit_of};
-ghost use Rattle.acct_sql_log.specs.Chain.{has_salts as has_salts_of};
+ghost use Rattle.acct_sql_log.specs.Chain.{has_salts as has_salts_of, has_a_salt as has_a_salt_of};
 ghost use Rattle.acct_sql_log.specs.Answered.{BeginsCounted, IsSealedLast};
 
 use crate::sizes::LOG_HEADER_OCTETS;
@@ -74,6 +74,14 @@ pub fn has_salts(head: &[u8; 32], frame: &[u8]) -> bool
     number_at(frame, 8) == number_at(head, 16) && number_at(frame, 12) == number_at(head, 20)
 }
 
+/// Whether a frame has one of the two salts of a header. One of another run of the log has neither.
+pub fn has_a_salt(head: &[u8; 32], frame: &[u8]) -> bool
+    requires { 24 ≤ length frame.now }
+    ensures { result ≡ has_a_salt_of head.now frame.now }
+{
+    number_at(frame, 8) == number_at(head, 16) || number_at(frame, 12) == number_at(head, 20)
+}
+
 /// Whether a frame has the salts of a header, and ends a commit.
 pub fn ends_commit(head: &[u8; 32], frame: &[u8]) -> bool
     requires { 24 ≤ length frame.now }
@@ -90,11 +98,11 @@ pub fn begins_counted(head: &[u8; 32], frame: &[u8]) -> bool
     has_salts(head, frame) && number_at(frame, 0) == COUNT
 }
 
-/// Whether a frame that begins a commit has its seal, and does not count.
+/// Whether a frame that begins a commit has its seal, is of this run of the log, and does not count.
 pub fn is_sealed_last(head: &[u8; 32], frame: &[u8]) -> bool
     requires { 24 ≤ length frame.now }
     ensures { IsTrue result ↔ IsSealedLast head.now frame.now }
 {
     let number = number_at(frame, 0);
-    frame[FRAME_SALTS] == head[SALTS] && number != 0 && number != COUNT
+    frame[FRAME_SALTS] == head[SALTS] && has_a_salt(head, frame) && number != 0 && number != COUNT
 }
