@@ -27,6 +27,7 @@ KEPT = {
         "a log that was cut short",
         "or of the octets that seal a commit",
         "A removed one ends with the server",
+        "do not stop it: the book is missing",
         "damage of the last commit in the log",
     ),
     "docs/DESK.md": (

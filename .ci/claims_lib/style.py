@@ -19,7 +19,7 @@ MOST = {
     "docs/CHANGE.md": 1080,
     "docs/CODEC.md": 1490,
     "docs/CONTRACTS.md": 100,
-    "docs/DAMAGE.md": 1140,
+    "docs/DAMAGE.md": 1160,
     "docs/DECISIONS.md": 2010,
     "docs/DEFINITIONS.md": 1990,
     "docs/DESK.md": 1510,
