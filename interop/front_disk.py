@@ -37,6 +37,8 @@ REPORTS, FEW = 240, 20
 # than they need.
 LEFT = {"ext4": 50_000, "overlay": 50_000, "tmpfs": 50_000, "xfs": 0, "btrfs": 0}
 KILLS = 6
+# So many records that some would lie with their marks in two sectors of a disk.
+MARKED, SECTOR = 600, 512
 WRITES = "no report is answered until this is over"
 OVER = "reports are written and answered again"
 
@@ -384,6 +386,49 @@ def tear(radius, rng):
         if rng.random() < 0.5:
             with open(path, "ab") as file:
                 file.write(RECORD[: rng.randrange(1, len(RECORD))])
+
+
+@part
+def marked(folder):
+    """A power cut leaves some sectors of a file with the reader's marks, and some without them."""
+    with both(folder, ["--sync", "once"]) as (book, radius):
+        book.kill()
+        sent_until_answered(radius, reports("M", MARKED))
+        check("no mark is in two sectors", torn_marks(radius), 0)
+        book.start("--sync", "once")
+        count = lambda: sum(octets_of(it).count(b"\tDone") for it in front.files_in(radius.queue))
+        waits_for("some reports are sent", lambda: count() > 20, True)
+        radius.kill()
+        check("and not all", count() < MARKED, True)
+        for path in front.files_in(radius.queue):
+            mix(path)
+        radius.start()
+        all_charged(book, radius, MARKED)
+
+
+def torn_marks(radius):
+    """How many marks would be in two sectors: each is five octets long."""
+    texts = [octets_of(it) for it in front.files_in(radius.queue)]
+    starts = [it.start() for text in texts for it in re.finditer(b"\tTimestamp", text)]
+    return sum(it % SECTOR > SECTOR - 5 for it in starts)
+
+
+def octets_of(path):
+    try:
+        with open(path, "rb") as file:
+            return file.read()
+    except FileNotFoundError:
+        return b""
+
+
+def mix(path):
+    """Each second sector of a file as it was before the marks."""
+    marked = octets_of(path)
+    plain = marked.replace(b"\tDonestamp", b"\tTimestamp")
+    places = range(0, len(marked), SECTOR)
+    pieces = [(marked, plain)[at // SECTOR % 2][at : at + SECTOR] for at in places]
+    with open(path, "wb") as file:
+        file.write(b"".join(pieces))
 
 
 @part

@@ -5,6 +5,7 @@ FreeRADIUS and its book have clocks that the test sets.
 
 import contextlib
 import csv
+import ctypes
 import glob
 import http.client
 import json
@@ -29,6 +30,8 @@ FAKETIME = "/usr/lib/*/faketime/libfaketimeMT.so.1"
 STARTS = 180
 # The queue's file system: its MiB and inodes.
 MEBIBYTES, INODES = 96, 512
+# Of sync_file_range: write, and wait until it is written.
+WRITE_AND_WAIT = 2 | 4
 URL = "https://accounts.example.org"
 
 
@@ -225,6 +228,8 @@ class FreeRadius(Killed, front.FreeRadius):
             if self.is_up():
                 self.process.send_signal(signal.SIGSTOP)
             time.sleep(0.02)
+            if seed % 2:
+                write_back(front.files_in(self.queue))
             lost = self.disk.cut(how, seed)
             self.kill()
             time.sleep(pause)
@@ -244,6 +249,17 @@ class FreeRadius(Killed, front.FreeRadius):
     def queued(self):
         """How many reports wait. The mark of one that was sent on is Donestamp."""
         return len(self.records(self.queue))
+
+
+def write_back(paths):
+    """Gives the disk what the page cache has of files, as the kernel does at any moment: the disk may
+    lose it until a flush.
+    """
+    libc = ctypes.CDLL(None, use_errno=True)
+    whole = ctypes.c_int64(0)
+    for path in paths:
+        with contextlib.suppress(FileNotFoundError), open(path, "rb") as file:
+            libc.sync_file_range(file.fileno(), whole, whole, WRITE_AND_WAIT)
 
 
 class Outbox(Killed):
