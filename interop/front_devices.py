@@ -1,5 +1,5 @@
-"""The parts of interop/freeradius about clocks, those of devices and FreeRADIUS' own, and about
-attributes that FreeRADIUS cannot send on."""
+"""The parts of interop/freeradius about clocks, those of devices and FreeRADIUS' own, about attributes
+that FreeRADIUS cannot send on, and about identifiers that are used again at once."""
 
 import os
 import re
@@ -7,11 +7,13 @@ import time
 
 import front
 from front import MEBIBYTE, check, waits_for
-from front_parts import Missing, both, count_in, part
+from front_parts import Missing, both, count_in, mirrored, part
 from front_sender import Sender, attribute, packet_of
 
 EVENT_TIMESTAMP, DELAY = 55, 41
 DEVICE = "127.0.2.1"
+# So many sessions of one overdrawn account: FreeRADIUS ended by itself after fewer.
+REUSED, AT_ONCE = 3000, 300
 # By how many seconds a device's clock differs; None is a clock of 1970.
 SKEWS = [-3600, -5, 0, 2, 5, 60, 3600, 86_400 * 400, None]
 # How far a moment may be off, in seconds.
@@ -181,3 +183,19 @@ def restarted_without_limit(radius):
     radius.kill()
     front.written(path, text.replace("oldest_report = 60", "oldest_report = 0"))
     radius.start()
+
+
+@part
+def reused(folder):
+    """An access server uses its identifiers again at once, and answers no Disconnect-Request."""
+    with both(folder, ["--sync", "once"]) as (book, radius):
+        check("bo overdraws", told(radius, packet_of("R-0", b"bo", MEBIBYTE)), True)
+        waits_for("the mirror has it", lambda: mirrored(radius, "bo"), -10)
+        sender, left = Sender(radius.acct), list(range(1, REUSED))
+        while left and radius.process.poll() is None:
+            some, left = left[:AT_ONCE], left[AT_ONCE:]
+            sender.send([(DEVICE, packet_of(f"R-{it}", b"bo", MEBIBYTE)) for it in some], 3, 2)
+        check("FreeRADIUS has not ended by itself", radius.process.poll(), None)
+        check("all are answered", len(sender.answered), REUSED - 1)
+        waits_for("the queue is empty", lambda: count_in(radius.queue), 0, 180)
+        waits_for("each is charged once", lambda: book.balance("bo"), -10 * REUSED)

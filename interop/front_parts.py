@@ -429,7 +429,7 @@ def cut(folder):
         check("al uses what he bought", use(2), True)
         waits_for("his balance is 0", lambda: mirrored(radius, "al"), 0)
         use(2)
-        time.sleep(1)
+        time.sleep(3)
         check("he is not cut off", len(port.got), 0)
         use(3)
         waits_for("he overdraws", lambda: mirrored(radius, "al"), -10)
@@ -440,7 +440,7 @@ def cut(folder):
         check("by his own id", (port.got[0][0], wanted in port.got[0]), (40, True))
         for _ in range(5):
             use(3)
-        time.sleep(1)
+        time.sleep(3)
         check("five more reports within the pause: no more", len(port.got), 1)
         time.sleep(6)
         use(3)
