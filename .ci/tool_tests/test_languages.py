@@ -10,7 +10,6 @@ from unittest import mock
 from tool_tests import ROOT
 
 PAGES = ("desk", "guest", "redeem")
-SHARED = ("page.js", "names.js")
 # How scripts name a text, and how a page does.
 SAID = re.compile(r'\b(?:text|say|tell|button|named|stop)\("(\w+)"')
 QUOTED = re.compile(r'"(\w+)"|(?:^|[{,]\s*)(\w+):', re.M)
@@ -32,10 +31,10 @@ def text_of(*names):
 
 
 def sources(page):
-    """The scripts of a page, and the page."""
-    more = ["sales.js"] if page == "desk" else []
-    return "\n".join([text_of(page, "index.html"), *(text_of(page, it) for it in more),
-                      *map(text_of, SHARED)])
+    """A page, and the scripts that it names."""
+    text = text_of(page, "index.html")
+    found = re.findall(r'<script src="([^"]+\.js)">', text)
+    return "\n".join([text, *(text_of(page, it) for it in found)])
 
 
 class Languages(unittest.TestCase):
@@ -72,10 +71,6 @@ class Languages(unittest.TestCase):
             said = set(SAID.findall(source)) | {name for name, _ in NAMED.findall(source)}
             said |= set(re.findall(r'return "(name\w+)"', source)) if "whyNot(" in text_of(
                 page, "index.html") else set()
-            if page != "redeem":
-                said |= {"pageBack", "pageOn", "pageIs"}
-            else:
-                said -= {"pageIs"}
             self.assertEqual(said - set(self.found["en"][page]), set(), page)
 
     def test_no_text_is_one_that_no_page_says(self):

@@ -13,8 +13,9 @@ from radacctl import files, names, stock
 
 FILE = "/var/lib/radacctd-books/clerk.csv"
 HEADER = b"moment,cashier,act,number,account,what,state\n"
-# An act was begun, or it is done; or it cannot be done, and changed nothing.
-BEGUN, DONE, REFUSED = "begun", "done", "refused"
+# An act was begun, or it is done; or it cannot be done, and changed nothing. A sale that the book did
+# not have is lacking: it had to be credited to find that out, and was debited at once.
+BEGUN, DONE, REFUSED, LACKING = "begun", "done", "refused", "lacking"
 HOUR = 3600
 
 
@@ -35,6 +36,13 @@ class Line:
             plain(row[it]) for it in (1, 2, 3, 5, 6))
 
 
+def lines_in(path=None):
+    """The whole lines of the journal; none if there is no file."""
+    text = stock.whole_lines(path or FILE, HEADER).decode("ascii", "replace")
+    rows = csv.reader(io.StringIO(text, newline=""))
+    return [Line(row) for row in rows if len(row) == 7 and row[0].isdigit()]
+
+
 class Journal(stock.Log):
     """The journal, which one process has at a time: the lock of guests is held."""
 
@@ -47,9 +55,7 @@ class Journal(stock.Log):
         super().__init__(path, HEADER)
 
     def lines(self):
-        text = stock.whole_lines(self.path, HEADER).decode("ascii", "replace")
-        rows = csv.reader(io.StringIO(text, newline=""))
-        return [Line(row) for row in rows if len(row) == 7 and row[0].isdigit()]
+        return lines_in(self.path)
 
     def note(self, moment, cashier, asked, account, state):
         """Adds a line of an act; it is on the disk, or it is a fault."""

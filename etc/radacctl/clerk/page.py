@@ -6,8 +6,9 @@ to the socket of `clerk-work`, whose answer it gives.
 
     200 {..}                                what the act gives
     403 {"error": "not allowed"}            this cashier may not do that
-    404 {"error": "no such .."}             there is no such guest or package
+    404 {"error": "no such .."}             there is no such guest, package or sale
     409 {"error": "differs"}                the number belongs to another act, guest or sale
+    409 {"error": "too old"}                nobody was made by this number, and nobody will be
     409 {"error": "keys full"}              no more guests fit into the configuration
     422 {"error": "bad request"}            a member is missing, or of another form
     429 {"error": "too many"}               the hour has as many as it may have

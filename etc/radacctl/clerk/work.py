@@ -21,8 +21,8 @@ from radacctl.commands import packages as sold
 
 # In seconds: how long another act is waited for, the desk's answer, and the server's new keys.
 TURN, GIVE_UP, WAIT = 20, 5, 8
-# How long the card of a guest is given again to the page that made it.
-CARD_AGAIN = 3600
+# How long the page that asked for a guest gets the card again, or asks again if nobody was made.
+AGAIN = 3600
 MOST_FOUND = 20
 
 
@@ -98,10 +98,13 @@ class Act:
             state = self.state_of(store, had.account)
             if state == logins.MAKING:
                 raise Refused(503, "away")
-            if state is not None:
+            # One that was made stays so, also if the logins are those of an older copy.
+            if state is not None or had.state == journal.DONE:
                 return self.again(store, had, state)
-        # A run that was killed, or refused by the desk, left nothing of the guest.
-        if had is None:
+            # A run that was killed, or refused by the desk, left nothing of the guest.
+            if abs(self.now - had.moment) > AGAIN:
+                raise Refused(409, "too old")
+        else:
             self.may_begin()
         return self.fresh(store)
 
@@ -115,7 +118,7 @@ class Act:
 
     def again(self, store, had, state):
         """The guest is made. Its card is given for an hour, and not once it has ended."""
-        is_given = state == logins.LIVE and abs(self.now - had.moment) <= CARD_AGAIN
+        is_given = state == logins.LIVE and abs(self.now - had.moment) <= AGAIN
         return {"result": "repeat", "account": had.account,
                 "card": card_of(store, had.account) if is_given else None}
 
@@ -177,6 +180,8 @@ class Act:
             raise Refused(409, "differs")
         if had is not None and had.state == journal.DONE:
             return {"result": "repeat"}
+        if had is not None and had.state == journal.LACKING:
+            raise Refused(404, "no such sale")
         if made is not None and made.account != account:
             raise Refused(409, "differs")
         if had is None:
@@ -187,8 +192,11 @@ class Act:
         books = self.books()
         if had is None:
             self.note(account, journal.BEGUN)
-        self.test_sale(account, number)
+        is_known = self.has_sale(account, number)
         self.debit(books, account, number)
+        if not is_known:
+            self.note(account, journal.LACKING)
+            raise Refused(404, "no such sale")
         self.done(account)
         return {"result": "new"}
 
@@ -206,9 +214,9 @@ class Act:
             program.say(why)
             raise Refused(503, "setup") from None
 
-    def test_sale(self, account, number):
-        """The book has this very sale, as it says itself. One that it lacks it gets now, and it is
-        taken back like any other: nothing is lost or won by that.
+    def has_sale(self, account, number):
+        """Whether the book has this very sale, as it says itself. One that it lacks it gets by that:
+        so it is debited in each case, and the book is as it was.
         """
         own = words()
         its_key = desks.keys_in(own.key_file, 2)[0]
@@ -224,6 +232,7 @@ class Act:
             raise Refused(409, "differs")
         if found not in (desks.NEW, desks.REPEAT):
             raise OSError(f"the desk does not say whether it has {number}: {found}")
+        return found == desks.REPEAT
 
     def debit(self, books, account, number):
         try:

@@ -342,7 +342,9 @@ def mend_all(logins_store, words):
             take_back(logins_store, account, guest, words)
             continue
         with contextlib.suppress(NotMade):
-            complete(logins_store, account, guest, words, is_lost=True)
+            # A desk that does not answer for one does not for the next one either.
+            if not complete(logins_store, account, guest, words, is_lost=True):
+                break
     ended = logins_store.read("SELECT account FROM login WHERE digest IS NULL AND "
                               "state NOT IN ('making', 'live')")
     end_keys({it for (it,) in ended}, words)

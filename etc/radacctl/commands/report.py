@@ -20,7 +20,7 @@ are in whole units. Names are shown as they are. In a CSV file a name that a spr
 for a formula has an apostrophe before it.
 
 LOG is nginx' log of sales, /var/log/nginx/radacctd-sales.log, whose older parts are read, too. It
-says which cashier sold a voucher.
+says which cashier sold a voucher. Of guests' logins the journal of the front desk says it.
 
 Sessions of the Class CLASS, `debit` unless given, are money that radacctd-debit took, and no usage.
 A line, into which `radacctd forward` carried sessions, is no session and no usage. The sessions are
@@ -48,7 +48,9 @@ import re
 import time
 
 from radacctl import money as moneys
-from radacctl import names, program, site as places
+from radacctl import names, program, site as places, stock
+from radacctl.clerk import journal
+from radacctl.commands import guest
 
 SUBJECT, ESCAPED = re.compile(rb"[A-Za-z.0-9]+="), re.compile(rb"\\([0-9A-F]{2})")
 DATED = re.compile(r"\d{4}-\d{2}-\d{2}(\.\d{6})?")
@@ -250,6 +252,16 @@ def cashiers_of(path):
         except (OSError, EOFError) as fault:
             program.say(f"cannot read {name}: {fault}")
     return {**found[200], **found[201]}
+
+
+def cashiers_of_guests():
+    """The cashier of each guest's sale that the journal of the front desk has."""
+    try:
+        lines = journal.lines_in()
+    except stock.Fault as why:
+        program.say(why)
+        return {}
+    return {guest.number_of(it.account): spelled(it.cashier) for it in lines if it.act == "guest"}
 
 
 def sale_of(line):
@@ -520,7 +532,8 @@ def main(words):
     try:
         settle(words.settings)
         first, last = span_of(snapshots_of(words.folder), begin, end)
-        report = Report(first, last, words.debit_class, cashiers_of(words.sales))
+        cashiers = {**cashiers_of_guests(), **cashiers_of(words.sales)}
+        report = Report(first, last, words.debit_class, cashiers)
         if words.csv:
             write_all(report, words.csv)
     except Broken as fault:
