@@ -15,7 +15,7 @@ MOST = {
     "docs/ACCESS-SERVERS.md": 1380,
     "docs/ARCHITECTURE.md": 1100,
     "docs/BENCHES.md": 1110,
-    "docs/BOOK.md": 1630,
+    "docs/BOOK.md": 1610,
     "docs/CHANGE.md": 1080,
     "docs/CODEC.md": 1490,
     "docs/CONTRACTS.md": 100,
