@@ -105,6 +105,40 @@ def commands(_checker):
         yield row(f"`{name}`", contracts.first_of(plain).rstrip("."))
 
 
+# Where each command of radacctl is explained: on the page of the table, or on another one.
+EXPLAINED = {
+    "setup": "[START](START.md)",
+    "doctor": "[DOCTOR](DOCTOR.md)",
+    "edit": "[below](#change-the-configuration)",
+    "key": "[DESK](DESK.md#keys-and-cards)",
+    "sell": "[below](#credit-a-file-of-vouchers)",
+    "debit": "[below](#take-money-back)",
+    "voucher": "[DESK](DESK.md#printed-vouchers)",
+    "redeem": "[DESK](DESK.md#printed-vouchers)",
+    "packages": "[PACKAGES](PACKAGES.md#codes-that-log-in)",
+    "guest": "[PACKAGES](PACKAGES.md#guests)",
+    "allow": "[PACKAGES](PACKAGES.md#allowances)",
+    "report": "[below](#reports)",
+    "night": "[below](#copies-and-exports-each-night)",
+    "site": "[GONE](GONE.md#restore-the-site)",
+    "rewrite": "[FORWARD](FORWARD.md#make-the-file-small)",
+    "pages": "[DESK](DESK.md#put-a-proxy-in-front)",
+    "shards": "[SHARDS](SHARDS.md#sell-correct-make-keys)",
+}
+
+
+def radacctl(checker):
+    """Each command of radacctl with what its manual page says, and the page on it."""
+    page = text_of("man/radacctl.8").split("\n.Sh COMMANDS\n")[0]
+    found = dict(re.findall(r"^\.It Cm (\w+)\n(.*)$", page, re.M))
+    for name in sorted(set(found) ^ set(EXPLAINED)):
+        checker.find(1, f"`radacctl {name}`: no such command, or no page: see made_tables.py")
+    yield row("Command", "What it does", "Read")
+    yield "|---|---|---|"
+    for name, text in found.items():
+        yield row(f"`radacctl {name}`", text.rstrip("."), EXPLAINED.get(name, ""))
+
+
 # A limit of the site, in words, with the constants that it has in the order of the words.
 LIMITS = (
     (
@@ -224,6 +258,7 @@ MAKERS = {
     "files-with": files_with,
     "metrics": metrics,
     "commands": commands,
+    "radacctl": radacctl,
     "limits": limits,
     "crates": crates,
     "definitions": definitions,

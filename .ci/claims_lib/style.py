@@ -38,7 +38,7 @@ MOST = {
     "docs/SITE.md": 670,
     "docs/SIZING.md": 630,
     "docs/TROUBLE.md": 1540,
-    "docs/VOUCHERS.md": 1100,
+    "docs/VOUCHERS.md": 1030,
     "docs/WATCHING.md": 340,
 }
 MOST_IN_ALL = 46500
