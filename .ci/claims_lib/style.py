@@ -37,7 +37,7 @@ MOST = {
     "docs/SHARDS.md": 1490,
     "docs/SITE.md": 670,
     "docs/SIZING.md": 630,
-    "docs/TROUBLE.md": 1540,
+    "docs/TROUBLE.md": 1250,
     "docs/VOUCHERS.md": 1030,
     "docs/WATCHING.md": 340,
 }
