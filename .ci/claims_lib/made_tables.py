@@ -109,7 +109,7 @@ def commands(_checker):
 EXPLAINED = {
     "setup": "[START](START.md)",
     "doctor": "[DOCTOR](DOCTOR.md)",
-    "edit": "[below](#change-the-configuration)",
+    "edit": "[SITE](SITE.md#change-clients-and-keys-while-the-server-runs)",
     "key": "[DESK](DESK.md#keys-and-cards)",
     "sell": "[below](#credit-a-file-of-vouchers)",
     "debit": "[below](#take-money-back)",

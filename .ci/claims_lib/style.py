@@ -35,7 +35,7 @@ MOST = {
     "docs/PROOFS.md": 2680,
     "docs/SEMANTICS.md": 920,
     "docs/SHARDS.md": 1490,
-    "docs/SITE.md": 670,
+    "docs/SITE.md": 700,
     "docs/SIZING.md": 630,
     "docs/TROUBLE.md": 1250,
     "docs/VOUCHERS.md": 1030,
