@@ -1,5 +1,5 @@
-"""Does one act of the front desk's page over a site in a folder: clerk_run.py FOLDER CONFIG DESK RADIUS
-BOOK, with the connection as its standard input and output. DESK and RADIUS are ports.
+"""Does one act of the front desk's page over a site in a folder: clerk_run.py FOLDER CONFIG DESK
+RADIUS BOOK. The connection is its standard input and output. DESK and RADIUS are ports.
 """
 
 import os
@@ -10,7 +10,8 @@ sys.path.insert(0, os.path.dirname(os.path.abspath(__file__)))
 
 import packages_run
 
-from radacctl.clerk import work
+from radacctl import stock
+from radacctl.clerk import lists, work
 from radacctl.commands import debit, guest
 
 
@@ -22,6 +23,8 @@ def main():
            "--wait", "8", "mend"]
     books = ["--config", config, "--db", book, "--secret-file", at("books.secret"), "--journal",
              at("debits.csv"), "--port", radius, "--list"]
+    lists.SALES, lists.DEBITS = at("nginx/log/radacctd-sales.log"), at("debits.csv")
+    stock.SECOND = at("withdrawn/vouchers.csv")
     work.words = lambda: guest.parser().parse_args(own)
     work.debit_words = lambda: debit.parser().parse_args(books)
     return work.main()

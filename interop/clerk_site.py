@@ -18,7 +18,7 @@ from served import ROOT, check
 
 KILLS = int(os.environ.get("KILLS", "12"))
 SEED = int(os.environ.get("RADACCTD_SEED", "61"))
-RIGHTS = 'guests = ["anna"]\ncorrections = ["bert"]\nguests_an_hour = {}\n'
+RIGHTS = 'guests = ["anna"]\ncorrections = ["bert"]\noperators = ["bert"]\nguests_an_hour = {}\n'
 FIELD = ("-H", "Radacctd: desk")
 LETTERS = "ACDEFHJKMNPQRTUWXY34679"
 PAGE = """#!/bin/sh
@@ -144,6 +144,7 @@ def whole(folder):
         account, card = makes(site)
         finds_and_ends(site, account)
         corrects(site)
+        operates(site)
         away(site)
         full(site)
         limited(site)
@@ -155,8 +156,9 @@ def whole(folder):
 def rights(site):
     found = [site.ask(it, act="may") for it in ("anna", "bert", "jörg")]
     check("who may what", found, [
-        (200, {"guests": True, "corrections": False}), (200, {"guests": False, "corrections": True}),
-        (200, {"guests": False, "corrections": False})])
+        (200, {"guests": True, "corrections": False, "operators": False}),
+        (200, {"guests": False, "corrections": True, "operators": True}),
+        (200, dict.fromkeys(("guests", "corrections", "operators"), False))])
     for login, asked in (("bert", {"act": "guest", "number": number(1), "name": "x",
                                    "package": "week"}),
                          ("bert", {"act": "find", "text": "x"}),
@@ -197,8 +199,8 @@ def makes(site):
         it.start()
     for it in threads:
         it.join()
-    check("two clicks at once make one", (both[0][1]["card"] == both[1][1]["card"], len(site.rows())),
-          (True, 2))
+    is_same = both[0][1]["card"] == both[1][1]["card"]
+    check("two clicks at once make one", (is_same, len(site.rows())), (True, 2))
     return account, card
 
 
@@ -228,6 +230,28 @@ def corrects(site):
           [("bert", "begun"), ("bert", "done")])
 
 
+def operates(site):
+    """The operator sees sales, corrections and sessions, and ends none that cannot be told."""
+    day = time.strftime("%Y-%m-%d")
+    check("anna is no operator", site.ask("anna", act="on"), (403, {"error": "not allowed"}))
+    said = site.ask("bert", act="sales", begin=day, end=day)[1]
+    rows = {(it["desk"], it["cashier"]): (it["count"], it["credit"], it["paid"])
+            for it in said["sales"]}
+    check("sales by desk and cashier, guests at their price", rows,
+          {("D1", "anna"): (3, 700 + 2 * 50, 700 + 2 * 900)})
+    check("what was taken back", [(it["cashier"], it["number"], it["account"], it["sum"])
+                                  for it in said["corrections"]],
+          [("bert", "D1-261128-SALE", "al", "700")])
+    check("no code is withdrawn", site.ask("bert", act="codes"), (200, {"codes": []}))
+    account = site.rows()[0][0]
+    site.whole.uses.run(("INSERT INTO use VALUES (?, 'AA', '127.0.2.1', '532d31', ?, 0)",
+                         (account, int(time.time()))))
+    found = site.ask("bert", act="on")[1]["sessions"]
+    check("who is on", [(it["account"], it["cut"]) for it in found], [(account.decode(), False)])
+    asked = {"act": "cut", "account": account.decode(), "source": "127.0.2.1", "session": "532d31"}
+    check("one that cannot be told is not", site.ask("bert", **asked), (409, {"error": "no cut"}))
+
+
 def away(site):
     """While radacctd is down nobody is promised anything; then it is done once."""
     site.whole.box.kill()
@@ -235,7 +259,8 @@ def away(site):
     site.whole.box.start()
     waits_for("then it is made", lambda: site.guest(3, "Drei")[0], 200)
     sold = site.whole.box.vouchers("G-")
-    check("each guest was credited once", (len(sold), set(it[1] for it in sold.values())), (3, {50}))
+    credits = {it[1] for it in sold.values()}
+    check("each guest was credited once", (len(sold), credits), (3, {50}))
 
 
 def full(site):

@@ -61,9 +61,10 @@ class Desk(shifts.Desk):
                                       "time_classes": self.classes, "clerk": True},
         }
         name = to.path.rsplit("/", 1)[1]
-        if to.path == "/":
+        pages = {"/": "guest", "/operator/": "operator"}
+        if to.path in pages:
             return self.send(to, 200, "text/html; charset=utf-8",
-                             web_pages.text_of("guest").encode())
+                             web_pages.text_of(pages[to.path]).encode())
         if name in answers:
             return self.send(to, 200, "application/json", json.dumps(answers[name]()).encode())
         return super().get(to)
@@ -140,7 +141,8 @@ def sells_packages(browser, desk):
     check("without an account nothing is asked", browser.shows("Type the account"), True)
     typed(browser, "room 12")
     browser.click("#packages button")
-    asked = "Sell the package 5 GB, 7 days for 9.00 EUR to room 12? It puts 5.00 EUR on the account."
+    asked = "Sell the package 5 GB, 7 days for 9.00 EUR to room 12? "
+    asked += "It puts 5.00 EUR on the account."
     check("a package is asked about", browser.text("#question"), asked)
     browser.click("#yes")
     check("then sold", browser.shows("D1-", "#receipt"), True)
@@ -234,11 +236,10 @@ def makes_guests(browser, desk):
     desk.answers = {"may": [(200, {"guests": True, "corrections": False})], "guest": [AWAY, MADE]}
     opened(browser, desk)
     check("who may make guests has the form", browser.shows("New guest", "#guest-part"), True)
-    browser.js("document.getElementById('guest-part').scrollIntoView()")
     asks_guest(browser, "  ")
     check("a guest needs a name", browser.shows("Type the guest's name"), True)
-    asks_guest(browser, "Anna  M\u00fcller")
-    asked = "Make a login for Anna M\u00fcller with the package 5 GB, 7 days for 9.00 EUR?"
+    asks_guest(browser, "Anna  Müller")
+    asked = "Make a login for Anna Müller with the package 5 GB, 7 days for 9.00 EUR?"
     check("a guest is asked about", browser.text("#question"), asked)
     check("Enter makes none", browser.focused(), "question")
     browser.js("const it = document.getElementById('yes'); it.click(); it.click()")
@@ -246,12 +247,22 @@ def makes_guests(browser, desk):
     browser.cut()
     browser.open()
     browser.go(f"http://localhost:{desk.port}/desk/")
-    check("also after the browser was killed, and comes", browser.shows("can log in as muller-1128-acde", seconds=30), True)
+    came = browser.shows("can log in as muller-1128-acde", seconds=30)
+    check("also after the browser was killed, and comes", came, True)
     letters(browser)
     numbers = desk.numbers("guest")
     check("by the same number", (len(numbers) > 1, len(set(numbers))), (True, 1))
+    shows_card(browser, numbers[0])
+    desk.answers["guest"] = [(200, {"result": "repeat", "account": CARD["account"], "card": None})]
+    browser.js("cards.clear()")
+    browser.js("document.querySelector('#sales button').click()")
+    check("later the card is no longer given", browser.shows("no longer shown"), True)
+    makes_none(browser, desk)
+
+
+def shows_card(browser, number):
     receipt = browser.text("#receipt")
-    wanted = ("Anna M\u00fcller", "muller-1128-acde", "aacde-ffhjk", "Hotel", "9.00 EUR", numbers[0])
+    wanted = ("Anna Müller", "muller-1128-acde", "aacde-ffhjk", "Hotel", "9.00 EUR", number)
     check("the card has all of it", [it for it in wanted if it not in receipt], [])
     drawn = browser.js("return [...document.querySelectorAll('#codes path')].map((it) =>"
                        " it.getAttribute('d'))")
@@ -259,11 +270,12 @@ def makes_guests(browser, desk):
     check("what was paid counts", browser.shows("9.00 EUR", "#totals"), True)
     kept = browser.js("return JSON.stringify(kept)")
     check("the password is not kept on the disk", CARD["password"] in kept, False)
-    desk.answers["guest"] = [(200, {"result": "repeat", "account": CARD["account"], "card": None})]
-    browser.js("cards.clear()")
-    browser.js("document.querySelector('#sales button').click()")
-    check("later the card is no longer given", browser.shows("no longer shown"), True)
-    for answer, said in ((BUSY, "this hour has had"), ((409, {"error": "keys full"}), "no more guests"),
+
+
+def makes_none(browser, desk):
+    """What is refused is said, counts nowhere, and is not sent again."""
+    for answer, said in ((BUSY, "this hour has had"),
+                         ((409, {"error": "keys full"}), "no more guests"),
                          ((404, {"error": "no such package"}), "No login was made")):
         desk.answers["guest"] = [answer]
         asks_guest(browser, "<b>Bert</b>")
@@ -282,22 +294,23 @@ def totals(browser):
 
 def finds_guests(browser, desk):
     """A guest is found by name, and checked out."""
-    guests = [{"account": "muller-1128-acde", "name": "Anna M\u00fcller", "package": "week",
+    guests = [{"account": "muller-1128-acde", "name": "Anna Müller", "package": "week",
                "state": "live", "first": None, "ends": None},
-              {"account": "x-1128-acde", "name": "<i>M\u00fcller</i>", "package": "week",
+              {"account": "x-1128-acde", "name": "<i>Müller</i>", "package": "week",
                "state": "ended", "first": 1, "ends": 2}]
     desk.answers = {"may": [(200, {"guests": True, "corrections": False})],
                     "find": [(200, {"guests": guests})], "end": [(200, {"result": "new"})]}
     opened(browser, desk)
     browser.shows("New guest", "#guest-part")
-    for text in ("m", "m\u00fc", "m\u00fcll"):
+    for text in ("m", "mü", "müll"):
         typed(browser, text)
-    check("guests are found by name", browser.shows("Anna M\u00fcller", "#guests"), True)
+    check("guests are found by name", browser.shows("Anna Müller", "#guests"), True)
     check("once typing rests", [it["text"] for it in desk.acts if it["act"] == "find"],
-          ["m\u00fcll"])
+          ["müll"])
     check("who has ended has no second button", len(buttons(browser, "#guests")), 3)
     check("a name is a text", browser.js("return document.querySelectorAll('main i').length"), 0)
-    browser.js("window.confirm = () => true; document.querySelectorAll('#guests button')[1].click()")
+    browser.js("window.confirm = () => true;"
+               "document.querySelectorAll('#guests button')[1].click()")
     check("checked out", browser.shows("can no longer log in"), True)
     check("by account", [it for it in desk.acts if it["act"] == "end"],
           [{"act": "end", "account": "muller-1128-acde"}])
@@ -340,12 +353,93 @@ def corrects(browser, desk):
     check("and counts", totals(browser)[0][4], "6.00 EUR")
 
 
+def on(at, **more):
+    return {"account": f"g-{at}", "name": f"Gast {at}", "package": "week", "station": "AA-BB",
+            "source": "10.0.0.1", "server": "lobby", "session": f"{at:04x}", "heard": 1000 + at,
+            "cut": True, **more}
+
+
+def cells(browser, name):
+    return browser.js("return [...document.getElementById(arguments[0]).rows].map((row) =>"
+                      " [...row.cells].map((it) => it.textContent.replaceAll('\\u00a0', ' ')))",
+                      name)
+
+
+def operator(browser, desk):
+    """The operator's page: sorted, by pages, as files without formulas; a session is ended."""
+    odd = {"name": "<b>x</b>", "station": "=HYPERLINK(1)", "cut": False}
+    desk.answers = {
+        "on": [(200, {"sessions": [*(on(at) for at in range(30)), on(99, **odd)]})],
+        "sales": [(200, {"sales": [
+            {"day": "2026-11-28", "desk": "D1", "cashier": "=anna", "count": 2, "credit": 1000,
+             "paid": 1800}], "corrections": [
+            {"moment": 1000, "cashier": "", "number": "D1-1", "account": "al", "sum": "500"}]})],
+        "codes": [(200, {"codes": []})], "cut": [(200, {"result": "new"})]}
+    browser.go(f"http://localhost:{desk.port}/operator/")
+    check("the operator's page is read", browser.shows("Read.", "#message"), True)
+    check("by pages", (len(cells(browser, "on")), browser.text("#on-pages span")),
+          (20, "1 to 20 of 31"))
+    sorts(browser)
+    exports(browser)
+    check("what was taken back", cells(browser, "corrections")[0][1:],
+          ["", "D1-1", "al", "5.00 EUR"])
+    check("no code is withdrawn", cells(browser, "codes"), [["None"]])
+    browser.js("window.confirm = () => true;"
+               "document.querySelectorAll('#on-head button')[0].click();"
+               "document.querySelector('#on td button').click()")
+    check("a session is ended", browser.shows("is disconnected", "#message"), True)
+    check("by its own request", [it for it in desk.acts if it["act"] == "cut"],
+          [{"act": "cut", "account": "g-0", "source": "10.0.0.1", "session": "0000"}])
+    operator_is_told(browser, desk)
+
+
+def sorts(browser):
+    heads = browser.js("return [...document.querySelectorAll('#on-head button')].map((it) =>"
+                       " it.textContent)")
+    check("it has its columns", heads[:2], ["Account", "Guest"])
+    for at, wanted in ((0, "g-0"), (0, "g-99"), (1, "<b>x</b>")):
+        browser.js("document.querySelectorAll('#on-head button')[arguments[0]].click()", at)
+        check(f"sorted by column {at}: {wanted} is first",
+              cells(browser, "on")[0][1 if at else 0], wanted)
+    check("what a guest named is a text",
+          browser.js("return document.querySelectorAll('main b').length"), 0)
+    check("an access server that cannot be told has no button", cells(browser, "on")[0][6], "")
+
+
+def exports(browser):
+    file = browser.js("return csvOf('on')")
+    check("a file has all lines, and no formula",
+          (file.count("\r\n"), ",'=HYPERLINK(1)," in file), (32, True))
+    check("sums are numbers in it", browser.js("return csvOf('sales')").splitlines()[1],
+          "2026-11-28,D1,'=anna,2,18.00,10.00")
+    check("and money on the page", cells(browser, "sales")[0][4:], ["18.00 EUR", "10.00 EUR"])
+
+
+def operator_is_told(browser, desk):
+    """What cannot be read, and who may not read it."""
+    desk.answers["sales"] = [AWAY]
+    browser.click("#show")
+    check("what cannot be read is said, and not shown",
+          (browser.shows("Not all of it", "#message"),
+           browser.js("return document.getElementById('sales-part').hidden")), (True, True))
+    check("each control has a name", browser.nameless(), [])
+    browser.size(320, 640)
+    check("320 pixels are wide enough", browser.overflow(), 0)
+    browser.size(1000, 800)
+    desk.answers = dict.fromkeys(("on", "sales", "codes"), [(403, {"error": "not allowed"})])
+    before = len(desk.acts)
+    browser.go(f"http://localhost:{desk.port}/operator/")
+    check("without the right nothing is shown", browser.shows("no right to this page"), True)
+    check("nor asked a second time", len(desk.acts) - before, 1)
+
+
 def forgets(browser, desk):
     browser.go(f"http://localhost:{desk.port}/settings.json")
     browser.js("return new Promise((go) => { indexedDB.deleteDatabase('desk').onsuccess = go; })")
 
 
-PARTS = (finds, sells_packages, long_lists, guest, makes_guests, finds_guests, corrects)
+PARTS = (finds, sells_packages, long_lists, guest, makes_guests, finds_guests, corrects,
+         operator)
 
 
 def run(folder, names=()):

@@ -102,7 +102,7 @@ BREAKS = {
     "packages-lost": (f"mv {LOGINS} /root/kept.db", f"mv /root/kept.db {LOGINS}"),
     "packages-key": edited("s/^\\tkey = ./\\tkey = x/", f"{RADDB}/radacctd/packages.conf"),
     "packages-file": appended("\\n[[package]]\\n", "/etc/radacctd-packages/packages.toml"),
-    "clerk-file": appended("\\nx = 1\\n", "/etc/radacctd-clerk.toml"),
+    "clerk-file": appended("\\nx = 1\\n", "/etc/radacctd-clerk/rights.toml"),
     "packages-wait": (f"systemctl stop radacctd-packages.timer; {AS_FREERAD} sqlite3 {LOGINS} "
                       "\"INSERT INTO lapse VALUES (x'61', 'LAPSE-X', 1, 1, 0)\"",
                       f"{AS_FREERAD} sqlite3 {LOGINS} 'DELETE FROM lapse'; "

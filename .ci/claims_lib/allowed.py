@@ -101,7 +101,8 @@ ALLOWED = {
     },
     "docs/CLERK.md": each(
         "a member of the file of rights: .ci/tools reads each", "corrections", "guests_an_hour",
-        "ends_an_hour", "corrections_an_hour"
+        "ends_an_hour", "corrections_an_hour", "operators", "cuts_an_hour", "/operator/",
+        "home_server"
     ),
     "docs/DOCTOR.md": {
         **each("a fault's name: .ci/tools compares them", "book-shut", "drop-secret", "log-odd"),
@@ -109,7 +110,7 @@ ALLOWED = {
     },
     "docs/START.md": {
         "/desk/": "nginx' path",
-        **each("a member of the answers", "desk_guests", "desk_corrections"),
+        **each("a member of the answers", "desk_guests", "desk_corrections", "operators"),
         "/root/radacctd-setup": "radacctl setup makes it",
         "[sql]": "a table of the answers",
         "~before-": "a part of a name that radacctl setup makes",
@@ -123,7 +124,7 @@ ALLOWED = {
         **each("Debian's packages", "fcgiwrap", "fonts-dejavu-core", "fonts-droid-fallback"),
         "adm": "a group of the system",
         "ignoreip": "fail2ban's own",
-        **each("nginx' paths", "/desk/", "/redeem/"),
+        **each("nginx' paths", "/desk/", "/operator/", "/redeem/"),
         "revoke": "a command of radacctd-key",
         **each("a member of settings.json", "time_classes", "url"),
     },

@@ -14,7 +14,7 @@ import unittest
 from unittest import mock
 
 from radacctl import files, logins, names
-from radacctl.clerk import forms, journal, rights, work
+from radacctl.clerk import forms, journal, lists, rights, work
 from radacctl.commands import debit, guest, key, report
 from radacctl.doctor import web as doctor
 from radacctl.setup import answers, clerk as steps_of_clerk, steps, web
@@ -41,6 +41,10 @@ WRONG = [
     '{"act":"back","account":"a","sum":1e3,"voucher":"V-1"}',
     '{"act":"back","account":"a","sum":1,"voucher":"v-1"}',
     '{"act":"back","account":"a","sum":1,"voucher":"V-1\\n"}',
+    '{"act":"sales","begin":"2026-02-30","end":"2026-03-01"}', '{"act":"sales","begin":"2026-02-03"}',
+    '{"act":"sales","begin":20260101,"end":"2026-03-01"}',
+    '{"act":"cut","account":"a","source":"x;y","session":"61"}',
+    '{"act":"cut","account":"a","source":"10.0.0.1","session":"6"}',
     "[" * 2000, "x" * 5000,
 ]
 
@@ -155,7 +159,7 @@ class Guests(Desk):
         self.assertEqual((self.rows(), self.site.money, self.keys()), ([], {}, 0))
         self.assertFalse(os.path.exists(journal.FILE))
         self.assertEqual(self.ask("jörg", {"act": "may"}),
-                         (200, {"guests": True, "corrections": False}))
+                         (200, {"guests": True, "corrections": False, "operators": False}))
 
     def test_an_hour_has_a_limit(self):
         found = [self.guest(it, f"g {it}")[0] for it in NUMBERS]
@@ -365,6 +369,118 @@ class Corrections(Desk):
         self.assertEqual(self.books.taken, {})
 
 
+class Operators(Desk):
+    """What the operator's page lists, and ends."""
+
+    SERVERS = """client lobby {
+\tipaddr = 10.0.0.1
+\tsecret = a
+}
+home_server lobby {
+\ttype = coa
+\tipaddr = 10.0.0.1
+\tport = 3799
+\tsecret = a
+}
+"""
+
+    def begin(self):
+        super().begin()
+        self.site.write("clerk.toml", RIGHTS + 'operators = ["anna"]\n')
+        os.makedirs(self.site.path("radacctd"), exist_ok=True)
+        self.site.write("radacctd/access-servers.conf", self.SERVERS)
+        for where, name, new in ((lists, "SALES", self.site.path("sales.log")),
+                                 (lists, "DEBITS", self.site.path("debits.csv")),
+                                 (lists.stock, "SECOND", self.site.path("vouchers.csv"))):
+            patched = mock.patch.object(where, name, new)
+            patched.start()
+            self.addCleanup(patched.stop)
+
+    def on(self, account, source="10.0.0.1", session="S-1", heard=NOW, ended=0):
+        self.site.uses().run(("INSERT INTO use VALUES (?, ?, ?, ?, ?, ?)", (
+            account, "AA-BB", source, session.encode().hex(), heard, ended)))
+
+    def asked(self, **more):
+        status, body = self.ask("anna", more)
+        self.assertEqual(status, 200, body)
+        return body
+
+    def test_who_is_no_operator_sees_nothing(self):
+        for asked in ({"act": "on"}, {"act": "codes"},
+                      {"act": "sales", "begin": "2026-01-01", "end": "2026-12-31"},
+                      {"act": "cut", "account": "a", "source": "10.0.0.1", "session": "61"}):
+            self.assertEqual(self.ask("jörg", asked), (403, {"error": "not allowed"}))
+
+    def test_who_is_on(self):
+        account = self.guest()[1]["card"]["account"].encode()
+        self.on(account)
+        self.on(b"t-1", source="10.0.0.9", session="<b>")
+        self.on(b"old", heard=NOW - 5000)
+        self.on(b"over", ended=1)
+        found = self.asked(act="on")["sessions"]
+        rows = {(it["account"], it["name"], it["server"], it["cut"]) for it in found}
+        self.assertEqual(rows, {(account.decode(), "Anna Müller", "lobby", True),
+                                ("t-1", "", "10.0.0.9", False)})
+
+    def test_a_session_is_ended_once_for_each_request_that_holds(self):
+        self.on(b"al")
+        self.on(b"bo", source="10.0.0.9")
+        asked = {"act": "cut", "account": "al", "source": "10.0.0.1", "session": "532d31"}
+        told = mock.Mock(return_value=True)
+        with mock.patch.object(work.lapses, "tell", told):
+            self.assertEqual(self.ask("anna", asked), (200, {"result": "new"}))
+            for more, wanted in (({"session": "532d32"}, (404, {"error": "no such session"})),
+                                 ({"account": "eve"}, (404, {"error": "no such session"})),
+                                 ({"account": "bo", "source": "10.0.0.9"},
+                                  (409, {"error": "no cut"}))):
+                self.assertEqual(self.ask("anna", {**asked, **more}), wanted)
+            told.assert_called_once_with("10.0.0.1", "3799", "a", "S-1")
+            told.return_value = False
+            self.assertEqual(self.ask("anna", asked), (409, {"error": "not ended"}))
+        self.assertEqual([it[1:] for it in self.journal()],
+                         [("cut", "begun"), ("cut", "done"), ("cut", "begun"), ("cut", "refused")])
+
+    def test_sales_by_day_and_desk(self):
+        line = lambda day, status, sale, who="anna": json.dumps(
+            {"time": f"{day}T12:00:00+00:00", "status": status, "cashier": who, "sale": sale})
+        sale = lambda number, total, **more: json.dumps(
+            {"account": "al", "sum": total, "voucher": number, **more})
+        rows = [line("2026-11-27", 503, sale("D1-1", 5)), line("2026-11-28", 201, sale("D1-1", 5)),
+                line("2026-11-29", 200, sale("D1-1", 5)), line("2026-11-28", 201, sale("D1-2", 7)),
+                line("2026-11-28", 201, sale("D2-1", 500, paid=900, package="week"), "=bert"),
+                line("2026-11-28", 409, sale("D1-3", 9)), line("2026-10-01", 201, sale("D1-0", 1)),
+                "{", line("2026-11-28", 201, "{"), line("2026-11-28", 201, sale("D1-9", "x"))]
+        self.site.write("sales.log", "\n".join(rows) + "\n")
+        found = self.asked(act="sales", begin="2026-11-01", end="2026-11-30")["sales"]
+        self.assertEqual([tuple(it.values()) for it in found], [
+            ("2026-11-28", "D2", "=bert", 1, 500, 900), ("2026-11-28", "D1", "anna", 2, 12, 12)])
+
+    def test_a_guests_sale_is_one(self):
+        self.guest()
+        day = lists.day_of(NOW)
+        found = self.asked(act="sales", begin=day, end=day)["sales"]
+        self.assertEqual([tuple(it.values()) for it in found], [(day, "D1", "anna", 1, 500, 900)])
+
+    def test_what_was_taken_back(self):
+        self.site.numbers[SALE["voucher"]] = self.site.money[SALE["voucher"]] = (b"room 12", 500)
+        self.ask("anna", SALE)
+        self.site.write("debits.csv", "moment,event,number,account,sum\n"
+                        f"{NOW},given,{SALE['voucher']},room 12,500\n{NOW},given,VOID-1,al,70\n"
+                        f"{NOW},answered,VOID-1,al,70\n{NOW},given,LAPSE-1,al,5\n{NOW},given,CUT")
+        day = lists.day_of(NOW)
+        found = self.asked(act="sales", begin=day, end=day)["corrections"]
+        self.assertEqual({(it["cashier"], it["number"], it["account"], it["sum"]) for it in found},
+                         {("anna", SALE["voucher"], "room 12", "500"), ("", "VOID-1", "al", "70")})
+
+    def test_withdrawn_codes(self):
+        logins.log_ended([b"t-0123456789ab"], logins.WITHDRAWN, NOW)
+        logins.log_ended([b"t-0123456789ac"], logins.ENDED, NOW)
+        self.site.write("vouchers.csv", "moment,code,sheet\n1,A,one\n3,B,one\n2,C,two\n")
+        found = self.asked(act="codes")["codes"]
+        self.assertEqual([tuple(it.values()) for it in found], [
+            (NOW, "t-0123456789ab", "", 1), (3, "", "one", 2), (2, "", "two", 1)])
+
+
 class Answers(Desk):
     def test_no_line_of_any_kind_stops_it(self):
         for text in (b"", b"\n", b"anna\n", b"\xff\n{}", b"%FF\n" + json.dumps(SALE).encode(),
@@ -391,7 +507,7 @@ class SetUp(unittest.TestCase):
         wanted = answers.Answers({**self.SITE, "desk_guests": ["anna"]})
         text = steps_of_clerk.file_of(None, wanted.clerks)
         self.assertEqual(rights.rights_of(text), {"guests": ["anna"], "corrections": [],
-                                                  **rights.LIMITS})
+                                                  "operators": [], **rights.LIMITS})
         mine = text.replace("guests_an_hour = 60", "guests_an_hour = 7")
         wanted = answers.Answers({**self.SITE, "desk_corrections": ["bert"]})
         found = rights.rights_of(steps_of_clerk.file_of(mine, wanted.clerks))
@@ -399,13 +515,25 @@ class SetUp(unittest.TestCase):
                          ([], ["bert"], 7))
         self.assertRaises(steps.Failed, steps_of_clerk.file_of, "guests = 5", wanted.clerks)
 
+    def test_who_is_no_longer_named_has_no_right(self):
+        with tempfile.TemporaryDirectory() as folder:
+            path = os.path.join(folder, "clerk.toml")
+            with mock.patch.object(rights, "FILE", path):
+                self.assertEqual(list(steps_of_clerk.of(answers.Answers(self.SITE))), [])
+                with open(path, "w", encoding="utf-8") as file:
+                    file.write('guests = ["anna"]\nguests_an_hour = 7\n')
+                [_, step] = steps_of_clerk.of(answers.Answers(self.SITE))
+                found = rights.rights_of(step.wanted(b'guests = ["anna"]\nguests_an_hour = 7\n')
+                                         .decode())
+        self.assertEqual((found["guests"], found["guests_an_hour"]), ([], 7))
+
     def test_a_site_without_it_has_none(self):
         self.assertFalse(answers.Answers(self.SITE).has_clerk)
         self.assertEqual([it for it in web.PACKAGES if it in steps_of_clerk.PACKAGES], [])
 
     def test_who_is_no_cashier_is_refused(self):
         pair = {"own": "10.0.0.5", "other": "10.0.0.6"}
-        for more in ({"desk_guests": ["eve"]}, {"desk_guests": [5]}, {"desk_guests": ["anna"],
+        for more in ({"desk_guests": ["eve"]}, {"operators": ["eve"]}, {"desk_guests": [5]}, {"desk_guests": ["anna"],
                      "packages": False}, {"desk_corrections": ["anna"], "host": ""},
                      {"desk_corrections": ["anna"], "packages": False, "pair": pair}):
             with self.subTest(str(more)):

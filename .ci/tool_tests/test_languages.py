@@ -9,7 +9,7 @@ from unittest import mock
 
 from tool_tests import ROOT
 
-PAGES = ("desk", "guest", "redeem")
+PAGES = ("desk", "guest", "redeem", "operator")
 # How scripts name a text, and how a page does.
 SAID = re.compile(r'\b(?:text|say|tell|button|named|stop)\("(\w+)"')
 QUOTED = re.compile(r'"(\w+)"|(?:^|[{,]\s*)(\w+):', re.M)

@@ -1,5 +1,6 @@
 """The requests of the front desk's page: which there are, and the form of each member."""
 
+import datetime
 import json
 import re
 
@@ -11,6 +12,9 @@ LONGEST = 2048
 ACCOUNT = re.compile("(?:[ -$&-~]|%[0-9A-F]{2}){1,253}")
 # The number of an act: as of a sale, and made by the page by chance.
 NUMBER = re.compile("[A-Z0-9]{1,8}-[0-9]{6}-[A-Z0-9]{12}")
+# Where a session is, as the database of devices has it.
+SOURCE, SESSION = re.compile("[0-9a-f.:]{2,45}"), re.compile("(?:[0-9a-f]{2}){1,253}")
+DAY = re.compile("[0-9]{4}-[0-9]{2}-[0-9]{2}")
 
 
 class Refused(Exception):
@@ -29,6 +33,14 @@ def is_of(pattern):
     return lambda value: isinstance(value, str) and bool(pattern.fullmatch(value))
 
 
+def is_day(value):
+    try:
+        return isinstance(value, str) and bool(DAY.fullmatch(value)
+                                               and datetime.date.fromisoformat(value))
+    except ValueError:
+        return False
+
+
 def is_units(value):
     return type(value) is int and 1 <= value <= money.LARGEST_SUM
 
@@ -41,6 +53,10 @@ MEMBERS = {
     "voucher": is_of(desk.NUMBER),
     "account": is_of(ACCOUNT),
     "sum": is_units,
+    "source": is_of(SOURCE),
+    "session": is_of(SESSION),
+    "begin": is_day,
+    "end": is_day,
 }
 # Each act, and the members that it has.
 ACTS = {
@@ -49,6 +65,10 @@ ACTS = {
     "guest": ("number", "name", "package"),
     "end": ("account",),
     "back": ("account", "sum", "voucher"),
+    "on": (),
+    "cut": ("account", "source", "session"),
+    "sales": ("begin", "end"),
+    "codes": (),
 }
 
 

@@ -9,6 +9,7 @@ to the socket of `clerk-work`, whose answer it gives.
     404 {"error": "no such .."}             there is no such guest, package or sale
     409 {"error": "differs"}                the number belongs to another act, guest or sale
     409 {"error": "too old"}                nobody was made by this number, and nobody will be
+    409 {"error": "no cut" or "not ended"}  this access server cannot be told, or did not do it
     409 {"error": "keys full"}              no more guests fit into the configuration
     422 {"error": "bad request"}            a member is missing, or of another form
     429 {"error": "too many"}               the hour has as many as it may have
@@ -32,7 +33,7 @@ SOCKET = os.environ.get("RADACCTD_CLERK_WORK", "/run/radacctd-clerk-work.socket"
 PATIENCE = 80
 NAMES = {200: "OK", 403: "Forbidden", 404: "Not Found", 409: "Conflict",
          422: "Unprocessable Entity", 429: "Too Many Requests"}
-LONGEST_ANSWER = 1 << 20
+LONGEST_ANSWER = 1 << 23
 
 
 def cashier():

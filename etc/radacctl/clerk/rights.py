@@ -1,22 +1,25 @@
-"""Who may do what at the front desk, and how often: /etc/radacctd-clerk.toml.
+"""Who may do what at the front desk, and how often: /etc/radacctd-clerk/rights.toml.
 
     guests = ["anna", "bert"]       # who makes guests, finds and ends them
     corrections = ["anna"]          # who takes sales back
+    operators = ["anna"]            # who has the operator's page
     guests_an_hour = 60             # how many of each all of them may do in an hour
     ends_an_hour = 300
     corrections_an_hour = 20
+    cuts_an_hour = 60
 
-A name is that of a login that nginx verified, or the subject of a certificate. Each change counts at
-once. Without the file nobody may do anything.
+A name is that of a login that nginx verified, or the subject of a certificate. Each change counts
+at once. Without the file nobody may do anything.
 """
 
 import tomllib
 
 from radacctl import files
 
-FILE = "/etc/radacctd-clerk.toml"
-GUESTS, CORRECTIONS = "guests", "corrections"
-LIMITS = {"guests_an_hour": 60, "ends_an_hour": 300, "corrections_an_hour": 20}
+FILE = "/etc/radacctd-clerk/rights.toml"
+GUESTS, CORRECTIONS, OPERATORS = "guests", "corrections", "operators"
+LIMITS = {"guests_an_hour": 60, "ends_an_hour": 300, "corrections_an_hour": 20,
+          "cuts_an_hour": 60}
 MOST = 10_000
 # Whose right each act needs, and its limit.
 NEEDS = {
@@ -25,6 +28,10 @@ NEEDS = {
     "guest": (GUESTS, "guests_an_hour"),
     "end": (GUESTS, "ends_an_hour"),
     "back": (CORRECTIONS, "corrections_an_hour"),
+    "on": (OPERATORS, None),
+    "cut": (OPERATORS, "cuts_an_hour"),
+    "sales": (OPERATORS, None),
+    "codes": (OPERATORS, None),
 }
 
 
@@ -39,13 +46,13 @@ def rights_of(text):
     except tomllib.TOMLDecodeError as why:
         raise Wrong(f"it is no TOML: {why}") from None
     for name, value in found.items():
-        if name in (GUESTS, CORRECTIONS):
+        if name in (GUESTS, CORRECTIONS, OPERATORS):
             is_right = isinstance(value, list) and all(isinstance(it, str) and it for it in value)
         else:
             is_right = name in LIMITS and type(value) is int and 0 <= value <= MOST
         if not is_right:
             raise Wrong(f"`{name}` is no list of names, and no limit from 0 to {MOST}")
-    return {GUESTS: [], CORRECTIONS: [], **LIMITS, **found}
+    return {GUESTS: [], CORRECTIONS: [], OPERATORS: [], **LIMITS, **found}
 
 
 def read(path=None):

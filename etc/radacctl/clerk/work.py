@@ -13,8 +13,8 @@ import sys
 import time
 
 from radacctl import desk as desks
-from radacctl import logins, names, packages, program, sheets, site, stock
-from radacctl.clerk import forms, journal, rights
+from radacctl import lapses, logins, names, packages, program, sheets, site, stock
+from radacctl.clerk import forms, journal, lists, rights
 from radacctl.clerk.forms import Refused
 from radacctl.commands import debit, guest, key
 from radacctl.commands import packages as sold
@@ -44,12 +44,13 @@ def answer_to(who, asked, now):
         program.say(why)
         raise Refused(503, "setup") from None
     if asked["act"] == "may":
-        return {it: who in found[it] for it in (rights.GUESTS, rights.CORRECTIONS)}
+        return {it: who in found[it]
+                for it in (rights.GUESTS, rights.CORRECTIONS, rights.OPERATORS)}
     right, limit = rights.NEEDS[asked["act"]]
     if who not in found[right]:
         raise Refused(403, "not allowed")
-    if asked["act"] == "find":
-        return {"guests": found_guests(asked["text"])}
+    if limit is None:
+        return listed(asked, now)
     try:
         with guest.locked(TURN), contextlib.closing(journal.Journal()) as notes:
             return Act(who, asked, now, notes, found[limit]).do()
@@ -58,13 +59,25 @@ def answer_to(who, asked, now):
         raise Refused(503, "away") from None
 
 
-def found_guests(text):
-    """The last guests of a text, each with what a cashier needs."""
+def listed(asked, now):
+    """What only reads."""
+    acts = {
+        "find": lambda: {"guests": found_guests(asked["text"])},
+        "on": lambda: {"sessions": list(lists.on(now))},
+        "codes": lambda: {"codes": lists.codes()},
+        "sales": lambda: {"sales": lists.sales(asked["begin"], asked["end"]),
+                          "corrections": lists.corrections(asked["begin"], asked["end"])},
+    }
     try:
-        rows = list(guest.found(sold.store(), text))[-MOST_FOUND:]
-    except (logins.Fault, site.Missing, OSError) as why:
+        return acts[asked["act"]]()
+    except (logins.Fault, stock.Fault, site.Missing, OSError) as why:
         program.say(why)
         raise Refused(503, "away") from None
+
+
+def found_guests(text):
+    """The last guests of a text, each with what a cashier needs."""
+    rows = list(guest.found(sold.store(), text))[-MOST_FOUND:]
     return [dict(zip(("account", "name", "package", "state", "first", "ends"), it)) for it in rows]
 
 
@@ -75,7 +88,8 @@ class Act:
         self.who, self.asked, self.now, self.notes, self.most = who, asked, now, notes, most
 
     def do(self):
-        return {"guest": self.make, "end": self.end, "back": self.take_back}[self.asked["act"]]()
+        acts = {"guest": self.make, "end": self.end, "back": self.take_back, "cut": self.cut}
+        return acts[self.asked["act"]]()
 
     def note(self, account, state):
         self.notes.note(self.now, self.who, self.asked, account, state)
@@ -167,6 +181,29 @@ class Act:
             self.done(account)
         return {"result": "new" if is_new else "repeat"}
 
+    # ---- a session
+
+    def cut(self):
+        """Tells an access server to end a session that is on."""
+        wanted = tuple(self.asked[it] for it in ("account", "source", "session"))
+        live = [it for it in lists.on(self.now)
+                if (it["account"], it["source"], it["session"]) == wanted]
+        if not live:
+            raise Refused(404, "no such session")
+        if not live[0]["cut"]:
+            raise Refused(409, "no cut")
+        text = bytes.fromhex(self.asked["session"]).decode("latin-1")
+        if not lapses.PLAIN.fullmatch(text):
+            raise Refused(409, "no cut")
+        self.may_begin()
+        self.note(self.asked["account"], journal.BEGUN)
+        where = lapses.cut_servers()[self.asked["source"]]
+        if not lapses.tell(self.asked["source"], *where, text):
+            self.note(self.asked["account"], journal.REFUSED)
+            raise Refused(409, "not ended")
+        self.done(self.asked["account"])
+        return {"result": "new"}
+
     # ---- a sale
 
     def take_back(self):
@@ -215,8 +252,8 @@ class Act:
             raise Refused(503, "setup") from None
 
     def has_sale(self, account, number):
-        """Whether the book has this very sale, as it says itself. One that it lacks it gets by that:
-        so it is debited in each case, and the book is as it was.
+        """Whether the book has this very sale, as it says itself. One that it lacks it gets by
+        that: so it is debited in each case, and the book is as it was.
         """
         own = words()
         its_key = desks.keys_in(own.key_file, 2)[0]

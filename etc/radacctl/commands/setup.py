@@ -39,6 +39,7 @@ cashiers = ["anna", "ben"]
 # packages = true                   # codes that log in, and guests: PACKAGES has the rest
 # desk_guests = ["anna"]            # cashiers who may make guests at the page, and end them
 # desk_corrections = ["anna"]       # cashiers who may take sales back
+# operators = ["anna"]              # cashiers who have the page /operator/, too
 front_desk = ["10.0.1.0/24"]        # never shut out, however often a password is mistyped
 # certificate = "/etc/letsencrypt/live/accounts.example.org/fullchain.pem"
 # certificate_key = "/etc/letsencrypt/live/accounts.example.org/privkey.pem"

@@ -56,7 +56,7 @@ class Kind:
         self.has_pages = is_there(NGINX, "/etc/nginx/radacctd/cashier.conf")
         self.has_pair = is_there(PAIR, f"{site.RADDB}/radacctd/pair.conf")
         self.has_codes = is_there(REDEEM_KEY, REDEEM)
-        self.has_clerk = is_there("/etc/radacctd-clerk.toml", CLERK)
+        self.has_clerk = is_there("/etc/radacctd-clerk/rights.toml", CLERK)
         self.has_packages = is_there(f"{site.RADDB}/mods-enabled/radacctd-packages",
                                      f"{site.RADDB}/radacctd/packages.conf")
         if self.has_shards:

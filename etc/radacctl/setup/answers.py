@@ -20,7 +20,7 @@ TOP = {
     "name": "", "freeradius": True, "server": "", "host": "", "certificate": "",
     "certificate_key": "", "currency": "", "decimals": 2, "cashiers": [], "codes": True,
     "front_desk": [], "class": "", "packages": False, "desk_guests": [], "desk_corrections": [],
-    "plan": None,
+    "operators": [], "plan": None,
     "access_server": [], "pair": {}, "secrets": {}, "sql": {},
 }  # fmt: skip
 PLAN = {"class": None, "block": None, "unit": None, "count": "both"}
@@ -143,7 +143,8 @@ class Answers:
         self.cashiers, self.front_desk = it["cashiers"], it["front_desk"]
         self.has_codes = it["codes"] and bool(it["host"])
         self.has_packages = it["packages"]
-        self.clerks = {"guests": it["desk_guests"], "corrections": it["desk_corrections"]}
+        self.clerks = {"guests": it["desk_guests"], "corrections": it["desk_corrections"],
+                       "operators": it["operators"]}
         self.has_clerk = any(self.clerks.values())
         need(isinstance(it["plan"], list), "`plan` is written as [[plan]]", "plan")
         self.plans = tables(it["plan"], plan_of)
@@ -205,12 +206,15 @@ class Answers:
 
     def test_clerks(self):
         """Who may do more than sell is a cashier of the page."""
-        need(self.host or not self.has_clerk, "desk_guests and desk_corrections need `host`", "host")
+        need(self.host or not self.has_clerk,
+             "desk_guests, desk_corrections and operators need `host`", "host")
         need(not (self.pair and self.has_clerk), "no cashier of a pair of machines may do more than "
              "sell", "desk_guests")
-        need(self.has_packages or not self.clerks["guests"], "desk_guests needs packages = true",
-             "desk_guests")
-        for member, found in zip(("desk_guests", "desk_corrections"), self.clerks.values()):
+        for member, right in (("desk_guests", "guests"), ("operators", "operators")):
+            need(self.has_packages or not self.clerks[right], f"{member} needs packages = true",
+                 member)
+        for member, found in zip(("desk_guests", "desk_corrections", "operators"),
+                                 self.clerks.values()):
             for it in found:
                 need(it in self.cashiers, f"{member}: {it!r} is none of `cashiers`", member)
 

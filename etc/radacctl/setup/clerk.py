@@ -1,11 +1,12 @@
 """The steps to what cashiers may do beyond a sale. A site without them has none of these."""
 
 import json
+import os
 
 from radacctl import site
 from radacctl.clerk import rights
 from radacctl.setup import steps
-from radacctl.setup.alone import Command, File, is_known_group, unit
+from radacctl.setup.alone import Command, File, Folder, is_known_group, unit
 
 USER = "radacctd-clerk"
 PACKAGES = ["fcgiwrap", "qrencode"]
@@ -18,9 +19,15 @@ HEAD = """\
 
 def of(answers):
     """The steps, in their order."""
+    if not answers.has_clerk and not os.path.lexists(rights.FILE):
+        return
+    yield Folder(os.path.dirname(rights.FILE))
+    # Who is no longer named has no longer a right, be it the last one.
+    yield File(rights.FILE, lambda old: file_of(old, answers.clerks), 0o644)
+    if not answers.has_clerk:
+        return
     yield Command(f"make the user {USER}", lambda: is_known_group(USER), "systemd-sysusers",
                   f"{prefix()}/{USER}.conf")
-    yield File(rights.FILE, lambda old: file_of(old, answers.clerks), 0o644)
     for name in reversed(SOCKETS):
         yield unit(name)
 

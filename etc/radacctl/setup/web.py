@@ -47,8 +47,7 @@ def of(answers, config):
     yield no_fcgiwrap()
     if answers.has_codes:
         yield from codes(config)
-    if answers.has_clerk:
-        yield from clerk.of(answers)
+    yield from clerk.of(answers)
     yield Command("take Debian's own page of nginx away", lambda: not os.path.lexists(DEFAULT),
                   "rm", "-f", DEFAULT)
     yield running()

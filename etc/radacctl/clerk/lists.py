@@ -1,0 +1,147 @@
+"""What the operator's page lists: who is on, sales by desk and day, corrections, withdrawn codes.
+
+What devices and guests named is handed on as it is: a page shows it as text.
+"""
+
+import csv
+import glob
+import gzip
+import io
+import json
+import time
+
+from radacctl import files, freeradius, lapses, logins, names, program, stock
+from radacctl.clerk import journal
+from radacctl.commands import debit
+from radacctl.commands import packages as sold
+
+SALES = "/var/log/nginx/radacctd-sales.log"
+DEBITS = "/var/lib/radacctd-books/debits.csv"
+MOST = 10_000
+
+
+def on(now):
+    """The sessions of packages' logins that were reported lately, the last one first."""
+    interval = logins.settings()["interval"]
+    wait = 3 * int(interval if interval.isdigit() else 300)
+    rows = sold.uses().read(
+        "SELECT account, station, source, session, heard FROM use "
+        "WHERE ended = 0 AND session <> '' AND abs(? - heard) <= ? ORDER BY heard DESC LIMIT ?",
+        now, wait, MOST)
+    known = {account: (name or "", package) for account, name, package in sold.store().read(
+        "SELECT account, json_extract(notes, '$.name'), package.name FROM login "
+        "JOIN package ON package.id = login.package")}
+    servers, cut = servers_by_address(), lapses.cut_servers()
+    for account, station, source, session, heard in rows:
+        name, package = known.get(account, ("", ""))
+        yield {"account": names.for_desk(account), "name": name, "package": package,
+               "station": station, "source": source, "server": servers.get(source, source),
+               "session": session, "heard": heard, "cut": source in cut}
+
+
+def servers_by_address():
+    """The name of each access server that has one address."""
+    found = {}
+    for name, block in freeradius.blocks(freeradius.CLIENT, "radacctd", "access-servers.conf"):
+        found[freeradius.value(block, "ip(?:v[46])?addr")] = name
+    return found
+
+
+def sales(begin, end, path=None):
+    """What was sold, by day, desk and cashier: how many sales, what they put on accounts, and what
+    was paid. A package has a price of its own.
+    """
+    rows = {}
+    for day, desk, cashier, credit, paid in [*at_desks(path or SALES), *of_guests()]:
+        if begin <= day <= end:
+            had = rows.setdefault((day, desk, cashier), [0, 0, 0])
+            had[0], had[1], had[2] = had[0] + 1, had[1] + credit, had[2] + paid
+    return [dict(zip(("day", "desk", "cashier", "count", "credit", "paid"), (*key, *row)))
+            for key, row in sorted(rows.items(), reverse=True)]
+
+
+def at_desks(path):
+    """Each sale of nginx' log that a book took, once."""
+    found = {}
+    for name in sorted(glob.glob(glob.escape(path) + "*")):
+        try:
+            with (gzip.open if name.endswith(".gz") else open)(name, "rb") as file:
+                for line in file:
+                    add_sale(found, line)
+        except (OSError, EOFError) as why:
+            program.say(f"cannot read {name}: {why}")
+    return [row for _, *row in found.values()]
+
+
+def add_sale(found, line):
+    """Adds a line of the log, if it is of a sale that a book took. Its first answer is 201."""
+    try:
+        entry = json.loads(line)
+        sale = json.loads(entry["sale"])
+        number, credit, status = sale["voucher"], sale["sum"], entry["status"]
+        paid = sale.get("paid", credit)
+        if status not in (200, 201) or not all(type(it) is int for it in (credit, paid)):
+            return
+        row = [status, entry["time"][:10], desk_of(number), entry["cashier"], credit, paid]
+    except (ValueError, LookupError, TypeError, AttributeError):
+        return
+    if number not in found or found[number][0] < status:
+        found[number] = row
+
+
+def desk_of(number):
+    """The letters of the desk that gave a number."""
+    return number.split("-")[0]
+
+
+def of_guests():
+    """Each guest that was made at a desk."""
+    prices = {account: (credit, price) for account, credit, price in sold.store().read(
+        "SELECT account, json_extract(terms, '$.credit'), json_extract(terms, '$.price') "
+        "FROM login JOIN package ON package.id = login.package WHERE digest IS NULL")}
+    for line in {it.number: it for it in journal.lines_in() if it.act == "guest"}.values():
+        found = prices.get(names.octets_of(line.account))
+        if found:
+            yield day_of(line.moment), desk_of(line.number), line.cashier, *found
+
+
+def day_of(moment):
+    return time.strftime("%Y-%m-%d", time.localtime(moment))
+
+
+def corrections(begin, end):
+    """What was taken back at desks, and by hand, the newest first. What lapsed is neither."""
+    made = {it.number: it for it in journal.lines_in() if it.act == "back"
+            and it.state == journal.DONE}
+    rows = [(it.moment, it.cashier, it.number, it.account, it.what) for it in made.values()]
+    for moment, event, number, account, total in debits():
+        if event == debit.GIVEN and number not in made and not number.startswith("LAPSE-"):
+            rows.append((int(moment), "", number, account, total))
+    return [dict(zip(("moment", "cashier", "number", "account", "sum"), it))
+            for it in sorted(rows, reverse=True) if begin <= day_of(it[0]) <= end]
+
+
+def debits(path=None):
+    """The rows of the journal of debits, which is read without its lock: a line is whole or not."""
+    text = files.text(path or DEBITS)
+    rows = csv.reader(io.StringIO(text[: text.rfind("\n") + 1], newline=""))
+    found = [[names.text_of_cell(it) for it in row] for row in rows if len(row) == 5]
+    return [it for it in found if it[0].isdigit()]
+
+
+def codes():
+    """Codes that log in and sheets of vouchers that were withdrawn, the newest first."""
+    sheets = dict(sold.store().read("SELECT account, sheet FROM login WHERE digest IS NOT NULL"))
+    text = stock.whole_lines(logins.LOG, logins.LOG_HEADER).decode("ascii", "replace")
+    found = []
+    for row in csv.reader(io.StringIO(text, newline="")):
+        if len(row) == 3 and row[2] == logins.WITHDRAWN and row[0].isdigit():
+            account = names.octets_of(names.text_of_cell(row[1]))
+            found.append((int(row[0]), names.shown(account), sheets.get(account, ""), 1))
+    vouchers = {}
+    for moment, sheet in stock.withdrawn_in(stock.SECOND).values():
+        had = vouchers.setdefault(sheet, [0, 0])
+        had[0], had[1] = max(had[0], int(moment) if moment.isdigit() else 0), had[1] + 1
+    found += [(moment, "", sheet, count) for sheet, (moment, count) in vouchers.items()]
+    return [dict(zip(("moment", "account", "sheet", "count"), it))
+            for it in sorted(found, reverse=True)]
