@@ -41,7 +41,7 @@ MOST = {
     "docs/VOUCHERS.md": 1030,
     "docs/WATCHING.md": 340,
 }
-MOST_IN_ALL = 46500
+MOST_IN_ALL = 38500
 # A page that no other work has bounded yet.
 NEW_PAGE = 1500
 MOST_IN_SENTENCE, MOST_IN_CELL = 30, 25
