@@ -76,7 +76,8 @@ def acts(clerk):
           (200, dict.fromkeys(("guests", "corrections", "operators"), True)))
     check("ben nothing", clerk.ask("ben", act="may"),
           (200, dict.fromkeys(("guests", "corrections", "operators"), False)))
-    asked = {"act": "guest", "number": NUMBER, "name": "Anna Müller", "package": "week"}
+    asked = {"act": "guest", "number": NUMBER, "name": "Anna Müller", "package": "week",
+             "price": 900, "credit": 500}
     check("ben makes no guest", clerk.ask("ben", **asked), (403, {"error": "not allowed"}))
     status, said = clerk.ask("anna", **asked)
     print(box.run(f"journalctl -o cat -u '{WORK.replace('0', '*')}' -n 20")[1] if status != 200

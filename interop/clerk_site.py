@@ -91,7 +91,8 @@ class Site:
             return status, {}
 
     def guest(self, at, name="Anna Müller", login="anna", **more):
-        return self.ask(login, act="guest", number=number(at), name=name, package="week", **more)
+        return self.ask(login, act="guest", number=number(at), name=name, package="week", price=900,
+                        credit=50, **more)
 
     def rows(self):
         return self.whole.store.read("SELECT account, state FROM login WHERE digest IS NULL")
@@ -160,7 +161,7 @@ def rights(site):
         (200, {"guests": False, "corrections": True, "operators": True}),
         (200, dict.fromkeys(("guests", "corrections", "operators"), False))])
     for login, asked in (("bert", {"act": "guest", "number": number(1), "name": "x",
-                                   "package": "week"}),
+                                   "package": "week", "price": 900, "credit": 50}),
                          ("bert", {"act": "find", "text": "x"}),
                          ("anna", {"act": "back", "account": "x", "sum": 1, "voucher": "V-1"}),
                          ("jörg", {"act": "end", "account": "x"})):

@@ -26,14 +26,14 @@ NUMBERS = [f"D1-261128-ACDEFHJKMN{it}" for it in ("PA", "PC", "PD", "PE", "PF")]
 RIGHTS = 'guests = ["anna", "jörg"]\ncorrections = ["anna"]\nguests_an_hour = 3\n'
 NOW = 1_800_000_000
 SALE = {"act": "back", "account": "room 12", "sum": 500, "voucher": "D1-261128-ACDEFHJKMNPQ"}
+GUEST = '{"act":"guest","number":"%s","name":"%s","package":"%s","price":1,"credit":1}'
 WRONG = [
     "", "{", "[]", "5", '"may"', "{}", '{"act":"sell"}', '{"act":["may"]}', '{"act":"may","x":1}',
     '{"act":"find"}', '{"act":"find","text":""}', '{"act":"find","text":5}',
     '{"act":"find","text":"a\\u0007"}', '{"act":"find","text":"\\ud800"}',
     '{"act":"find","text":"' + "x" * 61 + '"}',
-    '{"act":"guest","number":"x","name":"a","package":"week"}',
-    '{"act":"guest","number":"D1-261128-ACDEFHJKMNPQ","name":"a\\u202eb","package":"week"}',
-    '{"act":"guest","number":"D1-261128-ACDEFHJKMNPQ","name":"a","package":"../week"}',
+    GUEST % ("x", "a", "week"), GUEST % ("D1-261128-ACDEFHJKMNPQ", "a\\u202eb", "week"),
+    GUEST % ("D1-261128-ACDEFHJKMNPQ", "a", "../week"),
     '{"act":"end","account":"a\\nb"}', '{"act":"end","account":"%zz"}', '{"act":"end","account":""}',
     '{"act":"end","account":"' + "x" * 254 + '"}',
     '{"act":"back","account":"a","sum":0,"voucher":"V-1"}',
@@ -41,7 +41,8 @@ WRONG = [
     '{"act":"back","account":"a","sum":1e3,"voucher":"V-1"}',
     '{"act":"back","account":"a","sum":1,"voucher":"v-1"}',
     '{"act":"back","account":"a","sum":1,"voucher":"V-1\\n"}',
-    '{"act":"sales","begin":"2026-02-30","end":"2026-03-01"}', '{"act":"sales","begin":"2026-02-03"}',
+    '{"act":"sales","begin":"2026-02-30","end":"2026-03-01"}',
+    '{"act":"sales","begin":"2026-02-03"}',
     '{"act":"sales","begin":20260101,"end":"2026-03-01"}',
     '{"act":"cut","account":"a","source":"x;y","session":"61"}',
     '{"act":"cut","account":"a","source":"10.0.0.1","session":"6"}',
@@ -114,9 +115,10 @@ class Desk(unittest.TestCase):
         found = json.loads(work.answered(line, now))
         return found["status"], found["body"]
 
-    def guest(self, number=NUMBERS[0], name="Anna Müller", who="anna", package="week", now=NOW):
-        return self.ask(who, {"act": "guest", "number": number, "name": name, "package": package},
-                        now)
+    def guest(self, number=NUMBERS[0], name="Anna Müller", who="anna", package="week", now=NOW,
+              price=900):
+        return self.ask(who, {"act": "guest", "number": number, "name": name, "package": package,
+                              "price": price, "credit": 500}, now)
 
     def rows(self):
         return self.site.store().read("SELECT account, state, password FROM login")
@@ -227,6 +229,10 @@ class Guests(Desk):
         with mock.patch.object(key, "MOST_KEYS", 0):
             self.assertEqual(self.guest(), (409, {"error": "keys full"}))
         self.assertEqual(self.rows(), [])
+
+    def test_a_package_of_another_price_makes_nobody(self):
+        self.assertEqual(self.guest(price=800), (409, {"error": "changed"}))
+        self.assertEqual((self.rows(), self.site.money), ([], {}))
 
     def test_a_package_that_is_not_there(self):
         self.assertEqual(self.guest(package="month"), (404, {"error": "no such package"}))
@@ -533,8 +539,9 @@ class SetUp(unittest.TestCase):
 
     def test_who_is_no_cashier_is_refused(self):
         pair = {"own": "10.0.0.5", "other": "10.0.0.6"}
-        for more in ({"desk_guests": ["eve"]}, {"operators": ["eve"]}, {"desk_guests": [5]}, {"desk_guests": ["anna"],
-                     "packages": False}, {"desk_corrections": ["anna"], "host": ""},
+        for more in ({"desk_guests": ["eve"]}, {"operators": ["eve"]}, {"desk_guests": [5]},
+                     {"desk_guests": ["anna"], "packages": False},
+                     {"desk_corrections": ["anna"], "host": ""},
                      {"desk_corrections": ["anna"], "packages": False, "pair": pair}):
             with self.subTest(str(more)):
                 self.assertRaises(answers.Wrong, answers.Answers, {**self.SITE, **more})

@@ -53,6 +53,8 @@ MEMBERS = {
     "voucher": is_of(desk.NUMBER),
     "account": is_of(ACCOUNT),
     "sum": is_units,
+    "credit": is_units,
+    "price": lambda value: type(value) is int and 0 <= value <= money.LARGEST_SUM,
     "source": is_of(SOURCE),
     "session": is_of(SESSION),
     "begin": is_day,
@@ -62,7 +64,7 @@ MEMBERS = {
 ACTS = {
     "may": (),
     "find": ("text",),
-    "guest": ("number", "name", "package"),
+    "guest": ("number", "name", "package", "price", "credit"),
     "end": ("account",),
     "back": ("account", "sum", "voucher"),
     "on": (),

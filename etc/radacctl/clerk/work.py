@@ -144,6 +144,10 @@ class Act:
             raise Refused(503, "setup") from None
         if self.asked["package"] not in known:
             raise Refused(404, "no such package")
+        # What the cashier read out is what is made, or nothing is.
+        it = known[self.asked["package"]]
+        if (it.price, it.credit) != (self.asked["price"], self.asked["credit"]):
+            raise Refused(409, "changed")
         own = words()
         config = key.config_of(key.read(own.config), own.config)
         if len(config.get("key", [])) >= key.MOST_KEYS:
