@@ -64,6 +64,7 @@ def systemd(folder):
             rights(box)
             shut_in(box)
             page_of_packages(box, clerk)
+            by_page(box, clerk)
             said = box.run(f"radacctl setup --yes {start_site.ANSWERS}")
             check("a second time", said, (0, "nothing is to be done\n"))
             check("the doctor finds nothing", start_site.is_sound(box, 240), [])
@@ -123,11 +124,26 @@ def rights(box):
 
 
 def shut_in(box):
-    for unit in (PAGE, WORK):
+    for unit in (PAGE, WORK, "radacctd-doctor.service"):
         text = box.run(f"systemd-analyze security --no-pager {unit}")[1]
         found = re.search(r"Overall exposure level for \S+: ([0-9.]+)", text)
         print(f"         exposure of {unit} {found and found[1]}")
         check(f"{unit} is shut in", bool(found) and float(found[1]) <= MOST_EXPOSED, True)
+
+
+def by_page(box, clerk):
+    """The doctor's unit sees what the doctor sees that a person calls."""
+    check("the doctor did not look yet", clerk.ask("anna", act="doctor")[1]["moment"], None)
+    check("ben does not call it", clerk.ask("ben", act="look")[0], 403)
+    box.must("systemctl stop radacctd-key.timer; chmod 644 /etc/radacctd-books.secret")
+    check("anna does", clerk.ask("anna", act="look"), (200, {"result": "new"}))
+    waits("it has looked", lambda: clerk.ask("anna", act="doctor")[1]["moment"] is not None, True)
+    lines = clerk.ask("anna", act="doctor")[1]["lines"]
+    found = [f"{it['gravity']} {it['name']}: {it['text']}. Do: {it['cure']}" for it in lines]
+    check("it found what a person sees", found, start_site.doctor(box, "--quiet")[1])
+    names = {it["name"] for it in lines}
+    check("the two that were made", {"unit-down", "mode-open"} <= names, True)
+    box.must("systemctl start radacctd-key.timer; chmod 600 /etc/radacctd-books.secret")
 
 
 def page_of_packages(box, clerk):

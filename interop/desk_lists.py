@@ -382,7 +382,10 @@ def operator(browser, desk):
             {"day": "2026-11-28", "desk": "D1", "cashier": "=anna", "count": 2, "credit": 1000,
              "paid": 1800}], "corrections": [
             {"moment": 1000, "cashier": "", "number": "D1-1", "account": "al", "sum": "500"}]})],
-        "codes": [(200, {"codes": []})], "cut": [(200, {"result": "new"})]}
+        "codes": [(200, {"codes": []})], "cut": [(200, {"result": "new"})],
+        "doctor": [(200, {"looks": False, "moment": 1000, "lines": [
+            {"gravity": "warning", "name": "copy-old", "text": "<b>old</b>", "cure": "copy"}]})],
+        "look": [(200, {"result": "new"})]}
     browser.go(f"http://localhost:{desk.port}/operator/")
     check("the operator's page is read", browser.shows("Read.", "#message"), True)
     check("by pages", (len(cells(browser, "on")), browser.text("#on-pages span")),
@@ -398,7 +401,21 @@ def operator(browser, desk):
     check("a session is ended", browser.shows("is disconnected", "#message"), True)
     check("by its own request", [it for it in desk.acts if it["act"] == "cut"],
           [{"act": "cut", "account": "g-0", "source": "10.0.0.1", "session": "0000"}])
+    looks(browser, desk)
     operator_is_told(browser, desk)
+
+
+def looks(browser, desk):
+    check("what the doctor found", cells(browser, "doctor"),
+          [["warning", "copy-old", "<b>old</b>", "copy"]])
+    check("and when", browser.shows("The doctor looked at", "#looked"), True)
+    before = len(desk.acts)
+    desk.answers["doctor"] = [(200, {"looks": True, "moment": None, "lines": []}),
+                              (200, {"looks": False, "moment": 2000, "lines": []})]
+    browser.click("#look")
+    check("it looks again", browser.shows("The doctor is looking", "#looked"), True)
+    check("until it has", browser.shows("The doctor looked at", "#looked", 20), True)
+    check("asked twice", [it["act"] for it in desk.acts[before:]], ["look", "doctor", "doctor"])
 
 
 def sorts(browser):
@@ -421,6 +438,16 @@ def exports(browser):
     check("sums are numbers in it", browser.js("return csvOf('sales')").splitlines()[1],
           "2026-11-28,D1,'=anna,2,18.00,10.00")
     check("and money on the page", cells(browser, "sales")[0][4:], ["18.00 EUR", "10.00 EUR"])
+    folder = os.path.dirname(browser.profile)
+    browser.debug("Browser.setDownloadBehavior", behavior="allow", downloadPath=folder)
+    browser.click("#sales-export")
+    found = lambda: [it for it in os.listdir(folder) if it.startswith("sales-")]
+    for _ in range(100):
+        if found() and found()[0].endswith(".csv"):
+            break
+        time.sleep(0.1)
+    with open(os.path.join(folder, found()[0]), encoding="utf-8-sig", newline="") as file:
+        check("the file is saved", file.read(), browser.js("return csvOf('sales')"))
 
 
 def operator_is_told(browser, desk):
@@ -434,7 +461,8 @@ def operator_is_told(browser, desk):
     browser.size(320, 640)
     check("320 pixels are wide enough", browser.overflow(), 0)
     browser.size(1000, 800)
-    desk.answers = dict.fromkeys(("on", "sales", "codes"), [(403, {"error": "not allowed"})])
+    desk.answers = dict.fromkeys(("doctor", "on", "sales", "codes"),
+                                 [(403, {"error": "not allowed"})])
     before = len(desk.acts)
     browser.go(f"http://localhost:{desk.port}/operator/")
     check("without the right nothing is shown", browser.shows("no right to this page"), True)

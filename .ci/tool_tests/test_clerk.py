@@ -412,10 +412,36 @@ home_server lobby {
         return body
 
     def test_who_is_no_operator_sees_nothing(self):
-        for asked in ({"act": "on"}, {"act": "codes"},
+        for asked in ({"act": "on"}, {"act": "codes"}, {"act": "doctor"}, {"act": "look"},
                       {"act": "sales", "begin": "2026-01-01", "end": "2026-12-31"},
                       {"act": "cut", "account": "a", "source": "10.0.0.1", "session": "61"}):
             self.assertEqual(self.ask("jörg", asked), (403, {"error": "not allowed"}))
+
+    def test_what_the_doctor_found(self):
+        ran = {"InvocationID": "a" * 32, "ActiveState": "active",
+               "ExecMainStartTimestampMonotonic": "1000000",
+               "ExecMainExitTimestampMonotonic": "2000000"}
+        line = "warning copy-old: there is no copy. Do: systemctl start radacctd-nightly"
+        said = f"{line}\n\nradacctl doctor: could not look at the pair: x\n"
+        told = mock.Mock(return_value=said)
+        for more, wanted in (({}, False), ({"ActiveState": "activating"}, True),
+                             ({"ExecMainExitTimestampMonotonic": "0"}, False)):
+            with (mock.patch.object(lists.look, "properties", lambda *_: {**ran, **more}),
+                  mock.patch.object(lists.look, "must", told),
+                  mock.patch.object(lists.look, "run", lambda *_: (0, ""))):
+                found = self.asked(act="doctor")
+            self.assertEqual((found["looks"], found["moment"] is None), (wanted, bool(more)))
+            self.assertEqual([it["name"] for it in found["lines"]], [] if more else ["copy-old", ""])
+        told.reset_mock()
+        for state, count in (("activating", 0), ("active", 1), ("inactive", 2), ("failed", 3)):
+            with (mock.patch.object(lists.look, "properties", lambda *_: {"ActiveState": state}),
+                  mock.patch.object(lists.look, "must", told)):
+                self.assertEqual(self.asked(act="look"), {"result": "new"})
+            self.assertEqual(told.call_count, count)
+        told.assert_called_with("systemctl", "restart", "--no-block", "radacctd-doctor.service")
+        unseen = mock.Mock(side_effect=lists.look.Unseen("no systemd"))
+        with mock.patch.object(lists.look, "properties", unseen):
+            self.assertEqual(self.ask("anna", {"act": "doctor"}), (503, {"error": "away"}))
 
     def test_who_is_on(self):
         account = self.guest()[1]["card"]["account"].encode()

@@ -71,6 +71,8 @@ ACTS = {
     "cut": ("account", "source", "session"),
     "sales": ("begin", "end"),
     "codes": (),
+    "doctor": (),
+    "look": (),
 }
 
 

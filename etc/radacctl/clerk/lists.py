@@ -1,4 +1,5 @@
-"""What the operator's page lists: who is on, sales by desk and day, corrections, withdrawn codes.
+"""What the operator's page lists: who is on, sales by desk and day, corrections, withdrawn codes, and
+what the doctor found.
 
 What devices and guests named is handed on as it is: a page shows it as text.
 """
@@ -8,16 +9,21 @@ import glob
 import gzip
 import io
 import json
+import re
 import time
 
 from radacctl import files, freeradius, lapses, logins, names, program, stock
 from radacctl.clerk import journal
 from radacctl.commands import debit
 from radacctl.commands import packages as sold
+from radacctl.doctor import look
 
 SALES = "/var/log/nginx/radacctd-sales.log"
 DEBITS = "/var/lib/radacctd-books/debits.csv"
 MOST = 10_000
+DOCTOR = "radacctd-doctor.service"
+# A line of the doctor.
+FOUND = re.compile(r"(critical|warning) ([a-z0-9-]+): (.+)\. Do: (.+)")
 
 
 def on(now):
@@ -145,3 +151,41 @@ def codes():
     found += [(moment, "", sheet, count) for sheet, (moment, count) in vouchers.items()]
     return [dict(zip(("moment", "account", "sheet", "count"), it))
             for it in sorted(found, reverse=True)]
+
+
+# ---- the doctor
+
+
+def begin_look():
+    """Lets the doctor look. One that is looking goes on."""
+    if not is_looking(look.properties(DOCTOR, "ActiveState")):
+        look.must("systemctl", "restart", "--no-block", DOCTOR)
+    return {"result": "new"}
+
+
+def is_looking(found):
+    """Once it has looked, its unit stays active: else systemd would forget when that was."""
+    return found.get("ActiveState") in ("activating", "deactivating", "reloading")
+
+
+def doctor():
+    """What the doctor found the last time, and when; or that it looks just now."""
+    found = look.properties(DOCTOR, "InvocationID", "ActiveState", "ExecMainExitTimestampMonotonic",
+                            "ExecMainStartTimestampMonotonic")
+    end, begin = (int(found.get(it) or 0) for it in ("ExecMainExitTimestampMonotonic",
+                                                     "ExecMainStartTimestampMonotonic"))
+    if is_looking(found) or not end or end < begin or not found.get("InvocationID"):
+        return {"looks": is_looking(found), "moment": None, "lines": []}
+    look.run("journalctl", "--sync")
+    said = look.must("journalctl", "--no-pager", "-q", "-o", "cat",
+                     f"_SYSTEMD_INVOCATION_ID={found['InvocationID']}")
+    ago = time.clock_gettime(time.CLOCK_MONOTONIC) - end / 1e6
+    lines = [dict(zip(("gravity", "name", "text", "cure"), row_of(it)))
+             for it in said.splitlines() if it.strip()]
+    return {"looks": False, "moment": int(time.time() - ago), "lines": lines}
+
+
+def row_of(line):
+    """The parts of a line; another one says what could not be looked at."""
+    found = FOUND.fullmatch(line)
+    return found.groups() if found else ("critical", "", line, "")

@@ -32,6 +32,8 @@ NEEDS = {
     "cut": (OPERATORS, "cuts_an_hour"),
     "sales": (OPERATORS, None),
     "codes": (OPERATORS, None),
+    "doctor": (OPERATORS, None),
+    "look": (OPERATORS, None),
 }
 
 

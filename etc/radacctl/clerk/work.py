@@ -65,6 +65,8 @@ def listed(asked, now):
         "find": lambda: {"guests": found_guests(asked["text"])},
         "on": lambda: {"sessions": list(lists.on(now))},
         "codes": lambda: {"codes": lists.codes()},
+        "doctor": lists.doctor,
+        "look": lists.begin_look,
         "sales": lambda: {"sales": lists.sales(asked["begin"], asked["end"]),
                           "corrections": lists.corrections(asked["begin"], asked["end"])},
     }
