@@ -450,6 +450,12 @@ def filing(folder):
         waits_for("the queue is empty", lambda: count_in(radius.queue), 0)
         check("both are filed", count_in(radius.unsent), 2)
         waits_for("and the third is charged", lambda: book.balance("bo"), -10)
+        # The regular expressions of the policy end at some length, and so does what they look at.
+        for number, texts in enumerate((0, 5, 9), 3):
+            long = attribute(18, b'say "' + b"m" * 240) * texts
+            wrong = packet_of(f"L-{number}", b"bo", 1, 2) + attribute(43, b"\1\2\3") + long
+            check("one of a wrong size is answered", len(sent(radius, [("127.0.2.1", wrong)])[0]), 1)
+            check(f"and filed, with {texts} long texts", count_in(radius.unsent), number)
 
 
 def move_again(radius):

@@ -132,8 +132,10 @@ def told_in_pieces(radius, book):
         check("and one session", count, 1)
 
 
+# Of which `hex` of FreeRADIUS takes some for the octets that they name: another one's, or none.
+HEXES = [b"0x616c", b"0xzz", b"0x4", b"0x"]
 NAMES = ["&User-Name", "% {", "a\\b", "Müller", "%{User-Name}", "a%{", "%%{Class}b", "a'b\"c\\n"]
-NAMES = [it.encode() for it in NAMES]
+NAMES = [*HEXES, *(it.encode() for it in NAMES)]
 NAMES += [b"\xff\xfe", b"a\nTimestamp = 0", b" a ", b"#", b"a, b = c", bytes(range(1, 254)), b"a\0b"]
 NAMES += [b"\xff" * 253, b'"' * 253, b"%" * 253, b"\\" * 253]
 
@@ -151,6 +153,7 @@ def ids(folder):
             "with a quote and a percent sign": "a'%{b}\\\"c",
             "with umlauts": "äöü",
             "that begins with &": "&User-Name",
+            "that looks like octets": "0x1a2b",
         }
         for number, (name, identifier) in enumerate(strange.items(), 1):
             before = book.balance("al")
@@ -445,6 +448,9 @@ def cut(folder):
         time.sleep(6)
         use(3)
         waits_for("after the pause: again", lambda: len(port.got), 2)
+        radius.reports("ap1", report("Interim-Update", "0x1a2b", "al", MEBIBYTE))
+        waits_for("another session is cut off", lambda: len(port.got), 3)
+        check("by its id, whatever it looks like", attribute(44, b"0x1a2b") in port.got[2], True)
         check("an access server without a home_server is answered", use(3, name="ap2"), True)
     port.end()
 

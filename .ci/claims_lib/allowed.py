@@ -26,6 +26,7 @@ FREERADIUS = each(
     "ap1=10.0.0.1",
     "detail.work",
     "radacctd-queue.clock",
+    "radacctd-queue.cut",
     "radacctd-queue.fault",
     "radacctd-queue.undated",
     "radacctd-queue.volatile",

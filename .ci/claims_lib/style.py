@@ -26,7 +26,7 @@ MOST = {
     "docs/FEED.md": 320,
     "docs/FILES.md": 610,
     "docs/FORWARD.md": 1010,
-    "docs/FREERADIUS.md": 2360,
+    "docs/FREERADIUS.md": 2365,
     "docs/FRONTDESK.md": 700,
     "docs/GATE.md": 1120,
     "docs/GONE.md": 760,

@@ -21,6 +21,7 @@ STATES = {
     "clock": "the clock is not set, so all reports wait",
     "undated": "a report cannot be dated, and holds up its reader",
     "volatile": "the queue's file system may lose what was synced",
+    "cut": "nobody who is overdrawn is cut off",
 }
 PAGE = "FREERADIUS.md"
 
