@@ -193,6 +193,17 @@ def handed_on(desk, proxy):
     check("and no login", [it for it in ("authorization", "cookie") if it in head], [])
 
 
+def missing(proxy):
+    """A site without packages: the page has no buttons, and the log of errors nothing of it."""
+    path = os.path.join(proxy.folder, "site", "packages.json")
+    os.rename(path, path + ".away")
+    status = proxy.status("/desk/packages.json", login="anna", origin="127.0.99.1")
+    os.rename(path + ".away", path)
+    with open(os.path.join(proxy.logs, "radacctd-error.log"), encoding="utf-8") as file:
+        lines = [it for it in file if "packages.json" in it and "No such file" in it]
+    check("without packages", (status, lines), (404, []))
+
+
 def logged(proxy):
     """The log names the cashier of each act, and nobody else."""
     time.sleep(0.3)
@@ -214,6 +225,7 @@ def run(folder):
         table(proxy)
         handed_on(desk, proxy)
         logged(proxy)
+        missing(proxy)
     finally:
         proxy.end()
         os.killpg(process.pid, 15)
