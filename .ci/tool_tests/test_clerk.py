@@ -13,13 +13,13 @@ import time
 import unittest
 from unittest import mock
 
-from radacctl import files, logins, names
+from radacctl import files, lapses, logins, names
 from radacctl.clerk import forms, journal, lists, rights, work
-from radacctl.commands import debit, guest, key, report
+from radacctl.commands import allow, debit, guest, key, packages as sold, report
 from radacctl.doctor import web as doctor
 from radacctl.setup import answers, clerk as steps_of_clerk, steps, web
 from tool_tests import ROOT
-from tool_tests.test_guests import Site
+from tool_tests.test_guests import Site, failing
 from tool_tests.test_packages import Books
 
 NUMBERS = [f"D1-261128-ACDEFHJKMN{it}" for it in ("PA", "PC", "PD", "PE", "PF")]
@@ -36,11 +36,11 @@ WRONG = [
     GUEST % ("D1-261128-ACDEFHJKMNPQ", "a", "../week"),
     '{"act":"end","account":"a\\nb"}', '{"act":"end","account":"%zz"}', '{"act":"end","account":""}',
     '{"act":"end","account":"' + "x" * 254 + '"}',
-    '{"act":"back","account":"a","sum":0,"voucher":"V-1"}',
-    '{"act":"back","account":"a","sum":true,"voucher":"V-1"}',
-    '{"act":"back","account":"a","sum":1e3,"voucher":"V-1"}',
+    '{"act":"back","account":"a","sum":0,"voucher":"D1-261128-ACDEFHJKMNPQ"}',
+    '{"act":"back","account":"a","sum":true,"voucher":"D1-261128-ACDEFHJKMNPQ"}',
+    '{"act":"back","account":"a","sum":1e3,"voucher":"D1-261128-ACDEFHJKMNPQ"}',
     '{"act":"back","account":"a","sum":1,"voucher":"v-1"}',
-    '{"act":"back","account":"a","sum":1,"voucher":"V-1\\n"}',
+    '{"act":"back","account":"a","sum":1,"voucher":"D1-261128-ACDEFHJKMNPQ\\n"}',
     '{"act":"sales","begin":"2026-02-30","end":"2026-03-01"}',
     '{"act":"sales","begin":"2026-02-03"}',
     '{"act":"sales","begin":20260101,"end":"2026-03-01"}',
@@ -93,7 +93,7 @@ class Desk(unittest.TestCase):
         words = ["--config", self.site.config, "--key-file", self.site.path("cashier.key"),
                  "--give-up", "0", "mend"]
         take = self.site.effect(self.books.take)
-        books = mock.Mock(take=take)
+        books = mock.Mock(take=take, journal=self.books.journal)
         effect = self.site.effect(journal.Journal.add)
         for where, name, new in (
             (rights, "FILE", self.site.path("clerk.toml")),
@@ -329,9 +329,9 @@ class Corrections(Desk):
                     self.sold()
                 was_killed = self.site.killed_at(at, lambda: self.ask("anna", SALE))
                 status = self.ask("anna", SALE)[0]
-                # Who was killed may have been told that the book has it now.
-                self.assertIn(status, (200,) if is_sold else (200, 404))
+                self.assertEqual(status, 200 if is_sold else 404)
                 self.assertEqual((self.left(), self.ask("anna", SALE)[0]), (0, status))
+                self.assertEqual((len(self.site.money), self.keys()), (int(is_sold), 0))
                 if not was_killed:
                     break
                 at += 1
@@ -340,15 +340,56 @@ class Corrections(Desk):
     def test_a_sale_that_the_book_lacks_is_not_taken_back(self):
         for _ in range(2):
             self.assertEqual(self.ask("anna", SALE), (404, {"error": "no such sale"}))
-        self.assertEqual(self.left(), 0)
-        self.assertEqual(self.journal()[-1], ("anna", "back", "lacking"))
+        self.assertEqual((self.site.money, self.site.numbers, self.books.taken), ({}, {}, {}))
+        self.assertEqual(self.journal()[-1], ("anna", "back", "refused"))
+        # It is sold after all, and taken back.
+        self.sold()
+        self.assertEqual(self.ask("anna", SALE), (200, {"result": "new"}))
+
+    def test_nothing_is_credited_by_it(self):
+        """Not if the number was debited otherwise, nor if the debit gets no answer."""
+        for number, known in ((SALE["voucher"], ["bo", "500"]), (SALE["voucher"], ["room 12", "50"]),
+                              ("VOID-" + SALE["voucher"], ["room 12", "500"])):
+            self.begin()
+            self.sold()
+            self.books.known[number] = known
+            self.assertEqual(self.ask("anna", SALE)[0], 409)
+            self.assertEqual(self.ask("anna", SALE)[1],
+                             {"error": "taken" if number.startswith("VOID") else "differs"})
+            self.assertEqual((len(self.site.money), self.books.taken), (1, {}))
+        self.begin()
+        silent = mock.Mock(take=mock.Mock(side_effect=debit.NoAnswer("no")), journal=self.books.journal)
+        with mock.patch.object(work.debit, "Books", lambda _: silent):
+            self.assertEqual(self.ask("anna", SALE), (404, {"error": "no such sale"}))
+        self.assertEqual((self.site.money, self.keys()), ({}, 0))
+        silent.take.assert_not_called()
+
+    def test_numbers_of_tools_are_none_of_the_page(self):
+        account = self.guest()[1]["card"]["account"]
+        tools = [lapses.number_of(account.encode()), guest.number_of(account), "FEE-2026-12-AL",
+                 sold.number_of(b"t-0123456789ab"), allow.row_of(b"al", 5, "2026-12").number,
+                 allow.row_of(b"al", 5, "2026-12").lapse, "VOID-" + SALE["voucher"], "V-1"]
+        before = dict(self.site.money)
+        for number in tools:
+            self.assertEqual(self.ask("anna", {**SALE, "account": account, "voucher": number}),
+                             (422, {"error": "bad request"}))
+        self.assertEqual((self.site.money, self.books.taken, self.books.known), (before, {}, {}))
+
+    def test_a_key_that_was_left_ends_with_the_next_one(self):
+        self.sold()
+        with mock.patch.object(key, "change", failing(key.change, 2)):
+            self.assertEqual(self.ask("anna", SALE), (200, {"result": "new"}))
+        self.assertEqual(self.keys(), 1)
+        self.assertEqual(self.ask("anna", {**SALE, "voucher": NUMBERS[0]})[0], 404)
+        self.assertEqual(self.keys(), 0)
 
     def test_another_account_or_sum_is_refused(self):
         self.sold()
-        for more in ({"account": "bo"}, {"sum": 499}):
-            self.assertEqual(self.ask("anna", {**SALE, **more}), (409, {"error": "differs"}))
+        for more, wanted in (({"account": "bo"}, (404, {"error": "no such sale"})),
+                             ({"sum": 499}, (409, {"error": "differs"}))):
+            self.assertEqual(self.ask("anna", {**SALE, **more}), wanted)
         self.assertEqual(self.books.taken, {})
-        self.assertEqual(self.ask("anna", {**SALE, "account": "bo"})[0], 409)
+        self.assertEqual(self.ask("anna", {**SALE, "account": "bo"})[0], 404)
         self.assertEqual(self.ask("anna", SALE), (200, {"result": "new"}))
         self.assertEqual(self.left(), 0)
         self.assertEqual(self.ask("anna", {**SALE, "account": "bo"})[0], 409)
@@ -358,7 +399,7 @@ class Corrections(Desk):
         self.site.answers = ["away"]
         self.assertEqual(self.ask("anna", SALE), (503, {"error": "away"}))
         self.assertEqual(self.books.taken, {})
-        silent = mock.Mock(take=mock.Mock(side_effect=debit.NoAnswer("no")))
+        silent = mock.Mock(take=mock.Mock(side_effect=debit.NoAnswer("no")), journal=self.books.journal)
         with mock.patch.object(work.debit, "Books", lambda _: silent):
             self.assertEqual(self.ask("anna", SALE), (503, {"error": "away"}))
         self.assertEqual(self.ask("anna", SALE), (200, {"result": "new"}))

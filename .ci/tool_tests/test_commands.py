@@ -1,5 +1,7 @@
 """What commands do with texts: keys in a configuration, files of vouchers, stock, shards."""
 
+import contextlib
+import io
 import os
 import re
 import subprocess
@@ -8,7 +10,7 @@ import tomllib
 import unittest
 
 from radacctl import desk, stock
-from radacctl.commands import key, sell, shards
+from radacctl.commands import debit, key, sell, shards
 from tool_tests import ROOT
 
 CONFIG = '''# A site.
@@ -55,6 +57,23 @@ class Keys(unittest.TestCase):
     def test_what_is_made_and_ended_again_is_as_it_was(self):
         block = '# radacctd-key: made 2026-11-27\n[[key]]\ntoken = "t"\naccount = "x"\n'
         self.assertEqual(key.without(key.with_more(CONFIG, block), {"t"}), CONFIG)
+
+
+class Debits(unittest.TestCase):
+    """A sale is taken back once: at the page, or by hand with VOID- before its number."""
+
+    def test_of_both_numbers_the_first_one_counts(self):
+        for first, second in (("D1-1", "VOID-D1-1"), ("VOID-D1-1", "D1-1")):
+            with tempfile.TemporaryDirectory() as folder:
+                books = debit.Books.__new__(debit.Books)
+                books.journal = debit.Journal(os.path.join(folder, "debits.csv"))
+                books.secret, books.is_answered = b"s", lambda packet: True
+                with contextlib.redirect_stdout(io.StringIO()):
+                    books.take(b"al", 500, first)
+                    self.assertRaises(debit.Refused, books.take, b"al", 500, second)
+                    books.take(b"al", 500, "REFUND-D1-1")
+                self.assertIsNone(books.journal.given(second))
+                os.close(books.journal.file)
 
 
 class Vouchers(unittest.TestCase):

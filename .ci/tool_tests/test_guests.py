@@ -6,6 +6,7 @@ import io
 import json
 import os
 import tempfile
+import tomllib
 import types
 import unittest
 from unittest import mock
@@ -116,8 +117,10 @@ class Site:
             return found
         return call
 
-    def ask(self, where, method, path, its_key, body, patience=30):
-        """The desk: each number once."""
+    def ask(self, where, method, path, its_key, body, patience=30, most=None):
+        """The desk: each number once, and what an account was sold by the account's key."""
+        if method == "GET":
+            return self.topups(its_key)
         if its_key != CASHIER:
             return 401, b'{"error":"no key"}'
         if self.answers and (said := self.answers.pop(0)) == "away":
@@ -131,6 +134,18 @@ class Site:
         if self.answers and self.answers.pop(0) == "lost":
             raise ConnectionResetError("reset")
         return (201, b'{"result":"new"}') if is_new else (200, b'{"result":"repeat"}')
+
+    def topups(self, its_key):
+        if self.answers and self.answers.pop(0) == "away":
+            return 503, b'{"error":"unavailable"}'
+        own = [it["account"] for it in tomllib.loads(files.text(self.config)).get("key", [])
+               if it["token"] == its_key]
+        if not own:
+            return 401, b'{"error":"no key"}'
+        found = [{"sum": total, "voucher": number, "when": 1}
+                 for number, (account, total) in self.money.items()
+                 if account == names.octets_of(own[0])]
+        return 200, json.dumps({"account": own[0], "topups": found}).encode()
 
     def killed_at(self, at, work):
         """Runs work until its step `at`; whether it was killed."""

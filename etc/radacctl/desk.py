@@ -49,13 +49,13 @@ def topup(account, total, number):
     return json.dumps({"account": account, "sum": total, "voucher": number})
 
 
-def ask(where, method, path, key, body=None, patience=30):
+def ask(where, method, path, key, body=None, patience=30, most=1 << 20):
     """The status and the body that the desk at an address and a port gave."""
     caller = http.client.HTTPConnection(*where, timeout=patience)
     try:
         caller.request(method, path, body, {"Desk-Key": key, "Connection": "close"})
         response = caller.getresponse()
-        return response.status, response.read(1 << 20)
+        return response.status, response.read(most)
     finally:
         caller.close()
 

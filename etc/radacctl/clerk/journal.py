@@ -13,8 +13,8 @@ from radacctl import files, names, stock
 
 FILE = "/var/lib/radacctd-books/clerk.csv"
 HEADER = b"moment,cashier,act,number,account,what,state\n"
-# An act was begun, or it is done; or it cannot be done, and changed nothing. A sale that the book
-# did not have is lacking: it had to be credited to find that out, and was debited at once.
+# An act was begun, or it is done; or it cannot be done, and changed nothing. Journals of earlier
+# versions say `lacking` of a sale that the book did not have: it was credited, and debited at once.
 BEGUN, DONE, REFUSED, LACKING = "begun", "done", "refused", "lacking"
 HOUR = 3600
 

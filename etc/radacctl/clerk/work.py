@@ -6,6 +6,7 @@ journal of the system, and has no password, no key and no code.
 """
 
 import contextlib
+import datetime
 import http.client
 import json
 import os
@@ -24,6 +25,8 @@ TURN, GIVE_UP, WAIT = 20, 5, 8
 # How long the page that asked for a guest gets the card again, or asks again if nobody was made.
 AGAIN = 3600
 MOST_FOUND = 20
+# How the keys begin by which it reads what an account was sold, and the longest list of that.
+CHECK, LONGEST_LIST = "check-", 1 << 26
 
 
 def words():
@@ -231,17 +234,30 @@ class Act:
             self.may_begin()
         if made is not None:
             self.end_as_correction(account)
-            return {"result": "new"}
-        books = self.books()
-        if had is None:
-            self.note(account, journal.BEGUN)
-        is_known = self.has_sale(account, number)
-        self.debit(books, account, number)
-        if not is_known:
-            self.note(account, journal.LACKING)
-            raise Refused(404, "no such sale")
-        self.done(account)
+        else:
+            self.debit_sale(account, number, is_new=had is None)
         return {"result": "new"}
+
+    def debit_sale(self, account, number, is_new):
+        """Debits a sale. Nothing is credited to find out whether the book has it."""
+        books = self.books()
+        self.test_journal(books, account, number)
+        if is_new:
+            self.note(account, journal.BEGUN)
+        found = [it["sum"] for it in self.sales_of(account) if it["voucher"] == number]
+        if found != [self.asked["sum"]]:
+            self.note(account, journal.REFUSED)
+            raise Refused(*((409, "differs") if found else (404, "no such sale")))
+        self.debit(books, account, number)
+        self.done(account)
+
+    def test_journal(self, books, account, number):
+        """Ends if this number was debited otherwise, or by hand for the same sale."""
+        given = books.journal.given(number)
+        if given not in (None, [names.shown(names.octets_of(account)), str(self.asked["sum"])]):
+            raise Refused(409, "differs")
+        if books.journal.given(debit.other_of(number)):
+            raise Refused(409, "taken")
 
     def end_as_correction(self, account):
         self.note(account, journal.BEGUN)
@@ -257,25 +273,20 @@ class Act:
             program.say(why)
             raise Refused(503, "setup") from None
 
-    def has_sale(self, account, number):
-        """Whether the book has this very sale, as it says itself. One that it lacks it gets by
-        that: so it is debited in each case, and the book is as it was.
-        """
+    def sales_of(self, account):
+        """What the book has credited to an account, as the guest's page has it."""
         own = words()
-        its_key = desks.keys_in(own.key_file, 2)[0]
-        body = desks.topup(account, self.asked["sum"], number)
-        try:
-            status, said = desks.ask((own.host, own.port), "POST", "/topups", its_key, body,
-                                     GIVE_UP)
-        except (OSError, http.client.HTTPException) as why:
-            raise OSError(f"no answer of the desk: {type(why).__name__}") from None
-        found = desks.meaning(status, desks.object_of(said))
-        if found in (desks.DIFFERS, desks.LIMIT):
-            self.note(account, journal.REFUSED)
-            raise Refused(409, "differs")
-        if found not in (desks.NEW, desks.REPEAT):
-            raise OSError(f"the desk does not say whether it has {number}: {found}")
-        return found == desks.REPEAT
+        own.config = os.path.realpath(own.config)
+        with page_key(own, account) as token:
+            try:
+                status, said = desks.ask((own.host, own.port), "GET", "/me/topups", token, None,
+                                         GIVE_UP, LONGEST_LIST)
+            except (OSError, http.client.HTTPException) as why:
+                raise OSError(f"no answer of the desk: {type(why).__name__}") from None
+        found = desks.object_of(said)
+        if status != 200 or found is None:
+            raise OSError(f"the desk does not say what {account} was sold: status {status}")
+        return found["topups"]
 
     def debit(self, books, account, number):
         try:
@@ -286,6 +297,34 @@ class Act:
         except debit.NoAnswer as why:
             program.say(why)
             raise Refused(503, "away") from None
+
+
+@contextlib.contextmanager
+def page_key(own, account):
+    """A key of an account's page, which nobody but this process gets to know. It ends at once; that
+    of a process that was killed ends with the next one, or by radacctd-key.timer.
+    """
+    now = datetime.datetime.now()
+    token = key.new_token(CHECK)
+    block = (f"# radacctd-key: made {now:%Y-%m-%d}, until {now:%Y-%m-%dT%H:%M}\n[[key]]\n"
+             f'token = "{token}"\naccount = {json.dumps(account)}\n')
+    left = lambda text: [it.members["token"] for it in key.guests(text)
+                         if it.members["token"].startswith(CHECK)]
+
+    def decide(text, config):
+        if len(config.get("key", [])) >= key.MOST_KEYS:
+            raise OSError(f"{key.MOST_KEYS} keys are all that fit: end guests")
+        return block, left(text)
+
+    changed = key.change(own.config, decide)
+    try:
+        key.wait_for_server(own, changed)
+        yield token
+    finally:
+        try:
+            key.change(own.config, lambda text, _: ("", left(text)))
+        except (SystemExit, OSError) as why:
+            program.say(f"a key that begins with {CHECK} is left, until {now:%H:%M}: {why}")
 
 
 def card_of(store, account):

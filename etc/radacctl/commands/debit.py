@@ -10,7 +10,7 @@ from the address of the client `books`. The plan `debit` costs 1 for each octet.
 a session by its greatest total, so the same debit again takes nothing more.
 
 NUMBER is 1 to 32 of A-Z 0-9 and -, and belongs to one debit: the number of the voucher that is
-taken back, say. SUM is 1 to 1000000000000. ACCOUNT is written as in a CSV file of vouchers; before
+taken back, say. With VOID- before it it is taken back, too: of both the first one counts. SUM is 1 to 1000000000000. ACCOUNT is written as in a CSV file of vouchers; before
 one that begins with - give --. It may be any account: one that could not log in is warned of.
 
 DEBITS is a CSV file of the header account,sum,number and then a debit a record. All of it is tested
@@ -52,6 +52,8 @@ from radacctl import desk, files, money, names, plans, program, site
 from radacctl.names import shown
 
 CLIENT, CLASS = "books", "debit"
+# What stands before the number of a sale that is taken back by hand.
+VOID = "VOID-"
 FILE_HEADER = ["account", "sum", "number"]
 HEADER = ["moment", "event", "number", "account", "sum"]
 GIVEN, ANSWERED = "given", "answered"
@@ -208,6 +210,11 @@ class Journal:
         self.known.setdefault(number, [account, str(total)])
 
 
+def other_of(number):
+    """The other number by which the same sale is taken back: by hand with VOID-, or at the page."""
+    return number[len(VOID):] if number.startswith(VOID) else VOID + number
+
+
 def attribute(kind, value):
     return bytes([kind, len(value) + 2]) + value
 
@@ -262,6 +269,9 @@ class Books:
     def take(self, account, total, number):
         """Takes a sum; refuses it before it is sent, or says that there was no answer."""
         name, known = shown(account), self.journal.given(number)
+        if taken := self.journal.given(other_of(number)):
+            raise Refused(f"{other_of(number)} was given before: {taken[1]} from {taken[0]}. It "
+                          "takes the same sale back")
         if known is None:
             self.note(GIVEN, number, name, total)
         elif known != [name, str(total)]:
