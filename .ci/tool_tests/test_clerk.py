@@ -304,6 +304,57 @@ class Guests(Desk):
         self.assertEqual(report.cashiers_of_guests(), {number: "j%C3%B6rg"})
 
 
+class Proxy(unittest.TestCase):
+    """What nginx lets through of a sale, and what it logs; interop/pages has nginx itself."""
+
+    def setUp(self):
+        with open(os.path.join(ROOT, "etc/nginx/radacctd.conf"), encoding="utf-8") as file:
+            self.text = file.read()
+        block = re.search(r"map \$request_body \$radacctd_topup \{(.*?)\n\}", self.text, re.S)[1]
+        self.refused = re.findall(r'"~(.*?)"\s+"\{\}";', block)
+
+    def is_handed_on(self, body):
+        return not any(re.search(it, body) for it in self.refused)
+
+    def test_a_cashier_takes_no_number_of_a_tool(self):
+        tools = [lapses.number_of(b"al"), guest.number_of("al"), "FEE-2026-12-AL", "W-ACDEF-HJKMN",
+                 sold.number_of(b"t-0123456789ab"), allow.row_of(b"al", 5, "2026-12").number,
+                 allow.row_of(b"al", 5, "2026-12").lapse, "VOID-V-1", "REFUND-V-1", "MOVED-AL"]
+        self.assertEqual(len(self.refused), 2)
+        for number in tools:
+            spellings = [json.dumps({"account": "al", "sum": 1, "voucher": number}),
+                         '{"voucher":\t"V-1", "voucher" :\n"%s"}' % number,
+                         '{"voucher":"\\u00%02X%s"}' % (ord(number[0]), number[1:]),
+                         '{"v\\u006fucher":"%s"}' % number]
+            self.assertEqual([it for it in spellings if self.is_handed_on(it)], [], number)
+
+    def test_a_sale_of_the_page_goes_on(self):
+        for account in ("room 12", "G-1", "LAPSE-1", "J\u00f6rg", "%22voucher%22:%22G-1"):
+            sale = {"account": account, "sum": 1, "voucher": NUMBERS[0], "package": "week",
+                    "paid": 9}
+            self.assertTrue(self.is_handed_on(json.dumps(sale)), account)
+
+    def test_the_desk_gets_what_is_logged_and_its_answer_is_waited_for(self):
+        place = self.text[self.text.index("topups$\" {") :].partition("\n    }\n")[0]
+        for line in ("proxy_set_body $radacctd_topup;", "proxy_ignore_client_abort on;",
+                     "if ($radacctd_has_no_length) { return 411; }"):
+            self.assertIn(line, place)
+        self.assertEqual(self.text.count("if ($radacctd_has_no_length) { return 411; }"),
+                         self.text.count("limit_except POST"))
+
+    def test_a_sale_without_an_answer_has_a_cashier(self):
+        line = lambda status, number, who: json.dumps(
+            {"status": status, "cashier": who, "sale": json.dumps({"voucher": number})})
+        rows = [line(499, "D1-1", "anna"), line(503, "D1-2", "anna"), line(200, "D1-2", "bert"),
+                line(201, "D1-3", "anna"), line(499, "D1-3", "eve"), line(409, "D1-4", "eve")]
+        with tempfile.TemporaryDirectory() as folder:
+            path = os.path.join(folder, "sales.log")
+            with open(path, "w", encoding="utf-8") as file:
+                file.write("\n".join(rows))
+            found = report.cashiers_of(path)
+        self.assertEqual(found, {"D1-1": "anna", "D1-2": "bert", "D1-3": "anna"})
+
+
 class Corrections(Desk):
     def left(self):
         """What the book has of the account of the sale."""

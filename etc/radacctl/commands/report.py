@@ -54,6 +54,8 @@ from radacctl.commands import guest
 
 SUBJECT, ESCAPED = re.compile(rb"[A-Za-z.0-9]+="), re.compile(rb"\\([0-9A-F]{2})")
 DATED = re.compile(r"\d{4}-\d{2}-\d{2}(\.\d{6})?")
+# What nginx logs of a sale whose answer it did not get: the caller was gone, or the desk silent.
+LOST, NO_ANSWER = "lost", (499, 503)
 COLUMNS = {
     "sessions": "client session account class input output total charged seconds first last state"
     " cause calling framed".split(),
@@ -242,8 +244,9 @@ def span_of(snapshots, begin, end):
 
 def cashiers_of(path):
     """The cashier of each voucher that nginx' logs of sales have."""
-    # Of a sale that was sent again: 201 is its first answer, and 200 that it is known.
-    found = {200: {}, 201: {}}
+    # Of a sale that was sent again: 201 is its first answer, and 200 that it is known. Of one that
+    # the book has all the same, the answer was lost.
+    found = {LOST: {}, 200: {}, 201: {}}
     for name in glob.glob(glob.escape(path) + "*"):
         try:
             with (gzip.open if name.endswith(".gz") else open)(name, "rb") as file:
@@ -251,7 +254,7 @@ def cashiers_of(path):
                     found[status][voucher] = cashier
         except (OSError, EOFError) as fault:
             program.say(f"cannot read {name}: {fault}")
-    return {**found[200], **found[201]}
+    return {**found[LOST], **found[200], **found[201]}
 
 
 def cashiers_of_guests():
@@ -265,12 +268,13 @@ def cashiers_of_guests():
 
 
 def sale_of(line):
-    """Status, voucher and cashier of a line of the log, if it is of a sale that the book has."""
+    """Status, voucher and cashier of a line of the log, if it is of a sale that the book may have."""
     try:
         entry = json.loads(line.decode("utf-8", "surrogateescape"))
-        if entry["status"] in (200, 201) and entry["cashier"]:
+        if entry["status"] in (200, 201, *NO_ANSWER) and entry["cashier"]:
             voucher = str(json.loads(entry["sale"])["voucher"])
-            return entry["status"], voucher, spelled(entry["cashier"])
+            status = LOST if entry["status"] in NO_ANSWER else entry["status"]
+            return status, voucher, spelled(entry["cashier"])
     except (ValueError, KeyError, TypeError, AttributeError):
         pass
     return None
