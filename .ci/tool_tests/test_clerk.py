@@ -112,7 +112,8 @@ class Desk(unittest.TestCase):
 
     def ask(self, who, asked, now=NOW):
         line = names.shown(who.encode()).encode() + b"\n" + json.dumps(asked).encode() + b"\n"
-        found = json.loads(work.answered(line, now))
+        self.later = []
+        found = json.loads(work.answered(line, now, self.later))
         return found["status"], found["body"]
 
     def guest(self, number=NUMBERS[0], name="Anna Müller", who="anna", package="week", now=NOW,
@@ -271,6 +272,30 @@ class Guests(Desk):
                 break
             at += 1
         self.assertGreater(at, 6)
+
+    def test_one_who_is_being_made_ends_too(self):
+        self.site.answers = ["away"]
+        self.assertEqual(self.guest()[0], 503)
+        account = self.rows()[0][0].decode()
+        ends = lambda: self.ask("anna", {"act": "end", "account": account})
+        self.site.answers = ["away"]
+        self.assertEqual(ends(), (503, {"error": "away"}))
+        self.assertEqual([row[1] for row in self.rows()], ["making"])
+        self.assertEqual([ends()[1] for _ in range(2)], [{"result": "new"}, {"result": "repeat"}])
+        self.assertEqual(([row[1] for row in self.rows()], self.keys()), (["ended"], 0))
+        self.assertEqual(self.journal()[-2:], [("anna", "end", "begun"), ("anna", "end", "done")])
+
+    def test_access_servers_are_told_behind_the_answer(self):
+        account = self.guest()[1]["card"]["account"]
+        told = mock.Mock(return_value=True)
+        with mock.patch.object(work.guest, "disconnect", told):
+            self.assertEqual(self.ask("anna", {"act": "end", "account": account})[0], 200)
+            told.assert_not_called()
+            # The lock is free by then.
+            with guest.locked(0):
+                for it in self.later:
+                    it()
+        self.assertEqual([it.args[1] for it in told.call_args_list], [account.encode()])
 
     def test_only_guests_end(self):
         self.assertEqual(self.ask("anna", {"act": "end", "account": "room 12"}),
@@ -456,6 +481,14 @@ class Corrections(Desk):
         self.assertEqual(self.ask("anna", SALE), (200, {"result": "new"}))
         self.assertEqual(self.left(), 0)
 
+    def test_a_sale_of_a_guest_who_is_being_made_is_taken_back(self):
+        self.site.answers = ["away"]
+        self.guest()
+        account = self.rows()[0][0].decode()
+        asked = {"act": "back", "account": account, "sum": 500, "voucher": NUMBERS[0]}
+        self.assertEqual(self.ask("anna", asked), (200, {"result": "new"}))
+        self.assertEqual(([row[1] for row in self.rows()], self.keys()), (["ended"], 0))
+
     def test_a_guests_sale_ends_the_guest(self):
         account = self.guest()[1]["card"]["account"]
         asked = {"act": "back", "account": account, "sum": 500, "voucher": NUMBERS[0]}
@@ -609,7 +642,7 @@ class Answers(Desk):
     def test_no_line_of_any_kind_stops_it(self):
         for text in (b"", b"\n", b"anna\n", b"\xff\n{}", b"%FF\n" + json.dumps(SALE).encode(),
                      *(b"anna\n" + it.encode("utf-8", "surrogatepass") for it in WRONG)):
-            found = json.loads(work.answered(text, NOW))
+            found = json.loads(work.answered(text, NOW, []))
             self.assertIn(found["status"], (403, 422))
 
     def test_a_command_that_ends_is_no_answer(self):

@@ -295,6 +295,24 @@ class Guests(unittest.TestCase):
             at += 1
         self.assertGreater(at, 6)
 
+    def test_a_silent_access_server_is_waited_for_once(self):
+        self.new()
+        account, now = self.rows()[0][0], 1_800_000_000
+        lapses.end(self.site.store(), [account], logins.ENDED, now)
+        for at in range(25):
+            for source in ("10.0.0.1", "10.0.0.2"):
+                self.site.uses().run(("INSERT INTO use VALUES (?, ?, ?, ?, ?, 0)", (
+                    account, f"{at:012x}", source, f"S{at}".encode().hex(), now)))
+        told = mock.Mock(side_effect=lambda source, *_: None if source == "10.0.0.1" else True)
+        servers = lambda: dict.fromkeys(("10.0.0.1", "10.0.0.2"), ("3799", "s"))
+        gives = lambda: lapses.disconnect(self.site.store(), self.site.uses(), now, 900, [account])
+        with mock.patch.object(lapses, "cut_servers", servers), \
+                mock.patch.object(lapses, "tell", told):
+            self.assertEqual(gives(), 25)
+            self.assertEqual(sum(it.args[0] == "10.0.0.1" for it in told.call_args_list), 1)
+            with mock.patch.object(lapses, "LONGEST", -1):
+                self.assertEqual(gives(), 0)
+
     def test_a_name_is_no_formula_in_a_list(self):
         self.new("=1+2")
         said = io.StringIO()

@@ -20,6 +20,8 @@ from radacctl.program import say
 MIRROR = "/run/radacctd-mirror/balances.db"
 # In seconds: how long the clock must have been steady, and by how much two looks may differ.
 STEADY, STEP = 3600, 5
+# In seconds: how long access servers may be told of sessions that are to end, before the last one.
+LONGEST = 20
 # What may be in a text for radclient.
 PLAIN = re.compile(r"[A-Za-z0-9 ._:/,@+=;#()-]{1,253}")
 OVER = "state IN ('withdrawn', 'ended') OR state = 'live' AND ends <= ?"
@@ -185,30 +187,45 @@ def cut_servers():
 
 
 def disconnect(store, uses, now, wait, accounts=None):
-    """Tells access servers to end the sessions of what is over; returns how many were told."""
+    """Tells access servers to end the sessions of what is over; returns how many were told.
+
+    One that does not answer is not waited for again, and all of it ends in time: the timer gives
+    the rest a minute later.
+    """
     over = {it for it, in store.read("SELECT account FROM login WHERE state NOT IN "
                                      "('live', 'making') OR ends <= ?", now)}
     if accounts is not None:
         over &= set(accounts)
     rows = uses.read("SELECT account, source, session FROM use WHERE ended = 0 AND session <> '' "
                      "AND abs(? - heard) <= ?", now, wait)
-    servers, told = cut_servers(), 0
+    servers, told, end = cut_servers(), 0, time.monotonic() + LONGEST
     for account, source, session in rows:
         text = bytes.fromhex(session).decode("latin-1")
-        if account in over and source in servers and PLAIN.fullmatch(text):
-            told += tell(source, *servers[source], text)
+        if account not in over or source not in servers or not PLAIN.fullmatch(text):
+            continue
+        if time.monotonic() > end:
+            break
+        has_ended = tell(source, *servers[source], text)
+        told += bool(has_ended)
+        if has_ended is None:
+            del servers[source]
     return told
 
 
 def tell(address, port, secret, session):
-    """Sends one Disconnect-Request. The secret is in a file, and in no command line."""
+    """Sends one Disconnect-Request: whether the session ends, or None if there is no answer.
+
+    The secret is in a file, and in no command line.
+    """
     with tempfile.TemporaryDirectory(dir="/run") as folder:
         path = os.path.join(folder, "secret")
         files.make(path, secret.encode() + b"\n")
         where = f"[{address}]:{port}" if ":" in address else f"{address}:{port}"
         words = ["radclient", "-r", "2", "-t", "2", "-x", "-S", path, where, "disconnect"]
         said = look.run(*words, seconds=15, text=f'Acct-Session-Id = "{session}"\n')[1]
-    return "Received Disconnect-ACK" in said
+    if "Received Disconnect-NAK" in said:
+        return False
+    return True if "Received Disconnect-ACK" in said else None
 
 
 def tidy(uses, now):

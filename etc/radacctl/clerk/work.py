@@ -39,8 +39,8 @@ def debit_words():
     return debit.parser().parse_args(["--list"])
 
 
-def answer_to(who, asked, now):
-    """What the page is answered."""
+def answer_to(who, asked, now, later):
+    """What the page is answered. What is to be done behind the answer is added to `later`."""
     try:
         found = rights.read()
     except rights.Wrong as why:
@@ -56,7 +56,7 @@ def answer_to(who, asked, now):
         return listed(asked, now)
     try:
         with guest.locked(TURN), contextlib.closing(journal.Journal()) as notes:
-            return Act(who, asked, now, notes, found[limit]).do()
+            return Act(who, asked, now, notes, found[limit], later).do()
     except (desks.WrongKey, guest.NotMade, logins.Fault, stock.Fault, site.Missing, OSError) as why:
         program.say(why)
         raise Refused(503, "away") from None
@@ -89,8 +89,9 @@ def found_guests(text):
 class Act:
     """One act, while no other one is done."""
 
-    def __init__(self, who, asked, now, notes, most):
+    def __init__(self, who, asked, now, notes, most, later):
         self.who, self.asked, self.now, self.notes, self.most = who, asked, now, notes, most
+        self.later = later
 
     def do(self):
         acts = {"guest": self.make, "end": self.end, "back": self.take_back, "cut": self.cut}
@@ -114,7 +115,7 @@ class Act:
         if had is not None:
             if (had.cashier, had.what) != (self.who, self.what()):
                 raise Refused(409, "differs")
-            state = self.state_of(store, had.account)
+            state = guest.state_of(store, names.octets_of(had.account))
             if state == logins.MAKING:
                 raise Refused(503, "away")
             # One that was made stays so, also if the logins are those of an older copy.
@@ -129,11 +130,6 @@ class Act:
 
     def what(self):
         return f"{self.asked['name']}, {self.asked['package']}"
-
-    def state_of(self, store, account):
-        rows = store.read("SELECT state FROM login WHERE account = ? AND digest IS NULL",
-                          names.octets_of(account))
-        return rows[0][0] if rows else None
 
     def again(self, store, had, state):
         """The guest is made. Its card is given for an hour, and not once it has ended."""
@@ -176,19 +172,26 @@ class Act:
     # ---- its end
 
     def end(self):
-        account, store = self.asked["account"], sold.store()
-        state = self.state_of(store, account)
-        if state is None:
-            raise Refused(404, "no such guest")
-        is_new = state == logins.LIVE
-        if is_new:
+        account = self.asked["account"]
+
+        def note():
             self.may_begin()
             self.note(account, journal.BEGUN)
-        # One that has ended may have a key still, if a run was killed.
-        guest.end_guest(store, words(), names.octets_of(account))
+
+        is_new = self.end_guest(account, note)
         if is_new:
             self.done(account)
         return {"result": "new" if is_new else "repeat"}
+
+    def end_guest(self, account, note=lambda: None):
+        """Ends a guest; whether it was live until now. `note` is called before it is ended."""
+        octets = names.octets_of(account)
+        is_new = guest.end_guest(sold.store(), words(), octets, note)
+        if is_new is None:
+            raise Refused(404, "no such guest")
+        # Neither the page nor another act waits for an access server.
+        self.later.append(lambda: guest.disconnect(sold.store(), octets))
+        return is_new
 
     # ---- a session
 
@@ -233,7 +236,9 @@ class Act:
         if had is None:
             self.may_begin()
         if made is not None:
-            self.end_as_correction(account)
+            self.note(account, journal.BEGUN)
+            self.end_guest(account)
+            self.done(account)
         else:
             self.debit_sale(account, number, is_new=had is None)
         return {"result": "new"}
@@ -258,12 +263,6 @@ class Act:
             raise Refused(409, "differs")
         if books.journal.given(debit.other_of(number)):
             raise Refused(409, "taken")
-
-    def end_as_correction(self, account):
-        self.note(account, journal.BEGUN)
-        if guest.end_guest(sold.store(), words(), names.octets_of(account)) is None:
-            raise Refused(404, "no such guest")
-        self.done(account)
 
     def books(self):
         """What sends debits, once configuration, book and secret have what is needed."""
@@ -355,14 +354,14 @@ def bars_of(text):
     return {"across": across, "dark": dark}
 
 
-def answered(line, now):
-    """The line that the first part gets."""
+def answered(line, now, later):
+    """The line that the first part gets; what is to be done behind it is added to `later`."""
     try:
         who, _, request = line.partition(b"\n")
         name = names.octets_of(who.decode("ascii")).decode("utf-8")
         if not name:
             raise Refused(403, "not allowed")
-        status, body = 200, answer_to(name, forms.asked(request.strip()), now)
+        status, body = 200, answer_to(name, forms.asked(request.strip()), now, later)
     except Refused as found:
         status, body = found.status, {"error": found.error}
     except SystemExit:
@@ -380,6 +379,14 @@ def main():
     out = os.dup(1)
     os.dup2(os.open(os.devnull, os.O_WRONLY), 1)
     line = sys.stdin.buffer.read(2 * forms.LONGEST)
+    later = []
     with os.fdopen(out, "wb") as file:
-        file.write(answered(line, int(time.time())))
+        file.write(answered(line, int(time.time()), later))
+    # The caller reads up to the end of the connection, which standard input is, too.
+    os.dup2(os.open(os.devnull, os.O_RDONLY), 0)
+    for it in later:
+        try:
+            it()
+        except (logins.Fault, site.Missing, OSError) as why:
+            program.say(f"sessions are told to end within a minute: {why}")
     return 0

@@ -351,26 +351,47 @@ def mend_all(logins_store, words):
 
 
 def end(words):
+    account = names.octets_of(words.account)
     with locked():
-        told = end_guest(sold.store(), words, names.octets_of(words.account))
-    if told is None:
-        fail(f"there is no guest {words.account}: radacctl guest list")
+        if end_guest(sold.store(), words, account) is None:
+            fail(f"there is no guest {words.account}: radacctl guest list")
+    # Others need not wait for access servers.
+    told = disconnect(sold.store(), account)
     print(f"{words.account} has ended; told {told} sessions to end. What is left lapses")
     return 0
 
 
-def end_guest(logins_store, words, account):
-    """Ends a guest; how many sessions were told to end, or None if there is no such guest."""
-    now = int(time.time())
+def state_of(logins_store, account):
+    """The state of a guest, or None."""
     rows = logins_store.read("SELECT state FROM login WHERE account = ? AND digest IS NULL",
                              account)
-    if not rows:
-        return None
-    if rows[0][0] == logins.LIVE:
-        sold.own_log()
-        lapses.end(logins_store, [account], logins.ENDED, now)
+    return rows[0][0] if rows else None
+
+
+def end_guest(logins_store, words, account, note=lambda: None):
+    """Ends a guest; whether it was live until now, or None if there is no such guest.
+
+    `note` is called before one that is live is ended. The lock is held.
+    """
+    # One who is being made is completed or taken back first, and so is a key that was left.
     mend_all(logins_store, words)
-    return lapses.disconnect(logins_store, sold.uses(), now, 900, [account])
+    state = state_of(logins_store, account)
+    if state is None:
+        return None
+    if state == logins.MAKING:
+        raise NotMade(f"{names.shown(account)} is being made, and the desk does not answer: "
+                      "give it again")
+    if state == logins.LIVE:
+        note()
+        sold.own_log()
+        lapses.end(logins_store, [account], logins.ENDED, int(time.time()))
+        end_keys({account}, words)
+    return state == logins.LIVE
+
+
+def disconnect(logins_store, account):
+    """Ends the sessions of a guest who has ended; how many were told so."""
+    return lapses.disconnect(logins_store, sold.uses(), int(time.time()), 900, [account])
 
 
 def mend(words):
