@@ -23,6 +23,7 @@ def moved(folder):
     usual = os.path.join(site.REPOSITORY, "bin", "radacctd")
     site.program = lambda: os.environ.get("RADACCTD") or usual
     logins.LOG, command.LOCK = path("withdrawn/logins.csv"), path("tick.lock")
+    logins.FOLDER, logins.USES_FOLDER = path("logins"), path("uses")
     guest.LOCK, guest.DRAFTS = path("guest.lock"), path("guests")
     journal.FILE, rights.FILE = path("books/clerk.csv"), path("clerk.toml")
     lapses.MIRROR, command.SHEETS = path("run/balances.db"), path("sheets.csv")

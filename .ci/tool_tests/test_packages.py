@@ -186,6 +186,73 @@ class Site:
                        (account, AP, session, moment, ended)))
 
 
+class Places(unittest.TestCase):
+    """FreeRADIUS' user may write the file that says where the databases are."""
+
+    def setUp(self):
+        folder = tempfile.TemporaryDirectory(dir=MEMORY)
+        self.addCleanup(folder.cleanup)
+        self.folder = folder.name
+        for where, name, new in ((logins, "Child", Here), (site, "RADDB", self.path("raddb")),
+                                 (logins, "FOLDER", self.path("logins")),
+                                 (logins, "USES_FOLDER", self.path("uses")),
+                                 (logins, "USES", self.path("uses/uses.db")),
+                                 (command, "say", lambda _: None)):
+            patched = mock.patch.object(where, name, new)
+            patched.start()
+            self.addCleanup(patched.stop)
+        os.makedirs(self.path("raddb/radacctd"))
+
+    def path(self, name):
+        return os.path.join(self.folder, name)
+
+    def says(self, uses):
+        with open(self.path("raddb/radacctd/packages.conf"), "w", encoding="utf-8") as file:
+            file.write(f"radacctd_packages {{\n\tuses = {uses}\n}}\n")
+
+    def test_another_path_is_not_made_changed_or_removed(self):
+        with open(self.path("shadow"), "w", encoding="utf-8") as file:
+            file.write("root:x\n")
+        before = os.stat(self.path("shadow"))
+        for uses in ("system/some.service.d/uses.db", "shadow", "uses/../shadow", "uses/..",
+                     "uses/inner/uses.db", "uses/", "logins/logins.db", "usesuses.db"):
+            self.says(self.path(uses))
+            with self.subTest(uses):
+                self.assertRaisesRegex(logins.Fault, "is to have a file in", command.uses_made)
+        self.says("/etc/passwd")
+        self.assertRaises(logins.Fault, command.uses)
+        self.assertEqual(sorted(os.listdir(self.folder)), ["raddb", "shadow"])
+        self.assertEqual(os.stat(self.path("shadow")), before)
+
+    def test_only_a_folder_that_was_missing_gets_an_owner(self):
+        given = mock.Mock()
+        user = mock.Mock(return_value=types.SimpleNamespace(pw_uid=7, pw_gid=8))
+        with mock.patch.object(command.os, "fchown", given), \
+                mock.patch.object(command.os, "getuid", lambda: 0), \
+                mock.patch.object(command.pwd, "getpwnam", user):
+            for name in ("mine.db", "mine.db", "other.db"):
+                self.says(self.path(f"uses/{name}"))
+                self.assertEqual(command.uses_made().read("SELECT count(*) FROM use"), [(0,)])
+        self.assertEqual([it.args[1:] for it in given.call_args_list], [(7, 8)])
+
+    def test_a_link_in_its_place_leads_nowhere(self):
+        os.mkdir(self.path("uses"))
+        with open(self.path("other"), "w", encoding="utf-8") as file:
+            file.write("as it was\n")
+        os.symlink(self.path("other"), self.path("uses/uses.db"))
+        self.says(self.path("uses/uses.db"))
+        command.uses_made()
+        self.assertEqual(files.text(self.path("other")), "as it was\n")
+        self.assertFalse(os.path.islink(self.path("uses/uses.db")))
+
+    def test_words_for_radclient_are_addresses_and_ports(self):
+        block = "home_server a {{\n\ttype = coa\n\tipaddr = {}\n\tport = {}\n\tsecret = s\n}}\n"
+        rows = [("10.0.0.1", "3799"), ("-f/etc/shadow", "1"), ("10.0.0.2", "1:-x"), ("::1", "1700")]
+        with open(self.path("raddb/radacctd/access-servers.conf"), "w", encoding="utf-8") as file:
+            file.write("".join(block.format(*it) for it in rows))
+        self.assertEqual(lapses.cut_servers(), {"10.0.0.1": ("3799", "s"), "::1": ("1700", "s")})
+
+
 class Books:
     """What takes debits, as the real one: the journal first, then the server, each number once."""
 
@@ -427,7 +494,9 @@ class Doctor(unittest.TestCase):
         folder = tempfile.TemporaryDirectory(dir=MEMORY)
         self.addCleanup(folder.cleanup)
         self.folder = folder.name
-        for where, name, new in ((logins, "Child", Here), (site, "RADDB", folder.name)):
+        for where, name, new in ((logins, "Child", Here), (site, "RADDB", folder.name),
+                                 (logins, "FOLDER", folder.name),
+                                 (logins, "USES_FOLDER", folder.name)):
             patched = mock.patch.object(where, name, new)
             patched.start()
             self.addCleanup(patched.stop)

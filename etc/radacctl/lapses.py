@@ -7,6 +7,7 @@ over counts only once the clock has been steady for a while: no step of the cloc
 """
 
 import hashlib
+import ipaddress
 import os
 import re
 import tempfile
@@ -181,9 +182,18 @@ def cut_servers():
     for _, block in blocks:
         if freeradius.value(block, "type") == "coa":
             address = freeradius.value(block, "ipaddr") or freeradius.value(block, "ipv6addr")
-            found[address] = (freeradius.value(block, "port") or "3799",
-                              freeradius.value(block, "secret"))
+            port = freeradius.value(block, "port") or "3799"
+            # FreeRADIUS' user may write that file, and is to give root no other words.
+            if is_address(address) and port.isdecimal():
+                found[address] = (port, freeradius.value(block, "secret"))
     return found
+
+
+def is_address(text):
+    try:
+        return bool(ipaddress.ip_address(text))
+    except ValueError:
+        return False
 
 
 def disconnect(store, uses, now, wait, accounts=None):

@@ -117,6 +117,17 @@ def settings():
                                                              "window", "tries", "strangers")}
 
 
+def path_of(name):
+    """Where the database `logins` or `uses` is. The file that says it is in FreeRADIUS' folder, and
+    so may be the work of its user: only a name in the folder that root made for it is taken.
+    """
+    folder, usual = {"logins": (FOLDER, FILE), "uses": (USES_FOLDER, USES)}[name]
+    found = settings()[name] or usual
+    if os.path.dirname(found) != folder or os.path.basename(found) in ("", ".", ".."):
+        raise Fault(f"radacctd/{CONF} has {name} = {found}, and is to have a file in {folder}")
+    return found
+
+
 def digest_of(code, key):
     """What FreeRADIUS makes of a code that was typed."""
     return hashlib.sha256((key + code.replace("-", "")).encode()).hexdigest()

@@ -35,6 +35,7 @@ import csv
 import fcntl
 import io
 import os
+import pwd
 import re
 import secrets
 import shutil
@@ -62,15 +63,11 @@ STATES = """SELECT package.name, count(*), total(state = 'live'), total(sold IS 
 
 
 def store():
-    return logins.Store(path_of("logins", logins.FILE))
+    return logins.Store(logins.path_of("logins"))
 
 
 def uses():
-    return logins.Store(path_of("uses", logins.USES))
-
-
-def path_of(name, usual):
-    return logins.settings()[name] or usual
+    return logins.Store(logins.path_of("uses"))
 
 
 def key_of(logins_store):
@@ -336,9 +333,8 @@ def moment_of(moment):
 
 def make(_):
     """Makes both databases, of FreeRADIUS' user."""
-    for name, usual, tables in (("logins", logins.FILE, logins.TABLES),
-                                ("uses", logins.USES, logins.USES_TABLES)):
-        path = path_of(name, usual)
+    for name, tables in (("logins", logins.TABLES), ("uses", logins.USES_TABLES)):
+        path = logins.path_of(name)
         if not os.path.isdir(os.path.dirname(path)):
             fail(f"make the folder {os.path.dirname(path)}, of {site.RADIUS_USER}'s, first")
         logins.Store(path).make(tables)
@@ -409,11 +405,7 @@ def mend_guests(logins_store, words):
 def uses_made():
     """The devices of now; a file that was lost or damaged is made anew: nothing is lost by it."""
     found = uses()
-    folder = os.path.dirname(found.path)
-    if not os.path.isdir(folder):
-        os.mkdir(folder, 0o700)
-        if os.getuid() == 0:
-            shutil.chown(folder, site.RADIUS_USER, site.RADIUS_USER)
+    give_folder(os.path.dirname(found.path))
     try:
         found.read("SELECT count(*) FROM use, try")
     except logins.Fault:
@@ -423,6 +415,21 @@ def uses_made():
         found.make(logins.USES_TABLES)
         say(f"{found.path} is made anew")
     return found
+
+
+def give_folder(path):
+    """Makes a folder that is missing for FreeRADIUS' user. One that is there stays as it is."""
+    try:
+        os.mkdir(path, 0o700)
+    except FileExistsError:
+        return
+    handle = os.open(path, files.FOLDER)
+    try:
+        if os.getuid() == 0:
+            user = pwd.getpwnam(site.RADIUS_USER)
+            os.fchown(handle, user.pw_uid, user.pw_gid)
+    finally:
+        os.close(handle)
 
 
 def debit_words(words):

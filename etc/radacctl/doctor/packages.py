@@ -47,11 +47,10 @@ def lines():
 
 def databases():
     """Both can be read, the key is that of the codes, and nothing is left unfinished."""
-    found = logins.settings()
-    store = logins.Store(found["logins"] or logins.FILE)
-    late = time.time() - UNFINISHED
+    found, late = logins.settings(), time.time() - UNFINISHED
     try:
-        logins.Store(found["uses"] or logins.USES).read("SELECT count(*) FROM use, try")
+        store = logins.Store(logins.path_of("logins"))
+        logins.Store(logins.path_of("uses")).read("SELECT count(*) FROM use, try")
         keys = store.read("SELECT digest FROM key")
         counts = [
             store.read("SELECT count(*) FROM login WHERE state = 'making' AND made < ?", late),
