@@ -26,7 +26,8 @@ GIB = 1 << 30
 NAMES = [f"user{number}" for number in range(40)]
 NAMES += ["Müller", "room 12", "o'neill", 'say "no"', "50%", "50%x", "a\\b", "&User-Name", "% {"]
 NAMES += ["UPPER", "=1+1", "+49 170", "@home", "-x", "a,b;c", "x" * 253, "$HOME", "`id`", "Łódź"]
-NAMES += ["a{b}", "#1", "a/b", "a=b", "{x}", "%d", "e'e", "\\\\", "tab\\t", "\\n", "1e5", "12345"]
+NAMES += ["a{b}", "#1", "a/b", "a=b", "{x}", "%d", "e'e", "\\\\", "tab\\t", "\\n", "1e5", "12345",
+          "0x616c", "0xzz", "0x"]
 BAD_NAMES = [b"%{User-Name}", b"a%{", b"%%{Class}b", b" lead", b"trail ", b"'anton"]
 BAD_NAMES += [b"1.23457E+11", b"a\tb", b"\xff\xfe", b"\xc2\xa0nbsp", b"a\x7fb"]
 # Of a report: how often something odd is in it, or becomes of it.
