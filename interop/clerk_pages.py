@@ -34,7 +34,7 @@ def packages_of(site):
 
     path = os.path.join(site.proxy.folder, "site", "packages.json")
     with open(path, "w", encoding="utf-8") as file:
-        file.write(packages.for_pages(site.whole.packages))
+        file.write(packages.for_pages(site.whole.packages, time.time()))
 
 
 def makes(browser, site):

@@ -18,6 +18,8 @@ NAMES = ["muller-1127-acde", "Muller 2", "Zo%C3%AB 1126", "room 12", "a%2Cb", "o
 # A title that a page would run, if it took it for anything but a text.
 ODD = {"name": "odd", "title": "<img src=x onerror=alert(1)>", "price": 100, "credit": 50,
        "from": "first use", "seconds": 5400, "devices": 1, "until": None}
+# One whose end is past.
+OVER = {**ODD, "name": "over", "title": "Fair", "until": 1}
 PLANS = {"default": {"block": 1048576, "unit": 1, "count": "both"},
          "debit": {"block": 1, "unit": 1, "count": "both"},
          "hour": {"block": 60, "unit": 2, "count": "in"}}
@@ -129,7 +131,7 @@ def finds(browser, desk):
 def sells_packages(browser, desk):
     """Each package is a button: what is paid is its price, and what is credited its credit."""
     desk.accounts = {"room 12": 500}
-    desk.more["packages.json"] = json.dumps({"packages": [*shifts.PACKAGES, ODD, {}]}).encode()
+    desk.more["packages.json"] = json.dumps({"packages": [*shifts.PACKAGES, ODD, OVER, {}]}).encode()
     opened(browser, desk)
     shown = [it.replace("\u00a0", " ") for it in buttons(browser, "#packages")]
     check("each package is a button, and what is none is not", shown, [
@@ -293,6 +295,15 @@ def makes_none(browser, desk):
     check("and nothing of them counts", [row[4] for row in totals(browser)], ["9.00 EUR"])
     check("a name is a text", browser.js("return document.querySelectorAll('main b').length"), 0)
     check("none is sent again", browser.text("#pending").strip(), "None")
+    desk.answers["guest"] = [(409, {"error": "differs"})]
+    asks_guest(browser, "Carl")
+    browser.click("#yes")
+    said = browser.shows("Nobody knows here whether Carl has a login")
+    check("one of another cashier is not said to be none", said, True)
+    check("and stays open", "Carl" in browser.text("#pending"), True)
+    desk.answers["guest"] = [(200, {"result": "repeat", "account": "carl-1128-acde", "card": None})]
+    browser.js("return sendAgain()")
+    check("until its cashier gets the answer", browser.text("#pending").strip(), "None")
 
 
 def totals(browser):
@@ -358,6 +369,12 @@ def corrects(browser, desk):
     browser.js("document.querySelector('#sales button:last-child').click();"
                "document.getElementById('took').click()")
     check("one that is refused is said", browser.shows("was not taken back"), True)
+    for answer, said in (((409, {"error": "taken"}), "back by hand, or a part of it"),
+                         ((403, {"error": "not allowed"}), "you may no longer do that")):
+        desk.answers["back"] = [answer]
+        browser.js("document.querySelector('#sales button:last-child').click();"
+                   "document.getElementById('took').click()")
+        check(f"{answer[1]['error']}: it is said", browser.shows(said), True)
     check("and counts", totals(browser)[0][4], "6.00 EUR")
 
 

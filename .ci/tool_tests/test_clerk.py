@@ -235,6 +235,13 @@ class Guests(Desk):
         self.assertEqual(self.guest(price=800), (409, {"error": "changed"}))
         self.assertEqual((self.rows(), self.site.money), ([], {}))
 
+    def test_a_package_that_is_over_makes_nobody(self):
+        it = work.packages.read()[0]["week"]
+        it.until = NOW
+        with mock.patch.object(work.packages, "read", lambda: ({"week": it}, None)):
+            self.assertEqual(self.guest(), (404, {"error": "no such package"}))
+        self.assertEqual((self.rows(), self.site.money), ([], {}))
+
     def test_a_package_that_is_not_there(self):
         self.assertEqual(self.guest(package="month"), (404, {"error": "no such package"}))
 

@@ -328,6 +328,64 @@ class Guests(unittest.TestCase):
         self.assertEqual(closed, "WIFI:T:WPA2-EAP;S:H;E:PEAP;PH2:MSCHAPV2;I:m-1;P:p-2;;")
 
 
+class Codes(unittest.TestCase):
+    """A printed code is sold once: here, or at the desk's page."""
+
+    def setUp(self):
+        self.site = Site(self)
+        self.said = io.StringIO()
+        for stream in (contextlib.redirect_stdout(self.said),
+                       contextlib.redirect_stderr(io.StringIO())):
+            stream.__enter__()
+            self.addCleanup(stream.__exit__, None, None, None)
+        for where, name, new in ((sold, "SHEETS", self.site.path("sheets.csv")),
+                                 (sold.desks, "CASHIER_KEY", self.site.path("cashier.key"))):
+            patched = mock.patch.object(where, name, new)
+            patched.start()
+            self.addCleanup(patched.stop)
+        self.site.write("sheets.csv", "moment,sheet,package,credit,price\n"
+                        "1,week-20261128-acdef,week,500,900\n")
+        number = sold.package_row(self.site.store(), sold.packages.read()[0]["week"])
+        for at in range(3):
+            self.site.store().run((
+                "INSERT INTO login VALUES (?, ?, NULL, ?, 'default', 1, 100, 'week-20261128-acdef',"
+                " 'live', 1, NULL, NULL, NULL, NULL)", (self.account(at), f"d{at}", number)))
+
+    def account(self, at):
+        return f"t-{at:012x}".encode()
+
+    def sell(self, what="week-20261128-acdef"):
+        self.said.truncate(0)
+        return sold.main(["sell", what, "--give-up", "0"])
+
+    def in_book(self, *accounts):
+        rows = "".join(f"{it.decode()},1,0\n" for it in accounts)
+        self.site.write("balances.csv", "account,balance,overrun\n" + rows)
+
+    def test_a_code_that_the_desk_sold_is_credited_no_more(self):
+        self.site.money["D1-261128-ACDEFHJKMNPA"] = (self.account(0), 500)
+        self.in_book(self.account(0))
+        self.assertEqual(self.sell(), 0)
+        self.assertIn("price 18.00 EUR\nadded 2, repeated 1, refused 0", self.said.getvalue())
+        self.assertEqual(sorted(it[0] for it in self.site.money.values()),
+                         [self.account(it) for it in range(3)])
+        self.in_book(*(self.account(it) for it in range(3)))
+        self.assertEqual(self.sell(), 0)
+        self.assertIn("added 0, repeated 3, refused 0", self.said.getvalue())
+        rows = self.site.store().read("SELECT count(*) FROM login WHERE sold IS NULL")
+        self.assertEqual((len(self.site.money), rows), (3, [(0,)]))
+
+    def test_a_code_whose_end_is_past_is_not_sold(self):
+        self.site.store().run(("UPDATE login SET ends = 5 WHERE account = ?", (self.account(1),)))
+        self.assertRaises(SystemExit, self.sell)
+        self.assertEqual(self.site.money, {})
+        # One that was sold in time stays so, and the others of its sheet may be sold.
+        self.site.store().run(("UPDATE login SET sold = 2 WHERE account = ?", (self.account(1),)))
+        self.in_book(self.account(1))
+        self.assertEqual(self.sell(), 0)
+        self.assertEqual(len(self.site.money), 2)
+
+
 class Allow(unittest.TestCase):
     """Each account once a month, and what it had left at most once."""
 

@@ -120,6 +120,16 @@ class Pages(unittest.TestCase):
         self.plans = {"gold": (1, 1, "both")}
         self.assertEqual(self.written(), [])
 
+    def test_what_is_over_is_not_sold(self):
+        for until, count in (("2020-01-01T00:00", 0), ("2100-01-01T00:00", 1)):
+            self.text = PACKAGE.replace('valid = "7 days"', f'until = "{until}"')
+            self.assertEqual(len(self.written()), count)
+            with mock.patch.object(command, "plans_in", lambda _: None):
+                if count:
+                    self.assertEqual(command.found_package("week")[0].name, "week")
+                else:
+                    self.assertRaises(SystemExit, command.found_package, "week")
+
     def test_it_is_written_only_if_it_changed(self):
         self.written()
         with mock.patch.object(files, "make", side_effect=AssertionError):
@@ -439,7 +449,7 @@ class Sheets(unittest.TestCase):
             command.log_sheet([1, "week-20261127-acdef", "week", 50, 900])
             for what in ("t-0123456789ab", "week-20261127-acdef.pdf"):
                 self.assertEqual(command.named(found.store, what),
-                                 [(b"t-0123456789ab", "live", 50, 900)])
+                                 [(b"t-0123456789ab", "live", None, None, 50, 900)])
             self.assertRaises(SystemExit, command.named, found.store, "t-' OR 1=1")
 
 

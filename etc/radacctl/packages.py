@@ -86,6 +86,10 @@ class Package:
         """What decides whether two packages of a name are the same, as a text."""
         return json.dumps(vars(self), sort_keys=True, ensure_ascii=False)
 
+    def is_over(self, now):
+        """Whether nobody could use it any more."""
+        return self.until is not None and self.until <= now
+
     def validity(self):
         """How long it is valid, for people."""
         if self.begins == UNTIL:
@@ -203,11 +207,14 @@ def wifi(path=FILE):
     return wifi_of(tomllib.loads(files.text(path)))
 
 
-def for_pages(known, plans=None):
-    """What the front desk's page has of the packages whose plan is in force, as JSON."""
+def for_pages(known, now, plans=None):
+    """What the front desk's page has of the packages that are sold, as JSON: their plan is in force,
+    and their end is not past.
+    """
     found = [{"name": it.name, "title": it.title, "price": it.price, "credit": it.credit,
               "devices": it.devices, "seconds": it.seconds, "from": it.begins, "until": it.until}
-             for it in known.values() if plans is None or it.plan in plans]
+             for it in known.values() if (plans is None or it.plan in plans)
+             and not it.is_over(now)]
     return json.dumps({"packages": found}, ensure_ascii=False) + "\n"
 
 

@@ -143,10 +143,10 @@ class Act:
         except packages.Wrong as why:
             program.say(why)
             raise Refused(503, "setup") from None
-        if self.asked["package"] not in known:
+        it = known.get(self.asked["package"])
+        if it is None or it.is_over(self.now):
             raise Refused(404, "no such package")
         # What the cashier read out is what is made, or nothing is.
-        it = known[self.asked["package"]]
         if (it.price, it.credit) != (self.asked["price"], self.asked["credit"]):
             raise Refused(409, "changed")
         own = words()

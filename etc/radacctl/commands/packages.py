@@ -16,7 +16,8 @@ sheet is the only place that has the codes: keep it as money. With --link a vouc
 this address, in which {code} stands for the code; else one of the code.
 
 No code logs in before it is sold. `sell` credits what the package gives, once for each code. WHAT
-is a serial number, as t-0123456789ab, or a sheet. A sale at the desk's page counts as well.
+is a serial number, as t-0123456789ab, or a sheet. A sale at the desk's page counts as well: `sell`
+credits nothing more for it. A package whose end (`until`) is past is not sold.
 
 `withdraw` ends codes that were lost or stolen, and their sessions. What is left on them lapses.
 
@@ -30,6 +31,7 @@ writes the packages where the front desk's page reads them.
 It ends with 0 if all was done, with 1 if not, which it says, and with 2 for a bad command line.
 """
 
+import collections
 import contextlib
 import csv
 import fcntl
@@ -60,6 +62,10 @@ SHEETS, SHEETS_HEADER = "/var/lib/radacctd-books/sheets.csv", b"moment,sheet,pac
 STATES = """SELECT package.name, count(*), total(state = 'live'), total(sold IS NOT NULL),
     total(first IS NOT NULL), total(state <> 'live' OR ends <= ?)
     FROM login JOIN package ON package.id = login.package GROUP BY package.name ORDER BY 1"""
+
+
+# A printed code: when it was sold and ends, and what it gives and costs.
+Code = collections.namedtuple("Code", "account state sold ends credit price")
 
 
 def store():
@@ -107,6 +113,8 @@ def found_package(name):
         return fail(why)
     if name not in known:
         return fail(f"there is no package {name}: {', '.join(known) or 'none is in the file'}")
+    if known[name].is_over(time.time()):
+        return fail(f"{name} is over since {known[name].validity().removeprefix('until ')}")
     plans = plans_in(f"{os.path.dirname(site.BALANCES)}/plans.csv")
     if plans is not None and known[name].plan not in plans:
         return fail(f"the plan {known[name].plan} of {name} is not in force: {', '.join(plans)}")
@@ -195,20 +203,20 @@ def known_accounts():
 
 
 def named(logins_store, what):
-    """The accounts of a sheet or a serial number: account, state, credit and price of each."""
+    """The codes of a sheet or a serial number."""
     if SERIAL.fullmatch(what):
         condition, value = "account = ?", what.encode()
     elif SHEET.fullmatch(os.path.basename(what).removesuffix(".pdf")):
         condition, value = "sheet = ?", os.path.basename(what).removesuffix(".pdf")
     else:
         return fail(f"{what} is no serial number, as t-0123456789ab, and no sheet")
-    found = logins_store.read("SELECT account, state, sheet FROM login WHERE digest IS NOT NULL "
-                              f"AND {condition} ORDER BY account", value)
+    found = logins_store.read("SELECT account, state, sold, ends, sheet FROM login WHERE "
+                              f"digest IS NOT NULL AND {condition} ORDER BY account", value)
     known = sheets_sold()
-    lost = {sheet for _, _, sheet in found} - set(known)
+    lost = {it[-1] for it in found} - set(known)
     if lost:
         fail(f"{SHEETS} has no {min(lost)}: nobody knows what its codes give")
-    return [(*it[:2], *known[it[2]]) for it in found] or fail(f"no code is of {what}")
+    return [Code(*it[:4], *known[it[4]]) for it in found] or fail(f"no code is of {what}")
 
 
 def number_of(account):
@@ -217,20 +225,21 @@ def number_of(account):
 
 
 def sell(words):
-    logins_store = store()
+    logins_store, now = store(), int(time.time())
     logins.mend(logins_store)
-    found = {row[0]: row for it in words.what for row in named(logins_store, it)}
-    over = [account for account, state, *_ in found.values() if state != logins.LIVE]
+    found = {it.account: it for what in words.what for it in named(logins_store, what)}
+    # What the package of a code that nobody has says of its end is over, too.
+    over = {it.account: it.state if it.state != logins.LIVE else "over" for it in found.values()
+            if it.state != logins.LIVE or it.sold is None and (it.ends or now + 1) <= now}
     if over:
-        fail(f"{len(over)} of these codes are {found[over[0]][1]}, as {over[0].decode()}: "
+        fail(f"{len(over)} of these codes are {min(over.values())}, as {min(over).decode()}: "
              "nothing was sold")
-    records = [sells.Record(at, number_of(account), account, credit)
-               for at, (account, _, credit, _) in enumerate(found.values(), 1)]
-    return credit(words, logins_store, records, [row[3] for row in found.values()])
+    return credit(words, logins_store, list(found.values()), known_accounts())
 
 
-def credit(words, logins_store, records, prices):
-    """Sends sales to the desk, each once however often it is given.
+def credit(words, logins_store, found, known):
+    """Sends sales to the desk, each once however often it is given. What was sold at the desk's
+    page has another number, and is sold all the same: then nothing is credited.
 
     If this is killed before a sale is noted, the timer finds it in the balances.
     """
@@ -238,14 +247,23 @@ def credit(words, logins_store, records, prices):
         key = desks.keys_in(words.key_file, sells.MOST_KEYS)[0]
     except desks.WrongKey as why:
         return fail(why)
+    records = {at: sells.Record(at, number_of(it.account), it.account, it.credit)
+               for at, it in enumerate(found, 1)}
+    # The book says what was sold: an older one may lack sales that the logins have.
+    was_sold = {at: "repeat" for at, it in enumerate(found, 1)
+                if names.shown(it.account) in known}
     sale = sells.Sale(sells.Desk(words, key), 1)
-    sale.send(records, 1, len(records))
-    for record in records:
-        if sale.outcomes.get(record.number) in ("new", "repeat"):
+    sale.send([it for at, it in records.items() if at not in was_sold], 1, len(records))
+    outcomes = {**was_sold, **sale.outcomes}
+    for at, record in records.items():
+        if outcomes.get(at) in ("new", "repeat"):
             lapses.sold(logins_store, record.account, int(time.time()))
-    price = sum(it for number, it in enumerate(prices, 1) if sale.outcomes.get(number) == "new")
+    price = sum(it.price for at, it in enumerate(found, 1) if outcomes.get(at) == "new")
+    if was_sold:
+        say(f"{len(was_sold)} of these codes were sold before, here or at the desk's page: "
+            "nothing was credited for them")
     print(f"price {site_money().shown(price)}")
-    return sells.report(sale.outcomes, {}, sale.stop)
+    return sells.report(outcomes, {}, sale.stop)
 
 
 def site_money():
@@ -261,8 +279,8 @@ def site_money():
 def withdraw(words):
     logins_store = store()
     logins.mend(logins_store)
-    found = {row[0]: row for it in words.what for row in named(logins_store, it)}
-    live = [account for account, state, *_ in found.values() if state == logins.LIVE]
+    found = {it.account: it for what in words.what for it in named(logins_store, what)}
+    live = [it.account for it in found.values() if it.state == logins.LIVE]
     if len(live) > 1 and not words.yes:
         confirm(f"Withdraw {len(live)} codes for ever?")
     now = int(time.time())
@@ -387,7 +405,7 @@ def write_for_pages(path=packages.PAGES):
     try:
         known, _ = packages.read()
         plans = plans_in(f"{os.path.dirname(site.BALANCES)}/plans.csv")
-        wanted = packages.for_pages(known, plans)
+        wanted = packages.for_pages(known, time.time(), plans)
         if files.text(path) != wanted:
             files.replace(path, wanted.encode(), 0o644)
     except (packages.Wrong, OSError) as why:
