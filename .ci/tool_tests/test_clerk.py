@@ -652,6 +652,21 @@ class Answers(Desk):
             found = json.loads(work.answered(text, NOW, []))
             self.assertIn(found["status"], (403, 422))
 
+    def test_the_answer_has_an_end_while_others_have_the_connection(self):
+        """As systemd has, which started it: what is done behind the answer is not waited for."""
+        ours, its = socket.socketpair()
+        with ours, its:
+            ours.settimeout(30)
+            ours.sendall(b"anna\n{}\n")
+            ours.shutdown(socket.SHUT_WR)
+            words = [os.path.join(ROOT, "etc", "clerk-work")]
+            process = subprocess.Popen(words, stdin=its, stdout=its, stderr=subprocess.DEVNULL)
+            said = b""
+            while more := ours.recv(4096):
+                said += more
+            process.wait()
+        self.assertEqual(json.loads(said)["status"], 422)
+
     def test_a_command_that_ends_is_no_answer(self):
         with mock.patch.object(work.sold, "store", side_effect=SystemExit(1)):
             self.assertEqual(self.guest(), (503, {"error": "away"}))

@@ -10,6 +10,7 @@ import datetime
 import http.client
 import json
 import os
+import socket
 import sys
 import time
 
@@ -372,6 +373,14 @@ def answered(line, now, later):
     return json.dumps({"status": status, "body": body}).encode() + b"\n"
 
 
+def hang_up():
+    """Ends the connection, which standard input is: the caller reads up to its end. Closing would
+    not end it while systemd has it open, too.
+    """
+    with contextlib.suppress(OSError), socket.socket(fileno=os.dup(0)) as caller:
+        caller.shutdown(socket.SHUT_RDWR)
+
+
 def main():
     os.umask(0o077)
     program.NAME = "clerk-work"
@@ -382,8 +391,7 @@ def main():
     later = []
     with os.fdopen(out, "wb") as file:
         file.write(answered(line, int(time.time()), later))
-    # The caller reads up to the end of the connection, which standard input is, too.
-    os.dup2(os.open(os.devnull, os.O_RDONLY), 0)
+    hang_up()
     for it in later:
         try:
             it()
