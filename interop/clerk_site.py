@@ -16,6 +16,8 @@ from packages_tools import Whole
 from proxy import Proxy
 from served import ROOT, check
 
+from radacctl import lapses
+
 KILLS = int(os.environ.get("KILLS", "12"))
 SEED = int(os.environ.get("RADACCTD_SEED", "61"))
 RIGHTS = 'guests = ["anna"]\ncorrections = ["bert"]\noperators = ["bert"]\nguests_an_hour = {}\n'
@@ -229,6 +231,19 @@ def corrects(site):
     lines = [it for it in site.journal() if it[2] == "D1-261128-SALESALESALE"]
     check("the journal has who did it", [(it[0], it[5]) for it in lines][-2:],
           [("bert", "begun"), ("bert", "done")])
+    with open(site.whole.box.config, encoding="utf-8") as file:
+        check("no key is left of it", '"check-' in file.read(), False)
+    never = {**sale, "voucher": number(77)}
+    check("one that never was is not", site.ask("bert", **never), (404, {"error": "no such sale"}))
+    lapse = lapses.number_of(b"al")
+    check("a tool's number takes nothing back", site.ask("bert", **{**sale, "voucher": lapse})[0],
+          422)
+    check("nor is anything sold by it", site.proxy.sell("al", 1, lapse), 422)
+    chunked = ("-H", "Transfer-Encoding: chunked", "--http1.1")
+    body = json.dumps({"account": "al", "sum": 1, "voucher": number(78)})
+    check("nor by a body without a length", site.proxy.status(
+        "/desk/topups", *FIELD, *chunked, login="anna", body=body), 411)
+    check("nothing was credited by any of them", site.whole.box.balance("al"), before)
 
 
 def operates(site):
