@@ -115,6 +115,19 @@ joined_on b selection plans old mid new r result one other = record {
       (other.leaves sound c may);
 }
 
+-- calls that carry, and one before and one after them that only read
+pub carried_between : {B R S T U E F G H : Type 0} (b : Ghosts B) (selection : SelectionFacts)
+    (plans : List Plan) (old before after new : B) (asked : Result R E) (carried : Result S F)
+    (told : Result T G) (result : Result U H) → Looks b old before asked
+    → CarriesOn b selection plans before after carried → Looks b after new told
+    → (b.is_sound new → OnOk result (b.is_open new))
+    → CarriesOn b selection plans old new result
+carried_between b selection plans old before after new asked carried told result one c other answers =
+    joined_on b selection plans old after new carried result
+    (joined_on b selection plans old before after asked carried
+    (looked_on b selection plans old before asked asked one one.answers) c)
+    (looked_on b selection plans after new told result other answers)
+
 -- ---- one batch
 
 -- each of these rows is in the content

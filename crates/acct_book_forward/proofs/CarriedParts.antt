@@ -13,11 +13,11 @@ use Rattle.acct_book.specs.declared.key.Key.{Key}
 use Rattle.acct_book.specs.Row.{RowFacts}
 use Rattle.acct_book.specs.Content.{Content, same_key, key_of}
 use Rattle.acct_book.specs.Maps.{key_cmp}
-use Rattle.acct_book.specs.Walk.{AreRowsOf}
 use Rattle.acct_book_forward.specs.Carrying.{SelectionFacts, is_line, stay_of}
 use Rattle.std.proofs.Common.{take, zero, suc, is_none}
 use Rattle.acct_model.proofs.Lists.{nowhere, front_or_behind}
 use Rattle.acct_book_forward.specs.inner.Forwarding.{AreNoLines, AreIn, AreAllOf, AreTaken, goes}
+use Rattle.acct_book_forward.specs.inner.Forwarding.{AreAmong}
 use Rattle.acct_book.proofs.Keys.{Decides-same_key, octets_are}
 use Rattle.acct_book.proofs.WalkLaws.{key_total}
 use Rattle.acct_book.proofs.Fixed.{below_all, not_itself}
@@ -64,16 +64,15 @@ are_all account class part (x ∷ xs) own planned =
       | false ↦ λ e. rest
     ] refl
 
--- Of the rows of an account, as `sessions_of` lists them, those that pass a test and are of one
--- plan may be carried forward together.
+-- Of rows of an account, in order, those that pass a test and are of one plan may be carried
+-- forward together.
 pub parts_carried : (content : Content) (account class : List ℕ) (rows : List RowFacts)
-    (part : RowFacts → Bool) → AreRowsOf content account rows
+    (part : RowFacts → Bool) → AreAmong content account rows
     → ((row : RowFacts) → part row ≡ true → row.plan ≡ class)
     → AreIn content.rows (filter part rows) × AreAllOf account class (filter part rows)
 parts_carried content account class rows part are planned = (
-  are_in content.rows part rows are.in_order (λ row there. ((are.each row).0 there).0),
-  are_all account class part rows
-      (λ row there. sym (octets_are account row.account ((are.each row).0 there).1)) planned,
+  are_in content.rows part rows are.in_order (λ row there. (are.each row there).there),
+  are_all account class part rows (λ row there. (are.each row there).own) planned,
 )
 
 -- ---- the rows that may go
@@ -158,16 +157,16 @@ batch_apart selection class rows batch is row there =
 
 pub batch_there : (selection : SelectionFacts) (class : List ℕ) (rows batch : List RowFacts)
     (content : Content) (account : List ℕ) → IsBatch selection class rows batch
-    → AreRowsOf content account rows → (row : RowFacts) → Contains batch row
+    → AreAmong content account rows → (row : RowFacts) → Contains batch row
     → content.rows (key_of row) ≡ Some row
 batch_there selection class rows batch content account (count, is) are row there =
     let among = from_take count (filter (goes selection class) rows) row
     (subst (λ xs. Contains xs row) is there) in
-    ((are.each row).0 (from_filter (goes selection class) rows row among).0).0
+    (are.each row (from_filter (goes selection class) rows row among).0).there
 
 pub batch_stands : (selection : SelectionFacts) (class : List ℕ) (rows batch : List RowFacts)
     (content : Content) (account : List ℕ) → IsBatch selection class rows batch
-    → AreRowsOf content account rows
+    → AreAmong content account rows
     → AreIn content.rows batch × AreAllOf account class batch
 batch_stands selection class rows batch content account (count, is) are =
     let parts = parts_carried content account class rows (goes selection class) are

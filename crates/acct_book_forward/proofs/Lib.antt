@@ -6,3 +6,7 @@ pub mod Carrying
 pub mod CarriedParts
 -- calls that carry sessions forward, one after another, and what stays as it was
 pub mod CarriedOn
+-- parts of a list that is in order
+pub mod InOrder
+-- the rows that were found under keys, one after another
+pub mod RowsUnder

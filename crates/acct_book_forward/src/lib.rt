@@ -6,6 +6,7 @@
 //! 2. No balance moves, whatever a crash leaves (`laws::carrying_moves_nothing`).
 #![tactic(auto)]
 
+mod batch;
 mod forwarding;
 pub mod laws;
 mod selection;

@@ -1,8 +1,9 @@
 -- What the parts of `carry_account` promise one another.
-use Rattle.std.specs.Prelude.{◌≡◌, ◌≢◌, ◌⊎◌, ℕ, ◌+◌, ◌*◌, ◌<◌, List, [], ◌∷◌, Option, Some, None}
+use Rattle.std.specs.Prelude.{◌≡◌, ◌≢◌, ◌⊎◌, ℕ, ◌+◌, ◌*◌, ◌<◌, List, [], ◌∷◌, ◌++◌, Option, Some, None}
 use Rattle.std.specs.Prelude.{map, Contains, true, false, Bool, ◌&&◌, bytes_eq, Result, Ok, OnOk}
 use Rattle.std.specs.Prelude.{is_none}
 use Rattle.std.specs.List.{sum_by}
+use Rattle.std.specs.List.Sorted.{IsStrictlySortedBy}
 use Rattle.std.specs.Map.{update}
 use Rattle.acct_model.specs.declared.plan.Plan.{Plan}
 use Rattle.acct_model.specs.Report.{ReportFacts}
@@ -11,11 +12,10 @@ use Rattle.acct_model.specs.History.{History, SessionName}
 use Rattle.acct_model.specs.Forward.{Batch, sessions_in, CarriesForward, forwarded}
 use Rattle.acct_book.specs.declared.book.Book.{Ghosts}
 use Rattle.acct_book.specs.declared.key.Key.{Key}
-use Rattle.acct_book_forward.specs.declared.forwarding.Turn.{Turn}
-use Rattle.acct_book_forward.specs.declared.forwarding.Turn.TheVariants.{Over, Carried, TooLarge}
 use Rattle.acct_book.specs.Row.{RowFacts}
 use Rattle.acct_book.specs.Rows.{name_of}
 use Rattle.acct_book.specs.Content.{Content, same_key, key_of, IsNone}
+use Rattle.acct_book.specs.Maps.{key_cmp}
 use Rattle.acct_book.specs.Stands.{Stands}
 use Rattle.acct_book_forward.specs.Carrying.{SelectionFacts, is_line, stay_of}
 use Rattle.acct_book.specs.Next.{report_key, next_row}
@@ -94,6 +94,22 @@ pub record IsForward (plan : Plan) (account : List ℕ) (rows : List RowFacts)
 
 -- ---- rows of an account
 
+-- the row of the account that is kept under this key
+pub record IsUnder (content : Content) (account : List ℕ) (key : Key) (row : RowFacts)
+    : Type 0 where
+  pub there : content.rows key ≡ Some row
+  pub own : row.account ≡ account
+
+-- these rows, and the one that was found, if one was
+abbrev pub with_found : List RowFacts → Option RowFacts → List RowFacts
+with_found rows None = rows
+with_found rows (Some row) = rows ++ row ∷ []
+
+-- these are rows of the account, each kept under its own key, in the order of these
+pub record AreAmong (content : Content) (account : List ℕ) (rows : List RowFacts) : Type 0 where
+  pub in_order : IsStrictlySortedBy key_cmp (map key_of rows)
+  pub each : (row : RowFacts) → Contains rows row → IsUnder content account (key_of row) row
+
 -- these rows are kept under their own keys, also without the ones before them
 abbrev pub AreIn : (Key → Option RowFacts) → List RowFacts → Type 0
 AreIn rows [] = Unit {0}
@@ -145,9 +161,3 @@ pub record CarriesInto {B E : Type 0} (b : Ghosts B) (plans : List Plan) (gone :
       → b.left old c
       ⊎ (b.is_open old × ((history : History) → Stands plans (b.content old) history
       → IsAfter plans history gone c))
-
--- nothing is left to do: these are the account's rows
-abbrev pub IsOver : Turn → (List RowFacts → Type 0) → Type 0
-IsOver (Over rows) P = P rows.items
-IsOver (Carried count) P = Unit {0}
-IsOver (TooLarge class) P = Unit {0}

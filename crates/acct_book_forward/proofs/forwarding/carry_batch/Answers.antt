@@ -10,73 +10,75 @@ use Rattle.acct_book_forward.proofs.forwarding.carry_batch.Goals as goal
 pub carry_rows-requires-clause-stand : goal.carry_rows-requires-clause-stand
 carry_rows-requires-clause-stand g c = λ still.
     let old = g.B.Book.content c.args.book.now in
-    let are = batch_stands c.args.selection.now c.as_slice.result.now c.in_ok-rows.rows.items
-    c.batch_of-batch.result.items old c.args.account.now c.batch_of-batch.ensures
-    (c.in_ok-rows.ensures.found still) in
-    subst (λ (x : Content). AreIn x.rows c.deref-then-count-gt0.result.now)
-    (sym (c.sessions_of.ensures.reads.same still))
-    (subst (AreIn old.rows) (sym c.deref-then-count-gt0.ensures.value) are.0)
+    let are = batch_stands c.args.task.now.selection.now c.as_slice.result.now c.in_ok-found.found.items
+    c.batch_of-rows.result.items old c.args.task.now.account.now c.batch_of-rows.ensures
+    (c.in_ok-found.ensures.found still) in
+    subst (λ (x : Content). AreIn x.rows c.deref-2.result.now)
+    (sym (c.rows_under.ensures.reads.same still))
+    (subst (AreIn old.rows) (sym c.deref-2.ensures.value) are.0)
 
 pub carry_rows-requires-clause-alike : goal.carry_rows-requires-clause-alike
 carry_rows-requires-clause-alike g c = λ still.
-    let are = batch_stands c.args.selection.now c.as_slice.result.now c.in_ok-rows.rows.items
-    c.batch_of-batch.result.items (g.B.Book.content c.args.book.now) c.args.account.now
-    c.batch_of-batch.ensures (c.in_ok-rows.ensures.found still) in
-    subst (λ class. AreAllOf c.args.account.now class c.deref-then-count-gt0.result.now)
-    (c.as_slice.ensures ∙ sym c.as_slice-then-count-gt0.ensures)
-    (subst (AreAllOf c.args.account.now c.as_slice.result.now)
-    (sym c.deref-then-count-gt0.ensures.value) are.1)
+    let are = batch_stands c.args.task.now.selection.now c.as_slice.result.now c.in_ok-found.found.items
+    c.batch_of-rows.result.items (g.B.Book.content c.args.book.now) c.args.task.now.account.now
+    c.batch_of-rows.ensures (c.in_ok-found.ensures.found still) in
+    subst (λ class. AreAllOf c.args.task.now.account.now class c.deref-2.result.now)
+    (c.as_slice.ensures ∙ sym c.as_slice-2.ensures)
+    (subst (AreAllOf c.args.task.now.account.now c.as_slice.result.now)
+    (sym c.deref-2.ensures.value) are.1)
 
 pub carry_rows-requires-clause-apart : goal.carry_rows-requires-clause-apart
 carry_rows-requires-clause-apart g c =
-    batch_apart c.args.selection.now c.as_slice.result.now c.in_ok-rows.rows.items
-    c.deref-then-count-gt0.result.now
-    (c.batch_of-batch.ensures.0, c.deref-then-count-gt0.ensures.value ∙ c.batch_of-batch.ensures.1)
+    batch_apart c.args.task.now.selection.now c.as_slice.result.now c.in_ok-found.found.items
+    c.deref-2.result.now
+    (c.batch_of-rows.ensures.0, c.deref-2.ensures.value ∙ c.batch_of-rows.ensures.1)
 
-pub returns-in_err-carry_rows-clause-carries : goal.returns-in_err-carry_rows-clause-carries
-returns-in_err-carry_rows-clause-carries g c =
+pub returns-in_err-carry_rows : goal.returns-in_err-carry_rows
+returns-in_err-carry_rows g c =
     let b = g.B.Book in
-    let mid = c.sessions_of.new.self in
-    let reads = c.sessions_of.ensures.reads in
-    let rows = c.deref-then-count-gt0.result.now in
-    let is : IsBatch c.args.selection.now c.as_slice.result.now c.in_ok-rows.rows.items rows = (
-      c.batch_of-batch.ensures.0,
-      c.deref-then-count-gt0.ensures.value ∙ c.batch_of-batch.ensures.1,
+    let mid = c.rows_under.new.book in
+    let reads = c.rows_under.ensures.reads in
+    let rows = c.deref-2.result.now in
+    let task = c.args.task.now in
+    let is : IsBatch task.selection.now c.as_slice.result.now c.in_ok-found.found.items rows = (
+      c.batch_of-rows.ensures.0,
+      c.deref-2.ensures.value ∙ c.batch_of-rows.ensures.1,
     ) in
     let there : b.is_open mid → AreThere (b.content mid) rows = λ still.
     subst (λ x. AreThere x rows) (sym (reads.same still))
-    (batch_there c.args.selection.now c.as_slice.result.now c.in_ok-rows.rows.items rows
-    (b.content c.args.book.now) c.args.account.now is (c.in_ok-rows.ensures.found still)) in
-    joined_on b c.args.selection.now c.args.plans.now c.args.book.now mid c.carry_rows.new.book
-    c.sessions_of.result c.from_residual-in_err-carry_rows.result
-    (looked_on b c.args.selection.now c.args.plans.now c.args.book.now mid c.sessions_of.result
-    c.sessions_of.result reads reads.answers)
-    (batch_on b c.args.selection.now c.args.plans.now rows mid c.carry_rows.new.book
+    (batch_there task.selection.now c.as_slice.result.now c.in_ok-found.found.items rows
+    (b.content c.args.book.now) task.account.now is (c.in_ok-found.ensures.found still)) in
+    joined_on b task.selection.now task.plans.now c.args.book.now mid c.carry_rows.new.book
+    c.rows_under.result c.from_residual-in_err-carry_rows.result
+    (looked_on b task.selection.now task.plans.now c.args.book.now mid c.rows_under.result
+    c.rows_under.result reads reads.answers)
+    (batch_on b task.selection.now task.plans.now rows mid c.carry_rows.new.book
     c.carry_rows.result c.from_residual-in_err-carry_rows.result there
-    (batch_taken c.args.selection.now c.as_slice.result.now c.in_ok-rows.rows.items rows is)
+    (batch_taken task.selection.now c.as_slice.result.now c.in_ok-found.found.items rows is)
     c.carry_rows.ensures
     (λ sound. not_ok c.from_residual-in_err-carry_rows.result _
     (b.is_open c.carry_rows.new.book) c.from_residual-in_err-carry_rows.ensures.1))
 
-pub returns-then-branch-clause-carries : goal.returns-then-branch-clause-carries
-returns-then-branch-clause-carries g c =
+pub returns-then-branch : goal.returns-then-branch
+returns-then-branch g c =
     let b = g.B.Book in
-    let mid = c.sessions_of.new.self in
-    let reads = c.sessions_of.ensures.reads in
-    let rows = c.deref-then-count-gt0.result.now in
-    let is : IsBatch c.args.selection.now c.as_slice.result.now c.in_ok-rows.rows.items rows = (
-      c.batch_of-batch.ensures.0,
-      c.deref-then-count-gt0.ensures.value ∙ c.batch_of-batch.ensures.1,
+    let mid = c.rows_under.new.book in
+    let reads = c.rows_under.ensures.reads in
+    let rows = c.deref-2.result.now in
+    let task = c.args.task.now in
+    let is : IsBatch task.selection.now c.as_slice.result.now c.in_ok-found.found.items rows = (
+      c.batch_of-rows.ensures.0,
+      c.deref-2.ensures.value ∙ c.batch_of-rows.ensures.1,
     ) in
     let there : b.is_open mid → AreThere (b.content mid) rows = λ still.
     subst (λ x. AreThere x rows) (sym (reads.same still))
-    (batch_there c.args.selection.now c.as_slice.result.now c.in_ok-rows.rows.items rows
-    (b.content c.args.book.now) c.args.account.now is (c.in_ok-rows.ensures.found still)) in
-    joined_on b c.args.selection.now c.args.plans.now c.args.book.now mid c.carry_rows.new.book
-    c.sessions_of.result _
-    (looked_on b c.args.selection.now c.args.plans.now c.args.book.now mid c.sessions_of.result
-    c.sessions_of.result reads reads.answers)
-    (batch_on b c.args.selection.now c.args.plans.now rows mid c.carry_rows.new.book
+    (batch_there task.selection.now c.as_slice.result.now c.in_ok-found.found.items rows
+    (b.content c.args.book.now) task.account.now is (c.in_ok-found.ensures.found still)) in
+    joined_on b task.selection.now task.plans.now c.args.book.now mid c.carry_rows.new.book
+    c.rows_under.result _
+    (looked_on b task.selection.now task.plans.now c.args.book.now mid c.rows_under.result
+    c.rows_under.result reads reads.answers)
+    (batch_on b task.selection.now task.plans.now rows mid c.carry_rows.new.book
     c.carry_rows.result _ there
-    (batch_taken c.args.selection.now c.as_slice.result.now c.in_ok-rows.rows.items rows is)
+    (batch_taken task.selection.now c.as_slice.result.now c.in_ok-found.found.items rows is)
     c.carry_rows.ensures c.in_ok-carry_rows.ensures.answers)

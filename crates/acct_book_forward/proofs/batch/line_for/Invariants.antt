@@ -1,6 +1,6 @@
 use Rattle.std.proofs.Common.{◌<◌}
 use Rattle.acct_book.specs.Step.{OnlyLooks}
-use Rattle.acct_book_forward.proofs.forwarding.line_for.Given as goal
+use Rattle.acct_book_forward.proofs.batch.line_for.Given as goal
 
 -- the calls so far only read, and after the first the book is open if it is sound
 abbrev pub invariant-loop-number : goal.invariant-loop-number
