@@ -2,7 +2,7 @@
 use crate::books::made;
 use crate::reports::word_of;
 use acct_book::{Book, MemBook, record};
-use acct_book_forward::{Selection, carry_account};
+use acct_book_forward::{Selection, carry_account, is_line};
 use acct_files::{export_balances, export_sessions};
 use acct_model::{Count, Entry, Octets, Plan, Plans, Report, ReportKind, Restart, Text, TopUp};
 use std::alloc::Global;
@@ -351,32 +351,64 @@ fn tables_carry_forward(rt: HostRuntime) -> Result<(), Fail> {
     Ok(())
 }
 
-// Records so many sessions of one block each, and returns what their balance then is.
-fn fill_many(alloc: Global, plans: &Plans, book: &mut MemBook, count: u32) -> Result<i64, Fail> {
-    for i in 0..count {
-        let mut next = report(alloc, &STOP)?;
-        next.session.octets.extend_from_slice(&i.to_be_bytes())?;
+// A session of every third is of `down` with 2 blocks, each other one of `up` with 3. Every hundredth
+// of all is recent.
+fn one_of_many(alloc: Global, number: u32) -> Result<Report, Fail> {
+    let mut next = report(alloc, &STOP)?;
+    next.session
+        .octets
+        .extend_from_slice(&number.to_be_bytes())?;
+    if number % 3 == 0 {
+        next.class = Octets::from_slice(alloc, b"down")?;
+        (next.input, next.output) = (0, 1001);
+    }
+    if number % 100 == 99 {
+        next.when = 5000;
+    }
+    Ok(next)
+}
+
+// Records so many sessions, and returns what their balance then is.
+fn fill_many<B: Book>(alloc: Global, plans: &Plans, book: &mut B, count: u32) -> Result<i64, Fail> {
+    for number in 0..count {
+        let next = one_of_many(alloc, number)?;
         says(alloc, plans, book, &Entry::Report(next))?;
     }
     Ok(book.balance(b"al")?)
 }
 
-// More sessions than one batch has: one line is left, which costs the same.
-fn carries_many(alloc: Global) -> Result<bool, Fail> {
-    let plans = plans(alloc)?;
-    let mut book = MemBook::new(alloc);
-    let before = fill_many(alloc, &plans, &mut book, 1_100)?;
-    let tally = carry_account(alloc, &mut book, &plans, b"al", &selection(alloc)?, 6000)?;
-    let rows = book.sessions_of(b"al")?;
-    let is_one = match rows.as_slice() {
-        [row] => row.input == 3_300_000 && row.client.as_str() == "(up)",
-        _ => false,
-    };
-    Ok(is_one && tally.carried == 1_100 && before == -9900 && book.balance(b"al")? == before)
+// The clients and octets of the lines of an account, and how many other rows it has.
+fn lines_of<B: Book>(alloc: Global, book: &mut B) -> Result<(Vec<u8>, u64), Fail> {
+    let (mut lines, mut others) = (Vec::new(alloc), 0);
+    for row in &book.sessions_of(b"al")? {
+        let (client, octets) = (row.client.as_str(), row.total());
+        if is_line(client) {
+            writeln!(lines, "{client} {octets}")?;
+        } else {
+            others = u64::saturating_add(others, 1);
+        }
+    }
+    Ok((lines, others))
+}
+
+// Of 1,100 sessions of two plans, more than two batches have, 11 are recent and stay: 4 of `down`
+// and 7 of `up`. Two lines are left, which cost the same: 363 times 2 blocks and 726 times 3.
+fn carries_many<B: Book>(alloc: Global, plans: &Plans, book: &mut B) -> Result<bool, Fail> {
+    let before = fill_many(alloc, plans, book, 1_100)?;
+    let tally = carry_account(alloc, book, plans, b"al", &selection(alloc)?, 6000)?;
+    let (lines, others) = lines_of(alloc, book)?;
+    Ok(
+        (tally.carried, tally.recent, others) == (1_089, 11, 11)
+            && lines.as_slice() == b"(down) 726000\n(up) 2178000\n".as_slice()
+            && book.balance(b"al")? == before,
+    )
 }
 
 #[test]
 fn many_are_carried_in_batches(rt: HostRuntime) -> Result<(), Fail> {
-    assert!(rt; carries_many(rt.alloc())?);
+    let alloc = rt.alloc();
+    let plans = plans(alloc)?;
+    assert!(rt; carries_many(alloc, &plans, &mut MemBook::new(alloc))?);
+    assert!(rt; carries_many(alloc, &plans, &mut made(alloc, &plans)?)?);
     Ok(())
 }
