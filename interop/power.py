@@ -283,6 +283,7 @@ def behind_the_break(log):
 
     - a sealed header that breaks its own sum;
     - a break in a commit whose first frame is sealed, has one of the salts and does not count;
+    - the same commit without a break, if the log ends before it does;
     - a frame that counts behind the break, since each commit is answered before the next one.
     """
     if len(log) < HEADER:
@@ -292,22 +293,31 @@ def behind_the_break(log):
         return ("sealed header" if is_sealed else "shut header"), is_sealed
     if len(log) < HEADER + FRAME:
         return "no log", False
-    places, salts = chained(log)[0], numbers(log[16:24])
-    heads = [head for _, head, _ in frames_of(log)]
-    broken = len(places)
-    if broken == len(heads):
-        return "end", False
+    salts, heads = numbers(log[16:24]), [head for _, head, _ in frames_of(log)]
+    broken = len(chained(log)[0])
     first = 1 + max((it for it in range(broken) if heads[it][1]), default=-1)
-    start = HEADER + first * places_apart(log)
-    seal, has_a_salt = log[start + 8], any(
-        log[start + at : start + at + 4] == log[8 + at : 12 + at] for at in (8, 12)
-    )
+    head = log[HEADER + first * places_apart(log) :][:FRAME]
+    is_sealed = is_sealed_plain(log, head)
+    if broken == len(heads):
+        is_cut = is_sealed and places_apart(log) - FRAME in SIZES
+        return ("cut commit" if is_cut else "end"), is_cut
+    if is_sealed:
+        return "sealed commit", True
     is_followed = any(it[2:4] == salts and it[0] == COUNTS for it in heads[broken + 1 :])
-    if seal != log[16] or not has_a_salt:
-        return "shut commit", is_followed
-    if heads[first][0] in (0, COUNTS):
-        return "commit that counts", is_followed
-    return "sealed commit", True
+    is_shut = head[8] != log[16] or not has_a_salt(log, head)
+    return ("shut commit" if is_shut else "commit that counts"), is_followed
+
+
+def is_sealed_plain(log, head):
+    """Whether a commit that begins with these octets of a frame is sealed, and does not count."""
+    if len(head) < FRAME or head[8] != log[16] or not has_a_salt(log, head):
+        return False
+    return numbers(head)[0] not in (0, COUNTS)
+
+
+def has_a_salt(log, head):
+    """Whether a frame has one of the salts of the log."""
+    return any(head[at : at + 4] == log[8 + at : 12 + at] for at in (8, 12))
 
 
 def places_apart(log):

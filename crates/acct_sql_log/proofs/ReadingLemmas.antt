@@ -2,8 +2,9 @@
 use Rattle.std.proofs.Common.{◌≡◌, ◌+◌, ◌-◌, ◌*◌, ◌/◌, ◌≤◌, ◌<◌, ℕ, List, ◌++◌, length, take, drop}
 use Rattle.std.proofs.Common.{Option, Some, None, refl, arith, sym, ◌∙◌, ap, subst}
 use Rattle.std.proofs.Common.{take_at, drop_at, drop-drop, slice_index}
-use Rattle.std.proofs.lemmas.List.{length-drop, length-append}
-use Rattle.std.proofs.Math.Nat.{div-eq_of_lt-le, div-eq_of_lt}
+use Rattle.std.proofs.Common.{inl, inr, take_all}
+use Rattle.std.proofs.lemmas.List.{length-drop, length-take, length-append, append-nil}
+use Rattle.std.proofs.Math.Nat.{div-eq_of_lt-le, div-eq_of_lt, le-div_iff_mul-le}
 use Rattle.std.specs.Prelude.{IfOk, IfSome, Result, Ok, Err}
 use Rattle.std.specs.Io.KnownBytes.{Consumes, IsAtEnd}
 use Rattle.sqlite_wal.specs.Format.{part, be32, IsSigned}
@@ -13,8 +14,9 @@ use Rattle.acct_sql_log.specs.declared.damage.Damage.{Damage}
 use Rattle.acct_sql_log.specs.declared.damage.Damage.TheVariants as damage
 use Rattle.acct_sql_log.specs.declared.log_reader.Unread.{Unread}
 use Rattle.acct_sql_log.specs.declared.scanner.Scanner.{Scanner}
-use Rattle.acct_sql_log.specs.Chain.{page_size, frame_count}
-use Rattle.acct_sql_log.specs.Damage.{Finds, IsHeaderDamage, IsFrameDamage}
+use Rattle.sqlite_wal.proofs.PartLemmas.{length-part}
+use Rattle.acct_sql_log.specs.Chain.{page_size, frame_in, frame_count}
+use Rattle.acct_sql_log.specs.Damage.{Finds, IsHeaderDamage, IsFrameDamage, IsCutShort}
 use Rattle.acct_sql_log.specs.Scanner.{HasTaken}
 use Rattle.acct_sql_log.specs.inner.Reading.{IsReadTo}
 
@@ -46,6 +48,38 @@ read_out octets at n old (Some ys) bs (within, is) eats end len =
     let none : length ys ≡ 0 = ap length end in
     omega arith
 
+-- what is left is the part of a frame, if it has fewer octets than one
+pub read_part : (octets : List ℕ) (frames n : ℕ) (old new : Option (List ℕ)) (bs : List ℕ)
+    → IsReadTo octets (frame_at (page_size octets) frames) old → Consumes old new bs → IsAtEnd new
+    → length bs ≡ n → n < 24 + page_size octets → bs ≡ frame_in octets frames
+unfolding part
+read_part octets frames n old None bs (within, is) eats end len few =
+    absurd (subst (λ o. Consumes o None bs) is eats)
+read_part octets frames n old (Some ys) bs (within, is) eats end len few =
+    let at = frame_at (page_size octets) frames in
+    let size = 24 + page_size octets in
+    let rest : drop at octets ≡ bs ++ ys = subst (λ o. Consumes o (Some ys) bs) is eats in
+    let all : drop at octets ≡ bs = rest ∙ ap (λ (l : List ℕ). bs ++ l) end ∙ append-nil bs in
+    sym (ap (take size) all ∙ take_all size bs (omega arith))
+
+-- each of the whole frames has a head
+pub has_head : (octets : List ℕ) (i : ℕ) → i < frame_count octets → 24 ≤ length (frame_in octets i)
+unfolding frames_len
+has_head octets i low =
+    let size = 24 + page_size octets in
+    let few : (i + 1) * size ≤ length octets - 32 =
+    (le-div_iff_mul-le {k = size} (omega arith)).0 (omega arith) in
+    let whole = length-part octets (frame_at (page_size octets) i) size (omega arith) in
+    omega arith
+
+-- behind the end of the log no frame has one
+part_within : (octets : List ℕ) (at n : ℕ) → length (part octets at n) ≤ length octets - at
+unfolding part
+part_within octets at n =
+    let taken = length-take n (drop at octets) in
+    let left = length-drop at octets in
+    omega arith
+
 -- these are all whole frames, if fewer octets are left than one more frame has
 pub counts_frames : (octets : List ℕ) (frames n : ℕ)
     → frame_at (page_size octets) frames + n ≡ length octets → n < 24 + page_size octets
@@ -59,9 +93,11 @@ counts_frames octets frames n whole few =
 
 -- a log that is damaged neither in its header nor in a frame
 pub is_sound : (octets : List ℕ) → ¬ IsHeaderDamage octets
-    → ((frame commits : ℕ) → ¬ IsFrameDamage octets frame commits) → Finds octets None
-is_sound octets head frames damage.Header found = head found
-is_sound octets head frames (damage.Frame frame commits) found = frames frame commits found
+    → ((frame commits : ℕ) → ¬ IsFrameDamage octets frame commits)
+    → ((frame commits : ℕ) → ¬ IsCutShort octets frame commits) → Finds octets None
+is_sound octets head frames short damage.Header found = head found
+is_sound octets head frames short (damage.Frame frame commits) (inl found) = frames frame commits found
+is_sound octets head frames short (damage.Frame frame commits) (inr found) = short frame commits found
 
 -- octets that are fewer than a header's are no damaged log
 pub short_is_sound : (octets : List ℕ) → length octets < 32 → Finds octets None
@@ -74,6 +110,12 @@ short_is_sound octets few = is_sound octets
     let within = found.within in
     let some = found.some in
     omega arith)
+    (λ frame commits found.
+    let first = found.answered.0 in
+    let there = found.answered.2 in
+    let size = 24 + page_size octets in
+    let ends = part_within octets (frame_at (page_size octets) first) size in
+    omega arith)
 
 -- nor is one whose header breaks its own sum, and was not sealed
 pub unsealed_is_sound : (octets head : List ℕ) → head ≡ header octets → ¬ IsSigned head
@@ -81,6 +123,7 @@ pub unsealed_is_sound : (octets head : List ℕ) → head ≡ header octets → 
 unsealed_is_sound octets head is broken shut = is_sound octets
     (λ found. shut (subst (λ (h : List ℕ). slice_index h 0 ≡ 0x37) (sym is) found.was_sealed))
     (λ frame commits found. broken (subst IsSigned (sym is) (found.first.before 0 found.some)))
+    (λ frame commits found. broken (subst IsSigned (sym is) (found.hold 0 (omega arith))))
 
 -- where the first frame begins, and the next one
 pub first_frame : (size : ℕ) → frame_at size 0 ≡ 32
@@ -128,6 +171,8 @@ unsized_log (Some octets) new bs eats len signed no_size =
     let is = (read_header octets new bs eats len).0 in
     is_sound octets
     (λ found. found.breaks (subst IsSigned (sym is) signed))
+    (λ frame commits found.
+    no_size (subst (λ (h : List ℕ). IsPageSize (be32 h 8)) is found.sized))
     (λ frame commits found.
     no_size (subst (λ (h : List ℕ). IsPageSize (be32 h 8)) is found.sized))
 

@@ -3,11 +3,11 @@
 -- A commit is answered once it is synced, and the next one begins only then. With `--sync once` most
 -- commits are written over zeros that were synced before, behind a frame that counts these, and are
 -- synced once. Each other commit is synced before the octet that seals it is written, and again.
-use Rattle.std.specs.Prelude.{◌≡◌, ◌≢◌, ◌+◌, ◌≤◌, ◌<◌, ◌↔◌, ℕ, Bool, List, slice_index}
+use Rattle.std.specs.Prelude.{◌≡◌, ◌≢◌, ◌+◌, ◌≤◌, ◌<◌, ◌↔◌, ℕ, Bool, List, length, slice_index}
 use Rattle.std.specs.Prelude.{Option, Some, None, IsTrue}
 use Rattle.sqlite_wal.specs.Format.{page_number, commit_size, count_page}
 use Rattle.sqlite_wal.specs.Recovery.{header}
-use Rattle.acct_sql_log.specs.Chain.{frame_in, has_salts, has_a_salt}
+use Rattle.acct_sql_log.specs.Chain.{frame_in, frame_count, has_salts, has_a_salt}
 
 -- A frame has the salts of a header, and begins a commit that counts the zeros below it.
 abbrev pub BeginsCounted : List ℕ → List ℕ → Type 0
@@ -32,6 +32,13 @@ pub record BeginsAt (log : List ℕ) (first i : ℕ) : Type 0 where
 abbrev pub IsSynced : List ℕ → ℕ → Type 0
 IsSynced log i =
     (first : ℕ) × BeginsAt log first i × IsSealedLast (header log) (frame_in log first)
+
+-- The commit behind which the whole frames of the log end was synced before it was sealed, and is
+-- sealed: its end was there once. Of its first frame no more than the head need be left.
+abbrev pub IsCutOff : List ℕ → Type 0
+IsCutOff log =
+    (first : ℕ) × BeginsAt log first (frame_count log) × (24 ≤ length (frame_in log first))
+    × IsSealedLast (header log) (frame_in log first)
 
 -- Whether a commit is under way behind so many frames, and whether its first frame has its seal.
 abbrev pub IsUnderWay : List ℕ → ℕ → Option Bool → Type 0

@@ -1,11 +1,11 @@
 -- When a log is damaged.
-use Rattle.std.specs.Prelude.{◌≡◌, ◌<◌, ◌≤◌, ◌-◌, ◌⊎◌, ℕ, List, length, Option, MatchOption}
+use Rattle.std.specs.Prelude.{◌≡◌, ◌<◌, ◌≤◌, ◌+◌, ◌-◌, ◌⊎◌, ℕ, List, length, Option, MatchOption}
 use Rattle.sqlite_wal.specs.PageSize.{IsPageSize}
 use Rattle.acct_sql_log.specs.declared.damage.Damage.{Damage}
 use Rattle.acct_sql_log.specs.declared.damage.Damage.TheVariants as damage
 use Rattle.acct_sql_log.specs.Chain.{page_size, frame_count, Holds, BreaksAt, IsSealed}
 use Rattle.acct_sql_log.specs.Chain.{commits_from}
-use Rattle.acct_sql_log.specs.Answered.{IsSynced, IsFollowed}
+use Rattle.acct_sql_log.specs.Answered.{IsSynced, IsFollowed, IsCutOff}
 
 -- The header was sealed, and breaks its own sum. The store syncs before it writes the octet that
 -- seals the header, with `--sync once` too, so no crash leaves such a one.
@@ -24,10 +24,20 @@ pub record IsFrameDamage (log : List ℕ) (frame commits : ℕ) : Type 0 where
   pub answered : IsSynced log (frame - 1) ⊎ IsFollowed log (frame - 1) (frame_count log)
   pub counted : commits ≡ commits_from log frame (frame_count log)
 
+-- Each whole frame holds, but the log ends before a commit does that was answered. What is missing
+-- counts as the next frame, and as the end of that one commit.
+pub record IsCutShort (log : List ℕ) (frame commits : ℕ) : Type 0 where
+  pub sized : IsPageSize (page_size log)
+  pub hold : (link : ℕ) → link ≤ frame_count log → Holds log link
+  pub answered : IsCutOff log
+  pub missing : frame ≡ frame_count log + 1
+  pub one : commits ≡ 1
+
 -- what the damage of a log is
 abbrev pub IsDamage : List ℕ → Damage → Type 0
 IsDamage log damage.Header = IsHeaderDamage log
-IsDamage log (damage.Frame frame commits) = IsFrameDamage log frame commits
+IsDamage log (damage.Frame frame commits) =
+    IsFrameDamage log frame commits ⊎ IsCutShort log frame commits
 
 -- what is found of a log: its damage, or none if it has none
 abbrev pub Finds : List ℕ → Option Damage → Type 0

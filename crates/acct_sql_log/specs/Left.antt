@@ -12,8 +12,9 @@ use Rattle.acct_sql_log.specs.Damage.{IsDamage}
 pub record IsLeft (log : List ℕ) : Type 0 where
   -- the header is sealed once the rest of it is synced
   pub head : IsSealed log 0 → Holds log 0
-  -- so many frames are those of commits
+  -- so many frames are those of commits, and each is whole
   pub committed : ℕ
+  pub whole : committed ≤ frame_count log
   pub hold : (i : ℕ) → i < committed → Holds log (suc i)
   pub ends : (i : ℕ) → i + 1 ≡ committed → commit_size (frame_in log i) ≢ 0
   -- No other commit is whole. It is not sealed, or counts the zeros that it was written over.

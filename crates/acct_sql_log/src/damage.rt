@@ -5,11 +5,13 @@
 pub enum Damage {
     /// In its header. No frame can be read without it, so its commits are not counted.
     Header,
-    /// In a frame.
+    /// In a frame, or the log was cut short.
     Frame {
-        /// The number of the frame that breaks the chain, from 1.
+        /// The number of the frame that breaks the chain, from 1, or of the first one that is not
+        /// whole.
         frame: u64,
-        /// How many commits end at it or behind it. More than one.
+        /// How many commits end at it or behind it, by the marks of the frames. Of a log that was
+        /// cut short it is 1.
         commits: u64,
     },
 }

@@ -86,7 +86,7 @@ fn scan<R: Read>(
     for _ in 0..u64::MAX {
         let count = fill(log, frame)?;
         if count < frame.len() {
-            return Ok(scanner.damage());
+            return Ok(scanner.damage(&frame[..count]));
         }
         scanner.take(frame);
     }

@@ -2,12 +2,13 @@
 ghost use Rattle.std.specs.Prelude.{◌≡◌, ◌+◌, ◌^◌, ◌≤◌, ◌<◌, ◌↔◌, ◌&&◌, ◌||◌, ℕ, Bool, List, length};
 ghost use Rattle.std.specs.Prelude.{if◌then◌else◌, Option, IfSome, IsSome, IsNone, IsTrue};
 ghost use Rattle.std.specs.Option.{ForSome};
-ghost use Rattle.acct_sql_log.specs.Answered.{IsSynced, IsUnderWay};
+ghost use Rattle.acct_sql_log.specs.Answered.{IsSynced, IsCutOff, IsUnderWay};
 ghost use Rattle.acct_sql_log.specs.Chain.{frame_in};
 
 use crate::damage::Damage;
 use crate::links::{
-    begins_counted, ends_commit, is_frame, is_sealed_last, is_signed, number_at, sum_at,
+    FRAME_OCTETS, begins_counted, ends_commit, is_frame, is_sealed_last, is_signed, number_at,
+    sum_at,
 };
 
 /// Where the chain breaks first.
@@ -41,7 +42,7 @@ impl Scanner {
     ghost use Rattle.sqlite_wal.specs.Format.{be32, IsSigned};
     ghost use Rattle.sqlite_wal.specs.Recovery.{header};
     ghost use Rattle.sqlite_wal.specs.PageSize.{IsPageSize};
-    ghost use Rattle.acct_sql_log.specs.Chain.{page_size, frame_count};
+    ghost use Rattle.acct_sql_log.specs.Chain.{page_size, frame_count, Holds};
     ghost use Rattle.acct_sql_log.specs.Damage.{Finds};
     ghost use Rattle.acct_sql_log.specs.Scanner.{HasTaken, IsBreakIn};
 
@@ -123,12 +124,16 @@ impl Scanner {
         }
     }
 
-    /// The damage of the log, if all its whole frames were taken.
-    pub fn damage(&self) -> Option<Damage>
+    /// The damage of the log, if all its whole frames were taken, and these octets are behind them.
+    pub fn damage(&self, rest: &[u8]) -> Option<Damage>
+        requires room { self.now.taken + 1 < 2 ^ 64 }
         ensures { (log : List ℕ) → HasTaken log (frame_count log) self.now
-            → IsPageSize (page_size log) → Finds log result }
+            → rest.now ≡ frame_in log (frame_count log) → IsPageSize (page_size log)
+            → Finds log result }
     {
-        let found = self.broken?;
+        let Some(found) = self.broken else {
+            return self.damage_at_end(rest);
+        };
         if found.is_synced || found.is_followed {
             Some(Damage::Frame {
                 frame: found.link,
@@ -136,6 +141,35 @@ impl Scanner {
             })
         } else {
             None
+        }
+    }
+
+    // The damage of the log, if all its whole frames were taken and hold.
+    fn damage_at_end(&self, rest: &[u8]) -> Option<Damage>
+        requires room { self.now.taken + 1 < 2 ^ 64 }
+        ensures { (log : List ℕ) → HasTaken log (frame_count log) self.now
+            → rest.now ≡ frame_in log (frame_count log) → IsPageSize (page_size log)
+            → ((link : ℕ) → link ≤ frame_count log → Holds log link) → Finds log result }
+    {
+        if self.is_cut_off(rest) {
+            Some(Damage::Frame {
+                frame: self.taken + 1,
+                commits: 1,
+            })
+        } else {
+            None
+        }
+    }
+
+    // Whether the log ends within a commit that was synced before it was sealed, if all its whole
+    // frames were taken.
+    fn is_cut_off(&self, rest: &[u8]) -> bool
+        ensures { (log : List ℕ) → HasTaken log (frame_count log) self.now
+            → rest.now ≡ frame_in log (frame_count log) → IsTrue result ↔ IsCutOff log }
+    {
+        match self.under_way {
+            Some(is_sealed) => is_sealed,
+            None => rest.len() >= FRAME_OCTETS && is_sealed_last(&self.head, rest),
         }
     }
 }

@@ -1,9 +1,20 @@
-use Rattle.std.proofs.Common.{◌≡◌, ◌+◌, length, sym, ◌∙◌, subst, rules, take_all, arith, refl}
+use Rattle.std.proofs.Common.{◌≡◌, ◌+◌, length, sym, ◌∙◌, subst, rules, take, take_all, arith, refl}
+use Rattle.std.proofs.Common.{length-take-le}
 use Rattle.std.proofs.lemmas.Bool.{false≢true}
 use Rattle.std.specs.Io.KnownBytes.{Consumes}
 use Rattle.sqlite_wal.specs.PageSize.{IsPageSize}
-use Rattle.acct_sql_log.proofs.ReadingLemmas.{unsigned_log, unsized_log, scanned_log}
+use Rattle.acct_sql_log.proofs.ReadingLemmas.{short_log, unsigned_log, unsized_log}
+use Rattle.acct_sql_log.proofs.ReadingLemmas.{scanned_log}
 use Rattle.acct_sql_log.proofs.log_reader.damage_in.Goals as goal
+
+pub returns-then-count-lt-HEADER_OCTETS : goal.returns-then-count-lt-HEADER_OCTETS
+returns-then-count-lt-HEADER_OCTETS g c =
+    let full : length c.fill.new.buffer ≡ 32 = search rules in
+    let few = c.if-count-lt-HEADER_OCTETS.true in
+    let count = c.in_ok-count.count in
+    let size = length-take-le count c.fill.new.buffer c.in_ok-count.ensures.within in
+    short_log _ _ (take count c.fill.new.buffer) c.in_ok-count.ensures.taken
+    (c.in_ok-count.ensures.end (omega arith)) (omega arith)
 
 pub returns-in_default : goal.returns-in_default
 returns-in_default g c =

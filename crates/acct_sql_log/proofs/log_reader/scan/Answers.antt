@@ -2,11 +2,11 @@ use Rattle.std.proofs.Common.{◌≡◌, ◌+◌, ◌<◌, ℕ, length, refl, sy
 use Rattle.std.proofs.Common.{length-take-le}
 use Rattle.std.specs.Io.KnownBytes.{Consumes}
 use Rattle.sqlite_wal.specs.Recovery.{frame_at}
-use Rattle.acct_sql_log.specs.Chain.{page_size}
+use Rattle.acct_sql_log.specs.Chain.{page_size, frame_in}
 use Rattle.acct_sql_log.specs.Scanner.{HasTaken}
 use Rattle.acct_sql_log.specs.inner.Reading.{IsReadTo}
 use Rattle.acct_sql_log.proofs.ReadingLemmas.{read_on, read_out, counts_frames, first_frame}
-use Rattle.acct_sql_log.proofs.ReadingLemmas.{next_frame}
+use Rattle.acct_sql_log.proofs.ReadingLemmas.{next_frame, read_part}
 use Rattle.acct_sql_log.proofs.log_reader.scan.Goals as goal
 
 pub loop-init : goal.loop-init
@@ -32,8 +32,11 @@ returns-then-count-frame g c octets sized size taken read =
     let length_is = c.loop.invariant.0 in
     let fewer : count < 24 + page_size octets = omega arith in
     let counts = counts_frames octets c.loop.scanner.taken count whole fewer in
+    let part = read_part octets c.loop.scanner.taken count _ _ _ so_far.1 c.in_ok-count.ensures.taken
+    (c.in_ok-count.ensures.end few)
+    (length-take-le count c.fill.new.buffer c.in_ok-count.ensures.within) fewer in
     c.damage.ensures octets (subst (λ (n : ℕ). HasTaken octets n c.loop.scanner) (sym counts) so_far.0)
-    sized
+    (part ∙ ap (frame_in octets) (sym counts)) sized
 
 pub loop-preserved : goal.loop-preserved
 loop-preserved g c =
