@@ -21,13 +21,25 @@ def credited(server, vouchers, more=()):
     server.kill()
 
 
-def hurt(server, name, at):
-    """Goes on with a copy of the killed server's book, with a flipped bit in its log."""
+def copied(server, name):
+    """Goes on with a copy of the killed server's book."""
     whole, server.book = server.book, f"{server.book}-{name}"
     for more in ("", "-wal"):
         shutil.copyfile(whole + more, server.book + more)
+    return whole
+
+
+def hurt(server, name, at):
+    """Goes on with a copy of the killed server's book, with a flipped bit in its log."""
+    whole = copied(server, name)
     flip(server.book + "-wal", at)
     return whole
+
+
+def cut_short(server, length):
+    """Goes on with a copy of the killed server's book, whose log was cut short."""
+    copied(server, "short")
+    os.truncate(server.book + "-wal", length)
 
 
 def refused_as_damaged(server, what):
@@ -91,6 +103,10 @@ def damaged(folder):
     # It was synced before it was sealed.
     hurt(server, "last", 32 + (ends[-1] - 1) * size + 24 + 1000)
     what = f"frame {ends[-1]} of its log is damaged, and 1 commit ends there or behind it"
+    refused_as_damaged(server, what)
+    serves_the_rest(server, 19, ["--lose-damaged-commits"])
+    server.book = whole
+    cut_short(server, 32 + ends[-1] * size - 1000)
     refused_as_damaged(server, what)
     serves_the_rest(server, 19, ["--lose-damaged-commits"])
     server.book = whole

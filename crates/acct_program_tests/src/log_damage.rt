@@ -1,4 +1,5 @@
-//! Damage in each frame of a log: a book is refused, unless a crash could have left it.
+//! Damage in each frame of a log, and logs that were cut short: a book is refused, unless a crash
+//! could have left it.
 use crate::trial::{Wanted, comes, write_sites};
 use acct_program::Status;
 use sqlite::{Connection, Start, Unknown, Wary};
@@ -41,6 +42,21 @@ fn commit<S: Start>(rt: &HostRuntime, count: usize, start: S) -> Result<(), Fail
     for number in 0..count {
         let change = format!(in rt.alloc();
             "UPDATE account SET balance = {number} WHERE name = x'616c';"
+        )?;
+        connection.execute_batch(change.as_str())?;
+    }
+    Ok(())
+}
+
+// Commits so many changes of two pages each, and leaves them in the log, as a kill does.
+fn commit_pairs<S: Start>(rt: &HostRuntime, count: usize, start: S) -> Result<(), Fail> {
+    let Ok(mut connection) = Connection::open_from(rt, "each-book", false, start) else {
+        return Err("not opened".into());
+    };
+    for number in 1..=count {
+        let change = format!(in rt.alloc();
+            "BEGIN; UPDATE account SET balance = {number} WHERE name = x'616c'; \
+             UPDATE voucher SET amount = {number}; COMMIT;"
         )?;
         connection.execute_batch(change.as_str())?;
     }
@@ -120,6 +136,55 @@ fn lost_commits_are_gone(rt: HostRuntime) -> Result<(), Fail> {
     commit(&rt, 10, Unknown)?;
     let log = fs::read(&rt, "each-book-wal")?;
     hurt(&rt, log.as_slice(), page_of(18))?;
+    assert!(rt; comes(&rt, (CHECK, ""), SOUND)?);
+    Ok(())
+}
+
+// Whether the log comes to the same if it is cut at each of these places: behind so many frames and
+// so many octets. The log is left as it is.
+fn cut_comes(
+    rt: &HostRuntime,
+    places: &[(usize, usize)],
+    wanted: Wanted<'static>,
+) -> Result<bool, Fail> {
+    let log = fs::read(rt, "each-book-wal")?;
+    let mut count: usize = 0;
+    for &(frames, octets) in places {
+        let begin = frames.saturating_mul(FRAME).saturating_add(HEADER);
+        let Some(short) = log.as_slice().get(..begin.saturating_add(octets)) else {
+            return Err("no log".into());
+        };
+        fs::write(rt, "each-book-wal", short)?;
+        if comes(rt, (CHECK, ""), wanted)? {
+            count = count.saturating_add(1);
+        }
+    }
+    fs::write(rt, "each-book-wal", log.as_slice())?;
+    Ok(count == places.len())
+}
+
+// Each commit has two frames, and is sealed once both are synced. If the first one is sealed, or its
+// head, and the second one is missing, the log was cut short. Of a log that ends with a commit
+// nothing shows that.
+#[test]
+fn a_log_cut_short_is_refused(rt: HostRuntime) -> Result<(), Fail> {
+    assert!(rt; make(&rt)?);
+    commit_pairs(&rt, 3, Wary)?;
+    let in_a_commit = [(5, 4_119), (5, 1_000), (5, 0), (4, 1_000), (4, 24), (1, 0)];
+    assert!(rt; cut_comes(&rt, &in_a_commit, REFUSED)?);
+    assert!(rt; cut_comes(&rt, &[(4, 23), (4, 0), (2, 0), (0, 0)], SOUND)?);
+    assert!(rt; comes(&rt, (CHECK, ""), SOUND)?);
+    Ok(())
+}
+
+// The first commit is synced before it is sealed. The next two count, and have a frame more: a crash
+// may leave a part of the last one.
+#[test]
+fn a_torn_commit_is_no_log_cut_short(rt: HostRuntime) -> Result<(), Fail> {
+    assert!(rt; make(&rt)?);
+    commit_pairs(&rt, 3, Unknown)?;
+    assert!(rt; cut_comes(&rt, &[(1, 1_000), (1, 0), (0, 24)], REFUSED)?);
+    assert!(rt; cut_comes(&rt, &[(7, 1_000), (7, 0), (5, 24), (3, 0), (2, 0)], SOUND)?);
     assert!(rt; comes(&rt, (CHECK, ""), SOUND)?);
     Ok(())
 }

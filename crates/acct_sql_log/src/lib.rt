@@ -7,7 +7,7 @@
 //!
 //! 1. The store acknowledges a commit once it is synced, and only then writes the next one.
 //! 2. It writes one octet of a commit last, its seal, and syncs before and after it. So a sealed
-//!    commit that breaks the chain is damage.
+//!    commit that breaks the chain is damage. So is one whose end is missing.
 //! 3. With `--sync once` most commits are synced only after it. Such a commit is written over zeros
 //!    and begins with a frame that counts them, whose page number no other frame has. A crash may
 //!    tear the last one. So one that breaks the chain is damage if a later one was begun.
@@ -20,7 +20,8 @@
 //!
 //! Not distinguished from a crash: damage of the first octet of the header; of the last commit that
 //! was synced once; of the seal or the page number of a commit's first frame, if none that was
-//! synced once is behind it.
+//! synced once is behind it; of the end of a log, if that ends with a commit or within one that was
+//! synced once.
 #![tactic(auto)]
 
 mod beside;
