@@ -33,8 +33,8 @@ abbrev pub IsSynced : List ℕ → ℕ → Type 0
 IsSynced log i =
     (first : ℕ) × BeginsAt log first i × IsSealedLast (header log) (frame_in log first)
 
--- The commit behind which the whole frames of the log end was synced before it was sealed, and is
--- sealed: its end was there once. Of its first frame no more than the head need be left.
+-- The log ends within a commit that was synced before it was sealed, and is sealed: its end was there
+-- once. At least the head of its first frame is left.
 abbrev pub IsCutOff : List ℕ → Type 0
 IsCutOff log =
     (first : ℕ) × BeginsAt log first (frame_count log) × (24 ≤ length (frame_in log first))
