@@ -182,8 +182,9 @@ def makes(site):
     account, token = card["account"], site.tokens().get(card["account"])
     secret = [it for it in (card["password"], token) if any(it.encode() in all_ for all_ in
                                                             watch.seen)]
-    check("no command line and no environment had a secret", (secret, len(watch.seen) > 50),
-          ([], True))
+    works = lambda it: it.startswith(b"/usr/bin/python3\0") and b"clerk_run.py" in it
+    saw_it = any(map(works, watch.seen))
+    check("no command line and no environment had a secret", (secret, saw_it), ([], True))
     key = ("-H", f"Desk-Key: {token}")
     balance = json.loads(site.proxy.curl("/me/balance", *key)[2])
     check("it has what the package gives", (balance["account"], balance["balance"]), (account, 50))
