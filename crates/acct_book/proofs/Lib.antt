@@ -6,6 +6,8 @@ pub mod MapSteps
 pub mod MemSteps
 -- the lists that a book gives: each member, once and in order
 pub mod Listed
+-- the keys of the rows of an account
+pub mod ListedKeys
 -- the next member of an ordered map
 pub mod Walks
 -- the row of a session after one more entry

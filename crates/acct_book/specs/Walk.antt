@@ -50,6 +50,12 @@ abbrev pub AreRowsOf : Content → List ℕ → List RowFacts → Type 0
 AreRowsOf content account rows = AreMembers key_cmp key_of content.rows
     (λ row. bytes_eq account row.account) rows
 
+-- the keys of the rows of an account and no other, each once, in their order
+pub record AreKeysOf (content : Content) (account : List ℕ) (keys : List Key) : Type 0 where
+  pub in_order : IsStrictlySortedBy key_cmp keys
+  pub each : (key : Key) → Contains keys key
+      ↔ ((row : RowFacts) × (content.rows key ≡ Some row) × (row.account ≡ account))
+
 -- the top-ups of an account
 abbrev pub AreTopUpsOf : Content → List ℕ → List TopUpFacts → Type 0
 AreTopUpsOf content account topups = AreMembers octets_cmp (λ topup. topup.voucher) content.topups

@@ -5,7 +5,7 @@ ghost use Rattle.acct_book.specs.Content.{Content, HasOwnKeys, kept_balance, wit
 ghost use Rattle.acct_book.specs.Content.{with_topup, with_closed, with_forward, key_of, IsNone};
 ghost use Rattle.acct_book.specs.Book.{Only, Reads, Writes};
 ghost use Rattle.acct_book.specs.Walk.{IsNextRow, IsNextBalance, IsNextTopUp, AreRowsOf};
-ghost use Rattle.acct_book.specs.Walk.{AreTopUpsOf};
+ghost use Rattle.acct_book.specs.Walk.{AreKeysOf, AreTopUpsOf};
 
 use crate::key::Key;
 use crate::row::Row;
@@ -98,6 +98,12 @@ pub trait Book {
     fn sessions_of(&mut self, account: &[u8]) -> Result<Vec<Row>, Unavailable>
         ensures found { is_open self.new
             → IfOk result (λ rows. AreRowsOf (content self.old) account.now rows.items) }
+        ensures reads { Reads content is_sound is_open is_steady left self.old self.new result };
+
+    /// The keys of all rows of an account, in their order. They take less memory than the rows.
+    fn keys_of(&mut self, account: &[u8]) -> Result<Vec<Key>, Unavailable>
+        ensures found { is_open self.new
+            → IfOk result (λ keys. AreKeysOf (content self.old) account.now keys.items) }
         ensures reads { Reads content is_sound is_open is_steady left self.old self.new result };
 
     /// All top-ups of an account, in the order of their numbers.

@@ -5,7 +5,7 @@
 //!    if the second fails.
 //! 3. A balance that is kept already is set without memory.
 ghost use Rattle.std.specs.Prelude.{◌≡◌, ℕ, List, Some, None, IsSome, OnOk, OnErr, IfOk, IsTrue};
-ghost use Rattle.std.specs.Prelude.{bytes_eq, option_map, string_bytes};
+ghost use Rattle.std.specs.Prelude.{bytes_eq, map, option_map, string_bytes};
 ghost use Rattle.std.specs.List.{All, filter};
 ghost use Rattle.std.specs.String.{string_cmp};
 ghost use Rattle.std.specs.Option.{option_copied};
@@ -13,7 +13,7 @@ ghost use Rattle.std.specs.BTreeMap as tree;
 ghost use Rattle.std.specs.BTreeMap.{IsUnchanged, Updates};
 ghost use Rattle.std.specs.Map.{update};
 ghost use Rattle.acct_book.specs.declared.key.Key.{Key};
-ghost use Rattle.acct_book.specs.Content.{HasOwnKeys, same_key, rows_without, IsNone};
+ghost use Rattle.acct_book.specs.Content.{HasOwnKeys, same_key, rows_without, IsNone, key_of};
 ghost use Rattle.acct_book.specs.Maps.{octets_cmp, key_cmp, content_from, balance_at};
 ghost use Rattle.acct_book.specs.Walk.{IsNext};
 
@@ -142,6 +142,10 @@ impl Book for MemBook {
 
     fn sessions_of(&mut self, account: &[u8]) -> Result<Vec<Row>, Unavailable> {
         Ok(rows_of(self.alloc, &self.rows, account)?)
+    }
+
+    fn keys_of(&mut self, account: &[u8]) -> Result<Vec<Key>, Unavailable> {
+        Ok(keys_to(self.alloc, &self.rows, account)?)
     }
 
     fn topups_of(&mut self, account: &[u8]) -> Result<Vec<TopUp>, Unavailable> {
@@ -306,6 +310,22 @@ fn rows_of(alloc: Global, map: &BTreeMap<Key, Row>, account: &[u8]) -> Result<Ve
         }
     }
     Ok(rows)
+}
+
+// The keys of the rows of an account, in the order of the map.
+fn keys_to(alloc: Global, rows: &BTreeMap<Key, Row>, account: &[u8]) -> Result<Vec<Key>, AllocError>
+    ensures kept { IfOk result (λ keys. keys.items
+        ≡ map key_of (filter (λ row. bytes_eq account.now row.account) (tree.values rows.now))) }
+    ensures found { All (λ e. tree.get key_cmp rows.now e.0 ≡ Some e.1) rows.now.entries }
+    ensures ordered { tree.IsOrdered key_cmp rows.now }
+{
+    let mut keys = Vec::new(alloc);
+    for (_, row) in rows {
+        if account == row.account.as_slice() {
+            keys.push(row.key(alloc)?)?;
+        }
+    }
+    Ok(keys)
 }
 
 // The top-ups of an account, in the order of the map.

@@ -88,6 +88,11 @@ impl<B: Book> Book for FailingBook<B> {
         self.book.sessions_of(account)
     }
 
+    fn keys_of(&mut self, account: &[u8]) -> Result<Vec<Key>, Unavailable> {
+        self.count()?;
+        self.book.keys_of(account)
+    }
+
     fn topups_of(&mut self, account: &[u8]) -> Result<Vec<TopUp>, Unavailable> {
         self.count()?;
         self.book.topups_of(account)

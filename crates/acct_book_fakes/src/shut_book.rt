@@ -144,6 +144,11 @@ impl Book for ShutBook {
         self.durable.sessions_of(account)
     }
 
+    fn keys_of(&mut self, account: &[u8]) -> Result<Vec<Key>, Unavailable> {
+        self.check_open()?;
+        self.durable.keys_of(account)
+    }
+
     fn topups_of(&mut self, account: &[u8]) -> Result<Vec<TopUp>, Unavailable> {
         self.check_open()?;
         self.durable.topups_of(account)

@@ -134,6 +134,9 @@ carried_between b selection plans old before after new asked carried told result
 abbrev pub AreThere : Content → List RowFacts → Type 0
 AreThere content rows = (row : RowFacts) → Contains rows row → content.rows (key_of row) ≡ Some row
 
+same_row : (one other : RowFacts) → Some one ≡ Some other → one ≡ other
+same_row one other e = cc
+
 chosen_rows : (selection : SelectionFacts) (plans : List Plan) (history : History) (content : Content)
     (rows : List RowFacts) (c : Content) → Stands plans content history → AreThere content rows
     → AreTaken selection rows → (after : IsAfter plans history (map key_of rows) c)
@@ -143,12 +146,18 @@ chosen_rows selection plans history content rows c stands there taken after = re
       let named = subst (λ names. Contains names (name_of key)) (sym after.are) among in
       let one = from_map name_of (map key_of rows) (name_of key) named in
       let row = from_map key_of rows one.0 one.1 in
-      let at : key_of row.0 ≡ key = row.2 ∙ name_key one.0 key one.2 in (
+      let same_key = name_key one.0 key one.2 in
+      let at : key_of row.0 ≡ key = row.2 ∙ same_key in
+      let is = sym (stands.rows key) ∙ ap content.rows (sym at) ∙ there row.0 row.1 in
+      let (own, own_is, owned) = after.own key
+      (subst (Contains (map key_of rows)) same_key one.1) in (
         row.0,
-        sym (stands.rows key) ∙ ap content.rows (sym at) ∙ there row.0 row.1,
+        is,
         taken row.0 row.1,
+        ap (λ (r : RowFacts). r.account) (same_row row.0 own (sym is ∙ own_is)) ∙ owned,
       );
   line = after.line;
+  bare = after.bare;
 }
 
 after_on : (selection : SelectionFacts) (plans : List Plan) (history : History) (content : Content)
@@ -228,9 +237,6 @@ line_apart report key line none =
           ∙ ap (λ (k : Key). is_line k.client) (key_is (report_key report) key e) ∙ none))
       | false ↦ λ e. refl
     ] refl
-
-same_row : (one other : RowFacts) → Some one ≡ Some other → one ≡ other
-same_row one other e = cc
 
 row_stays : (selection : SelectionFacts) (plans : List Plan) (history mid : History) (batch : Batch)
     (key : Key) (row : RowFacts) → IsChosen selection plans history batch

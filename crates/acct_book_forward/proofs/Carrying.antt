@@ -26,9 +26,10 @@ use Rattle.acct_book_forward.specs.inner.Forwarding.{names_of, blocks_at, blocks
 use Rattle.acct_book_forward.specs.inner.Forwarding.{HaveRows}
 use Rattle.acct_book_forward.specs.inner.Forwarding.{IsCarriedBy, AreCarriedInto, AreIn, AreAllOf}
 use Rattle.acct_book_forward.specs.inner.Forwarding.{IsForward, IsAfter, CarriesInto, AreNoLines}
+use Rattle.acct_book_forward.specs.Carrying.{IsBare}
 use Rattle.acct_book.specs.Step.{OnlyLooks}
-use Rattle.acct_model.proofs.Lists.{from_map}
-use Rattle.std.proofs.Common.{true≢false}
+use Rattle.acct_model.proofs.Lists.{from_map, nowhere, front_or_behind}
+use Rattle.std.proofs.Common.{true≢false, false, cond, Contains}
 use Rattle.acct_book_forward.proofs.Forwards.{carried_all, forwards_stand}
 
 -- ---- rows that are in the content
@@ -78,6 +79,7 @@ forwards_carry plans content plan row others report planned some line are of apa
     raised = f.raised
         ∙ ap (λ n. (f.blocks + n) * plan.block) (sums_in plan content.rows (row ∷ others) are);
   };
+  bare = f.bare;
   into = refl;
 }
 
@@ -103,6 +105,7 @@ carried_report plans old mid plan account class (x ∷ others) found into report
       key = refl;
       user = refl;
       class = f.class;
+      bare = f.bare;
       blocks = f.blocks;
       holds = subst (λ o. IsInto plan report.user plan.class o f.blocks) at
           (subst (λ a. IsInto plan a plan.class found f.blocks) user f.holds);
@@ -121,6 +124,7 @@ carried_report plans old mid plan account class (x ∷ others) found into report
         keys = by.keys;
         are = by.are;
         carries = by.carries;
+        bare = by.bare;
         into = next ∙ ap (λ o. next_row plans o report) at;
       },
     )
@@ -149,6 +153,29 @@ into_apart plans content gone row own (report, by) =
     subst (IsNone gone) (sym at) (none_is gone by.key by.keys (report_key report) by.are
     by.carries.apart)
 
+some_plan : (o : Option Plan) (one other : Plan) → o ≡ Some one → o ≡ Some other → one ≡ other
+some_plan o one other this that = let same : Some one ≡ Some other = sym this ∙ that in cc
+
+-- the row of a key that is still there is not that of the key that was taken out
+still_there : (at : Key → Option RowFacts) (key k : Key) (row : RowFacts) (b : Bool)
+    → same_key key k ≡ b → cond b None (at k) ≡ Some row → at k ≡ Some row
+still_there at key k row true same is = absurd (cc)
+still_there at key k row false same is = is
+
+-- each of the keys has a row of the account
+own_row : (owner class : List ℕ) (at : Key → Option RowFacts) (keys : List Key) (k : Key)
+    → HaveRows owner class at keys → Contains keys k
+    → (row : RowFacts) × (at k ≡ Some row) × (row.account ≡ owner)
+own_row owner class at [] k have there = absurd (nowhere k there)
+own_row owner class at (key ∷ keys) k ((row, is, of, planned), have) there =
+    elim (front_or_behind key k keys there) [
+      | inl same ↦ (row, ap at (sym same) ∙ is, of)
+      | inr behind ↦
+          let (found, kept, owned) =
+          own_row owner class (update same_key at key None) keys k have behind in
+          (found, still_there at key k found (same_key key k) refl kept, owned)
+    ]
+
 pub after_put : (plans : List Plan) (content : Content) (gone : List Key) (row : RowFacts)
     (history : History) → AreCarriedInto plans content gone row
     → Stands plans content history
@@ -160,7 +187,14 @@ after_put plans content gone row history (report, by) st = record {
     report = report;
   };
   line = by.line;
+  bare = λ plan planned.
+      subst (λ p. IsBare p report) (some_plan _ by.carries.plan plan by.carries.plan_is planned)
+      by.bare;
   are = ap names_of by.are;
+  own = λ key there.
+      let (row, is, owned) = own_row report.user report.class content.rows (by.key ∷ by.keys) key
+      by.carries.have (subst (λ ks. Contains ks key) by.are there) in
+      (row, sym (st.rows key) ∙ is, owned);
   carries = carried_all plans content history by.key by.keys report st by.carries;
   stands = subst (λ keys. Stands plans (with_forward content keys row)
       (forwarded history (names_of (by.key ∷ by.keys)) report)) (sym by.are)

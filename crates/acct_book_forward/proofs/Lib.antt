@@ -8,5 +8,7 @@ pub mod CarriedParts
 pub mod CarriedOn
 -- parts of a list that is in order
 pub mod InOrder
+-- the rows that were counted under keys, one after another
+pub mod Counted
 -- the rows that were found under keys, one after another
 pub mod RowsUnder

@@ -1,9 +1,12 @@
 -- Sessions whose usage is carried forward: which they are, and what a call that carries them does.
-use Rattle.std.specs.Prelude.{◌≡◌, ◌≢◌, ◌⊎◌, ℕ, nat_lt, ◌==◌, Bool, true, false, List, [], ◌∷◌}
+use Rattle.std.specs.Prelude.{◌≡◌, ◌≢◌, ◌⊎◌, ℕ, ◌+◌, ◌<◌, ◌^◌, nat_lt, ◌==◌, Bool, true, false, List, [], ◌∷◌}
 use Rattle.std.specs.Prelude.{Option, Some, None, Contains, length, bytes_eq, if◌then◌else◌}
 use Rattle.std.specs.Prelude.{Result, OnOk}
 use Rattle.std.specs.List.{list_any, filter}
 use Rattle.acct_model.specs.declared.plan.Plan.{Plan}
+use Rattle.acct_model.specs.declared.report.ReportKind.TheVariants.{Stop}
+use Rattle.acct_model.specs.Report.{ReportFacts}
+use Rattle.acct_model.specs.Plans.{counted, plan_for}
 use Rattle.acct_model.specs.History.{History, all_topups, is_known}
 use Rattle.acct_model.specs.Agreement.{BalancesAreEqual}
 use Rattle.acct_model.specs.Forward.{Batch, sessions_in, CarriesBatch}
@@ -69,12 +72,27 @@ staying selection why rows =
 
 -- ---- what is done
 
--- The sessions of a batch have rows that the selection takes, and they are carried into a line.
+-- What the report of a line says: its session id is the account, and its plan counts all of its
+-- octets. It is a Stop that says nothing of a time, a cause, a station and an address.
+pub record IsBare (plan : Plan) (report : ReportFacts) : Type 0 where
+  pub session : report.session ≡ report.user
+  pub counts : counted plan report.input report.output ≡ report.input + report.output
+  pub kind : report.kind ≡ Stop
+  pub seconds : report.seconds ≡ 0
+  pub cause : report.cause ≡ 0
+  pub calling : report.calling ≡ []
+  pub framed : report.framed ≡ None
+
+-- The sessions of a batch have rows of its account that the selection takes, and they are carried
+-- into a line.
 pub record IsChosen (selection : SelectionFacts) (plans : List Plan) (history : History)
     (batch : Batch) : Type 0 where
   pub taken : (key : Key) → Contains (sessions_in batch) (name_of key)
       → (row : RowFacts) × (row_of plans history key ≡ Some row) × (stay_of selection row ≡ None)
+      × (row.account ≡ batch.report.user)
   pub line : is_line batch.report.client ≡ true
+  pub bare : (plan : Plan) → plan_for plans batch.report.class ≡ Some plan
+      → IsBare plan batch.report
 
 -- from a history to the one after several batches of chosen sessions
 abbrev pub CarriesChosen : SelectionFacts → List Plan → History → List Batch → History → Type 0
@@ -112,6 +130,21 @@ pub record IsTallyOf (selection : SelectionFacts) (rows : List RowFacts) (tally 
   pub of_kept : tally.of_kept ≡ length (staying selection (Some Kept) rows)
   pub still_open : tally.still_open ≡ length (staying selection (Some Open) rows)
   pub recent : tally.recent ≡ length (staying selection (Some Recent) rows)
+
+-- a tally with one more row that stays for this reason, or that should go if there is none
+abbrev pub with_stay : Option Stay → Tally → Tally
+with_stay None tally = record tally { too_large = tally.too_large + 1 }
+with_stay (Some Line) tally = tally
+with_stay (Some Kept) tally = record tally { of_kept = tally.of_kept + 1 }
+with_stay (Some Open) tally = record tally { still_open = tally.still_open + 1 }
+with_stay (Some Recent) tally = record tally { recent = tally.recent + 1 }
+
+-- one more row may be counted
+pub record HasRoom (tally : Tally) : Type 0 where
+  pub too_large : tally.too_large + 1 < 2 ^ 64
+  pub of_kept : tally.of_kept + 1 < 2 ^ 64
+  pub still_open : tally.still_open + 1 < 2 ^ 64
+  pub recent : tally.recent + 1 < 2 ^ 64
 
 -- ---- what stays as it was
 

@@ -67,8 +67,8 @@ pub(crate) fn carry_rows<B: Book>(book: &mut B, batch: &Batch<'_>) -> Result<boo
     Ok(true)
 }
 
-/// The keys of rows.
-pub(crate) fn keys_of(alloc: Global, rows: &[Row]) -> Result<Vec<Key>, AllocError>
+// The keys of rows.
+fn keys_of(alloc: Global, rows: &[Row]) -> Result<Vec<Key>, AllocError>
     ensures { IfOk result (λ keys. keys.items ≡ map key_of rows.now) }
 {
     let mut keys = Vec::new(alloc);
@@ -114,6 +114,7 @@ fn carried_row<B: Book>(
     requires alike { B.is_open book.old
         → AreAllOf batch.now.account.now batch.now.class.now batch.now.rows.now }
     requires line { is_line into.now.client ≡ true }
+    requires owned { into.now.session ≡ batch.now.account.now }
     requires apart { IsNone (map key_of batch.now.rows.now) into.now }
     ensures reads { Looks B.Book book.old book.new result }
     ensures carried { B.is_open book.new → IfOk result (λ row. IfSome row
@@ -133,9 +134,9 @@ fn carried_row<B: Book>(
     }
 }
 
-// The report that carries a batch into the row that was found under a key: a Stop that says no time,
-// no station and no address. There is none if the row found is of another account or plan or counts
-// no whole blocks, or if its octets would be above 2^63 - 1.
+// The report that carries a batch into the row that was found under a key: a Stop that says no
+// time, no station and no address. There is none if the row found is of another account or plan or
+// counts no whole blocks, or if its octets would be above 2^63 - 1.
 fn forward_report(
     batch: &Batch<'_>,
     plan: &Plan,
@@ -144,6 +145,7 @@ fn forward_report(
 ) -> Result<Option<Report>, AllocError>
     requires block { 0 < plan.now.block }
     requires moment { batch.now.moment < 2 ^ 53 }
+    requires owned { into.now.session ≡ batch.now.account.now }
     ensures { IfOk result (λ report. IfSome report
         (IsForward plan.now batch.now.account.now batch.now.rows.now found.now into.now)) }
 {
@@ -224,14 +226,13 @@ fn started(plan: &Plan, row: &Row) -> u128
     ensures exact { result ≡ blocks_at plan.now (Some row.now) }
     ensures bound { result ≤ 2 ^ 63 }
 {
-    let octets = u128::from(counted(plan, row.input, row.output));
-    let block = u128::from(plan.block);
-    (octets + (block - 1)) / block
+    plan.blocks(counted(plan, row.input, row.output))
 }
 
 // The key of a line of an account and a class.
 fn line_key(alloc: Global, class: &[u8], account: &[u8], number: u32) -> Result<Key, AllocError>
-    ensures { IfOk result (λ key. is_line key.client ≡ true) }
+    ensures line { IfOk result (λ key. is_line key.client ≡ true) }
+    ensures owned { IfOk result (λ key. key.session ≡ account.now) }
 {
     let mut client = String::from_str(alloc, "(")?;
     match show(alloc, class) {
@@ -252,6 +253,7 @@ fn line_key(alloc: Global, class: &[u8], account: &[u8], number: u32) -> Result<
 fn directed(plan: &Plan, octets: u64) -> (u64, u64)
     requires { octets < 2 ^ 63 }
     ensures exact { counted plan.now result.0 result.1 ≡ octets }
+    ensures all { result.0 + result.1 ≡ octets }
     ensures bound { result.0 + result.1 < 2 ^ 63 }
 {
     match plan.count {

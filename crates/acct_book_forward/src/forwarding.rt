@@ -2,27 +2,28 @@
 //! and plan, a *line*, counts the blocks that they had started. Every balance stays as it is,
 //! whatever a crash leaves.
 //!
-//! 1. The keys of an account's sessions are read once, and held until its end. Their rows are read
-//!    by key, so many at a time: the time grows with the account's sessions, and so does the memory
-//!    of the keys.
+//! 1. The keys of an account's sessions are read once to carry them, and held until its end, and
+//!    once more to count those that stay. Rows are read by key, 500 at a time at most. So the time
+//!    grows with the account's sessions, and so does the memory of the keys, and no other does.
 //! 2. A batch is rows of one account and plan. It is one call of the book, all of it or nothing.
 //! 3. The row of a line has the client `(CLASS)`, or `(CLASS)2` and so on if the one before it is
 //!    full, and the account as its session id. No configured client has a parenthesis in its name.
 //! 4. It counts whole blocks, and costs what the sessions cost together. It says nothing else of
 //!    them: no moment, no station and no address.
 //! 5. A row that does not fit stays. Nothing is carried in part.
-ghost use Rattle.std.specs.Prelude.{◌≡◌, ◌<◌, ◌^◌, Some, length, IfSome, IfOk, OnOk, List, take, ℕ};
+ghost use Rattle.std.specs.Prelude.{◌≡◌, ◌<◌, ◌^◌, IfSome, IfOk, OnOk, List, [], take, ℕ};
 ghost use Rattle.std.specs.List.{filter};
 ghost use Rattle.std.specs.List.Sorted.{IsStrictlySortedBy};
 ghost use Rattle.acct_book.specs.Row.{RowFacts};
 ghost use Rattle.acct_book.specs.Maps.{key_cmp};
 ghost use Rattle.acct_book.specs.Step.{Looks};
 ghost use Rattle.acct_book.specs.Walk.{AreRowsOf};
-ghost use Rattle.acct_book_forward.specs.Carrying.{staying, CarriesOn, IsTallyOf};
-ghost use Rattle.acct_book_forward.specs.inner.Forwarding.{AreAmong, IsUnder, goes};
+ghost use Rattle.acct_book_forward.specs.Carrying.{stay_of, SelectionFacts, CarriesOn, IsTallyOf};
+ghost use Rattle.acct_book_forward.specs.Carrying.{with_stay, HasRoom};
+ghost use Rattle.acct_book_forward.specs.inner.Forwarding.{AreAmong, IsUnder, IsCounted, goes};
 ghost use Rattle.acct_book_forward.specs.inner.Forwarding.{with_found};
 
-use crate::batch::{Batch, carry_rows, fitting, keys_of};
+use crate::batch::{Batch, carry_rows, fitting};
 use crate::selection::{Selection, Stay};
 use acct_book::{Book, Key, Row, Unavailable};
 use acct_model::{Octets, Plans};
@@ -45,6 +46,37 @@ pub struct Tally {
     pub recent: u64,
     /// How many should go, and have more blocks than a line can hold.
     pub too_large: u64,
+}
+
+impl Tally {
+    /// The tally of no row, with so many that were carried.
+    pub fn new(carried: u64) -> Tally
+        ensures none { (selection : SelectionFacts) → IsTallyOf selection [] result }
+        ensures carried { result.carried ≡ carried }
+    {
+        Tally {
+            carried,
+            of_kept: 0,
+            still_open: 0,
+            recent: 0,
+            too_large: 0,
+        }
+    }
+
+    /// Counts a row that stays, or that should go.
+    pub fn add(&mut self, selection: &Selection, row: &Row)
+        ensures counts { HasRoom self.old
+            → self.new ≡ with_stay (stay_of selection.now row.now) self.old }
+        ensures carried { self.new.carried ≡ self.old.carried }
+    {
+        match selection.stay_of(row) {
+            None => self.too_large = self.too_large.saturating_add(1),
+            Some(Stay::Line) => (),
+            Some(Stay::Kept) => self.of_kept = self.of_kept.saturating_add(1),
+            Some(Stay::Open) => self.still_open = self.still_open.saturating_add(1),
+            Some(Stay::Recent) => self.recent = self.recent.saturating_add(1),
+        }
+    }
 }
 
 // What the batches of an account share.
@@ -86,7 +118,7 @@ pub fn carry_account<B: Book>(
     ensures tally { B.is_open book.new → IfOk result (λ tally. (rows : List RowFacts)
         × AreRowsOf (B.content book.new) account.now rows × IsTallyOf selection.now rows tally) }
 {
-    let keys = keys_of_account(alloc, book, account)?;
+    let keys = book.keys_of(account)?;
     let task = Task {
         alloc,
         plans,
@@ -95,44 +127,47 @@ pub fn carry_account<B: Book>(
         moment,
     };
     let carried = carry_keys(book, &task, &keys)?;
-    let rows = book.sessions_of(account)?;
-    Ok(tally_of(selection, &rows, carried))
+    tally_of(book, account, selection, carried)
 }
 
-/// How many of these rows stay, and why, with so many that were carried.
-pub fn tally_of(selection: &Selection, rows: &[Row], carried: u64) -> Tally
-    ensures counts { IsTallyOf selection.now rows.now result }
-    ensures carried { result.carried ≡ carried }
-{
-    Tally {
-        carried,
-        of_kept: staying(selection, Some(Stay::Kept), rows),
-        still_open: staying(selection, Some(Stay::Open), rows),
-        recent: staying(selection, Some(Stay::Recent), rows),
-        too_large: staying(selection, None, rows),
-    }
-}
-
-// How many rows stay for a reason, or should go if none is given.
-fn staying(selection: &Selection, why: Option<Stay>, rows: &[Row]) -> u64
-    ensures { result ≡ length (staying selection.now why rows.now) }
-{
-    rows.iter()
-        .filter(|row| selection.stay_of(row) == why)
-        .count() as u64
-}
-
-// The keys of the rows of an account, in their order.
-fn keys_of_account<B: Book>(
-    alloc: Global,
+// How many rows of an account stay, and why, with so many that were carried. The rows are read one
+// by one.
+fn tally_of<B: Book>(
     book: &mut B,
     account: &[u8],
-) -> Result<Vec<Key>, Unavailable>
+    selection: &Selection,
+    carried: u64,
+) -> Result<Tally, Unavailable>
     ensures reads { Looks B.Book book.old book.new result }
-    ensures found { B.is_open book.new → IfOk result (λ keys. IsStrictlySortedBy key_cmp keys.items) }
+    ensures tally { B.is_open book.new → IfOk result (λ tally. (rows : List RowFacts)
+        × AreRowsOf (B.content book.old) account.now rows × IsTallyOf selection.now rows tally) }
 {
-    let rows = book.sessions_of(account)?;
-    Ok(keys_of(alloc, &rows)?)
+    let keys = book.keys_of(account)?;
+    let mut tally = Tally::new(carried);
+    for key in &keys {
+        count_under(book, selection, key, &mut tally)?;
+    }
+    Ok(tally)
+}
+
+// Counts the row under a key, if there is one.
+fn count_under<B: Book>(
+    book: &mut B,
+    selection: &Selection,
+    key: &Key,
+    tally: &mut Tally,
+) -> Result<(), Unavailable>
+    ensures reads { Looks B.Book book.old book.new result }
+    ensures counts { B.is_open book.new → OnOk result (IsCounted (B.content book.old) selection.now
+        key.now tally.old tally.new) }
+{
+    match book.session(key)? {
+        None => Ok(()),
+        Some(row) => {
+            tally.add(selection, &row);
+            Ok(())
+        }
+    }
 }
 
 // Carries the rows under these keys forward, so many keys after so many, and returns how many rows

@@ -11,5 +11,5 @@ mod forwarding;
 pub mod laws;
 mod selection;
 
-pub use forwarding::{Tally, carry_account, tally_of};
+pub use forwarding::{Tally, carry_account};
 pub use selection::{Selection, Stay, is_line};

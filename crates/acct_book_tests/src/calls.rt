@@ -8,7 +8,7 @@ use acct_site::sample_plans;
 use std::alloc::Global;
 use std::test::Fail;
 
-// One of the eleven calls of a book.
+// One of the twelve calls of a book.
 #[derive(Clone, Copy)]
 enum Call {
     Session,
@@ -18,6 +18,7 @@ enum Call {
     PutTopup,
     CloseClient,
     SessionsOf,
+    KeysOf,
     TopupsOf,
     NextSession,
     NextAccount,
@@ -35,11 +36,12 @@ const LATER: Refusals = (false, true, true);
 
 // A call, its name, which of three such calls a book refuses that has one write left, and whether
 // it is then shut. A read shuts none, also where no write is left.
-static CALLS: [(Call, &str, u64, Refusals, bool); 11] = [
+static CALLS: [(Call, &str, u64, Refusals, bool); 12] = [
     (Call::Session, "session", 0, NONE, false),
     (Call::Balance, "balance", 0, NONE, false),
     (Call::Voucher, "voucher", 0, NONE, false),
     (Call::SessionsOf, "sessions_of", 0, NONE, false),
+    (Call::KeysOf, "keys_of", 0, NONE, false),
     (Call::TopupsOf, "topups_of", 0, NONE, false),
     (Call::NextSession, "next_session", 0, NONE, false),
     (Call::NextAccount, "next_account", 0, NONE, false),
@@ -83,6 +85,7 @@ impl Asked {
             Call::PutTopup => book.put_topup(&self.topup, 490).is_err(),
             Call::CloseClient => book.close_client("ap1").is_err(),
             Call::SessionsOf => book.sessions_of(b"al").is_err(),
+            Call::KeysOf => book.keys_of(b"al").is_err(),
             Call::TopupsOf => book.topups_of(b"al").is_err(),
             Call::NextSession => book.next_session(None).is_err(),
             Call::NextAccount => book.next_account(None).is_err(),

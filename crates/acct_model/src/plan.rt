@@ -1,6 +1,6 @@
 //! A plan, what it counts and its prices.
 ghost use Rattle.std.specs.Prelude.{◌≡◌, ◌↔◌, ◌+◌, ◌-◌, ◌*◌, ◌<◌, ◌≤◌, ◌^◌, ℕ, Contains, IsTrue};
-ghost use Rattle.acct_model.specs.Plans.{counted, price_of, IsLeastBlocks};
+ghost use Rattle.acct_model.specs.Plans.{counted, price_of, started_blocks, IsLeastBlocks};
 
 use crate::octets::Octets;
 
@@ -50,6 +50,17 @@ impl Plan {
         }
         false
     }
+
+    /// How many blocks so many counted octets start: the least number of blocks that covers them.
+    pub fn blocks(&self, octets: u64) -> u128
+        requires { 0 < self.now.block }
+        ensures exact { result ≡ started_blocks self.now.block octets }
+        ensures least { IsLeastBlocks self.now.block octets result }
+        ensures most { result ≤ octets }
+    {
+        let block = u128::from(self.block);
+        (u128::from(octets) + (block - 1)) / block
+    }
 }
 
 fn is_same(one: &Plan, other: &Plan) -> bool
@@ -84,8 +95,5 @@ pub fn price(plan: &Plan, octets: u64) -> u128
         × (result ≡ plan.now.unit * blocks) }
     ensures most { result ≤ octets * plan.now.unit }
 {
-    let unit = plan.unit;
-    let block = u128::from(plan.block);
-    let blocks = (u128::from(octets) + (block - 1)) / block;
-    u128::from(unit) * blocks
+    u128::from(plan.unit) * plan.blocks(octets)
 }

@@ -256,7 +256,9 @@ pub fn yes_flag<'a>(alloc: Global) -> Arg<'a>
     ensures rule { rule_of result ≡ flag_rule (codes "yes") }
     ensures local { result.global ≡ false }
 {
-    flag(alloc, "yes").help("Goes on if the last report is more than 7 days older than the clock")
+    flag(alloc, "yes").help(
+        "Goes on if the clock does not agree with the reports in the book, or with its file",
+    )
 }
 
 // `--balances-every SECONDS`, without the rule that it needs `--balances`.

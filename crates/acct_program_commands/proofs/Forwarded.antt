@@ -5,16 +5,16 @@ use Rattle.std.specs.Prelude.{Result, Err, OnOk}
 use Rattle.acct_model.specs.declared.plan.Plan.{Plan}
 use Rattle.acct_book.specs.declared.book.Book.{Ghosts}
 use Rattle.acct_book_forward.specs.Carrying.{SelectionFacts, CarriesOn}
-use Rattle.acct_book.specs.Content.{Content}
+use Rattle.acct_book.specs.Content.{Content, HasOwnKeys}
 use Rattle.acct_book.specs.Row.{RowFacts}
-use Rattle.acct_book.specs.Walk.{AreRowsOf}
+use Rattle.acct_book.specs.declared.key.Key.{Key}
 use Rattle.acct_book.specs.Stands.{Stands}
 use Rattle.acct_book.specs.Step.{OnlyLooks}
 use Rattle.acct_book_forward.proofs.CarriedOn.{joined_on, told_on}
 use Rattle.acct_program_args.specs.declared.job.Carrying.{Carrying}
 use Rattle.acct_program_commands.specs.Forwarding.{selected, Forwards, LiesFarBack, IsTimely}
-use Rattle.acct_program_commands.specs.Forwarding.{IsNewest, IsToldIn}
-use Rattle.std.proofs.Common.{ℕ}
+use Rattle.acct_program_commands.specs.Forwarding.{IsHeardOf, IsHeardIn}
+use Rattle.std.proofs.Common.{ℕ, Option, Some, None}
 
 -- calls that only read carry nothing
 only_on : {B T E : Type 0} (b : Ghosts B) (selection : SelectionFacts) (plans : List Plan)
@@ -31,14 +31,13 @@ only_on b selection plans old new result looks answers = record {
   leaves = λ sound c may. inl (looks.adds_none sound c may);
 }
 
--- the newest moment after one more account
-pub newest_with : (content : Content) (account : List ℕ) (rows : List RowFacts)
-    (before newest : ℕ) → AreRowsOf content account rows → IsNewest content before
-    → (newest ≡ before) ⊎ IsToldIn rows newest → IsNewest content newest
-newest_with content account rows before newest are was (inl same) =
-    subst (IsNewest content) (sym same) was
-newest_with content account rows before newest are was (inr (row, at, other, is)) =
-    inr (row, ((are.each row).0 at).0, other, is)
+-- one more session was looked for
+pub heard_more : (content : Content) (key : Key) (found : Option RowFacts) (moment : ℕ)
+    → HasOwnKeys content → found ≡ content.rows key → IsHeardOf found moment
+    → IsHeardIn content moment
+heard_more content key found moment own is (row, there, at) =
+    let kept : content.rows key ≡ Some row = sym is ∙ there in
+    (row, ap content.rows (own.rows key row kept) ∙ kept, at)
 
 -- an answer that says nothing
 abbrev nothing : {B : Type 0} → Ghosts B → Result (Unit {0}) (Unit {0})
@@ -46,10 +45,10 @@ nothing b = Err tt
 
 -- the book was only read
 pub forwards_looked : {B T E : Type 0} (b : Ghosts B) (plans : List Plan) (carrying : Carrying)
-    (moment : ℕ) (old new : B) (ended : Result T E) → OnlyLooks b old new
+    (moment written_at : ℕ) (old new : B) (ended : Result T E) → OnlyLooks b old new
     → (b.is_sound new → OnOk ended (b.is_open new))
-    → Forwards b plans carrying moment old new ended
-forwards_looked b plans carrying moment old new ended looks answers = record {
+    → Forwards b plans carrying moment written_at old new ended
+forwards_looked b plans carrying moment written_at old new ended looks answers = record {
   carries = only_on b (selected carrying moment) plans old new ended looks answers;
   dry = λ is. looks;
   far = inl looks;
@@ -58,21 +57,22 @@ forwards_looked b plans carrying moment old new ended looks answers = record {
 
 -- sessions were carried
 pub forwards_carried : {B T E : Type 0} (b : Ghosts B) (plans : List Plan)
-    (carrying : Carrying) (moment : ℕ) (selection : SelectionFacts) (old new : B)
+    (carrying : Carrying) (moment written_at : ℕ) (selection : SelectionFacts) (old new : B)
     (ended : Result T E) → carrying.is_dry ≡ false → selection ≡ selected carrying moment
     → LiesFarBack carrying moment
-    → (carrying.is_sure ≡ true) ⊎ (b.is_sound old → IsTimely (b.content old) moment)
+    → (carrying.is_sure ≡ true) ⊎ (b.is_sound old → IsTimely (b.content old) moment written_at)
     → CarriesOn b selection plans old new ended
-    → Forwards b plans carrying moment old new ended
-forwards_carried b plans carrying moment selection old new ended wet is lies timely carries = record {
-  carries = subst (λ s. CarriesOn b s plans old new ended) is carries;
-  dry = λ dry. absurd (true≢false (sym dry ∙ wet));
-  far = inr lies;
-  timely = inr (elim timely [
-    | inl sure ↦ inl sure
-    | inr is_timely ↦ inr (λ sound. is_timely (carries.was_sound sound))
-  ]);
-}
+    → Forwards b plans carrying moment written_at old new ended
+forwards_carried b plans carrying moment written_at selection old new ended wet is lies timely carries =
+    record {
+      carries = subst (λ s. CarriesOn b s plans old new ended) is carries;
+      dry = λ dry. absurd (true≢false (sym dry ∙ wet));
+      far = inr lies;
+      timely = inr (elim timely [
+        | inl sure ↦ inl sure
+        | inr is_timely ↦ inr (λ sound. is_timely (carries.was_sound sound))
+      ]);
+    }
 
 -- it was read twice
 looks_both : {B : Type 0} (b : Ghosts B) (old mid new : B) → OnlyLooks b old mid
@@ -88,12 +88,12 @@ looks_both b old mid new looks more = record {
 
 -- it was read, and then sessions were carried or not
 pub forwards_then : {B T U E F : Type 0} (b : Ghosts B) (plans : List Plan)
-    (carrying : Carrying) (moment : ℕ) (old mid new : B) (r : Result U F) (ended : Result T E)
-    → OnlyLooks b old mid → (b.is_sound mid → b.is_open mid)
-    → Forwards b plans carrying moment mid new r
+    (carrying : Carrying) (moment written_at : ℕ) (old mid new : B) (r : Result U F)
+    (ended : Result T E) → OnlyLooks b old mid → (b.is_sound mid → b.is_open mid)
+    → Forwards b plans carrying moment written_at mid new r
     → (b.is_sound new → OnOk ended (b.is_open new))
-    → Forwards b plans carrying moment old new ended
-forwards_then b plans carrying moment old mid new r ended looks still f answers = record {
+    → Forwards b plans carrying moment written_at old new ended
+forwards_then b plans carrying moment written_at old mid new r ended looks still f answers = record {
   carries = told_on b (selected carrying moment) plans old new r ended
       (joined_on b (selected carrying moment) plans old mid new (nothing b) r
       (only_on b (selected carrying moment) plans old mid (nothing b) looks (λ sound. tt))
@@ -106,7 +106,7 @@ forwards_then b plans carrying moment old mid new r ended looks still f answers 
   timely = elim f.timely [
     | inl more ↦ inl (looks_both b old mid new looks more)
     | inr (inl sure) ↦ inr (inl sure)
-    | inr (inr is_timely) ↦ inr (inr (λ sound. subst (λ c. IsTimely c moment)
+    | inr (inr is_timely) ↦ inr (inr (λ sound. subst (λ c. IsTimely c moment written_at)
         (looks.same (still (f.carries.was_sound sound))) (is_timely sound)))
   ];
 }

@@ -49,6 +49,7 @@ IsNoConfig text fault.WouldOverwrite = ⊥
 IsNoConfig text fault.CutoffTooLate = ⊥
 IsNoConfig text fault.CutoffInReach = ⊥
 IsNoConfig text fault.ClockAhead = ⊥
+IsNoConfig text fault.ClockApart = ⊥
 IsNoConfig text fault.Unbalanced = ⊥
 
 -- why a text was not checked: it is no configuration, or its sizes could not be written

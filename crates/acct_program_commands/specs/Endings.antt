@@ -30,6 +30,8 @@ fault_text fault.CutoffTooLate = codes "forward: less than 30 days ago"
 fault_text fault.CutoffInReach = codes "forward: less than --oldest-report ago"
 fault_text fault.ClockAhead =
     codes "forward: no report for 7 days; give --yes if the clock is right"
+fault_text fault.ClockApart =
+    codes "forward: the file is not of the last 7 days; give --yes if the clock is right"
 fault_text fault.Unbalanced = codes "db: Unbalanced"
 
 -- the exit status of a command that a fault ends
@@ -46,6 +48,7 @@ fault_status fault.WouldOverwrite = status.Refused
 fault_status fault.CutoffTooLate = status.Refused
 fault_status fault.CutoffInReach = status.Refused
 fault_status fault.ClockAhead = status.Refused
+fault_status fault.ClockApart = status.Refused
 fault_status fault.Unbalanced = status.Unavailable
 
 -- the exit status of a command

@@ -1,7 +1,7 @@
 -- What `forward` does.
-use Rattle.std.specs.Prelude.{◌≡◌, ◌⊎◌, ◌≤◌, ℕ, ◌+◌, ◌-◌, ◌*◌, true, false, List, Option, Some}
+use Rattle.std.specs.Prelude.{◌≡◌, ◌⊎◌, ◌≤◌, ℕ, ◌+◌, ◌-◌, ◌*◌, true, false, Option, Some}
 use Rattle.std.specs.Prelude.{None}
-use Rattle.std.specs.Prelude.{IfSome, Result, Contains}
+use Rattle.std.specs.Prelude.{IfSome, Result, List}
 use Rattle.acct_model.specs.declared.plan.Plan.{Plan}
 use Rattle.acct_book.specs.declared.book.Book.{Ghosts}
 use Rattle.acct_book_forward.specs.Carrying.{SelectionFacts, CarriesOn, is_line}
@@ -44,32 +44,41 @@ LieFarBack selection oldest now =
 abbrev pub LiesFarBack : Carrying → ℕ → Type 0
 LiesFarBack carrying now = LieFarBack (selected carrying now) carrying.oldest_report now
 
--- a session in the account's rows, not a line, has this last moment
-abbrev pub IsToldIn : List RowFacts → ℕ → Type 0
-IsToldIn rows moment = (row : RowFacts) × Contains rows row × (is_line row.client ≡ false)
-    × (row.last ≡ moment)
+-- a session that is no line was last heard of in the 7 days before a moment
+pub record IsHeardAt (row : RowFacts) (moment : ℕ) : Type 0 where
+  pub no_line : is_line row.client ≡ false
+  pub past : row.last ≤ moment
+  pub late : moment ≤ row.last + 7 * 86400
 
--- a session of the book has this last moment
-abbrev pub IsToldBy : Content → ℕ → Type 0
-IsToldBy content moment = (row : RowFacts) × (content.rows (key_of row) ≡ Some row)
-    × (is_line row.client ≡ false) × (row.last ≡ moment)
+-- such a session was found
+abbrev pub IsHeardOf : Option RowFacts → ℕ → Type 0
+IsHeardOf found moment = (row : RowFacts) × (found ≡ Some row) × IsHeardAt row moment
 
--- the last moment of a session, or 0
-abbrev pub IsNewest : Content → ℕ → Type 0
-IsNewest content newest = (newest ≡ 0) ⊎ IsToldBy content newest
+-- such a session is in the book
+abbrev pub IsHeardIn : Content → ℕ → Type 0
+IsHeardIn content moment = (row : RowFacts) × (content.rows (key_of row) ≡ Some row)
+    × IsHeardAt row moment
 
--- a moment is at most 7 days after the newest one of a book
-abbrev pub IsTimely : Content → ℕ → Type 0
-IsTimely content moment =
-    (newest : ℕ) × IsNewest content newest × (moment ≤ newest + 7 * 86400)
+-- What a clock says, and when it says that files were last changed: at most 7 days before, and at
+-- most a day after.
+pub record Agrees (moment written_at : ℕ) : Type 0 where
+  pub old : moment ≤ written_at + 7 * 86400
+  pub new : written_at ≤ moment + 86400
 
--- A run of `forward` at a moment. The requested sessions were carried, as far as the run got. None
--- were if this was a dry run, if late reports of them may still arrive, or if the clock may be
--- wrong. It may be wrong if it is more than 7 days past the last report and nobody confirmed it.
+-- the clock agrees with what the book says, and with what its files say
+pub record IsTimely (content : Content) (moment written_at : ℕ) : Type 0 where
+  pub heard : IsHeardIn content moment
+  pub changed : Agrees moment written_at
+
+-- A run of `forward` at a moment, over files that were last changed at another one. The requested
+-- sessions were carried, as far as the run got. None were if this was a dry run, if late reports of
+-- them may still arrive, or if the clock may be wrong. It may be wrong if nobody confirmed it, and
+-- it does not agree with the book and with its files.
 pub record Forwards {B T E : Type 0} (b : Ghosts B) (plans : List Plan) (carrying : Carrying)
-    (moment : ℕ) (old new : B) (ended : Result T E) : Type 0 where
+    (moment written_at : ℕ) (old new : B) (ended : Result T E) : Type 0 where
   pub carries : CarriesOn b (selected carrying moment) plans old new ended
   pub dry : carrying.is_dry ≡ true → OnlyLooks b old new
   pub far : OnlyLooks b old new ⊎ LiesFarBack carrying moment
   pub timely : OnlyLooks b old new
-      ⊎ ((carrying.is_sure ≡ true) ⊎ (b.is_sound new → IsTimely (b.content old) moment))
+      ⊎ ((carrying.is_sure ≡ true)
+      ⊎ (b.is_sound new → IsTimely (b.content old) moment written_at))

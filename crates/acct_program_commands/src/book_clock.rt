@@ -1,5 +1,5 @@
 //! Checks the clock against the book: it must not be before the book's last change.
-ghost use Rattle.std.specs.Prelude.{◌<◌, Some, OnOk};
+ghost use Rattle.std.specs.Prelude.{◌<◌, ◌^◌, Some, OnOk};
 ghost use Rattle.std.specs.Io.KnownBytes.{Appends};
 ghost use Rattle.acct_program_commands.specs.BookClock.{late_text, late_line};
 
@@ -10,6 +10,16 @@ use std::alloc::AllocError;
 use std::io::Write;
 use std::time::{Clock, UNIX_EPOCH};
 use std::{fmt, io};
+
+/// What the clock says, and when it says that a book was last changed.
+#[derive(Clone, Copy, PartialEq, Eq, Debug)]
+pub struct ClockReading {
+    /// The moment, in seconds since 1970.
+    pub moment: u64,
+    /// When the book's file or its log was last written, in seconds since 1970: 0 if that is not
+    /// known.
+    pub written_at: u64,
+}
 
 // A clock that is before the last change of a book.
 #[derive(Clone, Copy)]
@@ -32,6 +42,16 @@ impl fmt::Display for LateClock {
     }
 }
 
+/// Reads the clock, and when a book's file or its log, `FILE-wal`, was last written.
+pub fn read_clock<R: ReadsFiles + Clock + AllocGlobal>(runtime: &R, file: &Text) -> ClockReading
+    ensures { result.moment < 2 ^ 53 }
+{
+    ClockReading {
+        moment: moment_of(runtime),
+        written_at: written_at(runtime, file),
+    }
+}
+
 /// Prints a line on `errors` if the clock is before the last write of a book's file or of its log,
 /// `FILE-wal`. Prints nothing if these moments are not known.
 pub fn note_clock<R: ReadsFiles + Clock + AllocGlobal, E: Write>(
@@ -39,8 +59,7 @@ pub fn note_clock<R: ReadsFiles + Clock + AllocGlobal, E: Write>(
     file: &Text,
     errors: &mut E,
 ) {
-    let moment = moment_of(runtime);
-    let written_at = written_at(runtime, file);
+    let ClockReading { moment, written_at } = read_clock(runtime, file);
     let _ = write_late(errors, moment, written_at);
 }
 

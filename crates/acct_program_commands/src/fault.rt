@@ -48,8 +48,11 @@ pub enum Fault {
     CutoffTooLate,
     /// Sessions of which the server still accepts late reports were to be carried forward.
     CutoffInReach,
-    /// The last report of a book is more than 7 days older than the clock.
+    /// No report in a book is of the last 7 days, by the clock.
     ClockAhead,
+    /// The files of a book were last changed more than 7 days before the clock's moment, or more
+    /// than a day after it.
+    ClockApart,
     /// A balance of the book is not the sum of its vouchers less the price of its sessions.
     Unbalanced,
 }
@@ -72,6 +75,11 @@ impl fmt::Display for Fault {
             Fault::CutoffInReach => f.write_str("forward: less than --oldest-report ago"),
             Fault::ClockAhead => {
                 f.write_str("forward: no report for 7 days; give --yes if the clock is right")
+            }
+            Fault::ClockApart => {
+                f.write_str(
+                    "forward: the file is not of the last 7 days; give --yes if the clock is right",
+                )
             }
             Fault::Unbalanced => f.write_str("db: Unbalanced"),
         }
@@ -103,7 +111,8 @@ impl Fault {
             | Fault::WouldOverwrite
             | Fault::CutoffTooLate
             | Fault::CutoffInReach
-            | Fault::ClockAhead => Status::Refused,
+            | Fault::ClockAhead
+            | Fault::ClockApart => Status::Refused,
             Fault::CannotOpen
             | Fault::Store(_)
             | Fault::StoreMemory

@@ -1,19 +1,20 @@
 //! `forward`: carries old sessions forward.
 //!
 //! It goes over the accounts twice. The first pass only reads: it counts what would be carried, and
-//! finds the last moment of any session. The second pass carries.
+//! looks for a session that was heard of lately. The second pass carries.
 ghost use Rattle.std.specs.Prelude.{◌≡◌, ◌≢◌, ◌↔◌, ◌⊎◌, ◌≤◌, ◌<◌, ◌+◌, ◌*◌, ◌^◌, true};
-ghost use Rattle.std.specs.Prelude.{IfOk, IfSome, IsTrue, OnOk};
+ghost use Rattle.std.specs.Prelude.{IfOk, IfSome, IsTrue, OnOk, false};
 ghost use Rattle.acct_book.specs.Step.{Looks};
 ghost use Rattle.acct_book.specs.Step.{OnlyLooks};
 ghost use Rattle.acct_book_forward.specs.Carrying.{CarriesOn};
-ghost use Rattle.acct_book.specs.Walk.{AreRowsOf};
 ghost use Rattle.acct_program_commands.specs.Forwarding.{selected, Forwards, LieBack, LieFarBack};
-ghost use Rattle.acct_program_commands.specs.Forwarding.{LiesFarBack, IsToldIn, IsNewest, IsTimely};
+ghost use Rattle.acct_program_commands.specs.Forwarding.{LiesFarBack, IsHeardAt, IsHeardOf};
+ghost use Rattle.acct_program_commands.specs.Forwarding.{IsHeardIn, Agrees, IsTimely};
 
+use crate::book_clock::ClockReading;
 use crate::fault::Fault;
 use acct_book::{Book, Row, SessionState, Unavailable};
-use acct_book_forward::{Selection, Tally, carry_account, is_line, tally_of};
+use acct_book_forward::{Selection, Tally, carry_account, is_line};
 use acct_model::{Plans, Text, show};
 use acct_program::Status;
 use acct_program_args::{Carrying, Cutoff, seconds_in};
@@ -24,8 +25,8 @@ use std::io::Write;
 const DAY: u64 = 86_400;
 /// How many days back a moment of `--at` must be at least.
 const FEWEST_DAYS: u64 = 30;
-/// How many days the clock may be past the last report.
-const IDLE_DAYS: u64 = 7;
+/// How many seconds the clock may be past the last report, and past the last change of the files.
+const IDLE: u64 = 7 * DAY;
 /// After how many accounts a progress line is printed.
 const STEP: u64 = 1_000;
 
@@ -38,31 +39,25 @@ pub struct Totals {
     pub touched: u64,
     /// The sessions, added up.
     pub sessions: Tally,
-    /// The last moment of any session, in seconds since 1970.
-    pub newest: u64,
+    /// Whether some session was heard of in the last 7 days.
+    pub is_heard: bool,
 }
 
 impl Totals {
     fn new() -> Totals
-        ensures { result.newest ≡ 0 }
+        ensures { result.is_heard ≡ false }
     {
         Totals {
             accounts: 0,
             touched: 0,
-            sessions: Tally {
-                carried: 0,
-                of_kept: 0,
-                still_open: 0,
-                recent: 0,
-                too_large: 0,
-            },
-            newest: 0,
+            sessions: Tally::new(0),
+            is_heard: false,
         }
     }
 
     // Adds an account.
     fn add(&mut self, tally: &Tally)
-        ensures { self.new.newest ≡ self.old.newest }
+        ensures { self.new.is_heard ≡ self.old.is_heard }
     {
         self.accounts = self.accounts.saturating_add(1);
         if tally.carried > 0 {
@@ -78,31 +73,57 @@ impl Totals {
 
     // Adds an account whose sessions are only counted: those that may be carried, as if each
     // fitted.
-    fn add_rows(&mut self, selection: &Selection, rows: &[Row])
-        ensures { (self.new.newest ≡ self.old.newest) ⊎ IsToldIn rows.now self.new.newest }
+    fn add_seen(&mut self, seen: &Seen)
+        ensures { self.new.is_heard ≡ seen.now.is_heard }
     {
-        let tally = tally_of(selection, rows, 0);
+        let tally = seen.tally;
         self.add(&Tally {
             carried: tally.too_large,
             too_large: 0,
             ..tally
         });
-        self.newest = newest_of(rows, self.newest);
+        self.is_heard = seen.is_heard;
     }
 }
 
-// The last moment of the sessions, or this one if that is later. Lines are skipped: a line has the
-// moment of a run of this command, and not of a report.
-fn newest_of(rows: &[Row], start: u64) -> u64
-    ensures { (result ≡ start) ⊎ IsToldIn rows.now result }
-{
-    let mut newest = start;
-    for row in rows {
-        if !is_line(row.client.as_str()) && newest < row.last {
-            newest = row.last;
+// How the first pass looks at an account.
+#[derive(Clone, Copy)]
+struct Looking<'a> {
+    alloc: Global,
+    selection: &'a Selection,
+    moment: u64,
+    // Whether it prints each open session that would be carried.
+    lists_open: bool,
+}
+
+// What it saw of an account, and whether some session so far was heard of in the last 7 days.
+#[derive(Clone, Copy)]
+struct Seen {
+    tally: Tally,
+    is_heard: bool,
+}
+
+impl Seen {
+    // Adds a session.
+    fn add(&mut self, selection: &Selection, row: &Row, moment: u64)
+        requires { moment < 2 ^ 53 }
+        ensures { IsTrue self.new.is_heard → IsTrue self.old.is_heard ⊎ IsHeardAt row.now moment }
+    {
+        self.tally.add(selection, row);
+        if is_heard_at(row, moment) {
+            self.is_heard = true;
         }
     }
-    newest
+}
+
+// Whether a session was last heard of in the 7 days before a moment. A line is none: its moment is
+// that of a run of this command, and not of a report. Nor is a session of a moment to come: that
+// was told by a clock that is wrong.
+fn is_heard_at(row: &Row, moment: u64) -> bool
+    requires { moment < 2 ^ 53 }
+    ensures { IsTrue result → IsHeardAt row.now moment }
+{
+    !is_line(row.client.as_str()) && row.last <= moment && moment - row.last <= IDLE
 }
 
 /// Carries the requested sessions of a book forward, at a moment, in seconds since 1970. Prints how
@@ -113,30 +134,39 @@ fn newest_of(rows: &[Row], start: u64) -> u64
 /// # Errors
 ///
 /// `Store` if the book fails. `CutoffTooLate` if the cutoff is less than 30 days back.
-/// `CutoffInReach` if it is less than `oldest_report` days back. `ClockAhead` if the last report is
-/// more than 7 days back and the arguments do not confirm the clock. `NoMemory`, `CannotWrite`.
-/// What was carried before stays carried.
+/// `CutoffInReach` if it is less than `oldest_report` days back. If the arguments do not confirm the
+/// clock: `ClockAhead` if no report is of the last 7 days, `ClockApart` if the files were not
+/// changed in that time, or later than a day after now. `NoMemory`, `CannotWrite`. What was carried
+/// before stays carried.
 pub fn run_forward<B: Book, W: Write, E: Write>(
     alloc: Global,
     plans: &Plans,
     book: &mut B,
     carrying: &Carrying,
-    moment: u64,
+    clock: ClockReading,
     output: &mut W,
     progress: &mut E,
 ) -> Result<Status, Fault>
-    requires moment { moment < 2 ^ 53 }
+    requires moment { clock.moment < 2 ^ 53 }
     requires days { IfSome carrying.now.oldest_report (λ days. days ≤ 36500) }
-    ensures forwards { Forwards B.Book plans.now carrying.now moment book.old book.new result }
-    ensures far { OnOk result (LiesFarBack carrying.now moment) }
+    ensures forwards { Forwards B.Book plans.now carrying.now clock.moment clock.written_at book.old
+        book.new result }
+    ensures far { OnOk result (LiesFarBack carrying.now clock.moment) }
     ensures other { IfOk result (λ status. status ≢ Status.BadCommandLine) }
 {
+    let moment = clock.moment;
     let selection = selection_of(alloc, carrying, moment)?;
     check_cutoff(&selection, carrying.oldest_report, moment)?;
-    let found = survey(alloc, book, &selection, carrying.silent.is_some(), output)?;
-    check_clock(&found, carrying.is_sure, moment)?;
+    let task = Looking {
+        alloc,
+        selection: &selection,
+        moment,
+        lists_open: carrying.silent.is_some(),
+    };
+    let found = survey(book, &task, output)?;
+    check_clock(&found, carrying.is_sure, clock)?;
     let totals = carry(
-        alloc, plans, book, carrying, &selection, moment, found, progress,
+        alloc, plans, book, carrying, &selection, clock, found, progress,
     )?;
     write_totals(output, carrying.is_dry, &totals)?;
     output.flush()?;
@@ -150,17 +180,18 @@ fn carry<B: Book, E: Write>(
     book: &mut B,
     carrying: &Carrying,
     selection: &Selection,
-    moment: u64,
+    clock: ClockReading,
     found: Totals,
     progress: &mut E,
 ) -> Result<Totals, Fault>
-    requires moment { moment < 2 ^ 53 }
-    requires selected { selection.now ≡ selected carrying.now moment }
-    requires far { LiesFarBack carrying.now moment }
+    requires moment { clock.moment < 2 ^ 53 }
+    requires selected { selection.now ≡ selected carrying.now clock.moment }
+    requires far { LiesFarBack carrying.now clock.moment }
     requires timely { (carrying.now.is_sure ≡ true)
-        ⊎ (B.is_sound book.old → IsTimely (B.content book.old) moment) }
+        ⊎ (B.is_sound book.old → IsTimely (B.content book.old) clock.moment clock.written_at) }
     requires answers { B.is_sound book.old → B.is_open book.old }
-    ensures { Forwards B.Book plans.now carrying.now moment book.old book.new result }
+    ensures { Forwards B.Book plans.now carrying.now clock.moment clock.written_at book.old book.new
+        result }
 {
     if carrying.is_dry {
         return Ok(found);
@@ -170,7 +201,7 @@ fn carry<B: Book, E: Write>(
         book,
         plans,
         selection,
-        moment,
+        clock.moment,
         found.accounts,
         progress,
     )
@@ -231,31 +262,24 @@ fn lie_back(selection: &Selection, seconds: u64, moment: u64) -> bool
         && selection.silent_before.saturating_add(seconds) <= moment
 }
 
-// Rejects a clock that may be wrong: nothing must be forgotten by it.
-fn check_clock(found: &Totals, is_sure: bool, moment: u64) -> Result<(), Fault>
-    requires { moment < 2 ^ 53 }
-    ensures { OnOk result ((is_sure ≡ true) ⊎ (moment ≤ found.now.newest + 7 * 86400)) }
+// Rejects a clock that may be wrong: nothing must be forgotten by it. It must agree with what the
+// book says, and with what its files say.
+fn check_clock(found: &Totals, is_sure: bool, clock: ClockReading) -> Result<(), Fault>
+    requires { clock.moment < 2 ^ 53 }
+    ensures { OnOk result ((is_sure ≡ true)
+        ⊎ (IsTrue found.now.is_heard × Agrees clock.moment clock.written_at)) }
 {
-    if is_sure || found.newest.saturating_add(IDLE_DAYS * DAY) >= moment {
+    if is_sure {
         return Ok(());
     }
-    Err(Fault::ClockAhead)
-}
-
-// The account after one, with its rows.
-fn look_next<B: Book>(
-    book: &mut B,
-    after: &Option<Vec<u8>>,
-) -> Result<Option<(Vec<u8>, Vec<Row>)>, Unavailable>
-    ensures looks { Looks B.Book book.old book.new result }
-    ensures rows { B.is_open book.new → IfOk result (λ found. IfSome found
-        (λ next. AreRowsOf (B.content book.old) next.0.items next.1.items)) }
-{
-    let Some(account) = next_account(book, after)? else {
-        return Ok(None);
-    };
-    let rows = book.sessions_of(account.as_slice())?;
-    Ok(Some((account, rows)))
+    if !found.is_heard {
+        return Err(Fault::ClockAhead);
+    }
+    let (moment, written_at) = (clock.moment, clock.written_at);
+    if written_at.saturating_add(IDLE) < moment || written_at > moment + DAY {
+        return Err(Fault::ClockApart);
+    }
+    Ok(())
 }
 
 // The account after one, or the first.
@@ -277,44 +301,75 @@ fn next_account<B: Book>(
 
 // Counts what would be carried. Prints each open session among it, if that was requested.
 fn survey<B: Book, W: Write>(
-    alloc: Global,
     book: &mut B,
-    selection: &Selection,
-    lists_open: bool,
+    task: &Looking<'_>,
     output: &mut W,
 ) -> Result<Totals, Fault>
+    requires { task.now.moment < 2 ^ 53 }
     ensures looks { OnlyLooks B.Book book.old book.new }
     ensures answers { B.is_sound book.new → IfOk result (λ totals. B.is_open book.new) }
-    ensures newest { B.is_open book.new → IfOk result (λ totals.
-        IsNewest (B.content book.old) totals.newest) }
+    ensures heard { B.is_open book.new → IfOk result (λ totals.
+        IsTrue totals.is_heard → IsHeardIn (B.content book.old) task.now.moment) }
 {
     let mut totals = Totals::new();
     let mut after: Option<Vec<u8>> = None;
     for _ in 0..u64::MAX {
-        let Some((account, rows)) = look_next(book, &after)? else {
+        let Some(account) = next_account(book, &after)? else {
             return Ok(totals);
         };
-        if lists_open {
-            write_open(alloc, output, selection, &rows)?;
-        }
-        totals.add_rows(selection, &rows);
+        let seen = survey_account(book, task, account.as_slice(), totals.is_heard, output)?;
+        totals.add_seen(&seen);
         after = Some(account);
     }
     Err(Fault::from(Unavailable))
 }
 
-// Prints each open session that is carried.
-fn write_open<W: Write>(
-    alloc: Global,
+// Counts what would be carried of an account, row after row. Prints each open session among it, if
+// that was requested. A session was heard of lately if one was in the accounts before it.
+fn survey_account<B: Book, W: Write>(
+    book: &mut B,
+    task: &Looking<'_>,
+    account: &[u8],
+    is_heard: bool,
     output: &mut W,
-    selection: &Selection,
-    rows: &[Row],
-) -> Result<(), Fault> {
-    for row in rows {
-        if row.state == SessionState::Live && selection.stay_of(row).is_none() {
-            write_session(alloc, output, row)?;
-        }
+) -> Result<Seen, Fault>
+    requires { task.now.moment < 2 ^ 53 }
+    ensures reads { Looks B.Book book.old book.new result }
+    ensures heard { B.is_open book.new → IfOk result (λ seen. IsTrue seen.is_heard
+        → IsTrue is_heard ⊎ IsHeardIn (B.content book.old) task.now.moment) }
+{
+    let keys = book.keys_of(account)?;
+    let mut seen = Seen {
+        tally: Tally::new(0),
+        is_heard,
+    };
+    for key in &keys {
+        let row = book.session(key)?;
+        note(task, &row, output, &mut seen)?;
     }
+    Ok(seen)
+}
+
+// Adds a session that was found to what was seen. Prints it if it is open and is carried, and that
+// was requested.
+fn note<W: Write>(
+    task: &Looking<'_>,
+    found: &Option<Row>,
+    output: &mut W,
+    seen: &mut Seen,
+) -> Result<(), Fault>
+    requires { task.now.moment < 2 ^ 53 }
+    ensures { OnOk result (IsTrue seen.new.is_heard
+        → IsTrue seen.old.is_heard ⊎ IsHeardOf found.now task.now.moment) }
+{
+    let Some(row) = found else {
+        return Ok(());
+    };
+    let is_open = row.state == SessionState::Live && task.selection.stay_of(row).is_none();
+    if task.lists_open && is_open {
+        write_session(task.alloc, output, row)?;
+    }
+    seen.add(task.selection, row, task.moment);
     Ok(())
 }
 

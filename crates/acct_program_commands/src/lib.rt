@@ -30,7 +30,7 @@ mod watching;
 
 pub use audit_command::run_audit;
 pub use balances_file::KeptBalances;
-pub use book_clock::note_clock;
+pub use book_clock::{ClockReading, note_clock, read_clock};
 pub use book_names::BookNames;
 pub use check::{check_from, run_check, write_sizes};
 pub use config_file::{config_from, config_in, read_config};

@@ -7,7 +7,7 @@ use acct_book::{Book, MemBook};
 use acct_model::{Octets, Text};
 use acct_program::Status;
 use acct_program_args::{Carrying, Cutoff, Export};
-use acct_program_commands::{run_export, run_forward};
+use acct_program_commands::{ClockReading, run_export, run_forward};
 use acct_site::sample_plans;
 use std::alloc::Global;
 use std::test::Fail;
@@ -73,7 +73,19 @@ fn carried(alloc: Global, book: &mut MemBook, is_dry: bool) -> Result<(Vec<u8>, 
     let (mut output, mut progress) = (Vec::new(alloc), Vec::new(alloc));
     let plans = sample_plans(alloc)?;
     let asked = asked(alloc, is_dry)?;
-    let ended = run_forward(alloc, &plans, book, &asked, NOW, &mut output, &mut progress);
+    let clock = ClockReading {
+        moment: NOW,
+        written_at: NOW - 5,
+    };
+    let ended = run_forward(
+        alloc,
+        &plans,
+        book,
+        &asked,
+        clock,
+        &mut output,
+        &mut progress,
+    );
     match ended {
         Ok(Status::Done) => Ok((output, progress)),
         _ => Err("not done".into()),

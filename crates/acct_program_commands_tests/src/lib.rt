@@ -11,6 +11,8 @@ mod book_names;
 #[cfg(test)]
 mod checking;
 #[cfg(test)]
+mod clocks;
+#[cfg(test)]
 mod counts;
 #[cfg(test)]
 mod forwarding;

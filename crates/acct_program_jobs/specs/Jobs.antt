@@ -283,11 +283,12 @@ module _ {D : Type 0} {g : disk.Ghosts D} where
       HasImported moment config ended first last =
           Runs b config.plans moment text first last before after ended
 
-      -- sessions that were carried forward at a moment, with a configuration
-      abbrev pub HasForwarded : Carrying → ℕ → Config → Result Status Fault
+      -- sessions that were carried forward at a moment, over files that were last changed at
+      -- another one, with a configuration
+      abbrev pub HasForwarded : Carrying → ℕ → ℕ → Config → Result Status Fault
           → Held (FileStore D g) → Held (FileStore D g) → Type 0
-      HasForwarded carrying moment config ended first last =
-          Forwards b config.plans carrying moment first last ended
+      HasForwarded carrying moment written_at config ended first last =
+          Forwards b config.plans carrying moment written_at first last ended
 
       abbrev pub DoesJob : Job → Result Status Fault → Left D g → Type 0
       DoesJob (job.Feed file) ended rest =
@@ -306,9 +307,10 @@ module _ {D : Type 0} {g : disk.Ghosts D} where
       DoesJob (job.Import paths) ended rest = (moment : ℕ) × (moment < 2 ^ 53)
           × ClosesOrFails (WorksAndCloses (HasImported moment)) (FailsAtWork (HasImported moment))
           ended rest
-      DoesJob (job.Forward paths carrying) ended rest = (moment : ℕ) × (moment < 2 ^ 53)
-          × ClosesOrFails (WorksAndCloses (HasForwarded carrying moment))
-          (FailsAtWork (HasForwarded carrying moment)) ended rest
+      DoesJob (job.Forward paths carrying) ended rest =
+          (moment : ℕ) × (written_at : ℕ) × (moment < 2 ^ 53)
+          × ClosesOrFails (WorksAndCloses (HasForwarded carrying moment written_at))
+          (FailsAtWork (HasForwarded carrying moment written_at)) ended rest
       DoesJob (job.Export paths what) ended rest =
           ExportsBook b what before after ended rest ⊎ ExportsNothing b ended rest
       DoesJob (job.Migrate paths) ended rest =

@@ -33,7 +33,9 @@ use acct_model::{Plans, Text};
 use acct_net::Sockets;
 use acct_program::Status;
 use acct_program_args::{Export, Job, Order, Serving, Telling};
-use acct_program_commands::{Fault, ServerFiles, end, keep_others, read_config, run_export};
+use acct_program_commands::{
+    Fault, ServerFiles, end, keep_others, read_clock, read_config, run_export,
+};
 use acct_program_serving::Errors;
 use acct_reads::ReadsFiles;
 use acct_service::{Exchange, moment_of};
@@ -137,8 +139,9 @@ pub fn carry_out<S: Start, I: Read + Drop, W: Write + Drop, E: Write + Drop, F: 
             told(faults, work_on(runtime, files, import, output, start))
         }
         Job::Forward { paths, carrying } => {
-            let (files, moment) = (BookFile::of(paths, loses), moment_of(runtime));
-            let forward = Forward::new(carrying, moment, errors.notices);
+            let files = BookFile::of(paths, loses);
+            let clock = read_clock(runtime, &paths.database);
+            let forward = Forward::new(carrying, clock, errors.notices);
             told(faults, work_on(runtime, files, forward, output, start))
         }
         Job::Export { paths, what } => {

@@ -24,7 +24,7 @@ use acct_model::Text;
 use acct_net::Sockets;
 use acct_program::Status;
 use acct_program_args::{Carrying, Serving};
-use acct_program_commands::{Fault, run_forward, run_import};
+use acct_program_commands::{ClockReading, Fault, run_forward, run_import};
 use acct_program_serving::{Surroundings, run_serve};
 use acct_reads::ReadsFiles;
 use acct_service::Exchange;
@@ -82,33 +82,33 @@ impl<W: Write, I: Read + Drop> Work<W> for Import<I> {
     }
 }
 
-/// `forward` at a moment, in seconds since 1970.
+/// `forward` by a clock.
 #[derive(Drop)]
 pub(crate) struct Forward<'a, E: Drop> {
     pub(crate) carrying: &'a Carrying,
-    pub(crate) moment: u64,
+    pub(crate) clock: ClockReading,
     pub(crate) progress: E,
 }
 
 impl<'a, E: Drop> Forward<'a, E> {
-    /// What was asked, at a moment. Its progress is printed.
-    pub(crate) fn new(carrying: &'a Carrying, moment: u64, progress: E) -> Forward<'a, E>
-        ensures { result ≡ record { carrying = carrying.entry; moment = moment; progress = progress } }
+    /// What was asked, by what a clock says. Its progress is printed.
+    pub(crate) fn new(carrying: &'a Carrying, clock: ClockReading, progress: E) -> Forward<'a, E>
+        ensures { result ≡ record { carrying = carrying.entry; clock = clock; progress = progress } }
     {
         Forward {
             carrying,
-            moment,
+            clock,
             progress,
         }
     }
 }
 
 impl<W: Write, E: Write + Drop> Work<W> for Forward<'_, E> {
-    ghost is_ready = { λ it. (it.moment < 2 ^ 53)
+    ghost is_ready = { λ it. (it.clock.moment < 2 ^ 53)
         × IfSome it.carrying.now.oldest_report (λ days. days ≤ 36500) };
 
     ghost did = { λ b it config ended first last before after. Forwards b config.plans
-        it.carrying.now it.moment first last ended };
+        it.carrying.now it.clock.moment it.clock.written_at first last ended };
 
     fn over<B: Book>(
         self,
@@ -119,7 +119,7 @@ impl<W: Write, E: Write + Drop> Work<W> for Forward<'_, E> {
     ) -> Result<Status, Fault> {
         let Forward {
             carrying,
-            moment,
+            clock,
             mut progress,
         } = self;
         run_forward(
@@ -127,7 +127,7 @@ impl<W: Write, E: Write + Drop> Work<W> for Forward<'_, E> {
             &config.plans,
             book,
             carrying,
-            moment,
+            clock,
             output,
             &mut progress,
         )

@@ -70,6 +70,10 @@ impl<B: Book> Book for StuckBook<B> {
         self.book.sessions_of(account)
     }
 
+    fn keys_of(&mut self, account: &[u8]) -> Result<Vec<Key>, Unavailable> {
+        self.book.keys_of(account)
+    }
+
     fn topups_of(&mut self, account: &[u8]) -> Result<Vec<TopUp>, Unavailable> {
         self.book.topups_of(account)
     }

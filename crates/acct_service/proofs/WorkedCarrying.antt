@@ -1,11 +1,12 @@
 -- A worked span in which a session is carried forward, and what a late report of it does.
-use Rattle.std.proofs.Common.{◌≡◌, ℕ, inl, inr, List, [], ◌∷◌, refl, sym, ap, arith}
+use Rattle.std.proofs.Common.{◌≡◌, ℕ, inl, inr, List, [], ◌∷◌, refl, sym, ap, subst, arith}
 use Rattle.std.specs.Prelude.{ℤ, negsuc, Some, None, codes, Contains}
 use Rattle.acct_model.specs.declared.plan.Plan.{Plan}
 use Rattle.acct_model.specs.declared.plan.Count.TheVariants.{Both}
 use Rattle.acct_model.specs.declared.entry.Entry.TheVariants as entry
 use Rattle.acct_model.specs.declared.report.ReportKind.TheVariants.{Stop}
 use Rattle.acct_model.specs.Report.{ReportFacts}
+use Rattle.acct_model.specs.Plans.{plan_for}
 use Rattle.acct_model.specs.History.{Accepted, History, SessionName, session_of, balance_of}
 use Rattle.acct_model.specs.Forward.{Batch, sessions_in, forwarded, CarriesForward}
 use Rattle.acct_model.proofs.Lists.{nowhere, front_or_behind}
@@ -14,7 +15,7 @@ use Rattle.acct_book.specs.declared.row.SessionState.TheVariants.{Live, Stopped}
 use Rattle.acct_book_forward.specs.declared.selection.Stay.TheVariants.{Kept, Open, Recent}
 use Rattle.acct_book.specs.Row.{RowFacts}
 use Rattle.acct_book.specs.Rows.{name_of, row_of}
-use Rattle.acct_book_forward.specs.Carrying.{SelectionFacts, stay_of}
+use Rattle.acct_book_forward.specs.Carrying.{SelectionFacts, stay_of, IsBare}
 use Rattle.acct_service.specs.Life.{carried, set_aside, LivesOn}
 use Rattle.acct_service.specs.Settling.{uncarried}
 
@@ -103,6 +104,21 @@ carries = record {
   };
 }
 
+-- the line says nothing but what the session costs
+is_bare : (plan : Plan) → plan_for plans (codes "gold") ≡ Some plan → IsBare plan line
+is_bare plan planned =
+    let gold : Plan = record { class = codes "gold"; block = 1048576; unit = 10; count = Both } in
+    let same : gold ≡ plan = cc in
+    subst (λ p. IsBare p line) same (record {
+      session = refl;
+      counts = refl;
+      kind = refl;
+      seconds = refl;
+      cause = refl;
+      calling = refl;
+      framed = refl;
+    })
+
 -- what ended before the moment 3000 is carried forward, and nothing that is open
 abbrev selection : SelectionFacts
 selection = record { ended_before = 3000; silent_before = 0; kept = codes "sample" ∷ [] }
@@ -115,7 +131,11 @@ a_carried_session = (
     λ class. refl,
     (
       after,
-      record { taken = λ key at. (row, row_is key at, refl); line = refl },
+      record {
+        taken = λ key at. (row, row_is key at, refl, refl);
+        line = refl;
+        bare = λ plan planned. is_bare plan planned;
+      },
       (carries, refl),
       refl,
     ),

@@ -6,7 +6,7 @@ ghost use Rattle.acct_service.specs.Machine.{Visit};
 ghost use Rattle.acct_service.specs.Serving.{Attends};
 ghost use Rattle.acct_service.specs.Settling.{LifeSettles};
 ghost use Rattle.acct_service.specs.Stops.{StopsAreLived};
-ghost use Rattle.acct_service.specs.Ages.{TakesNoneTooOld};
+ghost use Rattle.acct_service.specs.Ages.{TakesNoneTooOld, CarriedStayCarried};
 
 use acct_book::Book;
 
@@ -30,10 +30,16 @@ pub fn stops_are_lived<B: Book, T, E>()
 {}
 
 /// A server that limits how old a report may be accepts no older one: it adds none, and no crash
-/// leaves one. A report that was accepted before its session was carried forward may arrive again,
-/// with its own moment. It is not charged again, if the cutoff is that far back.
+/// leaves one.
 pub fn old_reports_are_dropped()
     ensures { TakesNoneTooOld }
+{}
+
+/// A copy of a report that was accepted before its session was carried forward is not charged
+/// again. This needs four premises. The server limits how old a report may be. The cutoff was that
+/// far back. The clock has not gone back since. The delay of the copy says how long it waited.
+pub fn carried_stay_carried()
+    ensures { CarriedStayCarried }
 {}
 
 /// Turns join. What `serve` ensures for two runs over one book and exchange holds for both

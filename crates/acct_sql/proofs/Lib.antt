@@ -7,3 +7,4 @@ mod RememberLemmas
 mod CacheLemmas
 mod KnownLemmas
 mod NewRowLemmas
+mod NextStartLemmas

@@ -1,9 +1,11 @@
 //! Laws of the book on tables. Each is a function without effect, for proofs alone.
-ghost use Rattle.std.specs.Prelude.{◌≡◌, ℤ, Some};
+ghost use Rattle.std.specs.Prelude.{◌≡◌, ℤ, List, Some};
+ghost use Rattle.acct_model.specs.declared.plan.Plan.{Plan};
 ghost use Rattle.sqlite.specs.Held.{state};
 ghost use Rattle.acct_book.specs.Content.{key_of};
 ghost use Rattle.acct_sql_tables.specs.Book.{IsBookOver};
 ghost use Rattle.acct_sql.specs.Kept.{KeepsSession, KeepsTopUp, KeepsBalance, KeptAreInForce};
+ghost use Rattle.acct_sql.specs.NextStart.{NextStartTakes};
 
 use crate::sql_book::SqlBook;
 use acct_book::{Book, Row};
@@ -54,4 +56,14 @@ pub fn balances_are_their_columns<S: Alter>(book: &SqlBook<S>, account: &[u8])
 /// configuration stands for no history by other ones.
 pub fn kept_plans_are_in_force()
     ensures { KeptAreInForce }
+{}
+
+/// `adopt` of what a crash left of a book is this book, or `Unavailable`: what the tables say of
+/// their number and plans survives each call and each crash. The two states are those before and
+/// after a call. The content is one that the crash may have left, by `books_are_their_tables`. Two
+/// premises stay: a crash leaves the schema of the file as it is, and `Unavailable` may also mean
+/// that two rows have one rowid.
+pub fn next_start_takes<S: Alter>(old: &SqlBook<S>, new: &SqlBook<S>)
+    ensures { (plans : List Plan) → NextStartTakes plans (state S.Store old.now)
+        (state S.Store new.now) }
 {}

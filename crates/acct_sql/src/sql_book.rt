@@ -7,7 +7,7 @@ use crate::transactions::{close_client, write_forward, write_session, write_topu
 use acct_book::{Book, Key, Row, Unavailable};
 use acct_model::{Plans, TopUp};
 use acct_sql_tables::idle::connection_is_idle;
-use acct_sql_tables::listing::{read_sessions, read_topups};
+use acct_sql_tables::listing::{read_keys, read_sessions, read_topups};
 use acct_sql_tables::new_tables::{has_nothing, make_book};
 use acct_sql_tables::queries::{
     read_balance, read_next_account, read_next_session, read_next_topup, read_session, read_voucher,
@@ -300,7 +300,7 @@ impl<S: Alter> Book for SqlBook<S> {
     ghost use Rattle.acct_book.specs.Content.{kept_balance, with_session, with_topup, with_closed};
     ghost use Rattle.acct_book.specs.Content.{with_forward};
     ghost use Rattle.acct_book.specs.Walk.{IsNextRow, IsNextBalance, IsNextTopUp, AreRowsOf};
-    ghost use Rattle.acct_book.specs.Walk.{AreTopUpsOf};
+    ghost use Rattle.acct_book.specs.Walk.{AreKeysOf, AreTopUpsOf};
     ghost use Rattle.acct_sql_tables.specs.Book.{content_at, is_sound_at, is_open_at, is_steady_at};
     ghost use Rattle.acct_sql_tables.specs.Book.{left_at, Wrote, HasReadBook, LeavesPlans};
     ghost use Rattle.acct_sql_tables.specs.Laws.{own_keys, open_settled};
@@ -463,6 +463,22 @@ impl<S: Alter> Book for SqlBook<S> {
             }
         };
         Ok(rows)
+    }
+
+    fn keys_of(&mut self, account: &[u8]) -> Result<Vec<Key>, Unavailable>
+        ensures found { is_open_at S.Store self.new → IfOk result
+            (λ keys. AreKeysOf (content_at S.Store self.old) account.now keys.items) }
+        ensures reads { HasReadBook S.Store self.old self.new result }
+        ensures plans { LeavesPlans (state S.Store self.old) (state S.Store self.new) }
+    {
+        let keys = match read_keys(self.alloc, &mut self.conn, account) {
+            Ok(keys) => keys,
+            Err(_) => {
+                self.known.forget();
+                return Err(Unavailable);
+            }
+        };
+        Ok(keys)
     }
 
     fn topups_of(&mut self, account: &[u8]) -> Result<Vec<TopUp>, Unavailable>

@@ -26,6 +26,7 @@ pub mod KeyedLemmas
 pub mod WalkLemmas
 pub mod ListLemmas
 pub mod PlanReadLemmas
+pub mod KeyListLemmas
 pub mod IdLemmas
 pub mod RisingLemmas
 pub mod LookLemmas

@@ -49,7 +49,7 @@ use Rattle.acct_sql_tables.proofs.KeyedLemmas.{keyed_session, keyed_voucher, ses
 use Rattle.acct_sql_tables.proofs.KeyedLemmas.{voucher_account}
 use Rattle.acct_sql_tables.proofs.SessionLemmas.{key_here}
 
-found_row : {X : Type 0} (f : Row → X) (o : Option Row) (x : X) → option_map f o ≡ Some x
+pub found_row : {X : Type 0} (f : Row → X) (o : Option Row) (x : X) → option_map f o ≡ Some x
     → (r : Row) × (o ≡ Some r) × (f r ≡ x)
 found_row f None x h = absurd cc
 found_row f (Some r) x h = (r, refl, cc)

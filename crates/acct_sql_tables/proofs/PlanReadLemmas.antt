@@ -89,7 +89,7 @@ module _ {S : Type 0} (g : Ghosts S) (old : Held S) where
 -- ---- one session
 
 -- a plan leaves a session its account
-own_account : (plan : Option (List ℕ)) (bare : RowFacts) → (with_plan plan bare).account
+pub own_account : (plan : Option (List ℕ)) (bare : RowFacts) → (with_plan plan bare).account
     ≡ bare.account
 own_account None bare = refl
 own_account (Some class) bare = refl
@@ -149,7 +149,7 @@ pub bare_sorted : (plans : Key → Option (List ℕ)) (bare : List RowFacts)
 bare_sorted plans bare = subst (IsStrictlySortedBy key_cmp) (keys_same plans bare)
 
 -- a session of the content is one of the table with its plan
-session_was : (plan : Option (List ℕ)) (bare : Option RowFacts) (row : RowFacts)
+pub session_was : (plan : Option (List ℕ)) (bare : Option RowFacts) (row : RowFacts)
     → option_map (with_plan plan) bare ≡ Some row
     → (one : RowFacts) × (bare ≡ Some one) × (row ≡ with_plan plan one)
 session_was plan None row h = absurd cc

@@ -138,6 +138,20 @@ sessions_of_account = record {
   unhidden = λ db. refl;
 }
 
+abbrev pub key_shown : List Term
+key_shown = col 1 1 ∷ col 1 2 ∷ []
+
+pub keys_of_account : IsQuery texts.KEYS_OF_ACCOUNT.now session.tree sessions_filter key_shown by_key
+    all_rows
+unfolding understood everything
+keys_of_account = record {
+  names = codes "client" ∷ codes "id" ∷ [];
+  is = refl;
+  unlisted = refl;
+  plain = (refl, refl);
+  unhidden = λ db. refl;
+}
+
 pub first_session : IsQuery texts.FIRST_SESSION.now session.tree [] session_shown by_key one_row
 unfolding understood everything
 first_session = record {

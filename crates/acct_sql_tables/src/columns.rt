@@ -8,12 +8,13 @@ ghost use Rattle.acct_sql_tables.specs.Columns.{framed_octets, framed_in};
 ghost use Rattle.acct_sql_tables.specs.Columns.{code_of, count_in, int_in, state_in, cause_in};
 ghost use Rattle.acct_sql_tables.specs.Columns.{session_in_columns, topup_in_columns};
 ghost use Rattle.acct_sql_tables.specs.inner.Columns.{account_in_columns, plan_columns};
+ghost use Rattle.acct_sql_tables.specs.inner.Columns.{key_in_columns};
 ghost use Rattle.acct_sql_tables.specs.inner.Columns.{count_columns};
 ghost use Rattle.acct_sql_tables.specs.Make.{mode_of};
 
 use crate::number_bounds::MOST_OCTETS;
 use crate::refused::Refused;
-use acct_book::{Row, SessionState};
+use acct_book::{Key, Row, SessionState};
 use acct_model::{Count, LAST_MOMENT, Octets, Plan, Text, TopUp};
 use sqlite::types::ValueRef;
 use std::alloc::Global;
@@ -266,6 +267,16 @@ pub fn balance_at(columns: &sqlite::Row) -> Result<i64, Refused>
     ensures { IfOk result (λ balance. balance ≡ int_in (column columns.now 0)) }
 {
     Ok(columns.get(0)?)
+}
+
+/// The key of a row that has a client and an id.
+pub fn key_at(columns: &sqlite::Row) -> Result<Key, Refused>
+    ensures { IfOk result (λ key. key ≡ key_in_columns (column columns.now)) }
+{
+    Ok(Key {
+        client: text_at(columns, 0)?,
+        session: octets_at(columns, 1)?,
+    })
 }
 
 /// The account and the balance of a row that has these two.

@@ -200,6 +200,10 @@ pub const SESSIONS_OF_ACCOUNT: &str = with_session_columns!(
     " FROM session WHERE account = ?1 ORDER BY client, id"
 );
 
+/// Shows the keys of the sessions of an account, in their order.
+pub const KEYS_OF_ACCOUNT: &str = "\
+    SELECT client, id FROM session WHERE account = ?1 ORDER BY client, id";
+
 /// Shows the session of the least key.
 pub const FIRST_SESSION: &str = with_session_columns!(
     "SELECT ",

@@ -172,7 +172,17 @@ impl Books {
             self.tables.sessions_of(account),
             self.memory.sessions_of(account),
         ) {
-            (Ok(told), Ok(want)) => are_same_rows(&told, &want),
+            (Ok(told), Ok(want)) => {
+                are_same_rows(&told, &want) && self.tell_keys_of(account, told.len())
+            }
+            _ => false,
+        }
+    }
+
+    // So many keys as there are rows.
+    fn tell_keys_of(&mut self, account: &[u8], count: usize) -> bool {
+        match (self.tables.keys_of(account), self.memory.keys_of(account)) {
+            (Ok(told), Ok(want)) => told == want && told.len() == count,
             _ => false,
         }
     }

@@ -1,10 +1,11 @@
 -- What an answer says, put together from what its parts say.
 use Rattle.std.proofs.Common.{◌≡◌, ℕ, ◌+◌, ◌≤◌, inl, inr, ⊎_elim, List, ◌++◌, take, drop, refl}
 use Rattle.std.proofs.Common.{sym, ap, ◌∙◌, subst, arith, ◌⊎◌, length}
-use Rattle.std.specs.Prelude.{Option, Some, Result, Ok, Err}
+use Rattle.std.specs.Prelude.{Option, Some, None, Result, Ok, Err}
 use Rattle.std.proofs.lemmas.Bool.{cases_order}
 use Rattle.std.proofs.lemmas.List.{take_at, drop_at}
 use Rattle.radius_codec.specs.Attributes.{spellings}
+use Rattle.radius_codec.specs.declared.attribute_types.TheConstants as types
 use Rattle.radius_codec.specs.Packet.{proxy_states, reply_octets}
 use Rattle.radius_codec.proofs.Sealing.{length-sealed}
 use Rattle.acct_model.specs.declared.plan.Plan.{Plan}
@@ -12,7 +13,7 @@ use Rattle.acct_model.specs.declared.entry.Entry.{Entry}
 use Rattle.acct_model.specs.declared.entry.Entry.TheVariants as entries
 use Rattle.acct_model.specs.declared.entry_reader.EntryError.{EntryError}
 use Rattle.acct_model.specs.declared.entry_reader.EntryError.TheVariants as entry
-use Rattle.acct_model.specs.Entries.{Attributes, refusal_of, RefusesEntry, IsEntryOf}
+use Rattle.acct_model.specs.Entries.{Attributes, count_at, refusal_of, RefusesEntry, IsEntryOf}
 use Rattle.acct_model.specs.Vouchers.{TopUpFacts}
 use Rattle.acct_book.specs.declared.book.Book.{Ghosts}
 use Rattle.acct_book.specs.declared.recording.Recorded.{Recorded}
@@ -31,7 +32,7 @@ use Rattle.acct_wire.specs.Clients.{client_at}
 use Rattle.acct_wire.specs.Datagrams.{IsRequest, IsSpelled, BreaksFirst, Breaks, RequestAsks}
 use Rattle.acct_wire.specs.Datagrams.{RequestAsksFor}
 use Rattle.acct_wire.specs.Datagrams.{IsTooOld}
-use Rattle.acct_wire.specs.inner.Datagrams.{reason_of, RefusesAs, IsDropped}
+use Rattle.acct_wire.specs.inner.Datagrams.{SpellsEntry, reason_of, RefusesAs, IsDropped}
 use Rattle.acct_wire.specs.Outcomes.{DropsWithin, AnswersWithin, WritesReply}
 use Rattle.acct_wire.proofs.Spelled.{asked_some}
 
@@ -106,17 +107,17 @@ breaks_so oldest clients source bytes moment TooOld breaks =
 breaks_so oldest clients source bytes moment reason breaks = (breaks, refl)
 
 -- an entry is too old, or it is not
-old_or_not : (oldest : Option ℕ) (moment : ℕ) (asked : Entry)
-    → IsTooOld oldest moment asked ⊎ (¬ IsTooOld oldest moment asked)
-old_or_not (Some oldest) moment (entries.Report report) =
-    elim (cases_order (report.when + oldest) moment) [
+old_or_not : (oldest : Option ℕ) (attributes : Attributes) (asked : Entry)
+    → IsTooOld oldest attributes asked ⊎ (¬ IsTooOld oldest attributes asked)
+old_or_not (Some oldest) attributes (entries.Report report) =
+    elim (cases_order oldest (count_at types.ACCT_DELAY_TIME attributes)) [
       | inl same ↦ inr (λ less. omega (arith, same, less))
       | inr order ↦ elim order [
         | inl less ↦ inl less
         | inr more ↦ inr (λ less. omega (arith, more, less))
       ]
     ]
-old_or_not oldest moment asked = inr (λ old. old)
+old_or_not oldest attributes asked = inr (λ old. old)
 
 -- ---- what was done
 
@@ -131,8 +132,8 @@ module _ {B : Type 0} (b : Ghosts B) (oldest : Option ℕ) (clients : List Clien
     (plans : List Plan) (source bytes : List ℕ) (moment : ℕ) where
   -- an allocation failed for an entry that the datagram asks for
   no_memory : (array : List ℕ) (book : B) (asked : Entry)
-      → RequestAsksFor clients source bytes moment asked
-      → IsTooOld oldest moment asked ⊎ (¬ IsTooOld oldest moment asked)
+      → (asks : RequestAsksFor clients source bytes moment asked)
+      → IsTooOld oldest asks.attributes asked ⊎ (¬ IsTooOld oldest asks.attributes asked)
       → (effect : Effect)
       × AnswersWithin oldest clients source bytes moment array (Drop Unavailable) effect
       × Does b plans book book effect
@@ -158,14 +159,14 @@ module _ {B : Type 0} (b : Ghosts B) (oldest : Option ℕ) (clients : List Clien
       subst (λ r. (effect : Effect)
       × AnswersWithin oldest clients source bytes moment array (Drop r) effect
       × Does b plans book book effect) (sym memory)
-      (no_memory array book asked asks (old_or_not oldest moment asked))
+      (no_memory array book asked asks (old_or_not oldest asks.attributes asked))
 
   module _ (old new : B) (client : Client) (identifier : ℕ) (authenticator : List ℕ)
       (attributes : Attributes) (asked : Entry)
       (asks : RequestAsks clients source bytes moment client identifier authenticator attributes
-      asked) (recent : ¬ IsTooOld oldest moment asked)
+      asked) (recent : ¬ IsTooOld oldest attributes asked)
     where
-      for : RequestAsksFor clients source bytes moment asked
+      abbrev for : RequestAsksFor clients source bytes moment asked
       for = record {
         client = client;
         identifier = identifier;
@@ -260,3 +261,29 @@ written_past identifier size authenticator secret before after attributes octets
       least = omega (arith, counted);
       most = most;
     }
+
+-- a client's signed request spells a report that is too old
+pub aged : (oldest : Option ℕ) (clients : List Client) (source bytes : List ℕ) (moment : ℕ)
+    (client : Client) (secret name : List ℕ) (identifier : ℕ) (authenticator : List ℕ)
+    (attributes : Attributes) (asked : Entry)
+    → client_at source clients ≡ Some client → secret ≡ client.secret → name ≡ client.name
+    → IsRequest secret bytes identifier authenticator attributes
+    → SpellsEntry name attributes moment asked
+    → IsTooOld oldest attributes asked
+    → IsDropped oldest clients source bytes moment TooOld
+aged oldest clients source bytes moment client secret name identifier authenticator attributes asked
+    known of_secret of_name request (faultless, spelled) old =
+    let asks : RequestAsksFor clients source bytes moment asked = record {
+      client = client;
+      identifier = identifier;
+      authenticator = authenticator;
+      attributes = attributes;
+      asks = record {
+        known = known;
+        request = subst (λ s. IsRequest s bytes identifier authenticator attributes) of_secret
+            request;
+        faultless = faultless;
+        spelled = subst (λ n. IsEntryOf n attributes moment asked) of_name spelled;
+      };
+    } in
+    inr (inl (refl, (asked, asks, old)))

@@ -2,13 +2,14 @@
 use Rattle.std.specs.Prelude.{◌≡◌, ◌≢◌, ◌⊎◌, ◌+◌, ℕ, ◌≤◌, ◌<◌, List, length, drop, slice_index}
 use Rattle.std.specs.Prelude.{Option, Some, None}
 use Rattle.radius_codec.specs.Attributes.{Spells}
+use Rattle.radius_codec.specs.declared.attribute_types.TheConstants as types
 use Rattle.radius_codec.specs.Packet.{HasFront, front_of, Framed, IsFrontFault, IsSigned}
 use Rattle.radius_codec.specs.declared.packet.CodecError.TheVariants as codec
 use Rattle.acct_model.specs.declared.entry.Entry.{Entry}
 use Rattle.acct_model.specs.declared.entry.Entry.TheVariants as entries
 use Rattle.acct_model.specs.declared.entry_reader.EntryError.{EntryError}
 use Rattle.acct_model.specs.declared.entry_reader.EntryError.TheVariants as entry
-use Rattle.acct_model.specs.Entries.{Attributes, refusal_of, IsEntryOf}
+use Rattle.acct_model.specs.Entries.{Attributes, count_at, refusal_of, IsEntryOf}
 use Rattle.acct_wire.specs.declared.client.Client.{Client}
 use Rattle.acct_wire.specs.declared.reason.Reason.{Reason}
 use Rattle.acct_wire.specs.declared.reason.Reason.TheVariants.{UnknownClient, TooShort, BadLength}
@@ -114,14 +115,15 @@ IsAsking clients source bytes =
 
 -- ---- how old a report may be
 
--- The entry is a report that is too old at the moment of its receipt. Its own moment (RFC 2866,
--- section 5.2) lies more seconds back than a report may be old, if that is limited.
-abbrev pub IsTooOld : Option ℕ → ℕ → Entry → Type 0
-IsTooOld (Some oldest) moment (entries.Report report) = report.when + oldest < moment
-IsTooOld oldest moment asked = ⊥
+-- The entry is a report that waited for more seconds than a report may, if that is limited: its
+-- attributes say so (Acct-Delay-Time, RFC 2866, section 5.2), whatever the clock says.
+abbrev pub IsTooOld : Option ℕ → Attributes → Entry → Type 0
+IsTooOld (Some oldest) attributes (entries.Report report) =
+    oldest < count_at types.ACCT_DELAY_TIME attributes
+IsTooOld oldest attributes asked = ⊥
 
 -- the datagram is a client's signed request for a report that is too old
 abbrev pub AsksTooOld : Option ℕ → List Client → List ℕ → List ℕ → ℕ → Type 0
 AsksTooOld oldest clients source bytes moment =
-    (asked : Entry) × RequestAsksFor clients source bytes moment asked
-    × IsTooOld oldest moment asked
+    (asked : Entry) × (asks : RequestAsksFor clients source bytes moment asked)
+    × IsTooOld oldest asks.attributes asked

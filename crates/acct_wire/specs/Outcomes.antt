@@ -29,32 +29,32 @@ pub record IsReplyFor (clients : List Client) (source bytes : List ℕ) (moment 
 abbrev pub RepliesWithin : Option ℕ → List Client → List ℕ → List ℕ → ℕ → List ℕ → Effect
     → Type 0
 RepliesWithin oldest clients source bytes moment octets effect =
-    (asked : Entry) × IsReplyFor clients source bytes moment asked octets
-    × (¬ IsTooOld oldest moment asked) × (effect ≡ added asked)
+    (asked : Entry) × (reply : IsReplyFor clients source bytes moment asked octets)
+    × (¬ IsTooOld oldest reply.attributes asked) × (effect ≡ added asked)
 
 -- The store or an allocation failed for an entry. If it is too old, the book was not called.
-abbrev pub Fails : Option ℕ → ℕ → Entry → Effect → Type 0
-Fails oldest moment asked effect =
-    (IsTooOld oldest moment asked × (effect ≡ unasked))
-    ⊎ ((¬ IsTooOld oldest moment asked) × (effect ≡ failed asked))
+abbrev pub Fails : Option ℕ → Attributes → Entry → Effect → Type 0
+Fails oldest attributes asked effect =
+    (IsTooOld oldest attributes asked × (effect ≡ unasked))
+    ⊎ ((¬ IsTooOld oldest attributes asked) × (effect ≡ failed asked))
 
 -- A drop for the balance says that the entry was refused. One for the book says that the store or
 -- an allocation failed, one for its age that it is too old. Any other names the first rule that is
 -- broken. For the age or a rule the book was not called.
 abbrev pub DropsWithin : Option ℕ → List Client → List ℕ → List ℕ → ℕ → Reason → Effect → Type 0
 DropsWithin oldest clients source bytes moment BalanceLimit effect =
-    (asked : Entry) × RequestAsksFor clients source bytes moment asked
-    × (¬ IsTooOld oldest moment asked) × ((balance : ℤ) × (effect ≡ limited asked balance))
+    (asked : Entry) × (asks : RequestAsksFor clients source bytes moment asked)
+    × (¬ IsTooOld oldest asks.attributes asked) × ((balance : ℤ) × (effect ≡ limited asked balance))
 DropsWithin oldest clients source bytes moment Unavailable effect =
-    (asked : Entry) × RequestAsksFor clients source bytes moment asked
-    × Fails oldest moment asked effect
+    (asked : Entry) × (asks : RequestAsksFor clients source bytes moment asked)
+    × Fails oldest asks.attributes asked effect
 DropsWithin oldest clients source bytes moment TooOld effect =
     AsksTooOld oldest clients source bytes moment × (effect ≡ unasked)
 DropsWithin oldest clients source bytes moment reason effect =
     Breaks clients source bytes reason × (effect ≡ unasked)
 
 -- A datagram may be answered so, and has this effect. The array then holds these octets. A report
--- may be at most so many seconds old on receipt, if that is limited.
+-- may have waited for at most so many seconds, if that is limited.
 abbrev pub AnswersWithin : Option ℕ → List Client → List ℕ → List ℕ → ℕ → List ℕ → Outcome → Effect
     → Type 0
 AnswersWithin oldest clients source bytes moment array (Reply size) effect =

@@ -1,5 +1,6 @@
 //! A datagram judged, recorded and answered.
 ghost use Rattle.std.specs.Prelude.{◌≡◌, ◌↔◌, ◌≤◌, ◌<◌, ◌^◌, IfOk, IfErr, IsTrue};
+ghost use Rattle.acct_model.specs.Entries.{count_at};
 ghost use Rattle.acct_book.specs.Effect.{Effect};
 ghost use Rattle.acct_book.specs.Step.{Does};
 ghost use Rattle.acct_wire.specs.Datagrams.{IsRequest, BreaksFirst, RequestAsks};
@@ -13,8 +14,9 @@ use crate::datagram::Datagram;
 use crate::reason::Reason;
 use acct_book::{Book, RecordError, record};
 use acct_model::{Entry, EntryError, Plans, entry_of};
+use radius_codec::attribute_types::ACCT_DELAY_TIME;
 use radius_codec::codes::ACCOUNTING_REQUEST;
-use radius_codec::{CodecError, Front, Packet, request_matches, write_response};
+use radius_codec::{CodecError, Front, Packet, request_matches, word_of, write_response};
 use std::alloc::Global;
 
 /// The most octets of a packet (RFC 2865, section 3; RFC 2866, section 3, gives one less).
@@ -56,9 +58,9 @@ pub fn answer<B: Book>(
     answer_within(alloc, clients, plans, None, book, datagram, out)
 }
 
-/// Answers a datagram as `answer` does, but drops a report that is too old: its own moment lies
-/// more than `oldest` seconds before the datagram's. It tests that before it calls the book.
-/// Without `oldest` no report is too old.
+/// Answers a datagram as `answer` does, but drops a report that is too old: by its own delay it
+/// waited for more than `oldest` seconds. It tests that before it calls the book. Without `oldest`
+/// no report is too old.
 pub fn answer_within<B: Book>(
     alloc: Global,
     clients: &Clients,
@@ -109,7 +111,7 @@ fn requested<'c, 'b>(
         datagram.now.bytes.now datagram.now.moment request.client.now request.packet.id
         request.packet.authenticator request.packet.attributes request.entry) }
     ensures recent { IfOk result (λ request.
-        ¬ IsTooOld oldest datagram.now.moment request.entry) }
+        ¬ IsTooOld oldest request.packet.attributes request.entry) }
     ensures dropped { IfErr result (IsDropped oldest clients.now datagram.now.source
         datagram.now.bytes.now datagram.now.moment) }
 {
@@ -124,7 +126,7 @@ fn requested<'c, 'b>(
         Ok(entry) => entry,
         Err(reason) => return Err(reason),
     };
-    if is_too_old(&entry, oldest, datagram.moment) {
+    if is_too_old(&entry, oldest, &packet) {
         return Err(Reason::TooOld);
     }
     Ok(Request {
@@ -134,13 +136,24 @@ fn requested<'c, 'b>(
     })
 }
 
-// Whether an entry is a report whose own moment lies more than so many seconds before another one.
-fn is_too_old(entry: &Entry, oldest: Option<u64>, moment: u64) -> bool
-    ensures { IsTrue result ↔ IsTooOld oldest moment entry.now }
+// Whether an entry is a report that waited for more than so many seconds, by its packet. The delay
+// is asked, and not the report's own moment: that is cut at 0 if the clock lags behind the delay.
+fn is_too_old(entry: &Entry, oldest: Option<u64>, packet: &Packet<'_>) -> bool
+    ensures { IsTrue result ↔ IsTooOld oldest packet.now.attributes entry.now }
 {
     match (oldest, entry) {
-        (Some(oldest), Entry::Report(report)) => oldest < moment.saturating_sub(report.when),
+        (Some(oldest), Entry::Report(_)) => oldest < u64::from(delay_of(packet)),
         _ => false,
+    }
+}
+
+// Acct-Delay-Time in seconds, 0 if there is none.
+fn delay_of(packet: &Packet<'_>) -> u32
+    ensures { result ≡ count_at ACCT_DELAY_TIME packet.now.attributes }
+{
+    match packet.attributes.first(ACCT_DELAY_TIME) {
+        Some(value) => word_of(value).unwrap_or(0),
+        None => 0,
     }
 }
 

@@ -46,6 +46,26 @@ fn reports_of_any_age_are_taken_without_a_guard(rt: HostRuntime) -> Result<(), F
     Ok(())
 }
 
+// A clock that lags behind the delay: the report's own moment is 0 then, and says nothing.
+static LAGS: [(u32, u32, Outcome); 4] = [
+    (50, 100, SHORT_REPLY),
+    (50, 101, TOO_OLD),
+    (0, 101, TOO_OLD),
+    (101, 101, TOO_OLD),
+];
+
+#[test]
+fn a_clock_that_lags_lets_no_older_report_through(rt: HostRuntime) -> Result<(), Fail> {
+    let mut site = guarded(rt.alloc())?;
+    for (place, (now, delay, outcome)) in LAGS.iter().enumerate() {
+        assert!(rt;
+            report_at(&mut site, *now, place as u8, *delay)? == *outcome,
+            "{place}"
+        );
+    }
+    Ok(())
+}
+
 // The book is not asked of a report that is too old: the one call that it refuses is still left for
 // the next report.
 #[test]
@@ -93,6 +113,11 @@ fn guarded(alloc: Global) -> Result<Site, Fail> {
 
 // What becomes of a report of the session with this number that comes so late.
 fn report(site: &mut Site, number: u8, delay: u32) -> Result<Outcome, Fail> {
+    report_at(site, NOW, number, delay)
+}
+
+// The same at another moment.
+fn report_at(site: &mut Site, now: u32, number: u8, delay: u32) -> Result<Outcome, Fail> {
     let attributes: [(u8, &[u8]); 6] = [
         (40, &[0, 0, 0, 3]),
         (44, &[b's', number]),
@@ -101,5 +126,5 @@ fn report(site: &mut Site, number: u8, delay: u32) -> Result<Outcome, Fail> {
         (42, &[0, 16, 0, 1]),
         (41, &delay.to_be_bytes()),
     ];
-    site.ask_with(NOW, number, &attributes)
+    site.ask_with(now, number, &attributes)
 }

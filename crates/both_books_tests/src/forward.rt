@@ -400,6 +400,7 @@ fn carries_many<B: Book>(alloc: Global, plans: &Plans, book: &mut B) -> Result<b
     Ok(
         (tally.carried, tally.recent, others) == (1_089, 11, 11)
             && lines.as_slice() == b"(down) 726000\n(up) 2178000\n".as_slice()
+            && book.keys_of(b"al")?.len() == 13
             && book.balance(b"al")? == before,
     )
 }

@@ -13,11 +13,13 @@ use Rattle.acct_model.specs.Forward.{Batch, sessions_in, CarriesForward, forward
 use Rattle.acct_book.specs.declared.book.Book.{Ghosts}
 use Rattle.acct_book.specs.declared.key.Key.{Key}
 use Rattle.acct_book.specs.Row.{RowFacts}
-use Rattle.acct_book.specs.Rows.{name_of}
+use Rattle.acct_book.specs.Rows.{name_of, row_of}
 use Rattle.acct_book.specs.Content.{Content, same_key, key_of, IsNone}
 use Rattle.acct_book.specs.Maps.{key_cmp}
 use Rattle.acct_book.specs.Stands.{Stands}
-use Rattle.acct_book_forward.specs.Carrying.{SelectionFacts, is_line, stay_of}
+use Rattle.acct_book_forward.specs.Carrying.{SelectionFacts, is_line, stay_of, with_stay, HasRoom}
+use Rattle.acct_book_forward.specs.Carrying.{IsBare}
+use Rattle.acct_book_forward.specs.declared.forwarding.Tally.{Tally}
 use Rattle.acct_book.specs.Next.{report_key, next_row}
 
 -- ---- what a report carries
@@ -73,6 +75,7 @@ pub record IsCarriedBy (plans : List Plan) (content : Content) (gone : List Key)
   pub keys : List Key
   pub are : gone ≡ key ∷ keys
   pub carries : CarriesRows plans content.rows key keys report
+  pub bare : IsBare carries.plan report
   pub into : row ≡ next_row plans (content.rows (report_key report)) report
 
 -- some report does so
@@ -87,6 +90,7 @@ pub record IsForward (plan : Plan) (account : List ℕ) (rows : List RowFacts)
   pub key : report_key report ≡ into
   pub user : report.user ≡ account
   pub class : report.class ≡ plan.class
+  pub bare : IsBare plan report
   pub blocks : ℕ
   pub holds : IsInto plan account plan.class found blocks
   pub raised : counted plan report.input report.output
@@ -141,7 +145,11 @@ pub record IsAfter (plans : List Plan) (history : History) (gone : List Key) (co
     : Type 0 where
   pub batch : Batch
   pub line : is_line batch.report.client ≡ true
+  pub bare : (plan : Plan) → plan_for plans batch.report.class ≡ Some plan
+      → IsBare plan batch.report
   pub are : names_of gone ≡ sessions_in batch
+  pub own : (key : Key) → Contains gone key
+      → (row : RowFacts) × (row_of plans history key ≡ Some row) × (row.account ≡ batch.report.user)
   pub carries : CarriesForward plans history batch.name batch.names batch.report
   pub stands : Stands plans content (forwarded history (sessions_in batch) batch.report)
 
@@ -161,3 +169,8 @@ pub record CarriesInto {B E : Type 0} (b : Ghosts B) (plans : List Plan) (gone :
       → b.left old c
       ⊎ (b.is_open old × ((history : History) → Stands plans (b.content old) history
       → IsAfter plans history gone c))
+
+-- The tally counts the row under this key too, if there is one and the tally has room.
+abbrev pub IsCounted : Content → SelectionFacts → Key → Tally → Tally → Type 0
+IsCounted content selection key old new = (row : RowFacts) → content.rows key ≡ Some row
+    → HasRoom old → new ≡ with_stay (stay_of selection row) old

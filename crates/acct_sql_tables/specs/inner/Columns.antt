@@ -5,8 +5,13 @@ use Rattle.sqlite.specs.declared.types.Value.TheVariants.{Int, Blob}
 use Rattle.sqlite.specs.Order.{Row}
 use Rattle.sqlite_value.specs.Order.{bytes}
 use Rattle.acct_model.specs.declared.plan.Plan.{Plan}
+use Rattle.acct_book.specs.declared.key.Key.{Key}
 use Rattle.acct_sql_tables.specs.Columns.{int_in}
 use Rattle.acct_sql_tables.specs.Make.{mode_of}
+
+-- the key of a session by its columns
+abbrev pub key_in_columns : (ℕ → Value) → Key
+key_in_columns at = record { client = bytes (at 0); session = bytes (at 1) }
 
 -- an account and its balance by their columns
 abbrev pub account_in_columns : (ℕ → Value) → List ℕ × ℤ

@@ -1,12 +1,11 @@
 use Rattle.std.proofs.Common.{◌^◌, ◌<◌, arith, rules, refl}
-use Rattle.acct_model.specs.Plans.{started_blocks}
-use Rattle.acct_model.proofs.Blocks.{price_fits, price-le, IsLeastBlocks-started}
+use Rattle.acct_model.proofs.Blocks.{price_fits, price-le}
 use Rattle.acct_model.proofs.plan.price.Goals as goal
 
 pub overflow_mul-result : goal.overflow_mul-result
 overflow_mul-result c =
     let small : c.args.plan.now.unit < 2 ^ 64 = search rules in
-    rw (c.from-2.ensures, c.from-block.ensures, c.from.ensures)
+    rw (c.blocks-2.ensures.exact, c.from.ensures)
     (omega (
       arith,
       price_fits c.args.plan.now.unit c.args.plan.now.block c.args.octets c.requires
@@ -15,12 +14,12 @@ overflow_mul-result c =
 
 pub returns-clause-least : goal.returns-clause-least
 returns-clause-least c = (
-  started_blocks c.args.plan.now.block c.args.octets,
-  IsLeastBlocks-started c.args.plan.now.block c.args.octets c.requires,
-  rw (c.from-2.ensures, c.from-block.ensures, c.from.ensures) refl,
+  c.blocks-2.result,
+  c.blocks-2.ensures.least,
+  rw c.from.ensures refl,
 )
 
 pub returns-clause-most : goal.returns-clause-most
 returns-clause-most c =
-    rw (c.from-2.ensures, c.from-block.ensures, c.from.ensures)
+    rw (c.blocks-2.ensures.exact, c.from.ensures)
     (price-le c.args.plan.now.unit c.args.plan.now.block c.args.octets c.requires)

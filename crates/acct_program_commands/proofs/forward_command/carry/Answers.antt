@@ -4,12 +4,12 @@ use Rattle.acct_program_commands.proofs.forward_command.carry.Goals as goal
 
 pub returns-then-carrying : goal.returns-then-carrying
 returns-then-carrying g c =
-    forwards_looked g.B.Book c.args.plans.now c.args.carrying.now c.args.moment c.args.book.now
-    c.args.book.now _ (looks_none g.B.Book c.args.book.now) c.requires.answers
+    forwards_looked g.B.Book c.args.plans.now c.args.carrying.now c.args.clock.moment c.args.clock.written_at
+    c.args.book.now c.args.book.now _ (looks_none g.B.Book c.args.book.now) c.requires.answers
 
 pub returns : goal.returns
 returns g c =
-    forwards_carried g.B.Book c.args.plans.now c.args.carrying.now c.args.moment
-    c.args.selection.now c.args.book.now c.carry_all.new.book c.carry_all.result
+    forwards_carried g.B.Book c.args.plans.now c.args.carrying.now c.args.clock.moment
+    c.args.clock.written_at c.args.selection.now c.args.book.now c.carry_all.new.book c.carry_all.result
     c.if-carrying.false c.requires.selected c.requires.far c.requires.timely
     c.carry_all.ensures

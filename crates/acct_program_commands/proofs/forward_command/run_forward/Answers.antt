@@ -5,7 +5,8 @@ use Rattle.acct_program_commands.proofs.forward_command.run_forward.Goals as goa
 pub returns-in_err-totals-clause-forwards : goal.returns-in_err-totals-clause-forwards
 returns-in_err-totals-clause-forwards g c =
     let b = g.B.Book in
-    forwards_then b c.args.plans.now c.args.carrying.now c.args.moment c.args.book.now
+    forwards_then b c.args.plans.now c.args.carrying.now c.args.clock.moment
+    c.args.clock.written_at c.args.book.now
     c.survey.new.book c.carry.new.book c.carry.result _ c.survey.ensures.looks
     c.in_ok-found.ensures.answers c.carry.ensures
     (λ sound. not_ok _ _ (b.is_open c.carry.new.book) c.from_residual-in_err-totals.ensures.1)
@@ -13,7 +14,8 @@ returns-in_err-totals-clause-forwards g c =
 pub returns-in_err-write_totals-clause-forwards : goal.returns-in_err-write_totals-clause-forwards
 returns-in_err-write_totals-clause-forwards g c =
     let b = g.B.Book in
-    forwards_then b c.args.plans.now c.args.carrying.now c.args.moment c.args.book.now
+    forwards_then b c.args.plans.now c.args.carrying.now c.args.clock.moment
+    c.args.clock.written_at c.args.book.now
     c.survey.new.book c.carry.new.book c.carry.result _ c.survey.ensures.looks
     c.in_ok-found.ensures.answers c.carry.ensures
     (λ sound. not_ok _ _ (b.is_open c.carry.new.book) c.from_residual-in_err-write_totals.ensures.1)
@@ -21,7 +23,8 @@ returns-in_err-write_totals-clause-forwards g c =
 pub returns-in_err-flush-clause-forwards : goal.returns-in_err-flush-clause-forwards
 returns-in_err-flush-clause-forwards g c =
     let b = g.B.Book in
-    forwards_then b c.args.plans.now c.args.carrying.now c.args.moment c.args.book.now
+    forwards_then b c.args.plans.now c.args.carrying.now c.args.clock.moment
+    c.args.clock.written_at c.args.book.now
     c.survey.new.book c.carry.new.book c.carry.result _ c.survey.ensures.looks
     c.in_ok-found.ensures.answers c.carry.ensures
     (λ sound. not_ok _ _ (b.is_open c.carry.new.book) c.from_residual-in_err-flush.ensures.1)
@@ -29,7 +32,8 @@ returns-in_err-flush-clause-forwards g c =
 pub returns-clause-forwards : goal.returns-clause-forwards
 returns-clause-forwards g c =
     let b = g.B.Book in
-    forwards_then b c.args.plans.now c.args.carrying.now c.args.moment c.args.book.now
+    forwards_then b c.args.plans.now c.args.carrying.now c.args.clock.moment
+    c.args.clock.written_at c.args.book.now
     c.survey.new.book c.carry.new.book c.carry.result _ c.survey.ensures.looks
     c.in_ok-found.ensures.answers c.carry.ensures
     c.in_ok-totals.ensures.carries.answers

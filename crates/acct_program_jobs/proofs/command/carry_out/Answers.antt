@@ -33,8 +33,9 @@ returns-in-Import-clause-does g c = rw (c.in-Import.is, c.told-in-Import.ensures
 
 pub returns-in-Forward-clause-does : goal.returns-in-Forward-clause-does
 returns-in-Forward-clause-does g c = rw (c.in-Forward.is, c.told-in-Forward.ensures.same) (
-  c.moment_of-moment-in-Forward.result,
-  c.moment_of-moment-in-Forward.ensures,
+  c.read_clock-clock.result.moment,
+  c.read_clock-clock.result.written_at,
+  c.read_clock-clock.ensures,
   rw c.new-forward.ensures at c.work_on-in-Forward.ensures.does,
 )
 

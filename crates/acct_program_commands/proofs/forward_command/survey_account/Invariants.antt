@@ -1,0 +1,13 @@
+use Rattle.std.specs.Prelude.{IsTrue, ◌⊎◌}
+use Rattle.acct_book.specs.Step.{OnlyLooks}
+use Rattle.acct_program_commands.specs.Forwarding.{IsHeardIn}
+use Rattle.acct_program_commands.proofs.forward_command.survey_account.Given as goal
+
+-- the calls so far only read, and a session was heard of lately if one is said to be
+abbrev pub invariant-loop-key : goal.invariant-loop-key
+invariant-loop-key g l = record {
+  looks : OnlyLooks g.B.Book l.fn.book l.book;
+  answers : g.B.Book.is_sound l.book → g.B.Book.is_open l.book;
+  heard : g.B.Book.is_open l.book → IsTrue l.seen.is_heard
+      → IsTrue l.fn.is_heard ⊎ IsHeardIn (g.B.Book.content l.fn.book) l.fn.task.moment;
+}
