@@ -316,6 +316,7 @@ class FreeRadius:
             "radacctd/settings.conf": self.settings(book, settings),
             "radacctd/kept": text_of("kept"),
             "radacctd/attributes": text_of("attributes"),
+            "radacctd/readers": text_of("readers"),
             "radacctd/queue.pl": text_of("queue.pl"),
             "radacctd/logins.pl": text_of("logins.pl"),
             "mods-enabled/radacctd": text_of("modules"),

@@ -2,11 +2,12 @@
 
 import csv
 import hashlib
-import importlib.util
+import importlib
 import os
 import random
 import socket
 import subprocess
+import sys
 import time
 import types
 
@@ -169,11 +170,8 @@ def by_last_balances(radius, path, text):
 
 def names_of_the_tools():
     """The module of the rule that radacctd's tools have."""
-    path = os.path.join(front.ROOT, "etc", "radacctl", "names.py")
-    spec = importlib.util.spec_from_file_location("names_of_the_tools", path)
-    module = importlib.util.module_from_spec(spec)
-    spec.loader.exec_module(module)
-    return module
+    sys.path.insert(0, os.path.join(front.ROOT, "etc"))
+    return importlib.import_module("radacctl.names")
 
 
 # Octets of which names are made at random: parts of characters, marks, white space.

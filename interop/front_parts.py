@@ -418,13 +418,30 @@ class Answering(threading.Thread):
         self.opened.close()
 
 
+# An access server that takes CoA-Requests, on a site without packages.
+WITH_COA = f"""
+client with-coa {{
+	ipaddr = 127.0.2.9
+	secret = {SECRET}
+	radacctd_cut = yes
+	radacctd_coa = yes
+}}
+home_server cut-127.0.2.9 {{
+	type = coa
+	ipaddr = 127.0.2.9
+	secret = {SECRET}
+}}
+"""
+
+
 @part
 def cut(folder):
     """An overdrawn session is disconnected, once in each pause."""
     # Acknowledges each Disconnect-Request.
-    port = Answering("127.0.2.1", 3799, 41)
+    port, with_coa = (Answering(it, 3799, 41) for it in ("127.0.2.1", "127.0.2.9"))
     port.start()
-    with both(folder, settings=[("cut_pause", "6")]) as (book, radius):
+    with_coa.start()
+    with both(folder, settings=[("cut_pause", "6")], clients=WITH_COA) as (book, radius):
         book.sell("al", 20, "V-1")
         use = lambda octets, plan="gold", more=(), name="ap1": radius.reports(
             name, report("Interim-Update", "K-1", "al", octets * MEBIBYTE, more, plan)
@@ -452,7 +469,11 @@ def cut(folder):
         waits_for("another session is cut off", lambda: len(port.got), 3)
         check("by its id, whatever it looks like", attribute(44, b"0x1a2b") in port.got[2], True)
         check("an access server without a home_server is answered", use(3, name="ap2"), True)
+        check("one that takes CoA-Requests is answered", use(3, name="127.0.2.9"), True)
+        waits_for("and cuts off all the same", lambda: len(with_coa.got), 1)
+        check("by a Disconnect-Request", with_coa.got[0][0], 40)
     port.end()
+    with_coa.end()
 
 
 def mirrored(radius, account):

@@ -52,9 +52,8 @@ def debians_own(folder):
 
 
 def page_login(steps):
-    """The lines that the page puts into post-auth."""
-    found = re.search(r"(?m)^ +update reply \{(?:.|\n)*?^ +radacctd_login$", steps)
-    return found[0] + "\n"
+    """The line that the page puts into post-auth."""
+    return re.search(r"(?m)^ +radacctd_login$", steps)[0] + "\n"
 
 
 def edited(raddb, name, one, other):
@@ -79,6 +78,7 @@ def stock(folder):
 
 # By the outer name nobody pays.
 OUTER = "somebody-else"
+ACCESS_SERVER = "127.0.2.1"
 SUPPLICANT = """network={{
 	ssid="tried"
 	key_mgmt=WPA-EAP
@@ -102,6 +102,28 @@ ATTRIBUTE = re.compile(r"Attribute \d+ \((User-Name|Class|Vendor-Specific)\).*\n
 TOTAL = "00003a8c1106"
 
 
+def moved(radius):
+    """Lets a configuration of Debian's write into a folder, as the user of the test."""
+    folder = radius.folder
+    own = [
+        ("logdir = /var/log/freeradius", f"logdir = {folder}/log"),
+        ("run_dir = ${localstatedir}/run/${name}", f"run_dir = {folder}/run"),
+        ("\tuser = freerad\n", ""),
+        ("\tgroup = freerad\n", ""),
+    ]
+    for one, other in own:
+        edited(radius.raddb, "radiusd.conf", one, other)
+
+
+def without_listen(raddb):
+    """Debian's virtual servers without their ports."""
+    for name in (DEFAULT, INNER):
+        path = os.path.join(raddb, name)
+        with open(path, encoding="utf-8") as file:
+            text = file.read()
+        front.written(path, re.sub(r"(?m)^listen \{$(.|\n)*?^\}$", "", text))
+
+
 class Stock:
     """FreeRADIUS with Debian's configuration and the page's steps, at ports of its own."""
 
@@ -111,24 +133,13 @@ class Stock:
         self.log, self.process = os.path.join(folder, "out"), None
         for name in ("log", "run", "log/radacct"):
             os.makedirs(os.path.join(folder, name))
-        own = [
-            ("logdir = /var/log/freeradius", f"logdir = {folder}/log"),
-            ("run_dir = ${localstatedir}/run/${name}", f"run_dir = {folder}/run"),
-            ("\tuser = freerad\n", ""),
-            ("\tgroup = freerad\n", ""),
-        ]
-        for one, other in own:
-            edited(raddb, "radiusd.conf", one, other)
+        moved(self)
         self.ports()
         self.users()
 
     def ports(self):
         """Listens at its own port alone."""
-        for name in (DEFAULT, INNER):
-            path = os.path.join(self.raddb, name)
-            with open(path, encoding="utf-8") as file:
-                text = file.read()
-            front.written(path, re.sub(r"(?m)^listen \{$(.|\n)*?^\}$", "", text))
+        without_listen(self.raddb)
         listen = LISTEN.format(kind="auth", family="ipaddr", address="127.0.0.1", port=self.port)
         listen = listen.replace("type =", "virtual_server = default\n\t\ttype =", 1)
         front.written(os.path.join(self.raddb, "sites-enabled", "port"), listen)
@@ -149,12 +160,14 @@ class Stock:
         with open(path, encoding="utf-8") as file:
             text = file.read()
         text = re.sub(r"(?m)^\tmirror = .*$", f"\tmirror = {mirror}", text)
+        text = re.sub(r"(?m)^\tclass = .*$", '\tclass = "gold"', text)
         # The balances are written once, and must not grow old on a slow machine.
         front.written(path, re.sub(r"(?m)^\toldest = .*$", "\toldest = 86400", text))
         balances, plans = (os.path.join(self.folder, name) for name in ("b.csv", "plans.csv"))
         rows = f"al,105,0\n{SPACED},55,0\npoor,9,0\n{OUTER},1000000,0\n"
         front.written(balances, "account,balance,overrun\n" + rows)
         plan = f"gold,{MEBIBYTE},10,both\ndefault,{MEBIBYTE},1000,both\n"
+        plan += f"free,{MEBIBYTE},0,both\n"
         front.written(plans, "class,block,unit,count\n" + plan)
         words = [os.path.join(FILES, "balances-mirror"), balances, plans, mirror]
         subprocess.run(words, check=True)
@@ -180,16 +193,16 @@ class Stock:
         """Waits until FreeRADIUS has written a text."""
         front.waits_for(name, lambda: text in self.said(), True, PATIENCE)
 
-    def login(self, name, eap, inner, outer=OUTER):
+    def login(self, name, eap, inner, outer=OUTER, source=ACCESS_SERVER):
         """The name, the Class and the quota of an Access-Accept, or None."""
-        return self.tries(SUPPLICANT.format(eap=eap, inner=inner, name=name, outer=outer))
+        return self.tries(SUPPLICANT.format(eap=eap, inner=inner, name=name, outer=outer), source)
 
-    def tries(self, settings):
+    def tries(self, settings, source=ACCESS_SERVER):
         """The same by the settings of a supplicant."""
         path = os.path.join(self.folder, "supplicant.conf")
         front.written(path, settings)
         words = ["eapol_test", "-c", path, "-a", "127.0.0.1", "-p", str(self.port), "-r0"]
-        words += ["-t", str(PATIENCE), "-A", "127.0.2.1", "-s", SECRET]
+        words += ["-t", str(PATIENCE), "-A", source, "-s", SECRET]
         done = subprocess.run(words, capture_output=True, text=True)
         text = done.stdout[done.stdout.rfind("RADIUS message: code=") :]
         if done.returncode or not text.startswith("RADIUS message: code=2"):
@@ -207,6 +220,7 @@ def tunnels(folder):
     if shutil.which("eapol_test") is None:
         raise Missing("eapol_test: the package eapoltest has it")
     radius = Stock(folder, debians_own(folder))
+    front.written(os.path.join(radius.raddb, "proxy.conf"), REALM)
     try:
         radius.start()
         by_steps(radius)
@@ -216,6 +230,8 @@ def tunnels(folder):
         radius.start()
         got = [radius.login("al", *method) for method in METHODS]
         check("without the step in the inner tunnel: refused", got, len(METHODS) * [None])
+        got = [radius.login("poor", *method, "al@campus.example") for method in METHODS]
+        check("by a realm that is stripped, too", got, len(METHODS) * [None])
         reason = "radacctd_login is missing in the inner tunnel"
         radius.says("with a reason", reason)
         front.written(os.path.join(radius.raddb, INNER), kept)
@@ -259,6 +275,13 @@ def other_settings(radius):
             check(f"use_tunneled_reply = {setting}, {' '.join(method)}", got, wanted)
         check("a name that ends with a space", radius.login("al ", *METHODS[0]), None)
         radius.says("is refused with a reason", "cannot be charged")
+    # Debian's inner tunnel gives the outer login its whole reply by this.
+    edited(radius.raddb, INNER, "\n\tif (0) {\n", "\n\tif (1) {\n")
+    radius.start()
+    for method in METHODS:
+        got = radius.login(SPACED, *method)
+        wanted = ([SPACED], [stamped(SPACED)], [5 * MEBIBYTE])
+        check(f"with all of the tunnel's reply, {' '.join(method)}: one Class", got, wanted)
 
 
 CERTIFIED = """network={{
@@ -271,8 +294,10 @@ CERTIFIED = """network={{
 }}
 """
 # Whose certificate, the names that it has besides, and by which name the login is: whether it is one.
+REALM = "realm campus.example {\n}\n"
 CERTIFICATES = [
     ("al", "email:a@example.org", "al", True),
+    ("poor", "email:p@example.org", "al@campus.example", False),
     ("poor", "email:p@example.org", "al", False),
     ("somebody", "email:al", "al", True),
     ("somebody", "DNS:example.org,email:al2", "al", False),
@@ -316,6 +341,7 @@ def certificates(folder):
         if shutil.which(tool) is None:
             raise Missing(f"{tool}: the package {package} has it")
     radius = Stock(folder, debians_own(folder))
+    front.written(os.path.join(radius.raddb, "proxy.conf"), REALM)
     words = ["req", "-x509", "-newkey", "rsa:2048", "-nodes", "-days", "2", "-subj", "/CN=Authority"]
     openssl(folder, *words, "-keyout", "ca.key", "-out", "ca.pem")
     path = os.path.join(radius.raddb, "mods-available/eap")

@@ -1,5 +1,6 @@
 """FreeRADIUS' folder: which of its files are radacctd's, and what is written in the others."""
 
+import ipaddress
 import os
 import re
 
@@ -10,6 +11,7 @@ OURS = {
     "radacctd/queue.pl": "queue.pl",
     "radacctd/logins.pl": "logins.pl",
     "radacctd/attributes": "attributes",
+    "radacctd/readers": "readers",
     "radacctd/kept-sessions": "kept-sessions",
     "radacctd/balances-mirror": "balances-mirror",
     "radacctd/front-counts": "front-counts",
@@ -23,6 +25,8 @@ SETTINGS = ("settings.conf", "access-servers.conf", "kept")
 UNITS = ("radacctd-mirror.service", "radacctd-front.service", "radacctd-clock.service",
          "radacctd-clock.timer")
 CLIENT = re.compile(r"(?m)^\s*client\s+(\S+)\s*\{((?:[^{}]|\{[^{}]*\})*)\}")
+LISTEN = re.compile(r"(?m)^\s*listen\s*\{((?:[^{}]|\{[^{}]*\})*)\}")
+SERVER = re.compile(r"(?m)^\s*server\s+([\w.-]+)\s*\{")
 HOME_SERVER = re.compile(r"(?m)^\s*home_server\s+(\S+)\s*\{((?:[^{}]|\{[^{}]*\})*)\}")
 
 
@@ -45,6 +49,12 @@ def value(block, name):
     return (found[1] if found[1] is not None else found[2]) if found else ""
 
 
+def first_word(block):
+    """The first module or policy that a section calls, whatever condition it is in."""
+    bare = re.sub(r"\b(?:if|elsif)\s*\(.*\)\s*\{|\belse\s*\{", " ", block)
+    return next(iter(bare.split()), "")
+
+
 def section(text_of_site, name):
     """What a section of a virtual server has between its braces, or ""."""
     found = re.search(rf"(?m)^[ \t]*{name}[ \t]*\{{", text_of_site)
@@ -56,6 +66,92 @@ def section(text_of_site, name):
         if depth == 0:
             return text_of_site[begin:at]
     return ""
+
+
+def enabled():
+    """The site's own files of sites-enabled, as FreeRADIUS reads them."""
+    folder = path("sites-enabled")
+    found = sorted(os.listdir(folder)) if os.path.isdir(folder) else []
+    return [it for it in found if re.fullmatch(r"[A-Za-z0-9_-][A-Za-z0-9._-]*", it)
+            and not it.startswith("radacctd")]
+
+
+def file_of(server):
+    """The name in sites-enabled of the file that has a virtual server, or None."""
+    found = [it for it in enabled() if server in SERVER.findall(text("sites-enabled", it))]
+    return next(iter(found), None)
+
+
+def tunnels():
+    """The files of the virtual servers that PEAP and TTLS log in by."""
+    eap = text("mods-enabled", "eap")
+    if not re.search(r"(?m)^\s*(?:peap|ttls)\s*\{", eap):
+        return []
+    names = set(re.findall(r'(?m)^\s*virtual_server\s*=\s*"?([\w.-]+)', eap))
+    return sorted({it for it in map(file_of, names) if it})
+
+
+def serving(*kinds):
+    """The files of the virtual servers that take logins or reports of access servers."""
+    found = set()
+    for name in enabled():
+        for block in LISTEN.findall(text("sites-enabled", name)):
+            server = value(block, "virtual_server")
+            if value(block, "type") in (*kinds, "auth+acct"):
+                found.add(file_of(server) if server else name)
+    return sorted(it for it in found - set(tunnels()) if it)
+
+
+def selling():
+    """Those of them that radacctd's lines are in, or all if none has them."""
+    found = serving("auth", "acct") or ["default"]
+    return [it for it in found if re.search(r"(?m)^\s*radacctd_(?:login|accounting)\b",
+                                            text("sites-enabled", it))] or found
+
+
+def included(name="radiusd.conf"):
+    """The files that radiusd.conf includes one by one, and those that they include: clients.conf."""
+    found = []
+    for line in re.findall(r"(?m)^\s*-?\$INCLUDE\s+(\S+)", text(name)):
+        inner = line.replace("${confdir}/", "").replace("${raddbdir}/", "")
+        is_own = not inner.startswith(("/", "radacctd/")) and not inner.endswith("/")
+        if is_own and "$" not in inner and os.path.isfile(path(inner)):
+            found += [inner, *included(inner)]
+    return list(dict.fromkeys(found))
+
+
+def network(name, block):
+    """The addresses of a client, or None if they cannot be told: a host's name, say."""
+    found = value(block, "ip(?:v4|v6)?addr") or name
+    mask = value(block, "netmask")
+    try:
+        return ipaddress.ip_network(f"{found}/{mask}" if mask else found.replace("*", "0.0.0.0/0"),
+                                    strict=False)
+    except ValueError:
+        return None
+
+
+def other_clients():
+    """The site's own clients: file, name, addresses and text of each."""
+    return [(file, name, network(name, block), block)
+            for file in included() for name, block in blocks(CLIENT, file)]
+
+
+def client_at(address):
+    """The client that the site has for these addresses in a file of its own: file, name, text."""
+    wanted = ipaddress.ip_network(address)
+    return next(((file, name, block) for file, name, it, block in other_clients()
+                 if it == wanted), None)
+
+
+def end_of_block(text_of_file, begin):
+    """Where a block ends whose brace is before `begin`. Those of comments and texts do not count."""
+    depth = 1
+    for found in re.finditer(r'(?<!\S)#[^\n]*|"(?:[^"\\\n]|\\.)*"|[{}]', text_of_file[begin:]):
+        depth += {"{": 1, "}": -1}.get(found[0], 0)
+        if depth == 0:
+            return begin + found.start()
+    return len(text_of_file)
 
 
 def settings():

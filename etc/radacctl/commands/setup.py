@@ -1,7 +1,8 @@
 """Sets a site up, or completes it, and shows that it works.
 
-    radacctl setup [--dry-run] [--yes] [FILE]
+    radacctl setup [--dry-run] [--yes] [--new-book] [FILE]
     radacctl setup --sample
+    radacctl setup --remove [--dry-run] [--yes]
 
 FILE has the answers, as TOML; without it they are asked. --sample prints such a file. It says what
 it will change, and asks; --yes asks nothing, and --dry-run changes nothing. Run it as root.
@@ -16,18 +17,24 @@ next to it as NAME~before-DATE-TIME, with the same owner and mode. Plans, secret
 there stay. It writes what to type at each access server, and the passwords of cashiers, into
 /root/radacctd-setup, for root alone.
 
+A site that had a book, and has none now, gets no empty one, in which nobody has money: setup names
+the last copy, and changes nothing. --new-book makes an empty one.
+
+--remove takes FreeRADIUS' part out again, before the package is removed, say: its lines, links and
+units. It waits until radacctd has all queued reports. FreeRADIUS and its clients stay, and radacctd
+with its book.
+
 It ends with 0 if all is done, with 1 if not, which it says, and with 2 for a bad command line or a
 wrong answer.
 """
 
-import fcntl
 import os
 import sys
 
 from radacctl import files, program, site
 from radacctl.commands import doctor
 from radacctl.doctor import copies
-from radacctl.setup import alone, answers, clerk, devices, front, pair, proof, sql, steps, web
+from radacctl.setup import alone, answers, away, clerk, devices, front, pair, proof, sql, steps, web
 
 SAMPLE = """\
 name = "Hotel Example"              # on pages and printed vouchers
@@ -53,9 +60,16 @@ unit = 1
 [[access_server]]
 name = "lobby"
 address = "10.0.0.1"
-vendor = "mikrotik"                 # or unifi, pfsense, openwrt, other
+vendor = "mikrotik"                 # or unifi, pfsense, openwrt, aruba, cisco, other
 
-# Users of a PostgreSQL database with FreeRADIUS' own tables, in place of a file.
+# FreeRADIUS also serves others: clients of its own whose logins are left alone, and your realms.
+# left_out = ["switches", "eduroam-proxy"]
+# realms = ["campus.example"]
+
+# virtual_servers = ["default"]      # those that you sell by, if several take logins
+
+# Users of a PostgreSQL database with FreeRADIUS' own tables, in place of a file. If mods-enabled/sql
+# is there, it stays as it is. With accounting = true FreeRADIUS goes on writing radacct.
 # [sql]
 # server = "db.example.org"
 # password_file = "/root/radius-password"
@@ -74,7 +88,9 @@ def parser():
     it = program.parser(__doc__)
     it.add_argument("--dry-run", action="store_true")
     it.add_argument("--yes", action="store_true")
+    it.add_argument("--new-book", action="store_true")
     it.add_argument("--sample", action="store_true")
+    it.add_argument("--remove", action="store_true")
     it.add_argument("file", nargs="?", metavar="FILE")
     return it
 
@@ -105,8 +121,7 @@ def confirmed(words):
         return True
     if not sys.stdin.isatty() and words.file:
         program.fail("nobody is there to answer: give --yes")
-    print("Do this? [y/N] ", end="", flush=True)
-    return sys.stdin.readline().strip().lower() in ("y", "yes", "j", "ja")
+    return program.is_yes("Do this?")
 
 
 def is_done(step):
@@ -124,10 +139,13 @@ def show(found):
 
 def do(words, wanted):
     """Installs what is missing, does each step that is not done, and shows that the site works."""
+    alone.refuse_if_lost(words.new_book)
     packages = alone.packages(packages_of(wanted))
     config = alone.Config(wanted)
     found = [it for it in [packages, *steps_of(wanted, config)] if not is_done(it)]
     last = proof.Proof(wanted, config)
+    for line in web.others(wanted):
+        print(line)
     if not found and last.is_done():
         print("nothing is to be done")
         return 0
@@ -149,6 +167,21 @@ def do(words, wanted):
     return doctor.main([])
 
 
+def remove(words):
+    """Takes FreeRADIUS' part out again."""
+    if not away.is_there():
+        print("nothing is to be done")
+        return
+    print("This is to be done:")
+    for it in away.listed():
+        print(f"  - {it}")
+    if words.dry_run:
+        return
+    if not words.yes and not confirmed(words):
+        program.fail("nothing was done")
+    away.remove()
+
+
 def first_copy():
     """The copy of the first night, now: until there is one, a lost disk loses all."""
     if not any(copies.NAME.fullmatch(it) for it in names_in(site.BACKUPS)):
@@ -162,10 +195,8 @@ def names_in(folder):
 
 def locked():
     """One set-up at a time. The lock ends with this process."""
-    handle = os.open(LOCK, os.O_RDWR | os.O_CREAT | os.O_NOFOLLOW | os.O_CLOEXEC, 0o600)
-    try:
-        fcntl.flock(handle, fcntl.LOCK_EX | fcntl.LOCK_NB)
-    except BlockingIOError:
+    handle = files.open_lock(LOCK)
+    if not files.is_locked(handle):
         program.fail("another set-up is going on")
     return handle
 
@@ -178,13 +209,16 @@ def main(words):
     if os.geteuid() != 0:
         program.fail("be root")
     os.umask(0o077)
+    if words.remove and words.file:
+        program.fail("--remove takes no file", 2)
     try:
-        wanted = answers.read(words.file) if words.file else answers.asked()
+        wanted = None if words.remove else (
+            answers.read(words.file) if words.file else answers.asked())
     except answers.Wrong as why:
         program.fail(why, 2)
     lock = locked()
     try:
-        do(words, wanted)
+        remove(words) if words.remove else do(words, wanted)
     except (steps.Failed, site.Missing, OSError) as why:
         program.say(f"{why}\nWhat is done stays. Mend it, and give the same again.")
         return 1

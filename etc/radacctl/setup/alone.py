@@ -6,17 +6,15 @@ import re
 import secrets
 import tomllib
 
-from radacctl import desk, files, names, site
-from radacctl.commands import key
-from radacctl.doctor.book import plans_in
+from radacctl import configuration, desk, files, names, plans, site
+from radacctl.doctor import copies
 from radacctl.setup import steps
 from radacctl.setup.steps import Command, File, Folder, Fresh
 
-BOOKS_SECRET = "/etc/radacctd-books.secret"
-REDEEM_KEY = "/etc/radacctd-redeem.key"
 FRONT_PORT = "11813"
-PLANS = f"{os.path.dirname(site.BALANCES)}/plans.csv"
 NOTES = "/root/radacctd-setup"
+# The mark of a set-up that ended well.
+PROVED = f"{NOTES}/proved"
 HEAD = """\
 # The site: who reports, what the plans cost, who may use the desk. `radacctl setup` wrote it, and
 # only adds to it. Change it by radacctl edit; man radacctd.toml has the rules.
@@ -81,11 +79,11 @@ class Config:
         """The cashiers' keys of the front desk and the tools, and of printed codes."""
         known = [it["token"] for it in self.found.get("key", []) if it.get("cashier") is True]
         found = {}
-        for name, path in (("cashier", desk.CASHIER_KEY), ("redeem", REDEEM_KEY)):
+        for name, path in (("cashier", desk.CASHIER_KEY), ("redeem", site.REDEEM_KEY)):
             key = files.text(path).split("\n")[0].strip()
             if key not in known:
                 # That of a run which was killed before it wrote the file, or a new one.
-                used = [*found.values(), files.text(REDEEM_KEY).strip()]
+                used = [*found.values(), files.text(site.REDEEM_KEY).strip()]
                 key = next((it for it in known if it not in used), None)
             if key is None:
                 key = self.answers.secrets.get(name) or f"{name}-{secrets.token_hex(16)}"
@@ -107,7 +105,7 @@ class ConfigFile(File):
     """The configuration: it takes its place only if it is right, while nobody else changes it."""
 
     def do(self):
-        with key.locked(self.path):
+        with configuration.locked(self.path):
             old, _ = self.found()
             if old is None or old == self.wanted(old):
                 super().do()
@@ -115,7 +113,7 @@ class ConfigFile(File):
             above, name = os.path.split(self.path)
             with files.opened_folder(above) as folder:
                 steps.keep(folder, name)
-            key.put_in_place(self.path, self.wanted(old).decode(), is_needed=True)
+            configuration.put_in_place(self.path, self.wanted(old).decode(), is_needed=True)
             # Owner and mode, if they were wrong.
             super().do()
 
@@ -146,9 +144,35 @@ def has_book():
     return os.path.exists(site.BOOK) and os.stat(site.BOOK).st_size >= 100
 
 
+def refuse_if_lost(is_new_wanted):
+    """A site that had a book gets no empty one, in which every guest has nothing, unless that is
+    wanted. Nor does one whose server still runs with a book that was removed.
+    """
+    if has_book():
+        return
+    steps.refuse_if_away()
+    copy = copies.last_good()
+    traces = [
+        (copy, f"the newest good copy is {copy}"),
+        (has_accounts(), f"{site.BALANCES} has accounts"),
+        (os.path.exists(PROVED), f"{PROVED} is there"),
+    ]
+    found = [text for is_there, text in traces if is_there]
+    if found and not is_new_wanted:
+        raise steps.Failed(
+            f"this site had a book, and {site.BOOK} is not there: {'; '.join(found)}. Put the book "
+            'back, or restore the copy: DAMAGE.md, "The book is missing". An empty book has no '
+            "balance of anybody; --new-book makes one")
+
+
+def has_accounts():
+    """Whether the balances have a line below their header."""
+    return len(files.text(site.BALANCES).splitlines()) > 1
+
+
 def plans_are_in(answers):
     """Whether the book keeps each plan."""
-    found = plans_in(PLANS)
+    found = plans.in_force()
     wanted = {names.shown(it["class"].encode()) for it in answers.plans} | {"debit"}
     return found is not None and wanted <= set(found)
 
@@ -208,7 +232,7 @@ def of(answers, config):
     yield ConfigFile(site.CONFIG, config.wanted, 0o640, of_group=site.USER)
     if answers.has_front:
         yield File(site.DEFAULTS, lambda old: defaults(old, answers), 0o644)
-    yield File(BOOKS_SECRET, config.clients["books"]["secret"] + "\n", 0o600)
+    yield File(site.BOOKS_SECRET, config.clients["books"]["secret"] + "\n", 0o600)
     # The outbox of a pair takes both; the first is that of the tools.
     keys = [config.keys[it] for it in (("cashier", "redeem") if answers.pair else ("cashier",))]
     yield File(desk.CASHIER_KEY, "".join(f"{it}\n" for it in keys), 0o600)
@@ -216,7 +240,7 @@ def of(answers, config):
     book = ("--config", site.CONFIG, "--db", site.BOOK)
     yield Command(f"make the book {site.BOOK}", has_book, site.program(), "init", *book)
     # Before a restart, which fails as long as a plan waits.
-    if plans_in(PLANS) is not None:
+    if plans.in_force() is not None:
         yield Plans(answers, book)
     yield Fresh("restart radacctd", ("radacctd.service",), [site.DEFAULTS])
     yield unit("radacctd.service")
@@ -237,6 +261,7 @@ class Plans:
         return plans_are_in(self.answers)
 
     def do(self):
+        steps.refuse_if_away()
         steps.given(["systemctl", "stop", "radacctd.service"])
         try:
             steps.given([site.program(), "plans", *self.book])

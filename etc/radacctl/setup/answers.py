@@ -11,7 +11,7 @@ import tomllib
 from radacctl import names
 from radacctl.money import MOST_DECIMALS
 
-VENDORS = ("mikrotik", "unifi", "pfsense", "openwrt", "other")
+VENDORS = ("mikrotik", "unifi", "pfsense", "openwrt", "aruba", "cisco", "other")
 HOST = re.compile(r"(?=.{1,253}$)[a-z0-9]([a-z0-9-]*[a-z0-9])?(\.[a-z0-9]([a-z0-9-]*[a-z0-9])?)+")
 NAME = re.compile(r"[A-Za-z0-9_][A-Za-z0-9._-]{0,31}")
 LARGEST_BLOCK, LARGEST_UNIT = 9_007_199_254_740_992, 1_000_000_000
@@ -20,13 +20,14 @@ TOP = {
     "name": "", "freeradius": True, "server": "", "host": "", "certificate": "",
     "certificate_key": "", "currency": "", "decimals": 2, "cashiers": [], "codes": True,
     "front_desk": [], "class": "", "packages": False, "desk_guests": [], "desk_corrections": [],
-    "operators": [], "plan": None,
+    "operators": [], "left_out": [], "realms": [], "virtual_servers": [],
+    "plan": None,
     "access_server": [], "pair": {}, "secrets": {}, "sql": {},
 }  # fmt: skip
 PLAN = {"class": None, "block": None, "unit": None, "count": "both"}
-PAIR = {"own": None, "other": None}
+PAIR = {"own": None, "other": None, "second": False}
 SQL = {"server": "localhost", "port": 5432, "database": "radius", "login": "radius",
-       "password_file": None}
+       "accounting": False, "password_file": None}
 ACCESS_SERVER = {"name": None, "address": None, "vendor": "other"}
 # Plans, names and addresses that setup or Debian's FreeRADIUS has itself.
 TAKEN = ("debit",)
@@ -146,6 +147,8 @@ class Answers:
         self.clerks = {"guests": it["desk_guests"], "corrections": it["desk_corrections"],
                        "operators": it["operators"]}
         self.has_clerk = any(self.clerks.values())
+        self.left_out, self.realms = it["left_out"], it["realms"]
+        self.virtual_servers = it["virtual_servers"]
         need(isinstance(it["plan"], list), "`plan` is written as [[plan]]", "plan")
         self.plans = tables(it["plan"], plan_of)
         self.access_servers = tables(it["access_server"], lambda each, number: access_server_of(
@@ -167,12 +170,20 @@ class Answers:
             self.test_once(self.access_servers, "access_server", "access servers", key)
         need(0 <= self.decimals <= MOST_DECIMALS, f"decimals is 0 to {MOST_DECIMALS}", "decimals")
         for name, value in self.secrets.items():
-            need(isinstance(value, str) and re.fullmatch(r"[A-Za-z0-9-]{16,128}", value),
+            # A client that a site had before may have any.
+            form = r'[^"\\\s]{1,128}' if name.startswith("client-") else "[A-Za-z0-9-]{16,128}"
+            need(isinstance(value, str) and re.fullmatch(form, value),
                  f"secrets: {name} is no secret of a set-up", "secrets", 0, name)
         need(self.has_front or not self.has_packages, "packages need FreeRADIUS in front",
              "packages")
         need(not (self.pair and self.has_packages), "packages are not for a pair of machines",
              "packages")
+        for name in ("left_out", "realms", "virtual_servers"):
+            for value in getattr(self, name):
+                need(isinstance(value, str) and re.fullmatch(r"[A-Za-z0-9._:-]{1,253}", value),
+                     f"{name} is a list of names, each of letters, digits and . _ : -", name)
+            need(self.has_front or not getattr(self, name), f"{name} needs FreeRADIUS in front",
+                 name)
         if self.pair:
             self.test_pair()
         if self.sql:
@@ -187,8 +198,8 @@ class Answers:
 
     def test_pair(self):
         need(self.has_front, "a pair has FreeRADIUS in front", "freeradius")
-        for name, value in self.pair.items():
-            it = network_of(value, f"[pair]: {name}", "pair", 0, name)
+        for name in ("own", "other"):
+            it = network_of(self.pair[name], f"[pair]: {name}", "pair", 0, name)
             need(it.version == 4 and it.num_addresses == 1, f"[pair]: {name} is an address of IPv4",
                  "pair", 0, name)
         need(self.pair["own"] != self.pair["other"], "[pair]: both machines have one address",
@@ -208,8 +219,8 @@ class Answers:
         """Who may do more than sell is a cashier of the page."""
         need(self.host or not self.has_clerk,
              "desk_guests, desk_corrections and operators need `host`", "host")
-        need(not (self.pair and self.has_clerk), "no cashier of a pair of machines may do more than "
-             "sell", "desk_guests")
+        need(not (self.pair and self.has_clerk),
+             "no cashier of a pair of machines may do more than sell", "desk_guests")
         for member, right in (("desk_guests", "guests"), ("operators", "operators")):
             need(self.has_packages or not self.clerks[right], f"{member} needs packages = true",
                  member)

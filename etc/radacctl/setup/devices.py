@@ -55,6 +55,42 @@ uci set wireless.@wifi-iface[0].dae_port=3799
 uci set wireless.@wifi-iface[0].dae_secret='{secret}'
 uci commit wireless; wifi reload
 """
+ARUBA = """\
+# ArubaOS, for {name}: these lines of its configuration, as its manual names them. Not tried here.
+# It takes no quota: who overdraws is disconnected at port 3799.
+aaa authentication-server radius "radacctd"
+    host {server}
+    key {secret}
+aaa server-group "radacctd"
+    auth-server radacctd
+aaa rfc-3576-server {server}
+    key {secret}
+aaa timers stats-timeout {interval}
+# In the aaa profile of your network:
+    dot1x-server-group "radacctd"
+    radius-accounting "radacctd"
+    radius-interim-accounting
+    rfc-3576-server "{server}"
+{garden}"""
+ARUBA_GARDEN = "# In the role before the login, what may be reached: {host}\n"
+CISCO = """\
+! Cisco IOS XE, for {name}: these lines of its configuration, as its manual names them. Not tried
+! here. It takes no quota: who overdraws is disconnected at port 1700.
+radius server radacctd
+ address ipv4 {server} auth-port 1812 acct-port 1813
+ key {secret}
+aaa group server radius radacctd
+ server name radacctd
+aaa accounting gigawords
+aaa accounting delay-start
+aaa accounting update newinfo periodic {interval}
+aaa accounting network default start-stop group radacctd
+aaa accounting identity default start-stop group radacctd
+aaa server radius dynamic-author
+ client {server} server-key {secret}
+ port 1700
+{garden}"""
+CISCO_GARDEN = "! In the list of what may be reached before a login: {host}\n"
 OTHER = """\
 {name}, as its own manual names these:
     RADIUS server {server}, authentication port 1812, accounting port 1813
@@ -67,6 +103,7 @@ OTHER = """\
 TEXTS = {
     "mikrotik": (MIKROTIK, MIKROTIK_GARDEN), "unifi": (UNIFI, UNIFI_GARDEN),
     "pfsense": (PFSENSE, PFSENSE_GARDEN), "openwrt": (OPENWRT, ""),
+    "aruba": (ARUBA, ARUBA_GARDEN), "cisco": (CISCO, CISCO_GARDEN),
     "other": (OTHER, "what may be reached without a login: {host}"),
 }  # fmt: skip
 
@@ -93,7 +130,7 @@ class Text:
 
     def __call__(self, _):
         if self.answers.has_front:
-            secret = front.secret_of(self.device["name"])
+            secret = front.secret_of(self.device["name"], self.device["address"])
         else:
             secret = self.config.clients[self.device["name"]]["secret"]
         return text_of(self.device, self.answers, secret)

@@ -1,30 +1,37 @@
 """The steps to FreeRADIUS in front of radacctd."""
 
 import contextlib
+import hashlib
 import ipaddress
+import os
 import re
 import secrets
 
 from radacctl import files, freeradius, site
 from radacctl.setup import packages, pair, sql, steps
 from radacctl.setup.alone import Command, File, Folder, secret, unit
-from radacctl.setup.steps import Fresh, Link
+from radacctl.setup.steps import Fresh, Link, Trial
 
 PACKAGES = ["freeradius", "freeradius-utils"]
 INCLUDES = "$INCLUDE radacctd/settings.conf\n$INCLUDE radacctd/access-servers.conf\n"
 # The account of the proof at the end, and where its login and its report come from.
 TEST_USER, TEST_ADDRESS = "radacctd-setup", "127.0.0.8"
-QUOTAS = {"mikrotik": "mikrotik", "pfsense": "pfsense", "openwrt": "none", "unifi": "none",
-          "other": "none"}
-CUTS = ("mikrotik", "unifi", "pfsense", "openwrt")
-CUT_PORT = {"openwrt": 3799, "mikrotik": 3799, "unifi": 3799, "pfsense": 3799}
+# By vendor: the attributes of a quota, what a Class has, and the port for Disconnect-Requests.
+QUOTAS = {"mikrotik": "mikrotik", "pfsense": "pfsense"}
+# A router that begins its ids anew at a boot.
+STAMPS = {"mikrotik": "login"}
+CUT_PORT = {"openwrt": 3799, "mikrotik": 3799, "unifi": 3799, "pfsense": 3799, "aruba": 3799,
+            "cisco": 1700}
+LINES = """\
+	radacctd_quota = {quota}
+	radacctd_cut = {cut}
+	radacctd_stamp = {stamp}
+"""
 CLIENT = """\
 client {name} {{
 	{kind} = {address}
 	secret = {secret}
-	radacctd_quota = {quota}
-	radacctd_cut = {cut}
-	radacctd_stamp = name
+""" + LINES + """\
 }}
 """
 BOOKS = """\
@@ -54,7 +61,39 @@ MARK = "# radacctl setup:"
 
 
 def of(answers, config):
-    """The steps, in their order."""
+    """The steps, in their order. What FreeRADIUS reads is tried in a copy before."""
+    found = list(parts(answers, config))
+    inside = sorted(filter(is_inside, found), key=rank)
+    yield Trial(inside)
+    yield from inside
+    yield from (it for it in found if not is_inside(it))
+    yield member(site.RADIUS_USER)
+    yield Command("let systemd read its units", is_reloaded, "systemctl", "daemon-reload")
+    yield from parts_running()
+    yield running(inside)
+    for name in ("radacctd-mirror.service", "radacctd-front.service", "radacctd-clock.timer",
+                 "freeradius.service"):
+        yield unit(name)
+    if answers.has_packages:
+        yield unit(packages.UNIT)
+    if answers.sql:
+        yield from sql.after(answers)
+
+
+def is_inside(step):
+    return getattr(step, "path", "").startswith(site.RADDB + "/")
+
+
+def rank(step):
+    """A FreeRADIUS that starts between two steps finds all that its files name."""
+    place = os.path.relpath(step.path, site.RADDB)
+    order = ("radacctd", "radiusd.conf", "mods-enabled", "policy.d", "sites-enabled/radacctd")
+    found = [at for at, it in enumerate(order) if place.startswith(it)]
+    return found[0] if found else len(order) if place.startswith("sites-") else 0
+
+
+def parts(answers, config):
+    """What is to be in FreeRADIUS' folder, and next to it."""
     raddb = freeradius.path
     yield Folder(raddb("radacctd"), 0o750, of_group=site.RADIUS_USER)
     for place, own in freeradius.OURS.items():
@@ -62,15 +101,21 @@ def of(answers, config):
     for name in freeradius.UNITS:
         yield Link(f"/etc/systemd/system/{name}", site.shared("freeradius", name))
     book_secret = config.clients["freeradius"]["secret"]
-    yield of_group(raddb("radacctd", "settings.conf"), lambda old: settings(old, book_secret))
+    yield of_group(raddb("radacctd", "settings.conf"),
+                   lambda old: settings(old, answers, book_secret))
     books = config.clients["books"] if answers.pair else None
     yield of_group(raddb("radacctd", "access-servers.conf"),
                    lambda old: clients(old, answers, books))
+    placed = (freeradius.client_at(it["address"]) for it in answers.access_servers)
+    for name in sorted({it[0] for it in placed if it}):
+        yield File(raddb(name), lambda old, name=name: with_lines(old, name, answers))
     kept = files.sample("freeradius", "kept")
     yield of_group(raddb("radacctd", "kept"), lambda old: kept if old is None else old)
     yield File(raddb("radiusd.conf"), lambda old: main(old, answers))
-    yield File(raddb("sites-available/default"), lambda old: default(old, answers))
-    yield File(raddb("sites-available/inner-tunnel"), lambda old: inner(old, answers))
+    for path in outer(answers):
+        yield File(path, lambda old, path=path: default(old, answers, path))
+    for path in tunnels():
+        yield File(path, lambda old, path=path: inner(old, answers, path))
     yield File(raddb("mods-config/files/authorize"), users)
     if answers.sql:
         yield from sql.of(answers)
@@ -80,15 +125,30 @@ def of(answers, config):
         yield from pair.in_front(answers, config)
     if answers.has_packages:
         yield from packages.of(answers)
-    yield member(site.RADIUS_USER)
-    yield Command("let systemd read its units", is_reloaded, "systemctl", "daemon-reload")
-    yield from parts_running()
-    yield running()
-    for name in ("radacctd-mirror.service", "radacctd-front.service", "radacctd-clock.timer",
-                 "freeradius.service"):
-        yield unit(name)
-    if answers.has_packages:
-        yield unit(packages.UNIT)
+
+
+def outer(answers):
+    """The files of the virtual servers that the site sells by."""
+    found = answers.virtual_servers or freeradius.serving("auth", "acct") or ["default"]
+    if len(found) > 1 and not answers.virtual_servers:
+        raise steps.Failed(f"several virtual servers take logins or reports: {', '.join(found)}. "
+                           "Name those that you sell by: virtual_servers = [..]")
+    return [place_of(it) for it in found]
+
+
+def tunnels():
+    return [place_of(it) for it in freeradius.tunnels() or ["inner-tunnel"]]
+
+
+def place_of(name):
+    """The file of a virtual server: what its name in sites-enabled leads to."""
+    path = freeradius.path("sites-enabled", name)
+    if not os.path.lexists(path):
+        return freeradius.path("sites-available", name)
+    found = os.path.realpath(path)
+    if not found.startswith(os.path.realpath(site.RADDB) + "/"):
+        raise steps.Failed(f"{path} leads to {found}: do steps 6 and 7 of FREERADIUS.md there")
+    return found
 
 
 def of_group(path, change):
@@ -107,10 +167,25 @@ def is_reloaded():
     return all("LoadState=loaded" in it and "NeedDaemonReload=no" in it for it in found)
 
 
-def settings(old, book_secret):
-    """settings.conf with radacctd's secret; what a site has changed in it stays."""
+def settings(old, answers, book_secret):
+    """settings.conf with the answers and radacctd's secret; what a site has changed in it stays."""
     text = old or files.sample("freeradius", "settings.conf")
-    return re.sub(r"(?m)^(\tsecret = ).*$", lambda it: it[1] + book_secret, text, count=1)
+    text = with_value(text, "secret", book_secret)
+    text = with_value(text, "class", f'"{answers.usual_class}"')
+    for name, found in (("left_out", answers.left_out), ("realms", answers.realms)):
+        if found:
+            text = with_value(text, name, f'"{" ".join(found)}"')
+    return text
+
+
+def with_value(text, name, value):
+    """settings.conf in which a name has this value. One of an earlier version lacks some names."""
+    line = f"\t{name} = {value}\n"
+    found = re.search(rf"(?m)^\t{name} = .*\n", text)
+    if found:
+        return text[: found.start()] + line + text[found.end() :]
+    end = text.rstrip().rfind("}")
+    return text[:end] + line + text[end:]
 
 
 def clients(old, answers, books=None):
@@ -124,14 +199,73 @@ def clients(old, answers, books=None):
         if it["name"] in known:
             test_address(it, known[it["name"]])
             continue
-        is_one = "/" not in it["address"]
-        cut = "yes" if it["vendor"] in CUTS and is_one and it is not test else "no"
-        own = secret(answers, f"client-{it['name']}")
-        kind = "ipaddr" if it["version"] == 4 else "ipv6addr"
-        values = {**it, "secret": own, "quota": QUOTAS[it["vendor"]], "cut": cut, "kind": kind}
-        text = text.rstrip("\n") + "\n\n" + CLIENT.format(**values)
-        if cut == "yes":
-            text += HOME.format(port=CUT_PORT[it["vendor"]], **values)
+        values = {**it, **lines_of(it, test)}
+        there = freeradius.client_at(it["address"])
+        if there:
+            values["secret"] = quoted(freeradius.value(there[2], "secret"))
+        else:
+            test_name(it)
+            own = covering(it) or secret(answers, f"client-{it['name']}")
+            kind = "ipaddr" if it["version"] == 4 else "ipv6addr"
+            values |= {"secret": quoted(own), "kind": kind}
+            text = text.rstrip("\n") + "\n\n" + CLIENT.format(**values)
+        if values["cut"] == "yes" and not is_cut(it["address"], text):
+            text = text.rstrip("\n") + "\n" + HOME.format(port=CUT_PORT[it["vendor"]], **values)
+    return text
+
+
+def lines_of(it, test=None):
+    is_one = "/" not in it["address"]
+    cut = "yes" if it["vendor"] in CUT_PORT and is_one and it is not test else "no"
+    stamp = "name" if it is test else STAMPS.get(it["vendor"], "name")
+    return {"quota": QUOTAS.get(it["vendor"], "none"), "cut": cut, "stamp": stamp}
+
+
+def quoted(own):
+    return own if re.fullmatch(r"[A-Za-z0-9._-]+", own) else f'"{own}"'
+
+
+def is_cut(address, text):
+    """Whether a home_server takes Disconnect-Requests there already."""
+    found = [*freeradius.HOME_SERVER.findall(freeradius.without_comments(text))]
+    found += [it for file in freeradius.included()
+              for it in freeradius.blocks(freeradius.HOME_SERVER, file)]
+    return any(freeradius.value(block, "type") == "coa" and address == freeradius.value(
+        block, "ip(?:v4|v6)?addr") for _, block in found)
+
+
+def covering(wanted):
+    """The secret that these addresses have now, as a part of a network: it stays theirs."""
+    addresses = ipaddress.ip_network(wanted["address"])
+    found = [(it.prefixlen, freeradius.value(block, "secret"))
+             for _, _, it, block in freeradius.other_clients()
+             if it and it.version == addresses.version and addresses.subnet_of(it)]
+    return max(found)[1] if found else None
+
+
+def test_name(wanted):
+    for file, name, found, _ in freeradius.other_clients():
+        if name == wanted["name"]:
+            raise steps.Failed(f"{file} has the client {name} with the address {found}, not "
+                               f"{wanted['address']}: change one of both")
+
+
+def with_lines(old, file, answers):
+    """A file of the site's own clients: those that are access servers get what radacctd reads."""
+    text = there(old, file)
+    for it in answers.access_servers:
+        found = freeradius.client_at(it["address"])
+        if not found or found[0] != file:
+            continue
+        if freeradius.value(found[2], "radacctd") == "no":
+            raise steps.Failed(f"{file}: the client {found[1]} has radacctd = no, and the file of "
+                               "answers has it as an access server")
+        begun = re.search(rf"(?m)^\s*client\s+{re.escape(found[1])}\s*\{{", text)
+        lacking = [line for line in LINES.format(**lines_of(it)).splitlines(True)
+                   if not freeradius.value(found[2], line.split()[0])]
+        end = freeradius.end_of_block(text, begun.end()) if begun else 0
+        if end and lacking:
+            text = text[:end].rstrip(" \t\n") + "\n" + "".join(lacking) + text[end:]
     return text
 
 
@@ -144,13 +278,15 @@ def test_address(wanted, block):
                                f"address {found}, not {wanted['address']}: change one of both")
 
 
-def secret_of(name):
+def secret_of(name, address=None):
     """The secret that FreeRADIUS has with an access server."""
     found = freeradius.blocks(freeradius.CLIENT, "radacctd", "access-servers.conf")
-    secret = freeradius.value(dict(found).get(name, ""), "secret")
-    if not secret:
+    own = freeradius.value(dict(found).get(name, ""), "secret")
+    there = freeradius.client_at(address) if address and not own else None
+    own = own or (freeradius.value(there[2], "secret") if there else "")
+    if not own:
         raise steps.Failed(f"access-servers.conf has no secret of {name}")
-    return secret
+    return own
 
 
 def main(old, answers):
@@ -172,49 +308,47 @@ def there(old, name):
     return old
 
 
-def within(text, section, first):
-    """A virtual server whose section begins with these lines."""
-    found = re.search(rf"(?m)^[ \t]*{section}[ \t]*\{{[^\n]*\n", text)
-    if not found:
-        raise steps.Failed(f"a virtual server has no section {section}: FREERADIUS.md, step 6")
-    return text[: found.end()] + first + text[found.end() :]
+# What an earlier version wrote in the place of the line radacctd_login: the plan is in settings.conf
+# now, because a login that is left alone has none.
+WITH_CLASS = re.compile(
+    rf'[ \t]*{MARK} who pays[^\n]*\n\tupdate reply {{\n\t\t&Class = "[^"\n]*"\n\t}}\n'
+)
 
 
-def login(answers):
-    lines = f"\t{MARK} who pays, and by which plan\n\tupdate reply {{\n"
-    return lines + f'\t\t&Class = "{answers.usual_class}"\n\t}}\n\tradacctd_login\n'
-
-
-def with_class(text, answers):
-    """A virtual server whose block of the set-up has the usual class of the answers."""
-    block = rf'({re.escape(MARK)} who pays[^\n]*\n\tupdate reply {{\n\t\t&Class = )"[^"\n]*"'
-    return re.sub(block, lambda it: f'{it[1]}"{answers.usual_class}"', text)
-
-
-def lacks(text, section, word):
-    return word not in freeradius.section(freeradius.without_comments(text), section).split()
-
-
-def default(old, answers):
-    """The server default: reports are queued, logins are asked for their balance."""
-    text = there(old, "sites-available/default")
-    if answers.sql:
+def default(old, answers, path=None):
+    """The server default: reports are queued, logins are asked for their balance. A file that is
+    as Debian made it takes names with a space, too.
+    """
+    text = there(old, path or "sites-available/default")
+    is_new = is_debians(path, text)
+    if answers.sql and not answers.sql["accounting"]:
         text = sql.without_sql(text)
-    if lacks(text, "accounting", "radacctd_accounting"):
-        text = within(text, "accounting", "\tradacctd_accounting\n")
-    text = with_login(text, answers)
+    text = with_login(steps.begun(text, "accounting", "radacctd_accounting"), is_new)
     return packages.default(text) if answers.has_packages else text
 
 
-def inner(old, answers):
-    text = with_login(there(old, "sites-available/inner-tunnel"), answers)
+def inner(old, answers, path=None):
+    text = there(old, path or "sites-available/inner-tunnel")
+    # As in the server around it.
+    has_filter = [is_debians(it, files.text(it)) or "radacctd_filter" in files.text(it)
+                  for it in outer(answers)]
+    text = with_login(text, is_debians(path, text) and all(has_filter))
     return packages.inner(text) if answers.has_packages else text
 
 
-def with_login(text, answers):
-    if lacks(text, "post-auth", "radacctd_login"):
-        text = within(text, "post-auth", login(answers))
-    text = with_class(text, answers)
+def is_debians(path, text):
+    """Whether a file is as Debian's package made it: then the filter of names is not the site's."""
+    found = hashlib.md5(text.encode("utf-8", "surrogateescape")).hexdigest()
+    words = ["dpkg-query", "-W", "-f", "${Conffiles}\n", "freeradius-config"]
+    with contextlib.suppress(steps.Failed):
+        return f" {path} {found}" in steps.given(words)
+    return False
+
+
+def with_login(text, is_new):
+    text = WITH_CLASS.sub("", steps.begun(text, "post-auth", "radacctd_login"))
+    if not is_new:
+        return text
     return re.sub(r"(?m)^(\s*)filter_username\b", r"\1radacctd_filter", text, count=1)
 
 
@@ -232,16 +366,15 @@ def password():
     return found[1] if found else None
 
 
-def running():
+def running(inside):
     """FreeRADIUS runs with the files as they are, which it has tested."""
     parts = ("radacctd/balances-mirror", "radacctd/front-counts", "radacctd/kept-sessions")
     paths = [freeradius.path(it) for it in freeradius.OURS if it not in parts]
     more = ("pair.conf", "packages.conf")
     paths += [freeradius.path("radacctd", it) for it in (*freeradius.SETTINGS, *more)]
     paths += [freeradius.path(it) for it in packages.OURS]
-    paths += [freeradius.path(it) for it in (
-        "radiusd.conf", "sites-available/default", "sites-available/inner-tunnel",
-        "mods-config/files/authorize", "sites-enabled/radacctd-pair", "mods-enabled/sql")]
+    paths += [freeradius.path(it) for it in ("sites-enabled/radacctd-pair", "mods-enabled/sql")]
+    paths += [it.path for it in inside if isinstance(it, File)]
     test = ("freeradius", "-C", "-l", "stdout")
     return Fresh("test FreeRADIUS' configuration, and restart it", ("freeradius.service",), paths,
                  test)

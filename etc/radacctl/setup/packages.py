@@ -9,7 +9,8 @@ from radacctl.setup import steps
 from radacctl.setup.steps import Command, File, Folder, Link
 
 # Each file of radacctd's: its place in FreeRADIUS' folder, and its own.
-OURS = {"mods-enabled/radacctd-packages": "modules", "policy.d/radacctd-packages": "policy"}
+OURS = {"mods-enabled/radacctd-packages": "modules", "policy.d/radacctd-packages": "policy",
+        "sites-enabled/radacctd-packages": "server"}
 INCLUDE = "$INCLUDE radacctd/packages.conf\n"
 UNIT = "radacctd-packages.timer"
 # A database that was put back revives nobody, not even until the timer's next turn.
@@ -38,6 +39,9 @@ SAMPLE = """\
 # from = "first use"          # or sale; or until = "2026-12-31T12:00" in place of both
 # down = 20000                # kbit/s
 # up = 5000
+# slow.down = 512             # once the money is used, in place of the end
+# slow.up = 128
+# slow.plan = "slow"          # a plan that costs nothing
 """
 # In each server: the section, the line at its beginning, and the word that it has then.
 FIRST = {"authorize": "radacctd_packages", "post-auth": "radacctd_packages_right"}
@@ -80,16 +84,6 @@ def are_made():
     return True
 
 
-def begun(text, section, line):
-    """A virtual server whose section begins with a line, unless it has it."""
-    if line in freeradius.section(freeradius.without_comments(text), section).split():
-        return text
-    found = re.search(rf"(?m)^[ \t]*{section}[ \t]*\{{[^\n]*\n", text)
-    if not found:
-        raise steps.Failed(f"a virtual server has no section {section}: PACKAGES.md")
-    return f"{text[: found.end()]}\t{line}\n{text[found.end():]}"
-
-
 def behind(text, word, line):
     """A virtual server that has a line behind another one, unless it has it."""
     if re.search(rf"(?m)^[ \t]*{line}[ \t]*$", text):
@@ -102,12 +96,12 @@ def behind(text, word, line):
 
 def inner(text):
     for section, line in FIRST.items():
-        text = begun(text, section, line)
+        text = steps.begun(text, section, line)
     return text
 
 
 def default(text):
     text = behind(inner(text), "radacctd_login", "radacctd_packages_login")
-    text = begun(text, "Post-Auth-Type REJECT", "radacctd_packages_refused")
-    text = begun(text, "preacct", "radacctd_packages_name")
+    text = steps.begun(text, "Post-Auth-Type REJECT", "radacctd_packages_refused")
+    text = steps.begun(text, "preacct", "radacctd_packages_name")
     return behind(text, "radacctd_accounting", "radacctd_packages_report")

@@ -1,6 +1,8 @@
 """The steps to one machine of a pair, and the file of answers for the other one."""
 
+import hashlib
 import json
+import os
 import re
 
 from radacctl import desk, files, freeradius, names, site
@@ -8,7 +10,7 @@ from radacctl.setup import steps
 from radacctl.setup.alone import NOTES, Command, File, Folder, unit
 from radacctl.setup.steps import Fresh, Link
 
-OTHER = f"{NOTES}/other-machine.toml"
+OTHER, WRITTEN = f"{NOTES}/other-machine.toml", f"{NOTES}/other-machine.written"
 TOOLS = ("radacctd-outbox", "radacctd-compare")
 UNITS = ("radacctd-outbox.service", "radacctd-compare.service", "radacctd-compare.timer",
          "radacctd-state@.service")
@@ -25,7 +27,7 @@ def own(name):
 def test_book():
     """A book that has sold is not copied by a set-up."""
     try:
-        accounts = names.balances_of(files.text(site.BALANCES), site.BALANCES)
+        accounts = names.balances()
     except ValueError:
         return
     others = set(accounts) - {TEST}
@@ -77,8 +79,26 @@ def after(answers, config):
     # It fails as long as the other machine is not there.
     yield Command("compare both books once", has_balances, "systemctl", "start",
                   "radacctd-compare.service", may_fail=True)
-    if not answers.secrets:
-        yield File(OTHER, Text(answers, config), 0o600)
+    if not answers.secrets and not answers.pair["second"]:
+        yield Once(OTHER, Text(answers, config), 0o600)
+
+
+class Once(File):
+    """A file with secrets, which a person takes away: it is written again only if it is another."""
+
+    def mark(self):
+        return hashlib.sha256(self.wanted(None)).hexdigest() + "\n"
+
+    def is_done(self):
+        try:
+            is_written = files.text(WRITTEN) == self.mark()
+        except steps.Failed:
+            return False
+        return is_written and (super().is_done() or not os.path.lexists(self.path))
+
+    def do(self):
+        super().do()
+        File(WRITTEN, self.mark(), 0o600).do()
 
 
 def has_balances():
@@ -96,12 +116,14 @@ class Text:
         # Printed codes are redeemed on one machine.
         found |= {"codes": False, "certificate": "", "certificate_key": ""}
         pair = self.answers.pair
-        tables = {"pair": {"own": pair["other"], "other": pair["own"]}, "secrets": self.secrets()}
+        tables = {"pair": {"own": pair["other"], "other": pair["own"], "second": True},
+                  "secrets": self.secrets()}
         lists = {"plan": found.pop("plan"), "access_server": found.pop("access_server")}
         found.pop("pair", None)
         found.pop("secrets", None)
         lines = ["# The other machine of the pair: radacctl setup --yes with this file. It has",
-                 "# all secrets: remove it on both machines once that is done."]
+                 "# all secrets: once that is done, remove the first machine's, and the table",
+                 "# [secrets] of the other one's, which is for upgrades."]
         lines += [f"{name} = {shown(value)}" for name, value in found.items()]
         for name, rows in lists.items():
             lines += [line for row in rows for line in ("", f"[[{name}]]", *members(row))]
@@ -113,6 +135,9 @@ class Text:
         clients = freeradius.blocks(freeradius.CLIENT, "radacctd", "access-servers.conf")
         found = {f"client-{name}": freeradius.value(text, "secret") for name, text in clients
                  if name != "books"}
+        found |= {f"client-{it['name']}": freeradius.value(there[2], "secret")
+                  for it in self.answers.access_servers
+                  if (there := freeradius.client_at(it["address"]))}
         found |= {it: self.config.clients[it]["secret"] for it in ("freeradius", "books")}
         return found | self.config.keys | {"pair": self.config.pair_secret}
 
@@ -132,5 +157,3 @@ def desks(answers):
     text = files.sample("pair", "desks-outbox.conf")
     text = text.replace("10.0.0.5", "OWN").replace("10.0.0.6", answers.pair["other"])
     return text.replace("OWN", answers.pair["own"])
-
-

@@ -8,17 +8,16 @@ import contextlib
 import http.client
 import os
 import secrets
-import tempfile
 import time
 
 from radacctl import desk, files, names, site
 from radacctl.doctor import kind, look
-from radacctl.setup import front, steps
+from radacctl.setup import alone, front, steps
 
 ACCOUNT = front.TEST_USER
 # How long the balances, which are written each 10 seconds, may lack a change, in seconds.
 PATIENCE = 90
-DONE = "/root/radacctd-setup/proved"
+DONE = alone.PROVED
 
 
 class Proof:
@@ -77,10 +76,9 @@ class Proof:
 
     def balance(self):
         try:
-            found = names.balances_of(files.text(site.BALANCES), site.BALANCES)
+            return names.balances().get(ACCOUNT.encode())
         except ValueError:
             return None
-        return found.get(ACCOUNT.encode())
 
     def wait(self, wanted, what):
         """Waits until the balances, which FreeRADIUS reads, have this one."""
@@ -125,15 +123,9 @@ class Proof:
             self.wait(0, what)
 
     def client(self, port, act, lines):
-        """What radclient printed. The secret is in a file, and in no command line."""
-        address = front.TEST_ADDRESS
-        lines = [*lines, f"Packet-Src-IP-Address = {address}", "NAS-IP-Address = 127.0.0.8"]
-        with tempfile.TemporaryDirectory(dir="/run") as folder:
-            path = os.path.join(folder, "secret")
-            files.make(path, front.secret_of(front.TEST_USER).encode() + b"\n")
-            words = ["radclient", "-r", "2", "-t", "3", "-x", "-S", path, f"127.0.0.1:{port}", act]
-            # Its status is 1 if a login is refused, which may be what is wanted.
-            return look.run(*words, seconds=30, text="\n".join(lines) + "\n")[1]
+        address, secret = front.TEST_ADDRESS, front.secret_of(front.TEST_USER)
+        lines = [*lines, f"Packet-Src-IP-Address = {address}", f"NAS-IP-Address = {address}"]
+        return look.radclient(f"127.0.0.1:{port}", act, secret, lines, 3)
 
     def wait_for_login(self, wanted):
         said, end = "", time.monotonic() + PATIENCE

@@ -1,14 +1,22 @@
 """Users of a PostgreSQL database, in FreeRADIUS' own tables."""
 
+import os
 import re
+import tempfile
 
 from radacctl import files, freeradius, site
 from radacctl.setup import steps
+from radacctl.setup.alone import NOTES
 from radacctl.setup.steps import File
 
 PACKAGES = ["freeradius-postgresql", "postgresql-client"]
-MODULE = """\
-# Users and groups. `radacctl setup` wrote this file.
+OURS = "# Users and groups. `radacctl setup` wrote this file."
+ENDED = f"{NOTES}/radacct-ended"
+END = """\\set ON_ERROR_STOP on
+UPDATE radacct SET acctstoptime = coalesce(acctupdatetime, acctstarttime, now()),
+    acctterminatecause = 'radacctd' WHERE acctstoptime IS NULL;
+"""
+MODULE = OURS + """
 sql {{
 	dialect = "postgresql"
 	driver = "rlm_sql_${{dialect}}"
@@ -53,9 +61,16 @@ def password(path):
     return found
 
 
+def is_sites_own():
+    """Whether mods-enabled/sql is there, and no set-up made it: it stays as it is."""
+    path = freeradius.path("mods-enabled/sql")
+    return os.path.lexists(path) and (os.path.islink(path) or OURS not in files.text(path))
+
+
 def of(answers):
-    text = MODULE.format(password=password(answers.sql["password_file"]), **answers.sql)
-    yield File(freeradius.path("mods-enabled/sql"), text, 0o640, of_group=site.RADIUS_USER)
+    if not is_sites_own():
+        text = MODULE.format(password=password(answers.sql["password_file"]), **answers.sql)
+        yield File(freeradius.path("mods-enabled/sql"), text, 0o640, of_group=site.RADIUS_USER)
 
 
 def without_sql(text):
@@ -64,4 +79,40 @@ def without_sql(text):
     Usage is radacctd's. And if the database is down, reports are to be answered all the same.
     """
     inside = freeradius.section(text, "accounting")
-    return text.replace(inside, re.sub(r"(?m)^(\s*)-sql\b", r"\1# -sql", inside), 1)
+    return text.replace(inside, re.sub(r"(?m)^(\s*)(-?sql)[ \t]*$", r"\1# \2", inside), 1)
+
+
+def after(answers):
+    """Once FreeRADIUS no longer writes sessions into the database, those that are open stay so."""
+    if not answers.sql["accounting"]:
+        yield Ended()
+
+
+class Ended:
+    """Ends the sessions that radacct has as open: else each would count for Simultaneous-Use."""
+
+    def text(self):
+        return "end the sessions that the table radacct has as open"
+
+    def is_done(self):
+        dialect = freeradius.value(freeradius.text("mods-enabled", "sql"), "dialect")
+        return dialect != "postgresql" or os.path.exists(ENDED)
+
+    def do(self):
+        text = freeradius.text("mods-enabled", "sql")
+        names = {"-h": "server", "-p": "port", "-U": "login", "-d": "radius_db"}
+        found = {option: freeradius.value(text, name) for option, name in names.items()}
+        words = [it for option, value in found.items() if value for it in (option, value)]
+        password = re.sub(r"([:\\])", r"\\\1", freeradius.value(text, "password"))
+        with tempfile.TemporaryDirectory(dir="/run") as folder:
+            path = os.path.join(folder, "pgpass")
+            files.make(path, f"*:*:*:*:{password}\n".encode())
+            command = ["env", f"PGPASSFILE={path}", "PGCONNECT_TIMEOUT=20", "psql", "-wqX", *words]
+            try:
+                steps.given(command, text=END)
+            except steps.Failed as why:
+                # The site works without it.
+                print(f"the table radacct keeps its open sessions: {why}")
+                return
+        files.make(ENDED, b"")
+        files.sync_folder(os.path.dirname(ENDED))

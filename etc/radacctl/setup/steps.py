@@ -6,21 +6,24 @@ name of the same file, which no program reads. No name on a path is followed as 
 """
 
 import contextlib
+import copy
 import difflib
 import grp
 import os
 import pwd
 import re
+import shutil
 import stat
 import subprocess
 import time
 
-from radacctl import files
+from radacctl import files, freeradius, site
 from radacctl.doctor import look, machine
 
 # Lines that have a secret are not printed: one that is named so, or a line that is nothing else.
 SECRET = re.compile(r"secret|token|password|Desk-Key|^[+-][A-Za-z0-9-]{16,}$", re.I)
 MOST_LINES = 12
+TRIAL = "/run/radacctd-trial"
 
 
 class Failed(Exception):
@@ -228,6 +231,43 @@ class Command:
             raise Failed(f"{' '.join(self.words)}: it did not help: {said[-300:]}")
 
 
+class Trial:
+    """Does the steps to FreeRADIUS' folder in a copy of it, which FreeRADIUS tests: if that finds a
+    fault, nothing was changed.
+    """
+
+    def __init__(self, found):
+        self.steps = found
+
+    def text(self):
+        return "test FreeRADIUS with its new files, in a copy of its folder"
+
+    def is_done(self):
+        return all(it.is_done() for it in self.steps)
+
+    def do(self):
+        shutil.rmtree(TRIAL, ignore_errors=True)
+        os.mkdir(TRIAL, 0o700)
+        try:
+            raddb = os.path.join(TRIAL, "raddb")
+            given(["cp", "-a", site.RADDB, raddb])
+            os.chown(TRIAL, 0, group(site.RADIUS_USER))
+            os.chmod(TRIAL, 0o750)
+            moved = lambda old: re.sub(r"(?m)^(\s*raddbdir\s*=\s*).*$", rf"\g<1>{raddb}", old)
+            for it in self.steps:
+                one = copy.copy(it)
+                one.path = raddb + it.path.removeprefix(site.RADDB)
+                one.do()
+            File(os.path.join(raddb, "radiusd.conf"), moved).do()
+            try:
+                given(["freeradius", "-C", "-l", "stdout", "-d", raddb], seconds=60)
+            except Failed as why:
+                raise Failed(f"FreeRADIUS would not start with its new files, so none was changed. "
+                             f"{why}") from None
+        finally:
+            shutil.rmtree(TRIAL, ignore_errors=True)
+
+
 class Fresh:
     """Restarts units that began before one of their files changed, once a test of these is well."""
 
@@ -248,7 +288,26 @@ class Fresh:
     def do(self):
         if self.test:
             given(self.test, seconds=60)
+        if "radacctd.service" in self.units:
+            refuse_if_away()
         given(["systemctl", "restart", *self.units])
+
+
+def refuse_if_away():
+    """No server is stopped whose book is not where its name leads: that could lose it."""
+    given([site.part("book-is-there"), "radacctd.service", site.BOOK])
+
+
+def begun(text, section, word, lines=None):
+    """A virtual server whose section begins with a line of a word, or with more of it, unless the
+    section has the word.
+    """
+    if word in freeradius.section(freeradius.without_comments(text), section).split():
+        return text
+    found = re.search(rf"(?m)^[ \t]*{section}[ \t]*\{{[^\n]*\n", text)
+    if not found:
+        raise Failed(f"a virtual server has no section {section}: docs/FREERADIUS.md, step 6")
+    return text[: found.end()] + (lines or f"\t{word}\n") + text[found.end() :]
 
 
 def given(words, text=None, seconds=1800):

@@ -3,14 +3,13 @@
 import json
 import os
 import re
-import secrets
+import shlex
 import tempfile
 import time
 
-from radacctl import files, freeradius, money, site
-from radacctl.commands.key import LETTERS
+from radacctl import files, freeradius, money, site, stock
 from radacctl.setup import clerk, pair, steps
-from radacctl.setup.alone import NOTES, REDEEM_KEY, Command, File, Folder, is_known_group, unit
+from radacctl.setup.alone import NOTES, Command, File, Folder, is_known_group, unit
 from radacctl.setup.front import member
 from radacctl.setup.steps import Fresh, Link
 
@@ -19,7 +18,6 @@ CODES = ["fcgiwrap", "qrencode", "python3-reportlab", "fonts-dejavu-core"]
 FOLDER, CONF = "/etc/nginx/radacctd", "/etc/nginx/conf.d/radacctd.conf"
 CERTIFICATE, PRIVATE_KEY = "/etc/ssl/radacctd.pem", "/etc/ssl/private/radacctd.key"
 PASSWORDS = f"{NOTES}/cashiers.txt"
-PLANS = f"{os.path.dirname(site.BALANCES)}/plans.json"
 
 
 def of(answers, config):
@@ -40,7 +38,7 @@ def of(answers, config):
     yield File(f"{FOLDER}/cashiers", lambda old: old or "", 0o640, of_group=site.WEB_USER)
     yield File(CONF, lambda old: server(answers), 0o644)
     yield Folder("/etc/radacctd-web")
-    yield Link("/etc/radacctd-web/plans.json", PLANS)
+    yield Link("/etc/radacctd-web/plans.json", site.PLANS_JSON)
     yield File(money.SETTINGS, lambda old: settings(old, answers), 0o644)
     yield from logs()
     yield member(site.WEB_USER)
@@ -136,14 +134,23 @@ class Cashier:
 
     def do(self):
         found = re.search(rf"(?m)^{re.escape(self.name)} (\S+)$", files.text(PASSWORDS))
-        password = found[1] if found else "-".join(
-            "".join(secrets.choice(LETTERS) for _ in range(5)) for _ in range(4))
+        password = found[1] if found else "-".join(stock.letters(5) for _ in range(4))
         line = f"{self.name} {password}\n"
         notes = lambda old: old if line in (old or "") else with_line(old, line)
         write(File(PASSWORDS, notes, 0o600))
         made = steps.given(["htpasswd", "-niB", self.name], password).strip() + "\n"
         write(File(f"{FOLDER}/cashiers", lambda old: with_line(old, made), 0o640,
                    of_group=site.WEB_USER))
+
+
+def others(answers):
+    """What to say of cashiers whose login is there, and who are not in the answers."""
+    path = f"{FOLDER}/cashiers"
+    found = [it.partition(":")[0] for it in files.text(path).splitlines() if ":" in it]
+    for name in found if answers.host else []:
+        if name not in answers.cashiers and not name.startswith("#"):
+            yield (f"{name} may still log in at /desk/, and is not in `cashiers`. To end that: "
+                   f"htpasswd -D {path} {shlex.quote(name)}")
 
 
 def with_line(text, line):
@@ -170,12 +177,13 @@ def logs():
 
 def codes(config):
     """Printed codes: a user who has the stock, and a socket for nginx."""
-    user = "radacctd-redeem"
+    user = site.REDEEM_USER
     prefix = os.path.normpath(f"{site.INSTALLED}/../../lib/sysusers.d")
     yield Command(f"make the user {user}", lambda: is_known_group(user), "systemd-sysusers",
                   f"{prefix}/{user}.conf")
-    yield Folder("/var/lib/radacctd-vouchers", 0o750, of_group=user)
-    yield File(REDEEM_KEY, config.keys["redeem"] + "\n", 0o640, of_group=user)
+    for folder in (stock.FOLDER, os.path.dirname(stock.SECOND)):
+        yield Folder(folder, 0o750, of_group=user)
+    yield File(site.REDEEM_KEY, config.keys["redeem"] + "\n", 0o640, of_group=user)
     yield unit("radacctd-redeem.socket")
 
 

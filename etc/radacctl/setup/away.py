@@ -1,0 +1,180 @@
+"""The steps that take FreeRADIUS' part out again: FreeRADIUS serves on, as a server of logins.
+
+First the lines of the virtual servers, so that nobody is refused and nothing more is queued. Then,
+once radacctd has all that was queued, the readers of the queue and the rest.
+"""
+
+import os
+import re
+import time
+
+from radacctl import files, freeradius, site
+from radacctl.doctor import front as counts
+from radacctl.setup import front, packages, steps
+from radacctl.setup.steps import File, Trial
+
+# How long the queue may take until it is empty, in seconds.
+PATIENCE = 600
+LEFT = (f"{site.RADACCT}/radacctd*", "/var/lib/radacctd-front", "/var/lib/radacctd-sql",
+        f"{site.RADDB}/*~before-*")
+# The site's access servers, in FreeRADIUS' folder itself.
+CLIENTS = "access-servers.conf"
+
+
+class Gone(File):
+    """A file of radacctd's that is removed. One that a site has changed is kept next to it."""
+
+    def __init__(self, path):
+        super().__init__(path, "")
+
+    def text(self):
+        return f"remove {self.path}"
+
+    def is_done(self):
+        return not os.path.lexists(self.path)
+
+    def do(self):
+        above, name = os.path.split(self.path)
+        with files.opened_folder(above) as folder:
+            if not os.path.islink(self.path):
+                steps.keep(folder, name)
+            os.remove(name, dir_fd=folder)
+            os.fsync(folder)
+
+
+class Away(Gone):
+    """A folder that is kept under another name, with what the site has written there."""
+
+    def text(self):
+        return f"give {self.path} another name"
+
+    def do(self):
+        above, name = os.path.split(self.path)
+        with files.opened_folder(above) as folder:
+            new = f"{name}~before-{time.strftime('%Y%m%d-%H%M%S')}"
+            os.rename(name, new, src_dir_fd=folder, dst_dir_fd=folder)
+            os.fsync(folder)
+
+
+def lines_out(text):
+    """A virtual server without radacctd's lines. What a set-up made a comment is a line again."""
+    text = front.WITH_CLASS.sub("", text)
+    text = re.sub(r"(?m)^[ \t]*radacctd_(?:accounting|login|packages\w*)[ \t]*\n", "", text)
+    text = re.sub(r"(?m)^(\s*)radacctd_filter\b", r"\1filter_username", text)
+    inside = freeradius.section(text, "accounting")
+    return text.replace(inside, re.sub(r"(?m)^([ \t]*)# (-?sql)$", r"\1\2", inside), 1)
+
+
+def includes_out(text):
+    """radiusd.conf without radacctd's settings. The access servers stay FreeRADIUS' clients."""
+    text = re.sub(r"(?m)^[ \t]*\$INCLUDE[ \t]+\S*radacctd/(?:settings|pair|packages)\.conf[ \t]*\n",
+                  "", text)
+    return re.sub(r"(?m)^([ \t]*\$INCLUDE[ \t]+)\S*radacctd/access-servers\.conf[ \t]*$",
+                  rf"\g<1>{CLIENTS}", text)
+
+
+def own_clients_out(text):
+    """access-servers.conf without the clients that only radacctd has."""
+    for name in (front.TEST_USER, "books"):
+        found = re.search(rf"(?m)^client {name} \{{", text)
+        if found:
+            end = freeradius.end_of_block(text, found.end()) + 1
+            text = text[: found.start()].rstrip("\n") + "\n" + text[end:].lstrip("\n")
+    return text
+
+
+def test_user_out(text):
+    above = rf"(?:{front.MARK} the proof[^\n]*\n)?"
+    return re.sub(rf"(?m)^{above}{front.TEST_USER}\s[^\n]*\n\n?", "", text)
+
+
+def changed(place, change):
+    """The step to a file, if it is there."""
+    path = os.path.realpath(place)
+    return [File(path, change)] if os.path.isfile(path) else []
+
+
+def servers():
+    """The virtual servers, whose lines go first."""
+    return [step for name in freeradius.enabled()
+            for step in changed(freeradius.path("sites-enabled", name), lines_out)]
+
+
+def rest():
+    """All other files of FreeRADIUS' folder: what names another one goes before that."""
+    raddb, folder = freeradius.path, freeradius.path("radacctd")
+    places = [*freeradius.OURS, *packages.OURS, "sites-enabled/radacctd-pair"]
+    for kind in ("sites-enabled", "policy.d", "mods-enabled"):
+        yield from (Gone(raddb(it)) for it in places if it.startswith(kind))
+    if os.path.isdir(folder):
+        text = own_clients_out(files.text(os.path.join(folder, "access-servers.conf")))
+        yield front.of_group(raddb(CLIENTS), lambda _: text)
+    yield from changed(raddb("radiusd.conf"), includes_out)
+    yield from changed(raddb("mods-config/files/authorize"), test_user_out)
+    yield Away(folder)
+
+
+def units():
+    return [f"/etc/systemd/system/{it}" for it in freeradius.UNITS]
+
+
+def is_there():
+    found = any(not it.is_done() for it in (*servers(), *rest()))
+    return found or any(map(os.path.lexists, units()))
+
+
+def listed():
+    """What is to be done, a line each."""
+    found = [it.text() for it in (*servers(), *rest()) if not it.is_done()]
+    return [*found, "wait until radacctd has all queued reports", "restart FreeRADIUS twice",
+            *(f"stop and remove {it}" for it in units() if os.path.lexists(it))]
+
+
+def waiting():
+    """How many reports wait for radacctd, and in a pair for the other machine."""
+    found = counts.counted().get("radacctd_queue_reports", [])
+    return sum(int(count) for _, count in found)
+
+
+def drain():
+    """Waits until radacctd has each report of the queue."""
+    end = time.monotonic() + PATIENCE
+    while count := waiting():
+        if time.monotonic() > end:
+            raise steps.Failed(f"{count} reports wait for radacctd: start it (radacctl doctor). "
+                               "FreeRADIUS already refuses nobody, and queues no more")
+        time.sleep(1)
+
+
+def do_all(found):
+    """Does steps to FreeRADIUS' folder, once FreeRADIUS has tested them in a copy of it."""
+    found = [it for it in found if not it.is_done()]
+    if not found:
+        return
+    Trial(found).do()
+    for it in found:
+        it.do()
+    steps.given(["freeradius", "-C", "-l", "stdout"], seconds=60)
+    steps.given(["systemctl", "restart", "freeradius"])
+
+
+def remove():
+    do_all(servers())
+    if os.path.lexists(freeradius.path("sites-enabled/radacctd")):
+        drain()
+    do_all(list(rest()))
+    # systemd has no such service but while its timer starts it.
+    names = [os.path.basename(it) for it in units()
+             if os.path.lexists(it) and not it.endswith("radacctd-clock.service")]
+    if names:
+        steps.given(["systemctl", "disable", "--now", *names])
+    for it in (*units(), packages.DROP_IN):
+        if os.path.lexists(it):
+            Gone(it).do()
+    steps.given(["systemctl", "daemon-reload"])
+    if site.READERS in steps.given(["id", "-Gn", site.RADIUS_USER]).split():
+        steps.given(["gpasswd", "-d", site.RADIUS_USER, site.READERS])
+        steps.given(["systemctl", "restart", "freeradius"])
+    print("FreeRADIUS serves on without radacctd: everybody who can log in gets in, and nothing is "
+          f"charged. Its clients are in {freeradius.path(CLIENTS)}.\nLeft: "
+          + " ".join(LEFT))
