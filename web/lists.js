@@ -1,11 +1,25 @@
 "use strict";
-// Long lists are shown by pages of so many lines. A page has a bar for each: ID-pages.
+// Long lists are shown by pages of so many lines. A page has a place for the bar of each: ID-pages.
 const LINES = 20, pageOf = {};
+
+function barOf(id) {
+  const bar = $(id + "-pages");
+  for (const name of bar.children.length ? [] : ["pageBack", "pageOn"]) {
+    const it = document.createElement("button");
+    it.type = "button";
+    it.className = "second";
+    it.dataset.text = name;
+    it.textContent = text(name);
+    bar.append(it);
+  }
+  if (bar.children.length === 2) bar.append(" ", Object.assign(document.createElement("span"), { className: "soft" }));
+  return bar;
+}
 
 // The lines of a list that its page of now has. `redraw` draws it again, at another page.
 function onPage(id, lines, redraw) {
   const last = Math.max(0, Math.ceil(lines.length / LINES) - 1), at = Math.min(pageOf[id] || 0, last);
-  const bar = $(id + "-pages"), [back, on] = bar.querySelectorAll("button"), begin = at * LINES;
+  const bar = barOf(id), [back, on] = bar.querySelectorAll("button"), begin = at * LINES;
   pageOf[id] = at;
   bar.hidden = !last;
   for (const [it, by] of [[back, -1], [on, 1]]) {
@@ -15,4 +29,21 @@ function onPage(id, lines, redraw) {
   const end = Math.min(begin + LINES, lines.length);
   bar.querySelector("span").textContent = last ? text("pageIs", begin + 1, end, number(lines.length, 0)) : "";
   return lines.slice(begin, end);
+}
+
+// Money has a space that does not break.
+const isSum = (it) => typeof it === "string" && /^[^ ]*\u00a0[^ ]*$/.test(it);
+
+function putCell(row, it) {
+  const cell = row.insertCell();
+  cell.append(it);
+  if (isSum(it)) cell.className = "sum";
+}
+
+// A table that has no lines says so.
+function noneIn(to, columns) {
+  const cell = to.insertRow().insertCell();
+  cell.colSpan = columns;
+  cell.className = "soft";
+  cell.textContent = text("none");
 }

@@ -26,8 +26,18 @@ function setLanguage(wanted) {
   $("language").value = language;
 }
 
-function listLanguages() {
+// A store of the browser's, or null if it keeps nothing.
+const storeOf = (name) => { try { return window[name]; } catch { return null; } };
+
+// Lists the languages, and takes the one that was chosen before, or that of the browser.
+function offerLanguages(redraw) {
   for (const [code, name] of Object.entries(LANGUAGES)) $("language").add(new Option(name, code));
+  setLanguage(storeOf("localStorage")?.getItem("language") || navigator.language.slice(0, 2));
+  $("language").onchange = () => {
+    setLanguage($("language").value);
+    storeOf("localStorage")?.setItem("language", language);
+    redraw();
+  };
 }
 
 // The texts that stand in the page, and its title, which has the name of the house.

@@ -6,11 +6,11 @@ _radacctl() {
         return
     fi
     case ${COMP_WORDS[1]} in
-        setup) words='--help --dry-run --yes --sample' ;;
-        doctor) words='--help --only --quiet --list' ;;
+        setup) words='--help --dry-run --yes --new-book --sample --remove' ;;
+        doctor) words='--help --only --quiet --counts --list' ;;
         edit) words='--help --config --db --log --wait' ;;
         key) words='new revoke expire list --help --config --db --log --url --wait --prefix' ;;
-        sell) words='--help --key-file --host --port --in-flight --give-up --known --dry-run' ;;
+        sell) words='--help --key-file --host --port --give-up --in-flight --known --dry-run --logged --sales --since --but' ;;
         debit) words='--help --config --db --secret-file --host --port --journal --file --list' ;;
         voucher) words='--help --stock --second --settings --topups --yes --count --sum --to --url --name --list --withdraw' ;;
         redeem) words='--help' ;;

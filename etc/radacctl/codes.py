@@ -1,8 +1,15 @@
-"""Draws sheets of codes that log in, by the parts of the sheets of vouchers."""
+"""Sheets of codes that log in: what stands on each voucher."""
 
-import io
+import os
+import time
 
-from radacctl import sheets
+from radacctl import files, names, sheets, site, stock
+from radacctl.program import fail
+
+# What the codes of a sheet give and cost: root's, since FreeRADIUS' user writes the database.
+LOG, LOG_HEADER = f"{site.BOOKS}/sheets.csv", b"moment,sheet,package,credit,price\n"
+# In seconds: how long newer balances are awaited.
+WRITTEN = 90
 
 
 def texts_of(package, money, name):
@@ -11,44 +18,47 @@ def texts_of(package, money, name):
             "Name and password are this code.", "Name und Passwort sind dieser Code."]
 
 
-def draw(canvas, fonts, x, y, code, account, texts, link):
-    """Draws one voucher whose upper left corner is at a place."""
-    canvas.setStrokeGray(0.6)
-    canvas.setLineWidth(0.5)
-    canvas.setDash(3, 3)
-    canvas.rect(x, y - sheets.DOWN, sheets.ACROSS, sheets.DOWN)
-    sheets.draw_text(canvas, fonts, 11, x + 8, y - 15, texts[0])
-    sheets.draw_text(canvas, fonts, 11, x + 8, y - 29, texts[1])
-    canvas.setFont(sheets.CODE, 10)
-    canvas.drawString(x + 8, y - 46, code)
-    for down, text in zip((57, 66, 75), texts[2:]):
-        sheets.draw_text(canvas, fonts, 6.5, x + 8, y - down, text)
-    canvas.setFont(sheets.PLAIN, 6.5)
-    canvas.drawString(x + 8, y - 87, f"No. {account}")
-    shown = link.replace("{code}", code) if link else code
-    dark, across = sheets.bars(shown)
-    size, path = 54 / across, canvas.beginPath()
-    for column, row, length in dark:
-        path.rect(x + 118 + column * size, y - 8 - (row + 1) * size, length * size, size + 0.08)
-    canvas.drawPath(path, stroke=0, fill=1)
+def lines_of(code, account, texts):
+    """The lines of a voucher: font, size, how far down, text."""
+    small = zip((57, 66, 75), texts[2:])
+    return [(sheets.BOLD, 11, 15, texts[0]), (sheets.BOLD, 11, 29, texts[1]),
+            (sheets.CODE, 10, 46, code), *((sheets.BOLD, 6.5, *it) for it in small),
+            (sheets.PLAIN, 6.5, 87, f"No. {account}")]
 
 
 def sheet(rows, texts, link):
     """A PDF of codes and their accounts."""
+    shown = lambda code: link.replace("{code}", code) if link else code
+    return sheets.sheet(texts[1], [(lines_of(code, account, texts), shown(code))
+                                   for code, account in rows])
+
+
+def log(row):
+    """Adds a sheet to root's log, before one of its codes can be sold."""
+    files.make_folder(os.path.dirname(LOG))
+    it = stock.Log(LOG, LOG_HEADER)
+    it.add(stock.lines_of([row]))
+    it.close()
+
+
+def sold():
+    """What a code of each sheet gives, and costs."""
+    rows = stock.rows_in(LOG, LOG_HEADER, 5)
+    return {row[1]: (int(row[3]), int(row[4])) for row in rows}
+
+
+def await_balances(moment):
+    """Waits until the balances were written since a moment: what was sold before it is in them."""
+    end = time.monotonic() + WRITTEN
+    while not os.path.exists(site.BALANCES) or os.stat(site.BALANCES).st_mtime < moment:
+        if time.monotonic() > end:
+            fail(f"{site.BALANCES} is not written anew: nothing was sold. Is radacctd running?")
+        time.sleep(0.2)
+
+
+def known_accounts():
+    """The accounts of the book: a number that was sold once is never made again."""
     try:
-        from reportlab.lib.pagesizes import A4
-        from reportlab.pdfgen.canvas import Canvas
-    except ImportError:
-        raise sheets.Fault("a sheet needs reportlab: apt install python3-reportlab") from None
-    file, fonts, each = io.BytesIO(), sheets.Fonts(), sheets.COLUMNS * sheets.ROWS
-    canvas = Canvas(file, pagesize=A4, pageCompression=1, invariant=1)
-    canvas.setTitle(texts[1])
-    for at, (code, account) in enumerate(rows):
-        place = at % each
-        x = sheets.LEFT + place % sheets.COLUMNS * sheets.ACROSS
-        y = sheets.TOP - place // sheets.COLUMNS * sheets.DOWN
-        draw(canvas, fonts, x, y, code, account, texts, link)
-        if place == each - 1 or at == len(rows) - 1:
-            canvas.showPage()
-    canvas.save()
-    return file.getvalue()
+        return {names.shown(it) for it in names.balances()}
+    except ValueError:
+        return fail(f"{site.BALANCES} cannot be read: is radacctd running?")

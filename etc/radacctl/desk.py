@@ -1,5 +1,6 @@
 """The desk: the keys that it takes, how a voucher is sent to it, and what its answers mean."""
 
+import argparse
 import http.client
 import json
 import os
@@ -9,6 +10,8 @@ import stat
 # The number of a voucher, and a key.
 NUMBER, TOKEN = re.compile("[A-Z0-9-]{1,32}"), re.compile("[A-Za-z0-9-]{16,64}")
 TOKEN_RULE = "16 to 64 of A-Z a-z 0-9 and -"
+# An account as the desk takes it: plain characters, and % with two digits for any other octet.
+ACCOUNT = re.compile("(?:[ -$&-~]|%[0-9A-F]{2}){1,253}")
 CASHIER_KEY = "/etc/radacctd-cashier.key"
 # What became of a voucher.
 NEW, REPEAT, DIFFERS, LIMIT, NO_KEY = "new", "repeat", "differs", "limit", "no key"
@@ -24,6 +27,14 @@ ANSWERS = {
 
 class WrongKey(Exception):
     """Why a file has no key that may be used. It has no octet of the file."""
+
+
+def place(text):
+    """An address and a port, as an argument has them."""
+    host, mark, port = text.rpartition(":")
+    if not mark or not re.fullmatch("[0-9]{1,5}", port):
+        raise argparse.ArgumentTypeError(f"{text} is no A.B.C.D:PORT")
+    return host, int(port)
 
 
 def meaning(status, said):

@@ -2,8 +2,11 @@
 
 import contextlib
 import errno
+import fcntl
+import grp
 import json
 import os
+import shutil
 import stat
 import subprocess
 import urllib.parse
@@ -34,6 +37,52 @@ def sync_folder(path):
 def remove(path):
     with contextlib.suppress(FileNotFoundError):
         os.remove(path)
+
+
+def give(handle, mode, group):
+    """Gives a file or folder of root's its mode, and the group that may read it."""
+    os.fchmod(handle, mode)
+    if os.getuid() == 0:
+        with contextlib.suppress(LookupError):
+            shutil.chown(handle, "root", group)
+
+
+def make_folder(path, group=None):
+    """Makes a folder that is missing, on the disk: for its owner alone, or for a group to read.
+
+    One that was made before its group was there is given to it now.
+    """
+    is_new = not os.path.isdir(path)
+    if is_new:
+        os.mkdir(path, 0o700)
+    if group:
+        with opened_folder(os.path.realpath(path)) as handle:
+            if not is_read_by(os.fstat(handle), group):
+                give(handle, 0o750, group)
+    if is_new:
+        sync_folder(os.path.dirname(path))
+
+
+def is_read_by(status, group):
+    """Whether a group may read a folder. A group that is not there lacks nothing."""
+    with contextlib.suppress(LookupError):
+        if os.getuid() == 0 and grp.getgrnam(group).gr_gid != status.st_gid:
+            return False
+    return bool(status.st_mode & 0o040)
+
+
+def is_locked(file):
+    """Whether this process has a file locked now. Of two that try one has it, until that ends."""
+    try:
+        fcntl.flock(file, fcntl.LOCK_EX | fcntl.LOCK_NB)
+    except BlockingIOError:
+        return False
+    return True
+
+
+def open_lock(path):
+    """A file that is there to be locked."""
+    return os.open(path, os.O_RDWR | os.O_CREAT | os.O_NOFOLLOW | os.O_CLOEXEC, 0o600)
 
 
 def make(path, octets, mode=0o600):

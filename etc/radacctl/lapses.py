@@ -8,13 +8,10 @@ over counts only once the clock has been steady for a while: no step of the cloc
 
 import hashlib
 import ipaddress
-import os
 import re
-import tempfile
 import time
 
-from radacctl import files, freeradius, logins, names
-from radacctl.commands import debit
+from radacctl import debits, files, freeradius, logins, names
 from radacctl.doctor import look
 from radacctl.program import say
 
@@ -97,6 +94,12 @@ def end(store, accounts, state, now, log=logins.LOG):
                  (state, now, now, it)) for it in accounts))
 
 
+def longest_silence():
+    """How long a session that is on may not be heard of: three of its reports' intervals."""
+    interval = logins.settings()["interval"]
+    return 3 * int(interval if interval.isdigit() else 300)
+
+
 # ---- the debit
 
 
@@ -106,8 +109,7 @@ class Lapse:
     def __init__(self, store, uses, words, log=logins.LOG, mirror=MIRROR):
         self.store, self.uses, self.words, self.log = store, uses, words, log
         self.mirror, self.books = mirror, None
-        interval = logins.settings()["interval"]
-        self.wait = 3 * int(interval if interval.isdigit() else 300)
+        self.wait = longest_silence()
 
     def over(self, now, is_steady):
         """The accounts that are over, and since when."""
@@ -158,14 +160,14 @@ class Lapse:
     def journal(self):
         """The journal of debits, which has each before it is sent."""
         if self.books is None:
-            self.books = debit.Books(self.words)
+            self.books = debits.Books(self.words)
         return self.books.journal
 
     def take(self, account, number, total, now):
         try:
             self.journal()
             self.books.take(account, total, number)
-        except (debit.Refused, debit.NoAnswer) as why:
+        except (debits.Refused, debits.NoAnswer) as why:
             say(f"{names.shown(account)} is over, and {total} of it waits to be taken: {why}")
             return 0
         self.ended(account, now)
@@ -223,16 +225,9 @@ def disconnect(store, uses, now, wait, accounts=None):
 
 
 def tell(address, port, secret, session):
-    """Sends one Disconnect-Request: whether the session ends, or None if there is no answer.
-
-    The secret is in a file, and in no command line.
-    """
-    with tempfile.TemporaryDirectory(dir="/run") as folder:
-        path = os.path.join(folder, "secret")
-        files.make(path, secret.encode() + b"\n")
-        where = f"[{address}]:{port}" if ":" in address else f"{address}:{port}"
-        words = ["radclient", "-r", "2", "-t", "2", "-x", "-S", path, where, "disconnect"]
-        said = look.run(*words, seconds=15, text=f'Acct-Session-Id = "{session}"\n')[1]
+    """Sends one Disconnect-Request: whether the session ends, or None if there is no answer."""
+    where = f"[{address}]:{port}" if ":" in address else f"{address}:{port}"
+    said = look.radclient(where, "disconnect", secret, [f'Acct-Session-Id = "{session}"'], 2)
     if "Received Disconnect-NAK" in said:
         return False
     return True if "Received Disconnect-ACK" in said else None

@@ -15,11 +15,10 @@ from an older copy is mended by it. Root changes a database only as the user who
 """
 
 import contextlib
-import csv
 import hashlib
-import io
 import json
 import os
+import pwd
 import select
 import subprocess
 import weakref
@@ -217,6 +216,44 @@ class Store:
             self.run(*((it, ()) for it in lacks), (f"PRAGMA user_version = {FORMAT}", ()))
 
 
+def own_log():
+    """The folder of the log of what ended, for root and the user who redeems.
+
+    The timer may make it before that user is there: then no printed voucher would be redeemed.
+    """
+    files.make_folder(os.path.dirname(LOG), site.REDEEM_USER)
+
+
+def give_folder(path):
+    """Makes a folder that is missing for FreeRADIUS' user. One that is there stays as it is."""
+    try:
+        os.mkdir(path, 0o700)
+    except FileExistsError:
+        return
+    handle = os.open(path, files.FOLDER)
+    try:
+        if os.getuid() == 0:
+            user = pwd.getpwnam(site.RADIUS_USER)
+            os.fchown(handle, user.pw_uid, user.pw_gid)
+    finally:
+        os.close(handle)
+
+
+def package_row(store, package):
+    """The number of a package in the database, where it stays as it is now."""
+    found = store.run(
+        ("INSERT INTO package (name, terms) VALUES (?, ?) ON CONFLICT DO NOTHING",
+         (package.name, package.terms())),
+        ("SELECT id FROM package WHERE terms = ?", (package.terms(),)),
+        ("SELECT count(*) FROM reply WHERE package = "
+         "(SELECT id FROM package WHERE terms = ?)", (package.terms(),)))
+    number, count = found[1][0][0], found[2][0][0]
+    if not count and package.replies:
+        store.run(*(("INSERT INTO reply VALUES (?, ?, ?, ?, ?)", (number, *it))
+                           for it in package.replies))
+    return number
+
+
 class Log(stock.Log):
     """Which logins ended: root's, on the disk before the database says so."""
 
@@ -227,9 +264,8 @@ class Log(stock.Log):
 def ended_in(path=LOG):
     """The last state of each login that ended, by its account."""
     found = {}
-    text = stock.whole_lines(path, LOG_HEADER).decode("ascii", "replace")
-    for row in csv.reader(io.StringIO(text, newline="")):
-        if len(row) == 3 and row[2] in ORDER[2:]:
+    for row in stock.rows_in(path, LOG_HEADER, 3):
+        if row[2] in ORDER[2:]:
             account = names.octets_of(names.text_of_cell(row[1]))
             if ORDER.index(row[2]) > ORDER.index(found.get(account, LIVE)):
                 found[account] = row[2]

@@ -31,6 +31,15 @@ def settings_in(path=SETTINGS):
     return found
 
 
+def of_site(path=None):
+    """The site's money. Without settings sums are in units of the book."""
+    try:
+        found = settings_in(path) if path else settings_in()
+    except FileNotFoundError:
+        return Money()
+    return Money(found["decimals"], found["currency"])
+
+
 class Money:
     """The site's money: its name, and how many decimals it has."""
 

@@ -12,7 +12,11 @@ import re
 import string
 import urllib.parse
 
+from radacctl import files, site
+
 LONGEST = 253
+# The header of a file of balances.
+BALANCES = ["account", "balance", "overrun"]
 # What the desk takes as itself; any other octet is % and two digits there.
 PLAIN = frozenset(string.printable[:95].encode()) - frozenset(b'%"\\')
 # Unicode's white space, and marks that nobody sees: they come along if a name is copied. One says
@@ -53,9 +57,15 @@ def balances_in(path):
 def balances_of(text, path):
     """The same of the text of such a file."""
     header, *rows = list(csv.reader(io.StringIO(text, newline=""))) or [[]]
-    if header != ["account", "balance", "overrun"] or any(len(row) != 3 for row in rows):
+    if header != BALANCES or any(len(row) != 3 for row in rows):
         raise ValueError(f"{path} has no balances")
     return {octets_of(row[0]): int(row[1]) for row in rows}
+
+
+def balances(path=None):
+    """The same of the site's file, or of another one in a folder of the service's user."""
+    path = path or site.BALANCES
+    return balances_of(files.text(path), path)
 
 
 def why_not(name):

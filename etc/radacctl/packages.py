@@ -11,10 +11,14 @@
     from = "first use"          # first use, or the sale
     down = 20000                # kbit/s to the guest, and
     up = 5000                   # from the guest; without them there is no limit
+    slow.down = 512             # once the money is used, in place of the end: a plan that costs
+    slow.up = 128               # nothing, and a speed
+    slow.plan = "slow"
 
 A table [wifi] has the `name` of the network, for cards, and its `security`: open or enterprise.
 In place of `valid` and `from` may be `until = "2026-12-31T12:00"`. A table [package.reply] has
-further attributes of an Access-Accept for a kind of access server, as mikrotik = ["A := b"].
+further attributes of an Access-Accept for a kind of access server, as mikrotik = ["A := b"]; so has
+[package.slow.reply].
 
 A code or a guest keeps the package that it was made with: a change is for those made later.
 """
@@ -23,9 +27,10 @@ import datetime
 import json
 import os
 import re
+import time
 import tomllib
 
-from radacctl import files, names
+from radacctl import files, names, plans, program
 from radacctl import money as moneys
 
 FILE = "/etc/radacctd-packages/packages.toml"
@@ -42,9 +47,10 @@ REPLY = re.compile(r"([A-Za-z][A-Za-z0-9-]{1,62}) (:=|\+=|=) ([A-Za-z0-9 ._:/,@+
 DICTIONARIES = "/usr/share/freeradius"
 MEMBERS = {
     "name": str, "title": str, "price": str, "credit": str, "plan": str, "devices": int,
-    "valid": str, "from": str, "until": str, "down": int, "up": int, "reply": dict,
+    "valid": str, "from": str, "until": str, "down": int, "up": int, "reply": dict, "slow": dict,
 }  # fmt: skip
 NEEDED = ("name", "price", "credit", "plan")
+SLOW = {it: MEMBERS[it] for it in ("plan", "down", "up", "reply")}
 
 
 class Wrong(Exception):
@@ -62,9 +68,7 @@ class Package:
     def __init__(self, found, money):
         need(isinstance(found, dict), "a package is written as [[package]]")
         where = f"package {found.get('name', '?')}"
-        for name, value in found.items():
-            need(name in MEMBERS, f"{where} has no member `{name}`: {', '.join(MEMBERS)}")
-            need(type(value) is MEMBERS[name], f"{where}: `{name}` is of another kind")
+        need_members(found, MEMBERS, where)
         for name in NEEDED:
             need(name in found, f"{where} lacks `{name}`")
         self.name = found["name"]
@@ -78,9 +82,29 @@ class Package:
         self.devices = found.get("devices", 1)
         need(1 <= self.devices <= MOST_DEVICES, f"{where}: devices is 1 to {MOST_DEVICES}")
         self.begins, self.seconds, self.until = validity_of(found, where)
-        self.down, self.up = (speed_of(found, it, where) for it in ("down", "up"))
-        need((self.down is None) == (self.up is None), f"{where}: give down and up, or neither")
-        self.replies = [*speeds(self.down, self.up), *replies_of(found.get("reply", {}), where)]
+        self.down, self.up, self.replies = speed_and_replies(found, where)
+        self.slow = None
+        if "slow" in found:
+            self.be_slow(found["slow"], f"{where}: slow")
+
+    def be_slow(self, found, where):
+        """What it does once its money is used, in place of its end: rows of kinds of their own."""
+        need_members(found, SLOW, where)
+        need("plan" in found, f"{where} lacks `plan`")
+        self.slow = plan_of(found["plan"], where)
+        need(self.slow != self.plan, f"{where}: plan is another one than that of the package")
+        *_, replies = speed_and_replies(found, where)
+        need(replies, f"{where}: give down and up, or reply")
+        self.replies += [("slow", "Class", ":=", self.slow),
+                         *((f"slow-{kind}", *it) for kind, *it in replies)]
+
+    def plan_missing(self, plans):
+        """What is wrong with its plans, by those in force, or None."""
+        if self.plan not in plans:
+            return f"the plan {self.plan} of {self.name} is not in force"
+        if self.slow is not None and plans.get(self.slow, ("", ""))[1] != "0":
+            return f"the plan {self.slow} of {self.name} is not in force, or costs something"
+        return None
 
     def terms(self):
         """What decides whether two packages of a name are the same, as a text."""
@@ -98,6 +122,19 @@ class Package:
                             if self.seconds % each == 0)
         count = self.seconds // length
         return f"{count} {name}{'s' * (count != 1)} from the {self.begins}"
+
+
+def need_members(found, known, where):
+    for name, value in found.items():
+        need(name in known, f"{where} has no member `{name}`: {', '.join(known)}")
+        need(type(value) is known[name], f"{where}: `{name}` is of another kind")
+
+
+def speed_and_replies(found, where):
+    """The speed, and all attributes that tell access servers of it."""
+    down, up = (speed_of(found, it, where) for it in ("down", "up"))
+    need((down is None) == (up is None), f"{where}: give down and up, or neither")
+    return down, up, [*speeds(down, up), *replies_of(found.get("reply", {}), where)]
 
 
 def sum_of(text, money, where, least=1):
@@ -208,23 +245,20 @@ def wifi(path=FILE):
 
 
 def for_pages(known, now, plans=None):
-    """What the front desk's page has of the packages that are sold, as JSON: their plan is in force,
-    and their end is not past.
+    """What the front desk's page has of the packages that are sold, as JSON: those whose plan is in
+    force, and whose end is not past.
     """
     found = [{"name": it.name, "title": it.title, "price": it.price, "credit": it.credit,
               "devices": it.devices, "seconds": it.seconds, "from": it.begins, "until": it.until}
-             for it in known.values() if (plans is None or it.plan in plans)
-             and not it.is_over(now)]
+             for it in known.values() if not it.is_over(now)
+             and (plans is None or it.plan_missing(plans) is None)]
     return json.dumps({"packages": found}, ensure_ascii=False) + "\n"
 
 
 def read(path=FILE, settings=moneys.SETTINGS):
     """The packages of the site, and its money."""
     try:
-        pages = moneys.settings_in(settings)
-        money = moneys.Money(pages["decimals"], pages["currency"])
-    except FileNotFoundError:
-        money = moneys.Money()
+        money = moneys.of_site(settings)
     except (OSError, ValueError) as why:
         raise Wrong(f"the site's money: {why}") from None
     try:
@@ -234,3 +268,18 @@ def read(path=FILE, settings=moneys.SETTINGS):
         raise Wrong(f"cannot read {path}: {getattr(why, 'strerror', None) or why}") from None
     except Wrong as why:
         raise Wrong(f"{path}: {why}") from None
+
+
+def write_for_pages(path=PAGES):
+    """Writes what the front desk's page has of the packages, if it changed. While their file is
+    wrong the page keeps what it has. A site without pages has no folder for it.
+    """
+    if not os.path.isdir(os.path.dirname(path)):
+        return
+    try:
+        known, _ = read()
+        wanted = for_pages(known, time.time(), plans.in_force())
+        if files.text(path) != wanted:
+            files.replace(path, wanted.encode(), 0o644)
+    except (Wrong, OSError) as why:
+        program.say(f"the pages keep the packages that they have: {why}")

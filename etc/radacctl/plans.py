@@ -1,6 +1,8 @@
-"""Plans: block, unit and count by the octets of a class, as a book keeps them and a file has them."""
+"""Plans: block, unit and count by the octets of a class, as books and files have them."""
 
-from radacctl import files
+import csv
+
+from radacctl import files, site
 
 # What is counted, by the book's numbers.
 COUNTS = ("both", "in", "out")
@@ -19,6 +21,14 @@ def of_book(path):
     """
     rows = files.rows(path, QUERY, is_still=True)
     return of_rows([row[0].encode("latin-1"), *row[1:]] for row in rows)
+
+
+def in_force(path=None):
+    """The plans of a file of plans in force, as texts by their classes; None if it has none."""
+    rows = list(csv.reader(files.text(path or site.PLANS).splitlines()))
+    if not rows or rows[0] != list(HEADER):
+        return None
+    return {row[0]: tuple(row[1:]) for row in rows[1:]}
 
 
 def in_config(config):

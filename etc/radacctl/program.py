@@ -18,6 +18,19 @@ def fail(why, status=1):
     sys.exit(status)
 
 
+def confirm(question):
+    """Ends unless a person says y."""
+    if not sys.stdin.isatty():
+        fail(f"{question} Nobody is there to answer: give --yes.")
+    if not is_yes(question):
+        fail("nothing was done")
+
+
+def is_yes(question):
+    print(f"{question} [y/N] ", end="", flush=True)
+    return sys.stdin.readline().strip().lower() in ("y", "yes", "j", "ja")
+
+
 def show(text):
     """Prints what is done already: if it cannot be printed, as on a full disk, it is done."""
     try:

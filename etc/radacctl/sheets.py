@@ -102,20 +102,26 @@ def draw_text(canvas, fonts, size, x, y, text):
         x += canvas.stringWidth(part, name, size)
 
 
-def draw(canvas, fonts, x, y, code, texts, url):
-    """Draws one voucher whose upper left corner is at a place."""
+def lines_of(code, texts, url):
+    """The lines of a voucher of money: font, size, how far down, text."""
+    plain = zip((66, 76, 86), (url.removeprefix("https://"), *texts[2:]))
+    return [(BOLD, 11, 16, texts[0]), (BOLD, 15, 34, texts[1]), (CODE, 10, 52, code),
+            *((PLAIN, 7, down, text) for down, text in plain)]
+
+
+def draw(canvas, fonts, x, y, lines, link):
+    """Draws one voucher whose upper left corner is at a place. Bold letters may be of any font."""
     canvas.setStrokeGray(0.6)
     canvas.setLineWidth(0.5)
     canvas.setDash(3, 3)
     canvas.rect(x, y - DOWN, ACROSS, DOWN)
-    draw_text(canvas, fonts, 11, x + 8, y - 16, texts[0])
-    draw_text(canvas, fonts, 15, x + 8, y - 34, texts[1])
-    canvas.setFont(CODE, 10)
-    canvas.drawString(x + 8, y - 52, code)
-    canvas.setFont(PLAIN, 7)
-    for down, text in ((66, url.removeprefix("https://")), (76, texts[2]), (86, texts[3])):
-        canvas.drawString(x + 8, y - down, text)
-    dark, across = bars(f"{url}#c={code}")
+    for font, size, down, text in lines:
+        if font == BOLD:
+            draw_text(canvas, fonts, size, x + 8, y - down, text)
+        else:
+            canvas.setFont(font, size)
+            canvas.drawString(x + 8, y - down, text)
+    dark, across = bars(link)
     size, path = 54 / across, canvas.beginPath()
     for column, row, length in dark:
         # A little higher than a square, so that no line shows between two rows.
@@ -123,8 +129,15 @@ def draw(canvas, fonts, x, y, code, texts, url):
     canvas.drawPath(path, stroke=0, fill=1)
 
 
-def sheet(codes, texts, url):
-    """A PDF of the codes; it shows on standard error how far it is."""
+def money(codes, texts, url):
+    """A PDF of vouchers of money."""
+    return sheet(texts[0], [(lines_of(it, texts, url), f"{url}#c={it}") for it in codes])
+
+
+def sheet(title, vouchers):
+    """A PDF of vouchers, each its lines and what its QR code says. Standard error shows how far it
+    is.
+    """
     try:
         from reportlab.lib.pagesizes import A4
         from reportlab.pdfgen.canvas import Canvas
@@ -133,16 +146,16 @@ def sheet(codes, texts, url):
     file, fonts, each = io.BytesIO(), Fonts(), COLUMNS * ROWS
     # The same codes give the same file: no date, and no number by chance.
     canvas = Canvas(file, pagesize=A4, pageCompression=1, invariant=1)
-    canvas.setTitle(texts[0])
-    for at, code in enumerate(codes):
+    canvas.setTitle(title)
+    for at, (lines, link) in enumerate(vouchers):
         place = at % each
-        draw(canvas, fonts, LEFT + place % COLUMNS * ACROSS, TOP - place // COLUMNS * DOWN, code,
-             texts, url)
-        if place == each - 1 or at == len(codes) - 1:
+        draw(canvas, fonts, LEFT + place % COLUMNS * ACROSS, TOP - place // COLUMNS * DOWN, lines,
+             link)
+        if place == each - 1 or at == len(vouchers) - 1:
             canvas.showPage()
-            if len(codes) > 100:
+            if len(vouchers) > 100:
                 print(f"\r{at + 1} drawn", end="", file=sys.stderr)
-    if len(codes) > 100:
+    if len(vouchers) > 100:
         print(file=sys.stderr)
     canvas.save()
     return file.getvalue()

@@ -6,13 +6,20 @@ CONFIG = "/etc/radacctd.toml"
 STATE = "/var/lib/radacctd"
 BOOK = f"{STATE}/book"
 BALANCES = "/var/lib/radacctd-balances/balances.csv"
+PLANS, PLANS_JSON = (f"{os.path.dirname(BALANCES)}/plans.{it}" for it in ("csv", "json"))
 COUNTS = "/var/lib/radacctd-counts/radacctd.prom"
 BACKUPS = "/var/backups/radacctd"
 DEFAULTS = "/etc/default/radacctd"
+# The journals of root's tools, the secret of the client that takes debits, and FreeRADIUS' database
+# as the last night found it.
+BOOKS, BOOKS_SECRET = "/var/lib/radacctd-books", "/etc/radacctd-books.secret"
+DUMP = "/var/lib/radacctd-sql/radius.sql"
 RADDB = "/etc/freeradius/3.0"
 RADACCT = "/var/log/freeradius/radacct"
 # The users and groups of the service, of FreeRADIUS, of nginx, and of who reads balances.
 USER, RADIUS_USER, WEB_USER, READERS = "radacctd", "freerad", "www-data", "radacctd-balances"
+# The user who redeems printed vouchers, and the file of its cashier's key.
+REDEEM_USER, REDEEM_KEY = "radacctd-redeem", "/etc/radacctd-redeem.key"
 
 HERE = os.path.dirname(os.path.realpath(__file__))
 # This package is in libexec/radacctd, with the programs that it runs; or in etc of the repository.

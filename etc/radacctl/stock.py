@@ -18,6 +18,7 @@ import fcntl
 import io
 import os
 import re
+import secrets
 import stat
 import time
 import zlib
@@ -26,7 +27,8 @@ from radacctl import files, names
 
 FOLDER = "/var/lib/radacctd-vouchers"
 SECOND = "/var/lib/radacctd-withdrawn/withdrawn.csv"
-LETTERS, GROUP = "ACDEFHJKMNPQRTUWXY34679", 5
+# No letter or digit that looks like another one: 23 of them. A code has 14, which are 63 bits.
+LETTERS, GROUP, RANDOM = "ACDEFHJKMNPQRTUWXY34679", 5, 14
 CODE = re.compile(f"[{LETTERS}]{{15}}")
 STOCK_HEADER, OLD_HEADER = b"code,sum,sheet\n", b"code,sum\n"
 WITHDRAWN_HEADER = b"moment,code,sheet\n"
@@ -49,6 +51,16 @@ class Fault(Exception):
 def check_letter(code):
     """The letter that makes one wrong letter, or two in the wrong order, a wrong code."""
     return LETTERS[sum(at * LETTERS.index(it) for at, it in enumerate(code, 1)) % len(LETTERS)]
+
+
+def letters(count):
+    """Letters by chance, as keys and passwords have them."""
+    return "".join(secrets.choice(LETTERS) for _ in range(count)).lower()
+
+
+def new_code():
+    code = letters(RANDOM).upper()
+    return code_of(code + check_letter(code))
 
 
 def code_of(text):
@@ -88,6 +100,12 @@ def whole_lines(path, header, may_be_old=False):
     return b""
 
 
+def rows_in(path, header, count):
+    """The rows of a log of ours that have so many fields."""
+    text = whole_lines(path, header).decode("ascii", "replace")
+    return [it for it in csv.reader(io.StringIO(text, newline="")) if len(it) == count]
+
+
 def stock_lines(path):
     return whole_lines(path, STOCK_HEADER, may_be_old=True)
 
@@ -113,9 +131,8 @@ def is_withdrawn(paths, code):
 
 def withdrawn_in(path):
     """The moment and the sheet of each code of a log."""
-    text = whole_lines(path, WITHDRAWN_HEADER).decode("ascii", "replace")
-    rows = csv.reader(io.StringIO(text, newline=""))
-    return {row[1]: (row[0], names.text_of_cell(row[2])) for row in rows if len(row) == 3}
+    rows = rows_in(path, WITHDRAWN_HEADER, 3)
+    return {row[1]: (row[0], names.text_of_cell(row[2])) for row in rows}
 
 
 def lines_of(rows):

@@ -4,14 +4,12 @@ import datetime
 import json
 import re
 
-from radacctl import money, names, packages
+from radacctl import desk, money, names, packages
 from radacctl.commands import guest
 
 LONGEST = 2048
-# An account as the desk takes it.
-ACCOUNT = re.compile("(?:[ -$&-~]|%[0-9A-F]{2}){1,253}")
-# The number of an act: as of a sale, and made by the page by chance. No tool makes such a number, so
-# that none can be taken from a tool.
+# The number of an act: as of a sale, and made by the page by chance. No tool makes such a number,
+# so none can be taken from a tool.
 NUMBER = re.compile("[A-Z0-9]{1,8}-[0-9]{6}-[A-Z0-9]{12}")
 # Where a session is, as the database of devices has it.
 SOURCE, SESSION = re.compile("[0-9a-f.:]{2,45}"), re.compile("(?:[0-9a-f]{2}){1,253}")
@@ -52,7 +50,7 @@ MEMBERS = {
     "package": is_of(packages.NAME),
     "number": is_of(NUMBER),
     "voucher": is_of(NUMBER),
-    "account": is_of(ACCOUNT),
+    "account": is_of(desk.ACCOUNT),
     "sum": is_units,
     "credit": is_units,
     "price": lambda value: type(value) is int and 0 <= value <= money.LARGEST_SUM,

@@ -5,13 +5,11 @@ that a spreadsheet may open: no field of it is a formula. Octets that are no pla
 and two digits. An account is spelled as in a request to the desk.
 """
 
-import csv
-import io
 import os
 
-from radacctl import files, names, stock
+from radacctl import files, names, site, stock
 
-FILE = "/var/lib/radacctd-books/clerk.csv"
+FILE = f"{site.BOOKS}/clerk.csv"
 HEADER = b"moment,cashier,act,number,account,what,state\n"
 # An act was begun, or it is done; or it cannot be done, and changed nothing. Journals of earlier
 # versions say `lacking` of a sale that the book did not have: it was credited, and debited at once.
@@ -38,9 +36,8 @@ class Line:
 
 def lines_in(path=None):
     """The whole lines of the journal; none if there is no file."""
-    text = stock.whole_lines(path or FILE, HEADER).decode("ascii", "replace")
-    rows = csv.reader(io.StringIO(text, newline=""))
-    return [Line(row) for row in rows if len(row) == 7 and row[0].isdigit()]
+    rows = stock.rows_in(path or FILE, HEADER, 7)
+    return [Line(row) for row in rows if row[0].isdigit()]
 
 
 class Journal(stock.Log):
@@ -48,10 +45,7 @@ class Journal(stock.Log):
 
     def __init__(self, path=None):
         path = path or FILE
-        folder = os.path.dirname(path)
-        if not os.path.isdir(folder):
-            os.mkdir(folder, 0o700)
-            files.sync_folder(os.path.dirname(folder))
+        files.make_folder(os.path.dirname(path))
         super().__init__(path, HEADER)
 
     def lines(self):

@@ -1,25 +1,20 @@
-"""What the operator's page lists: who is on, sales by desk and day, corrections, withdrawn codes, and
-what the doctor found.
+"""What the operator's page lists: who is on, sales by desk and day, corrections, withdrawn codes,
+and what the doctor found.
 
 What devices and guests named is handed on as it is: a page shows it as text.
 """
 
 import csv
-import glob
-import gzip
 import io
 import json
 import re
 import time
 
-from radacctl import files, freeradius, lapses, logins, names, program, stock
+from radacctl import debits as books, files, freeradius, lapses, logins, names, sales_log, stock
 from radacctl.clerk import journal
-from radacctl.commands import debit
 from radacctl.commands import packages as sold
 from radacctl.doctor import look
 
-SALES = "/var/log/nginx/radacctd-sales.log"
-DEBITS = "/var/lib/radacctd-books/debits.csv"
 MOST = 10_000
 DOCTOR = "radacctd-doctor.service"
 # A line of the doctor.
@@ -28,8 +23,7 @@ FOUND = re.compile(r"(critical|warning) ([a-z0-9-]+): (.+)\. Do: (.+)")
 
 def on(now):
     """The sessions of packages' logins that were reported lately, the last one first."""
-    interval = logins.settings()["interval"]
-    wait = 3 * int(interval if interval.isdigit() else 300)
+    wait = lapses.longest_silence()
     rows = sold.uses().read(
         "SELECT account, station, source, session, heard FROM use "
         "WHERE ended = 0 AND session <> '' AND abs(? - heard) <= ? ORDER BY heard DESC LIMIT ?",
@@ -58,7 +52,7 @@ def sales(begin, end, path=None):
     was paid. A package has a price of its own.
     """
     rows = {}
-    for day, desk, cashier, credit, paid in [*at_desks(path or SALES), *of_guests()]:
+    for day, desk, cashier, credit, paid in [*at_desks(path or sales_log.FILE), *of_guests()]:
         if begin <= day <= end:
             had = rows.setdefault((day, desk, cashier), [0, 0, 0])
             had[0], had[1], had[2] = had[0] + 1, had[1] + credit, had[2] + paid
@@ -69,13 +63,8 @@ def sales(begin, end, path=None):
 def at_desks(path):
     """Each sale of nginx' log that a book took, once."""
     found = {}
-    for name in sorted(glob.glob(glob.escape(path) + "*")):
-        try:
-            with (gzip.open if name.endswith(".gz") else open)(name, "rb") as file:
-                for line in file:
-                    add_sale(found, line)
-        except (OSError, EOFError) as why:
-            program.say(f"cannot read {name}: {why}")
+    for line in sales_log.lines_of(path):
+        add_sale(found, line)
     return [row for _, *row in found.values()]
 
 
@@ -121,7 +110,7 @@ def corrections(begin, end):
             and it.state == journal.DONE}
     rows = [(it.moment, it.cashier, it.number, it.account, it.what) for it in made.values()]
     for moment, event, number, account, total in debits():
-        if event == debit.GIVEN and number not in made and not number.startswith("LAPSE-"):
+        if event == books.GIVEN and number not in made and not number.startswith("LAPSE-"):
             rows.append((int(moment), "", number, account, total))
     return [dict(zip(("moment", "cashier", "number", "account", "sum"), it))
             for it in sorted(rows, reverse=True) if begin <= day_of(it[0]) <= end]
@@ -129,7 +118,7 @@ def corrections(begin, end):
 
 def debits(path=None):
     """The rows of the journal of debits, which is read without its lock: a line is whole or not."""
-    text = files.text(path or DEBITS)
+    text = files.text(path or books.FILE)
     rows = csv.reader(io.StringIO(text[: text.rfind("\n") + 1], newline=""))
     found = [[names.text_of_cell(it) for it in row] for row in rows if len(row) == 5]
     return [it for it in found if it[0].isdigit()]
@@ -138,10 +127,9 @@ def debits(path=None):
 def codes():
     """Codes that log in and sheets of vouchers that were withdrawn, the newest first."""
     sheets = dict(sold.store().read("SELECT account, sheet FROM login WHERE digest IS NOT NULL"))
-    text = stock.whole_lines(logins.LOG, logins.LOG_HEADER).decode("ascii", "replace")
     found = []
-    for row in csv.reader(io.StringIO(text, newline="")):
-        if len(row) == 3 and row[2] == logins.WITHDRAWN and row[0].isdigit():
+    for row in stock.rows_in(logins.LOG, logins.LOG_HEADER, 3):
+        if row[2] == logins.WITHDRAWN and row[0].isdigit():
             account = names.octets_of(names.text_of_cell(row[1]))
             found.append((int(row[0]), names.shown(account), sheets.get(account, ""), 1))
     vouchers = {}

@@ -15,10 +15,11 @@ import sys
 import time
 
 from radacctl import desk as desks
-from radacctl import lapses, logins, names, packages, program, sheets, site, stock
+from radacctl import cards, configuration, debits, keys, lapses, logins, names, packages, program
+from radacctl import servers, sheets, site, stock
 from radacctl.clerk import forms, journal, lists, rights
 from radacctl.clerk.forms import Refused
-from radacctl.commands import debit, guest, key
+from radacctl.commands import debit, guest
 from radacctl.commands import packages as sold
 
 # In seconds: how long another act is waited for, the desk's answer, and the server's new keys.
@@ -33,11 +34,6 @@ CHECK, LONGEST_LIST = "check-", 1 << 26
 def words():
     """The command line of `radacctl guest`, with what a page waits for."""
     return guest.parser().parse_args(["--give-up", str(GIVE_UP), "--wait", str(WAIT), "mend"])
-
-
-def debit_words():
-    """The command line of `radacctl debit`, which has the site's server, secret and journal."""
-    return debit.parser().parse_args(["--list"])
 
 
 def answer_to(who, asked, now, later):
@@ -151,8 +147,7 @@ class Act:
         if (it.price, it.credit) != (self.asked["price"], self.asked["credit"]):
             raise Refused(409, "changed")
         own = words()
-        config = key.config_of(key.read(own.config), own.config)
-        if len(config.get("key", [])) >= key.MOST_KEYS:
+        if keys.is_full(keys.config_in(own.config)):
             raise Refused(409, "keys full")
         package, _ = sold.found_package(self.asked["package"])
         account, _, is_sold = guest.make(
@@ -262,14 +257,14 @@ class Act:
         given = books.journal.given(number)
         if given not in (None, [names.shown(names.octets_of(account)), str(self.asked["sum"])]):
             raise Refused(409, "differs")
-        if books.journal.given(debit.other_of(number)):
+        if any(map(books.journal.given, debits.others_of(number))):
             raise Refused(409, "taken")
 
     def books(self):
         """What sends debits, once configuration, book and secret have what is needed."""
         try:
-            return debit.Books(debit_words())
-        except debit.Refused as why:
+            return debits.Books(debit.words_of())
+        except debits.Refused as why:
             program.say(why)
             raise Refused(503, "setup") from None
 
@@ -291,10 +286,10 @@ class Act:
     def debit(self, books, account, number):
         try:
             books.take(names.octets_of(account), self.asked["sum"], number)
-        except debit.Refused as why:
+        except debits.Refused as why:
             program.say(why)
             raise Refused(409, "differs") from None
-        except debit.NoAnswer as why:
+        except debits.NoAnswer as why:
             program.say(why)
             raise Refused(503, "away") from None
 
@@ -304,25 +299,22 @@ def page_key(own, account):
     """A key of an account's page, which nobody but this process gets to know. It ends at once; that
     of a process that was killed ends with the next one, or by radacctd-key.timer.
     """
-    now = datetime.datetime.now()
-    token = key.new_token(CHECK)
-    block = (f"# radacctd-key: made {now:%Y-%m-%d}, until {now:%Y-%m-%dT%H:%M}\n[[key]]\n"
-             f'token = "{token}"\naccount = {json.dumps(account)}\n')
-    left = lambda text: [it.members["token"] for it in key.guests(text)
+    now, token = datetime.datetime.now(), keys.new_token(CHECK)
+    left = lambda text: [it.members["token"] for it in keys.guests(text)
                          if it.members["token"].startswith(CHECK)]
 
     def decide(text, config):
-        if len(config.get("key", [])) >= key.MOST_KEYS:
-            raise OSError(f"{key.MOST_KEYS} keys are all that fit: end guests")
-        return block, left(text)
+        if keys.is_full(config):
+            raise OSError(f"{keys.MOST_KEYS} keys are all that fit: end guests")
+        return keys.block_of(token, account, now), left(text)
 
-    changed = key.change(own.config, decide)
+    changed = configuration.change(own.config, decide)
     try:
-        key.wait_for_server(own, changed)
+        servers.wait_for_server(own, changed)
         yield token
     finally:
         try:
-            key.change(own.config, lambda text, _: ("", left(text)))
+            configuration.change(own.config, lambda text, _: ("", left(text)))
         except (SystemExit, OSError) as why:
             program.say(f"a key that begins with {CHECK} is left, until {now:%H:%M}: {why}")
 
@@ -332,13 +324,12 @@ def card_of(store, account):
     rows = store.read("SELECT password, terms, ends FROM login JOIN package ON package.id = "
                       "login.package WHERE account = ?", names.octets_of(account))
     password, terms, own = rows[0][0], json.loads(rows[0][1]), words()
-    config = key.config_of(key.read(own.config), own.config)
-    tokens = [it["token"] for it in config.get("key", [])
-              if key.is_guests(it) and it["account"] == account]
+    tokens = [it["token"] for it in keys.config_in(own.config).get("key", [])
+              if keys.is_guests(it) and it["account"] == account]
     token, wifi = next(iter(tokens), None), packages.wifi()
     texts = guest.codes_of(wifi, account, password, token, guest.url_of(own))
     return {
-        "account": account, "password": password, "house": guest.house(),
+        "account": account, "password": password, "house": cards.house(),
         "wifi": wifi["name"] if wifi else "", "title": terms["title"], "price": terms["price"],
         "credit": terms["credit"], "seconds": terms["seconds"], "from": terms["begins"],
         "until": terms["until"], "codes": [bars_of(it) for it in texts],

@@ -24,13 +24,12 @@ with 3 if there was no answer: then give the same again.
 import collections
 import csv
 import hashlib
-import io
 import os
 import re
 import time
 
 from radacctl import desk as desks
-from radacctl import files, money as moneys, names, program, site, stock
+from radacctl import debits, files, names, program, site, stock
 from radacctl.commands import debit
 from radacctl.commands import packages as sold
 from radacctl.commands import sell as sells
@@ -38,7 +37,7 @@ from radacctl.program import fail, say
 
 STOPPED = "stopped; give the same again: nothing is credited or taken twice"
 MONTH = re.compile(r"20[0-9]{2}-(?:0[1-9]|1[0-2])")
-NOTES, NOTES_HEADER = "/var/lib/radacctd-books/allowed.csv", b"moment,number,account,left\n"
+NOTES, NOTES_HEADER = f"{site.BOOKS}/allowed.csv", b"moment,number,account,left\n"
 # An account of a list, and the numbers of its voucher and of its debit.
 Row = collections.namedtuple("Row", "account sum number lapse")
 
@@ -94,14 +93,10 @@ class Notes:
     """What each account had left before its sum was credited: at most so much is taken, ever."""
 
     def __init__(self, path):
-        folder = os.path.dirname(path)
-        if not os.path.isdir(folder):
-            os.mkdir(folder, 0o700)
-            files.sync_folder(os.path.dirname(folder))
+        files.make_folder(os.path.dirname(path))
         self.log, self.least = stock.Log(path, NOTES_HEADER), {}
-        text = self.log.text()[len(NOTES_HEADER):].decode("ascii", "replace")
-        for row in csv.reader(io.StringIO(text, newline="")):
-            if len(row) == 4 and row[3].isdigit():
+        for row in stock.rows_in(path, NOTES_HEADER, 4):
+            if row[3].isdigit():
                 self.keep(row[1], int(row[3]))
 
     def keep(self, number, left):
@@ -125,8 +120,8 @@ class Allowing:
         self.counts, self.taken = collections.Counter(), 0
         self.books, self.left = None, {}
         if words.lapse:
-            self.books = debit.Books(debit_words(words))
-            self.left = names.balances_of(files.text(words.balances), words.balances)
+            self.books = debits.Books(debit.words_of(words))
+            self.left = names.balances(words.balances)
         self.notes = Notes(words.notes)
 
     def run(self):
@@ -151,14 +146,8 @@ class Allowing:
             try:
                 self.books.take(row.account, left, row.lapse)
                 self.taken += 1
-            except debit.Refused as why:
+            except debits.Refused as why:
                 self.faults.append(f"`{names.shown(row.account)}`: {why}")
-
-
-def debit_words(words):
-    more = ["--config", words.config, "--db", words.db, "--secret-file", words.secret_file,
-            "--journal", words.journal, *(["--port", words.debit_port] if words.debit_port else [])]
-    return debit.parser().parse_args([*more, "--list"])
 
 
 def allow(words, rows, money):
@@ -169,7 +158,7 @@ def allow(words, rows, money):
     allowing, status = Allowing(words, rows), 0
     try:
         allowing.run()
-    except (sells.Stop, debit.NoAnswer) as why:
+    except (sells.Stop, debits.NoAnswer) as why:
         say(f"{getattr(why, 'line', '') or why}: give the same again")
         status = getattr(why, "status", 3)
     new, repeat = allowing.counts["new"], allowing.counts["repeat"]
@@ -189,11 +178,8 @@ def parser():
     it.add_argument("--dry-run", action="store_true")
     it.add_argument("--balances", default=site.BALANCES, metavar="FILE")
     it.add_argument("--notes", default=NOTES, metavar="FILE")
-    sold.add_desk(it)
-    usual = debit.parser()
-    for name in ("config", "db", "secret-file", "journal"):
-        it.add_argument(f"--{name}", default=usual.get_default(name.replace("-", "_")))
-    it.add_argument("--debit-port", metavar="PORT")
+    sells.add_desk(it, 60)
+    debit.add_to(it)
     return it
 
 
@@ -209,5 +195,5 @@ def main(words):
         it.error(f"--sum is a sum as {money.plain(500)}")
     try:
         return allow(words, rows_of(words.list, words.month, total, money), money)
-    except (desks.WrongKey, debit.Refused, stock.Fault, site.Missing, ValueError, OSError) as why:
+    except (desks.WrongKey, debits.Refused, stock.Fault, site.Missing, ValueError, OSError) as why:
         return fail(why)

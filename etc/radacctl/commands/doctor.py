@@ -1,6 +1,6 @@
 """Says what is wrong with a site: a line for each fault, with its cure.
 
-    radacctl doctor [--only NAME..] [--quiet]
+    radacctl doctor [--only NAME..] [--quiet] [--counts FILE]
     radacctl doctor --list
 
 It looks at what this machine has: radacctd alone, behind FreeRADIUS, with pages, one of a pair,
@@ -9,18 +9,22 @@ its pages. Run it as root.
 
 A line is `critical NAME: WHAT. Do: CURE` or `warning NAME: WHAT. Do: CURE`. --list prints each NAME
 that it knows, with its meaning. --only shows faults of these names alone. --quiet prints nothing
-about a sound site.
+about a sound site. --counts writes into FILE, for node_exporter, how many lines each NAME has: the
+timer radacctd-faults does that each hour.
 
 It ends with 0 if nothing is wrong, with 1 if there are warnings only, with 2 for a bad command
 line, with 3 if something is critical: reports or logins are affected now. It ends with 4 if it
 could not look at all of it, which it says.
 """
 
+import collections
 import contextlib
 import os
+import re
 import signal
+import time
 
-from radacctl import program
+from radacctl import files, program
 from radacctl.doctor import book, copies, faults, front, kind, machine, packages, pair, web
 
 SIDES = {
@@ -38,10 +42,16 @@ def parser():
     it = program.parser(__doc__)
     it.add_argument("--only", nargs="+", metavar="NAME", choices=sorted(faults.MEANINGS))
     it.add_argument("--quiet", action="store_true")
+    it.add_argument("--counts", metavar="FILE")
     it.add_argument("--list", action="store_true")
     return it
 
 
+# What follows from a book that is away, and what a cure of another fault says of the server.
+FOLLOW = ("queue-waits", "mirror-old", "balances-old")
+RESTART = re.compile(r"systemctl (?:re)?(?:start|stop) (?:--now )?radacctd(?:@\w+)?"
+                     r"(?:\.service)?(?![\w-])")
+FIRST = "first what the line book-away says; stop and restart nothing before"
 # How long the doctor may look at one side, in seconds; the copies are read whole.
 LONGEST, LONGEST_COPIES = 300, 3600
 
@@ -80,9 +90,36 @@ def found_in(site):
     return found, lost
 
 
+def without_restarts(found):
+    """The faults, without a cure that restarts a server whose book is away: that could lose it."""
+    if not any(it.name == "book-away" for it in found):
+        return found
+    return [it._replace(cure=FIRST) if it.name in FOLLOW or RESTART.search(it.cure) else it
+            for it in found]
+
+
 def shown(text):
     """A line as it may be printed: other users chose names and lines that are in it."""
     return "".join(it if it.isprintable() else "?" for it in text)
+
+
+COUNTS = {
+    "radacctd_doctor_fault": "Lines of the doctor with this name, when it last looked",
+    "radacctd_doctor_unseen": "Sides of the site that the doctor could not look at",
+    "radacctd_doctor_time_seconds": "When the doctor last looked, in seconds since 1970",
+}
+
+
+def counts_of(found, lost):
+    """What node_exporter is to read: each name has a count, so that a fault is seen to end."""
+    lines = collections.Counter(it.name for it in dict.fromkeys(found))
+    fault, unseen, moment = COUNTS
+    rows = {fault: [(f'{{name="{it}",gravity="{faults.gravity(it)}"}}', lines[it])
+                    for it in faults.MEANINGS],
+            unseen: [("", len(lost))], moment: [("", int(time.time()))]}
+    return "".join(f"# HELP {name} {about}.\n# TYPE {name} gauge\n"
+                   + "".join(f"{name}{labels} {value}\n" for labels, value in rows[name])
+                   for name, about in COUNTS.items())
 
 
 def listed():
@@ -99,8 +136,11 @@ def main(words):
         program.fail("be root: what is secret could not be looked at", 4)
     site = kind.Kind()
     found, lost = found_in(site)
+    if words.counts:
+        files.replace(words.counts, counts_of(found, lost).encode("ascii"), 0o644)
+    found = without_restarts(found)
     found = [it for it in found if not words.only or it.name in words.only]
-    found.sort(key=lambda it: it.name not in faults.CRITICALS)
+    found.sort(key=lambda it: (it.name != "book-away", it.name not in faults.CRITICALS))
     for it in dict.fromkeys(found):
         print(shown(f"{faults.gravity(it.name)} {it.name}: {it.text}. Do: {it.cure}"))
     for line in lost:

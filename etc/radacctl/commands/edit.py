@@ -36,12 +36,10 @@ import sys
 import time
 import tomllib
 
-from radacctl import files, plans, program, site
-from radacctl.commands import key
+from radacctl import configuration, files, keys, plans, program, server_log, site
 from radacctl.plans import shown
 from radacctl.program import fail, say
 
-UNIT = os.environ.get("RADACCTD_UNIT", "radacctd")
 LINE = re.compile(r"(?m)^(config: read again: .*|.*; the old one stays)$")
 # A start of the server reads so many octets of its book in a second, or more.
 OCTETS_A_SECOND = 15_000_000
@@ -139,43 +137,6 @@ def differing(new, old, before, by):
     return Differing(missing, changed, added, order, by)
 
 
-class Journal:
-    """The lines of the server since now: in a file, or in the journal of its unit."""
-
-    def __init__(self, log):
-        self.log, self.begin, self.size = log, int(time.time()), 0
-        if log:
-            self.size = os.stat(log).st_size
-        else:
-            found = self.said("-n", "0", "--show-cursor")
-            cursor = re.search(r"(?m)^-- cursor: (.*)$", found)
-            self.since = ["--after-cursor", cursor[1]] if cursor else ["--since", f"@{self.begin}"]
-
-    @staticmethod
-    def said(*words, tool=("journalctl", "-u", UNIT)):
-        how = {"stdin": subprocess.DEVNULL, "capture_output": True, "text": True}
-        with contextlib.suppress(OSError):
-            done = subprocess.run([*tool, *words], errors="replace", **how)
-            return done.stdout if done.returncode == 0 else ""
-        return ""
-
-    def text(self):
-        """Whole lines."""
-        text = self.said(*self.since, "-o", "cat", "--no-pager") if not self.log else ""
-        if self.log:
-            with open(self.log, "rb") as file:
-                file.seek(self.size)
-                text = file.read().decode("utf-8", "replace")
-        return text[: text.rfind("\n") + 1]
-
-    def is_served(self, config):
-        """Whether a server of this configuration runs whose lines can be read."""
-        state = self.said("show", UNIT, "--property", "ActiveState", "--property", "ExecStart",
-                          tool=("systemctl",))
-        is_down = re.search(r"(?m)^ActiveState=(?!active|reloading)", state)
-        return bool(self.log) or (config in state and not is_down)
-
-
 def test_rights(config):
     """Ends if the file cannot be read here, or could not keep its owner."""
     folder = os.path.dirname(config)
@@ -260,8 +221,8 @@ class Edit:
         ended. Whether nothing else differs. A copy of an earlier version has no base.
         """
         base = octets_of(self.base) if os.path.exists(self.base) else b""
-        texts = [key.text_of(it, self.config) for it in (base, self.was, octets_of(self.copy))]
-        merged, is_same = key.merged(*texts, self.copy)
+        texts = [keys.text_of(it, self.config) for it in (base, self.was, octets_of(self.copy))]
+        merged, is_same = keys.merged(*texts, self.copy)
         if merged != texts[2]:
             say("keys were made or ended meanwhile: your copy gets the same")
             self.put(self.copy, merged.encode())
@@ -317,8 +278,8 @@ class Edit:
             say(f"these plans are not in {found.by}:")
             tell(found.added)
             pause = 2 * (os.stat(self.words.db).st_size // OCTETS_A_SECOND + 1)
-            print(WAITS.format(pause=pause, unit=UNIT, config=self.config, book=self.words.db),
-                  file=sys.stderr)
+            print(WAITS.format(pause=pause, unit=server_log.UNIT, config=self.config,
+                               book=self.words.db), file=sys.stderr)
         else:
             return "w"
         return asked("Write it (w), edit again (e), or keep the copy and quit (q)? ", "weq")
@@ -338,7 +299,7 @@ class Edit:
             if octets_of(self.copy) == octets_of(self.base):
                 self.end_unchanged()
             # An editor that failed may have written a part, and a part may be right.
-            fault = key.fault_of(self.copy, self.copy) if is_whole else ""
+            fault = configuration.fault_of(self.copy, self.copy) if is_whole else ""
             if fault:
                 print(fault, file=sys.stderr)
             if fault or not is_whole:
@@ -359,19 +320,19 @@ class Edit:
             fail(f"{self.config} was changed by another program in the meantime; your copy is "
                  f"{self.copy}")
         self.put(self.base, self.was)
-        if fault := key.fault_of(self.copy, self.copy):
+        if fault := configuration.fault_of(self.copy, self.copy):
             print(fault, file=sys.stderr)
             fail(f"with the keys that were made meanwhile it is wrong; your copy is {self.copy}")
 
     def place(self):
         """Renames the copy into place, if nobody else has changed the file meanwhile."""
         held = f"another program has {self.config} locked; your copy is {self.copy}"
-        with key.locked(self.config, fault=held):
+        with configuration.locked(self.config, fault=held):
             if self.is_new and os.path.exists(self.config):
                 fail(f"{self.config} was made by another program; see {self.copy}")
             if not self.is_new and octets_of(self.config) != self.was:
                 self.take_changes()
-            journal = Journal(self.words.log)
+            journal = server_log.Journal(self.words.log)
             self.put(self.config, octets_of(self.copy))
             files.sync_folder(os.path.dirname(self.config))
             files.remove(self.copy)
@@ -425,7 +386,8 @@ def main(words):
     for number in (signal.SIGHUP, signal.SIGQUIT, signal.SIGTERM):
         signal.signal(number, lambda *_: sys.exit(1))
     test_rights(words.config)
-    with key.locked(words.config, ".edit-lock", 0, f"another edit of {words.config} is going on"):
+    held = f"another edit of {words.config} is going on"
+    with configuration.locked(words.config, ".edit-lock", 0, held):
         edit = Edit(words)
         try:
             return edit.run()

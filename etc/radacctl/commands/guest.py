@@ -27,7 +27,6 @@ there was no answer: then `radacctl guest list` says what became of it.
 
 import contextlib
 import csv
-import datetime
 import fcntl
 import hashlib
 import html
@@ -35,46 +34,26 @@ import http.client
 import json
 import os
 import re
-import secrets
-import subprocess
 import sys
 import time
 import unicodedata
 
 from radacctl import desk as desks
-from radacctl import files, lapses, logins, money, names, packages, program, site, stock
-from radacctl.commands import key as keys
+from radacctl import cards, codes, configuration, drafts, files, keys, lapses, logins, names
+from radacctl import packages, program, servers, site, stock
 from radacctl.commands import packages as sold
 from radacctl.commands import sell as sells
 from radacctl.program import fail, say
 
 STOPPED = "stopped; the next `radacctl guest` completes it, or takes it back"
 LOCK = "/run/radacctd-guest.lock"
-LETTERS = keys.LETTERS
-# What guests are made with, until they are: files of root's, since FreeRADIUS' user writes the
-# database, and is to credit nothing and remove no file.
-DRAFTS, DRAFT = "/var/lib/radacctd-books/guests", re.compile(r"([a-z0-9-]{1,48})\.json")
-# How far a guest is made: nothing was sent yet, or the desk was asked.
-BEGUN, ASKED = "begun", "asked"
-CARD = """<!doctype html>
-<html lang="en">
-<meta charset="utf-8">
-<title>Wi-Fi</title>
-<style>
-@page {{ size: A6; margin: 6mm; }}
-body {{ font: 11pt sans-serif; color: #000; background: #fff; }}
-body {{ text-align: center; max-width: 92mm; margin: auto; }}
-svg {{ width: 32mm; height: 32mm; }}
-code {{ font: 13pt monospace; overflow-wrap: anywhere; }}
-p {{ margin: 1.5mm 0; }}
-</style>
+CARD = """\
 <p><b>{house}</b>{wifi}</p>
 <p>Name: <code>{account}</code><br>Password / Passwort: <code>{password}</code></p>
 <p>{title}, {price}<br>{validity}</p>
 {codes}
-<p>Please do not pass it on.<br>Bitte nicht weitergeben.</p>
-</html>
-"""
+<p>Please do not pass it on.<br>Bitte nicht weitergeben.</p>"""
+STYLE = {"title": "Wi-Fi", "margin": 6, "letters": 11, "wide": 92, "code": 32, "space": 1.5}
 
 
 class NotMade(Exception):
@@ -84,7 +63,7 @@ class NotMade(Exception):
 @contextlib.contextmanager
 def locked(patience=60):
     """One at a time makes, ends or mends guests."""
-    handle = os.open(LOCK, os.O_RDWR | os.O_CREAT | os.O_NOFOLLOW | os.O_CLOEXEC, 0o600)
+    handle = files.open_lock(LOCK)
     try:
         stock.wait_for(lambda: fcntl.flock(handle, fcntl.LOCK_EX | fcntl.LOCK_NB), LOCK, patience)
         yield
@@ -99,19 +78,14 @@ def slug_of(name):
     return "-".join(re.findall("[a-z0-9]+", plain.lower()))[:24].strip("-") or "guest"
 
 
-def letters(count):
-    return "".join(secrets.choice(LETTERS) for _ in range(count))
-
-
 def new_account(name, logins_store, config):
     """An account that nobody has or had: not in the database, the book, the keys or the users."""
     taken = {names.shown(row[0]) for row in logins_store.read("SELECT account FROM login")}
-    taken |= sold.known_accounts() | {names.shown(it) for it in logins.ended_in()}
-    taken |= {it.get("account", "") for it in keys.config_of(keys.read(config), config)
-              .get("key", [])}
+    taken |= codes.known_accounts() | {names.shown(it) for it in logins.ended_in()}
+    taken |= {it.get("account", "") for it in keys.config_in(config).get("key", [])}
     users = files.text(os.path.join(site.RADDB, "mods-config/files/authorize"))
     while True:
-        account = f"{slug_of(name)}-{time.strftime('%m%d')}-{letters(4)}"
+        account = f"{slug_of(name)}-{time.strftime('%m%d')}-{stock.letters(4)}"
         if account not in taken and account not in users:
             return account
 
@@ -148,16 +122,16 @@ def make(logins_store, words, name, package, site_money, url, card=None, note=la
     `note` gets the account before anything of it is made. The lock is held.
     """
     account = new_account(name, logins_store, words.config)
-    guest = {"step": BEGUN, "name": name, "card": card,
+    guest = {"step": drafts.BEGUN, "name": name, "card": card,
              "token": keys.new_token("") if url else None, "sum": package.credit}
-    password = f"{letters(5)}-{letters(5)}"
+    password = f"{stock.letters(5)}-{stock.letters(5)}"
     note(account)
-    keep_draft(account, guest)
+    drafts.keep(account, guest)
     try:
         insert(logins_store, account, password, package, name)
         add_key(account, guest, words)
         write_card(account, password, package, site_money, guest, url)
-        keep_draft(account, {**guest, "step": ASKED})
+        drafts.keep(account, {**guest, "step": drafts.ASKED})
     except BaseException:
         take_back(logins_store, account, guest, words)
         raise
@@ -167,36 +141,13 @@ def make(logins_store, words, name, package, site_money, url, card=None, note=la
 def url_of(words):
     """The address of the pages, or nothing."""
     try:
-        url = (words.url or money.settings_in()["url"]).rstrip("/")
-    except (OSError, ValueError):
-        url = ""
-    if url and not re.fullmatch(r"https://[^\s#?\"<>]+", url):
-        fail("--url is as https://accounts.example.org")
-    return url
-
-
-def keep_draft(account, guest):
-    """Writes what a guest is being made with, whole and on the disk."""
-    if not os.path.isdir(DRAFTS):
-        os.makedirs(DRAFTS, mode=0o700)
-        files.sync_folder(os.path.dirname(DRAFTS))
-    files.replace(os.path.join(DRAFTS, f"{account}.json"), json.dumps(guest).encode())
-
-
-def drafts():
-    """The guests that were begun and not finished."""
-    for name in sorted(os.listdir(DRAFTS) if os.path.isdir(DRAFTS) else []):
-        if found := DRAFT.fullmatch(name):
-            yield found[1], json.loads(files.text(os.path.join(DRAFTS, name)))
-
-
-def drop_draft(account):
-    files.remove(os.path.join(DRAFTS, f"{account}.json"))
-    files.sync_folder(DRAFTS)
+        return cards.address(words.url)
+    except cards.Fault as why:
+        return fail(why)
 
 
 def insert(logins_store, account, password, package, name):
-    number = sold.package_row(logins_store, package)
+    number = logins.package_row(logins_store, package)
     logins_store.run((
         "INSERT INTO login VALUES (?, NULL, ?, ?, ?, ?, ?, '', 'making', ?, NULL, NULL, ?, ?)",
         (account.encode(), password, number, package.plan, package.devices, package.seconds,
@@ -207,29 +158,32 @@ def add_key(account, guest, words):
     """A key of the guest's page, which ends with the guest."""
     if not guest["token"]:
         return
-    today = f"{datetime.datetime.now():%Y-%m-%d}"
-    block = f'# radacctd-key: made {today}\n[[key]]\ntoken = "{guest["token"]}"\n'
 
     def decide(_, config):
-        if len(config.get("key", [])) >= keys.MOST_KEYS:
+        if keys.is_full(config):
             fail(f"{keys.MOST_KEYS} keys are all that fit: end guests")
-        return f"{block}account = {json.dumps(account)}\n", []
+        return keys.block_of(guest["token"], account), []
 
-    changed = keys.change(words.config, decide)
-    keys.wait_for_server(words, changed)
+    changed = configuration.change(words.config, decide)
+    servers.wait_for_server(words, changed)
 
 
 def write_card(account, password, package, site_money, guest, url):
     if not guest["card"]:
         return
-    texts = {"house": house(), "account": account, "password": password, "title": package.title,
-             "price": site_money.shown(package.price), "validity": package.validity()}
+    texts = {"house": cards.house(), "account": account, "password": password,
+             "title": package.title, "price": site_money.shown(package.price),
+             "validity": package.validity()}
     texts = {name: html.escape(it) for name, it in texts.items()}
     wifi = packages.wifi()
-    drawn = [qr(it) for it in codes_of(wifi, account, password, guest["token"], url)]
+    try:
+        drawn = map(cards.svg, codes_of(wifi, account, password, guest["token"], url))
+        texts["codes"] = "\n".join(drawn)
+    except cards.Fault as why:
+        raise NotMade(why) from None
     texts["wifi"] = f"<br>Wi-Fi: <b>{html.escape(wifi['name'])}</b>" if wifi else ""
     try:
-        files.make(guest["card"], CARD.format(codes="\n".join(drawn), **texts).encode())
+        files.make(guest["card"], cards.PAGE.format(body=CARD.format(**texts), **STYLE).encode())
         files.sync_folder(os.path.dirname(guest["card"]))
     except FileExistsError:
         guest["card"] = None
@@ -244,13 +198,6 @@ def codes_of(wifi, account, password, token, url):
             *([f"{url}/#k={token}"] if token else [])]
 
 
-def house():
-    try:
-        return money.settings_in()["name"] or "Wi-Fi"
-    except (OSError, ValueError):
-        return "Wi-Fi"
-
-
 def wifi_text(wifi, account, password):
     """What a phone reads from a QR code to join a network."""
     spell = lambda text: re.sub(r'([\\;,:"])', r"\\\1", text)
@@ -258,16 +205,6 @@ def wifi_text(wifi, account, password):
         return f"WIFI:T:nopass;S:{spell(wifi['name'])};;"
     return (f"WIFI:T:WPA2-EAP;S:{spell(wifi['name'])};E:PEAP;PH2:MSCHAPV2;I:{spell(account)};"
             f"P:{spell(password)};;")
-
-
-def qr(text):
-    """A QR code as SVG; qrencode reads the text, so that no list of processes has it."""
-    command = ["qrencode", "-t", "SVG", "-m", "1", "--inline", "-o", "-"]
-    try:
-        done = subprocess.run(command, input=text, capture_output=True, text=True, check=True)
-    except (OSError, subprocess.CalledProcessError):
-        raise NotMade("a card needs qrencode: apt install qrencode") from None
-    return re.sub(r"<\?xml.*?\?>|<!--.*?-->|<!DOCTYPE.*?>", "", done.stdout, flags=re.S).strip()
 
 
 def complete(logins_store, account, guest, words, is_lost=False):
@@ -281,7 +218,7 @@ def complete(logins_store, account, guest, words, is_lost=False):
         lapses.sold(logins_store, account.encode(), int(time.time()))
         logins_store.run(("UPDATE login SET state = 'live' WHERE account = ? AND state = 'making'",
                           (account.encode(),)))
-        drop_draft(account)
+        drafts.drop(account)
         return True
     if not is_lost or result in (desks.DIFFERS, desks.LIMIT):
         take_back(logins_store, account, guest, words)
@@ -322,7 +259,7 @@ def take_back(logins_store, account, guest, words):
         files.remove(card)
     logins_store.run(("DELETE FROM login WHERE account = ? AND state = 'making'",
                       (account.encode(),)))
-    drop_draft(account)
+    drafts.drop(account)
 
 
 def end_keys(accounts, words):
@@ -330,15 +267,15 @@ def end_keys(accounts, words):
     which = lambda text: [it.members["token"] for it in keys.guests(text)
                           if names.octets_of(it.members["account"]) in accounts]
     if which(keys.read(words.config)):
-        changed = keys.change(words.config, lambda text, _: ("", which(text)))
-        keys.wait_for_server(words, changed)
+        changed = configuration.change(words.config, lambda text, _: ("", which(text)))
+        servers.wait_for_server(words, changed)
 
 
 def mend_all(logins_store, words):
     """Completes or takes back what a killed run left, and ends the keys of guests who ended."""
     logins.mend(logins_store)
-    for account, guest in drafts():
-        if guest["step"] == BEGUN:
+    for account, guest in drafts.all_of_them():
+        if guest["step"] == drafts.BEGUN:
             take_back(logins_store, account, guest, words)
             continue
         with contextlib.suppress(NotMade):
@@ -383,7 +320,7 @@ def end_guest(logins_store, words, account, note=lambda: None):
                       "give it again")
     if state == logins.LIVE:
         note()
-        sold.own_log()
+        logins.own_log()
         lapses.end(logins_store, [account], logins.ENDED, int(time.time()))
         end_keys({account}, words)
     return state == logins.LIVE
@@ -432,7 +369,7 @@ def show(words):
 def parser():
     it = program.parser(__doc__)
     it.add_argument("--config", default=site.CONFIG, metavar="FILE")
-    sold.add_desk(it)
+    sells.add_desk(it, 60)
     it.add_argument("--url")
     it.add_argument("--wait", type=int, default=10, metavar="SECONDS")
     acts = it.add_subparsers(dest="act", required=True, metavar="new | end | list | mend")

@@ -3,7 +3,7 @@
     radacctl packages list [SHEET]
     radacctl packages print PACKAGE --count COUNT [--to FOLDER] [--link URL] [--name NAME]
     radacctl packages sell WHAT..
-    radacctl packages withdraw WHAT..
+    radacctl packages withdraw [--unsold] WHAT..
     radacctl packages make | mend | tick
 
 What a package costs, gives and how long it is valid is in /etc/radacctd-packages/packages.toml.
@@ -17,9 +17,12 @@ this address, in which {code} stands for the code; else one of the code.
 
 No code logs in before it is sold. `sell` credits what the package gives, once for each code. WHAT
 is a serial number, as t-0123456789ab, or a sheet. A sale at the desk's page counts as well: `sell`
-credits nothing more for it. A package whose end (`until`) is past is not sold.
+waits until radacctd has written the balances anew, and credits nothing more for it. A package whose
+end (`until`) is past is not sold.
 
-`withdraw` ends codes that were lost or stolen, and their sessions. What is left on them lapses.
+`withdraw` ends codes that were lost or stolen, and their sessions. What is left on them lapses, also
+on codes that guests have paid for: it says how many these are, and asks. With --unsold it ends only
+those that nobody bought. There is no hurry: these log nobody in.
 
 `make` makes the databases, once, as the set-up does. `mend` ends what had ended, if the databases
 are those of an older copy: each start of FreeRADIUS gives it. `tick` is what
@@ -33,21 +36,14 @@ It ends with 0 if all was done, with 1 if not, which it says, and with 2 for a b
 
 import collections
 import contextlib
-import csv
-import fcntl
-import io
 import os
-import pwd
 import re
-import secrets
-import shutil
 import sys
 import time
 
 from radacctl import codes, desk as desks
-from radacctl import files, lapses, logins, names, packages, program, sheets, site, stock
+from radacctl import files, lapses, logins, names, packages, plans, program, sheets, site, stock
 from radacctl.commands import debit, sell as sells
-from radacctl.doctor.book import plans_in
 from radacctl import money as moneys
 from radacctl.program import fail, say
 
@@ -55,10 +51,8 @@ STOPPED = "stopped; give the same again: nothing is sold or taken twice"
 SHEET = re.compile(r"[a-z0-9-]{1,24}-[0-9]{8}-[a-z0-9]{5}")
 SERIAL = re.compile(r"t-[0-9a-f]{12}")
 LINK = re.compile(r'https?://[^\s"<>{}]{1,120}\{code\}[^\s"<>{}]{0,99}(\{code\}[^\s"<>{}]{0,60})?')
-MOST, LETTERS = 1000, "acdefhjkmnpqrtuwxy34679"
+MOST = 1000
 LOCK = "/run/radacctd-packages.lock"
-# What the codes of a sheet give and cost: root's, since FreeRADIUS' user writes the database.
-SHEETS, SHEETS_HEADER = "/var/lib/radacctd-books/sheets.csv", b"moment,sheet,package,credit,price\n"
 STATES = """SELECT package.name, count(*), total(state = 'live'), total(sold IS NOT NULL),
     total(first IS NOT NULL), total(state <> 'live' OR ends <= ?)
     FROM login JOIN package ON package.id = login.package GROUP BY package.name ORDER BY 1"""
@@ -90,21 +84,6 @@ def key_of(logins_store):
     return key
 
 
-def package_row(logins_store, package):
-    """The number of a package in the database, where it stays as it is now."""
-    found = logins_store.run(
-        ("INSERT INTO package (name, terms) VALUES (?, ?) ON CONFLICT DO NOTHING",
-         (package.name, package.terms())),
-        ("SELECT id FROM package WHERE terms = ?", (package.terms(),)),
-        ("SELECT count(*) FROM reply WHERE package = "
-         "(SELECT id FROM package WHERE terms = ?)", (package.terms(),)))
-    number, count = found[1][0][0], found[2][0][0]
-    if not count and package.replies:
-        logins_store.run(*(("INSERT INTO reply VALUES (?, ?, ?, ?, ?)", (number, *it))
-                           for it in package.replies))
-    return number
-
-
 def found_package(name):
     """A package of the file, whose plan is in force, and the site's money."""
     try:
@@ -115,9 +94,9 @@ def found_package(name):
         return fail(f"there is no package {name}: {', '.join(known) or 'none is in the file'}")
     if known[name].is_over(time.time()):
         return fail(f"{name} is over since {known[name].validity().removeprefix('until ')}")
-    plans = plans_in(f"{os.path.dirname(site.BALANCES)}/plans.csv")
-    if plans is not None and known[name].plan not in plans:
-        return fail(f"the plan {known[name].plan} of {name} is not in force: {', '.join(plans)}")
+    force = plans.in_force()
+    if force is not None and (why := known[name].plan_missing(force)):
+        return fail(f"{why}: {', '.join(force)}")
     return known[name], money
 
 
@@ -127,7 +106,7 @@ def found_package(name):
 def print_codes(words):
     package, money = found_package(words.package)
     logins_store = store()
-    key, number = key_of(logins_store), package_row(logins_store, package)
+    key, number = key_of(logins_store), logins.package_row(logins_store, package)
     if words.link and not LINK.fullmatch(words.link):
         fail("--link is an address with {code} in it, once or twice")
     sheet = new_sheet(package.name, words.to)
@@ -143,7 +122,7 @@ def print_codes(words):
     except OSError as why:
         fail(f"cannot write {path}: {why.strerror}")
     now = int(time.time())
-    log_sheet([now, sheet, package.name, package.credit, package.price])
+    codes.log([now, sheet, package.name, package.credit, package.price])
     logins_store.run(*((
         "INSERT INTO login VALUES (?, ?, NULL, ?, ?, ?, ?, ?, 'live', ?, NULL, NULL, ?, NULL)",
         (account.encode(), digest, number, package.plan, package.devices, package.seconds, sheet,
@@ -153,53 +132,24 @@ def print_codes(words):
     return 0
 
 
-def log_sheet(row):
-    """Adds a sheet to root's log, before one of its codes can be sold."""
-    folder = os.path.dirname(SHEETS)
-    if not os.path.isdir(folder):
-        os.mkdir(folder, 0o700)
-        files.sync_folder(os.path.dirname(folder))
-    log = stock.Log(SHEETS, SHEETS_HEADER)
-    log.add(stock.lines_of([row]))
-    log.close()
-
-
-def sheets_sold():
-    """What a code of each sheet gives, and costs."""
-    text = stock.whole_lines(SHEETS, SHEETS_HEADER).decode("ascii", "replace")
-    rows = [it for it in csv.reader(io.StringIO(text, newline="")) if len(it) == 5]
-    return {row[1]: (int(row[3]), int(row[4])) for row in rows}
-
-
 def new_sheet(name, folder):
     """A name that no sheet has: 22 random bits, so that none of a lost database has it, too."""
     if not os.path.isdir(folder):
         fail(f"{folder} is no folder")
-    letters = "".join(secrets.choice(LETTERS) for _ in range(5))
-    return f"{name}-{time.strftime('%Y%m%d')}-{letters}"
+    return f"{name}-{time.strftime('%Y%m%d')}-{stock.letters(5)}"
 
 
 def new_codes(count, key, logins_store):
     """Codes whose serial numbers nobody has: code, account and digest of each."""
     taken = {row[0].decode() for row in logins_store.read("SELECT account FROM login")}
-    taken |= known_accounts()
+    taken |= codes.known_accounts()
     made = {}
     while len(made) < count:
-        code = "".join(secrets.choice(stock.LETTERS) for _ in range(14))
-        code = stock.code_of(code + stock.check_letter(code))
+        code = stock.new_code()
         digest = logins.digest_of(code, key)
         if logins.account_of(digest) not in taken:
             made[logins.account_of(digest)] = (code, logins.account_of(digest), digest)
     return list(made.values())
-
-
-def known_accounts():
-    """The accounts of the book: a number that was sold once is never made again."""
-    try:
-        found = names.balances_of(files.text(site.BALANCES), site.BALANCES)
-    except ValueError:
-        return fail(f"{site.BALANCES} cannot be read: is radacctd running?")
-    return {names.shown(it) for it in found}
 
 
 def named(logins_store, what):
@@ -212,10 +162,10 @@ def named(logins_store, what):
         return fail(f"{what} is no serial number, as t-0123456789ab, and no sheet")
     found = logins_store.read("SELECT account, state, sold, ends, sheet FROM login WHERE "
                               f"digest IS NOT NULL AND {condition} ORDER BY account", value)
-    known = sheets_sold()
+    known = codes.sold()
     lost = {it[-1] for it in found} - set(known)
     if lost:
-        fail(f"{SHEETS} has no {min(lost)}: nobody knows what its codes give")
+        fail(f"{codes.LOG} has no {min(lost)}: nobody knows what its codes give")
     return [Code(*it[:4], *known[it[4]]) for it in found] or fail(f"no code is of {what}")
 
 
@@ -225,7 +175,8 @@ def number_of(account):
 
 
 def sell(words):
-    logins_store, now = store(), int(time.time())
+    begun, logins_store = time.time(), store()
+    now = int(begun)
     logins.mend(logins_store)
     found = {it.account: it for what in words.what for it in named(logins_store, what)}
     # What the package of a code that nobody has says of its end is over, too.
@@ -234,7 +185,8 @@ def sell(words):
     if over:
         fail(f"{len(over)} of these codes are {min(over.values())}, as {min(over).decode()}: "
              "nothing was sold")
-    return credit(words, logins_store, list(found.values()), known_accounts())
+    codes.await_balances(begun)
+    return credit(words, logins_store, list(found.values()), codes.known_accounts())
 
 
 def credit(words, logins_store, found, known):
@@ -268,10 +220,7 @@ def credit(words, logins_store, found, known):
 
 def site_money():
     try:
-        pages = moneys.settings_in()
-        return moneys.Money(pages["decimals"], pages["currency"])
-    except FileNotFoundError:
-        return moneys.Money()
+        return moneys.of_site()
     except (OSError, ValueError) as why:
         return fail(f"the site's money: {why}")
 
@@ -280,34 +229,35 @@ def withdraw(words):
     logins_store = store()
     logins.mend(logins_store)
     found = {it.account: it for what in words.what for it in named(logins_store, what)}
+    over = sum(it.state != logins.LIVE for it in found.values())
     live = [it.account for it in found.values() if it.state == logins.LIVE]
+    sold = sold_of(found, live, words.unsold)
+    if words.unsold:
+        live = [it for it in live if it not in sold]
+    asked = f"Withdraw {len(live)} codes for ever?"
+    if sold and not words.unsold:
+        asked = (f"{len(sold)} of these {len(live)} codes are sold, as {names.shown(min(sold))}. "
+                 "Their guests are disconnected, and what is left on them lapses. --unsold ends the "
+                 "others only. Withdraw all of them for ever?")
     if len(live) > 1 and not words.yes:
-        confirm(f"Withdraw {len(live)} codes for ever?")
+        program.confirm(asked)
     now = int(time.time())
-    own_log()
+    logins.own_log()
     lapses.end(logins_store, live, logins.WITHDRAWN, now)
     told = lapses.disconnect(logins_store, uses(), now, 900, live)
-    print(f"withdrawn: {len(live)} codes; {len(found) - len(live)} were over before. "
+    of_them = f"{len(sold)} sold ones stay" if words.unsold else f"{len(sold)} of them were sold"
+    print(f"withdrawn: {len(live)} codes; {of_them}; {over} were over before. "
           f"Told {told} sessions to end")
     return 0
 
 
-def confirm(question):
-    if not sys.stdin.isatty():
-        fail(f"{question} Nobody is there to answer: give --yes.")
-    print(f"{question} [y/N] ", end="", flush=True)
-    if sys.stdin.readline().strip().lower() not in ("y", "yes", "j", "ja"):
-        fail("nothing was done")
-
-
-def own_log():
-    """The folder of the log of what ended, for root and the user who redeems."""
-    folder = os.path.dirname(logins.LOG)
-    if not os.path.isdir(folder):
-        os.mkdir(folder, 0o750)
-        with contextlib.suppress(LookupError, PermissionError):
-            shutil.chown(folder, "root", "radacctd-redeem")
-        files.sync_folder(os.path.dirname(folder))
+def sold_of(found, live, is_needed):
+    """Which of these codes a guest has bought. A sale of the last minute is only in the balances."""
+    try:
+        known = {names.shown(it) for it in names.balances()}
+    except ValueError:
+        known = codes.known_accounts() if is_needed else set()
+    return {it for it in live if found[it].sold is not None or names.shown(it) in known}
 
 
 # ---- what is there
@@ -326,7 +276,8 @@ def show(words):
         made, live, sold, used, over = (int(it) for it in counts.get(name, (0,) * 5))
         it = known.get(name)
         terms = (f"{money.shown(it.price)}, gives {money.shown(it.credit)}, {it.validity()}, "
-                 f"{it.devices} device{'s' * (it.devices != 1)}") if it else "no longer in the file"
+                 f"{it.devices} device{'s' * (it.devices != 1)}"
+                 f"{', then slow' * (it.slow is not None)}") if it else "no longer in the file"
         print(f"{name}: {terms}; made {made}, live {live}, sold {sold}, used {used}, over {over}")
     return 0
 
@@ -361,7 +312,7 @@ def make(_):
 
 
 def mend(_):
-    own_log()
+    logins.own_log()
     count = logins.mend(store())
     if count:
         say(f"{count} logins were live again, as in an older copy: they are ended")
@@ -370,13 +321,10 @@ def mend(_):
 
 def tick(words):
     """Ends what is over. One at a time; the next minute has another."""
-    lock = os.open(words.lock, os.O_RDWR | os.O_CREAT | os.O_NOFOLLOW | os.O_CLOEXEC, 0o600)
-    try:
-        fcntl.flock(lock, fcntl.LOCK_EX | fcntl.LOCK_NB)
-    except BlockingIOError:
+    if not files.is_locked(files.open_lock(words.lock)):
         return 0
-    own_log()
-    write_for_pages()
+    logins.own_log()
+    packages.write_for_pages()
     logins_store, now = store(), int(time.time())
     mended = logins.mend(logins_store)
     if mended:
@@ -387,29 +335,13 @@ def tick(words):
     if long >= min(words.steady, lapses.STEADY // 6):
         lapses.note_sales(logins_store, now, words.mirror)
         lapses.bring_back(logins_store, now)
-    lapse = lapses.Lapse(logins_store, use_store, debit_words(words), logins.LOG, words.mirror)
+    lapse = lapses.Lapse(logins_store, use_store, debit.words_of(words), logins.LOG, words.mirror)
     lapses.disconnect(logins_store, use_store, now, lapse.wait)
     mend_guests(logins_store, words)
     done, _ = lapse.run(now, long >= words.steady)
     if done:
         print(f"lapsed: {done}")
     return 0
-
-
-def write_for_pages(path=packages.PAGES):
-    """Writes what the front desk's page has of the packages, if it changed. While their file is
-    wrong the page keeps what it has. A site without pages has no folder for it.
-    """
-    if not os.path.isdir(os.path.dirname(path)):
-        return
-    try:
-        known, _ = packages.read()
-        plans = plans_in(f"{os.path.dirname(site.BALANCES)}/plans.csv")
-        wanted = packages.for_pages(known, time.time(), plans)
-        if files.text(path) != wanted:
-            files.replace(path, wanted.encode(), 0o644)
-    except (packages.Wrong, OSError) as why:
-        say(f"the pages keep the packages that they have: {why}")
 
 
 def mend_guests(logins_store, words):
@@ -423,7 +355,7 @@ def mend_guests(logins_store, words):
 def uses_made():
     """The devices of now; a file that was lost or damaged is made anew: nothing is lost by it."""
     found = uses()
-    give_folder(os.path.dirname(found.path))
+    logins.give_folder(os.path.dirname(found.path))
     try:
         found.read("SELECT count(*) FROM use, try")
     except logins.Fault:
@@ -433,28 +365,6 @@ def uses_made():
         found.make(logins.USES_TABLES)
         say(f"{found.path} is made anew")
     return found
-
-
-def give_folder(path):
-    """Makes a folder that is missing for FreeRADIUS' user. One that is there stays as it is."""
-    try:
-        os.mkdir(path, 0o700)
-    except FileExistsError:
-        return
-    handle = os.open(path, files.FOLDER)
-    try:
-        if os.getuid() == 0:
-            user = pwd.getpwnam(site.RADIUS_USER)
-            os.fchown(handle, user.pw_uid, user.pw_gid)
-    finally:
-        os.close(handle)
-
-
-def debit_words(words):
-    """The command line of a debit, which has the site's server, secret and journal."""
-    more = ["--config", words.config, "--db", words.db, "--secret-file", words.secret_file,
-            "--journal", words.journal, *(["--port", words.debit_port] if words.debit_port else [])]
-    return debit.parser().parse_args([*more, "--list"])
 
 
 def parser():
@@ -470,9 +380,10 @@ def parser():
     act.add_argument("--name")
     act = acts.add_parser("sell")
     act.add_argument("what", nargs="+", metavar="WHAT")
-    add_desk(act)
+    sells.add_desk(act, 60)
     act = acts.add_parser("withdraw")
     act.add_argument("what", nargs="+", metavar="WHAT")
+    act.add_argument("--unsold", action="store_true")
     act.add_argument("--yes", action="store_true")
     acts.add_parser("make")
     acts.add_parser("mend")
@@ -480,21 +391,10 @@ def parser():
     act.add_argument("--steady", type=int, default=lapses.STEADY, metavar="SECONDS")
     act.add_argument("--mirror", default=lapses.MIRROR, metavar="FILE")
     act.add_argument("--lock", default=LOCK, metavar="FILE")
-    usual = debit.parser()
-    for name in ("config", "db", "secret-file", "journal"):
-        act.add_argument(f"--{name}", default=usual.get_default(name.replace("-", "_")))
-    act.add_argument("--debit-port", metavar="PORT")
-    add_desk(act, 5)
+    debit.add_to(act)
+    sells.add_desk(act, 5)
     act.add_argument("--wait", type=int, default=10, metavar="SECONDS")
     return it
-
-
-def add_desk(act, give_up=60):
-    """The options of a sale."""
-    act.add_argument("--key-file", default=desks.CASHIER_KEY, metavar="FILE")
-    act.add_argument("--host", default="127.0.0.1", metavar="A.B.C.D")
-    act.add_argument("--port", type=int, default=8066)
-    act.add_argument("--give-up", type=int, default=give_up, metavar="SECONDS")
 
 
 def main(words):

@@ -18,10 +18,9 @@ for a bad command line.
 import json
 import os
 
-from radacctl import files, program
+from radacctl import files, program, site
 from radacctl.program import fail
 
-PLANS = "/var/lib/radacctd-balances/plans.json"
 SETTINGS = {"name": "", "url": "", "currency": "", "decimals": 2, "time_classes": ""}
 
 
@@ -46,7 +45,7 @@ def link(path, plans):
 
 def parser():
     it = program.parser(__doc__)
-    it.add_argument("--plans", default=PLANS, metavar="FILE")
+    it.add_argument("--plans", default=site.PLANS_JSON, metavar="FILE")
     it.add_argument("--to", default="/etc/radacctd-web", metavar="FOLDER")
     return it
 

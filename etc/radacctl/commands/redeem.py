@@ -34,17 +34,15 @@ import re
 import sys
 
 from radacctl import desk as desks
-from radacctl import names, program
+from radacctl import names, program, site
 from radacctl import stock as stocks
 
-# An account as the desk takes it: plain characters, and % with two digits for any other octet.
-ACCOUNT = re.compile("(?:[ -$&-~]|%[0-9A-F]{2}){1,253}")
 STOCK = os.environ.get("RADACCTD_STOCK", f"{stocks.FOLDER}/stock.csv")
 FOLDER = os.path.dirname(os.path.abspath(STOCK))
 SECOND = os.environ.get("RADACCTD_WITHDRAWN", stocks.SECOND)
 WITHDRAWN = [os.path.join(FOLDER, "withdrawn.csv"), SECOND]
 GIVEN = os.path.join(FOLDER, "given", "given.csv")
-KEY = os.environ.get("RADACCTD_KEY", "/etc/radacctd-redeem.key")
+KEY = os.environ.get("RADACCTD_KEY", site.REDEEM_KEY)
 DESKS = os.environ.get("RADACCTD_DESKS", "127.0.0.1:8066")
 LARGEST_BODY = 1024
 # In seconds: for a connection, an answer, another request for the same code, and another run over
@@ -75,7 +73,7 @@ def asked():
         account, code = body["account"], stocks.code_of(body["code"])
     except (ValueError, KeyError, TypeError, AttributeError, RecursionError):
         raise Answered(422, error="bad code") from None
-    if not isinstance(account, str) or not ACCOUNT.fullmatch(account):
+    if not isinstance(account, str) or not desks.ACCOUNT.fullmatch(account):
         raise Answered(422, error="bad account")
     if names.why_not(names.octets_of(account)):
         raise Answered(422, error="bad account")

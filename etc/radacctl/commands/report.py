@@ -36,36 +36,21 @@ did not, or the exports are too few or broken, and with 2 for a bad command line
 """
 
 import collections
-import contextlib
 import csv
 import dataclasses
 import datetime
-import glob
-import gzip
 import json
 import os
 import re
-import time
 
 from radacctl import money as moneys
-from radacctl import names, program, site as places, stock
+from radacctl import exports, names, program, sales_log, site as places, stock
 from radacctl.clerk import journal
 from radacctl.commands import guest
 
 SUBJECT, ESCAPED = re.compile(rb"[A-Za-z.0-9]+="), re.compile(rb"\\([0-9A-F]{2})")
-DATED = re.compile(r"\d{4}-\d{2}-\d{2}(\.\d{6})?")
 # What nginx logs of a sale whose answer it did not get: the caller was gone, or the desk silent.
 LOST, NO_ANSWER = "lost", (499, 503)
-COLUMNS = {
-    "sessions": "client session account class input output total charged seconds first last state"
-    " cause calling framed".split(),
-    "balances": ["account", "balance", "overrun"],
-    "topups": ["voucher", "account", "sum", "when"],
-}
-
-
-class Broken(Exception):
-    """Why there is no report."""
 
 
 @dataclasses.dataclass
@@ -103,69 +88,6 @@ class Money(int):
     """Whole units of the site's money."""
 
 
-class Snapshot:
-    """The exports of one moment."""
-
-    def __init__(self, folder, name):
-        self.folder, self.name = os.path.join(folder, name), name
-        self.date = datetime.date.fromisoformat(name[:10])
-
-    def moment(self):
-        """When the book was copied, as a person reads it."""
-        try:
-            with open(os.path.join(self.folder, "taken"), encoding="ascii") as file:
-                return time.strftime("%Y-%m-%d %H:%M:%S %Z", time.localtime(int(file.read())))
-        except (OSError, ValueError):
-            return self.name
-
-    def rows(self, what):
-        """The rows of one export, as dictionaries."""
-        path = os.path.join(self.folder, f"{what}.csv")
-        try:
-            with contextlib.ExitStack() as open_files:
-                if os.path.exists(path):
-                    file = open_files.enter_context(open(path, encoding="ascii", newline=""))
-                else:
-                    packed = gzip.open(f"{path}.gz", "rt", encoding="ascii", newline="")
-                    file = open_files.enter_context(packed)
-                reader = csv.DictReader(file)
-                if reader.fieldnames != COLUMNS[what]:
-                    raise Broken(f"{path} is no export of {what}")
-                yield from reader
-        except (OSError, EOFError, UnicodeDecodeError, csv.Error) as fault:
-            raise Broken(f"cannot read {path}: {fault}") from None
-
-
-class Beginning:
-    """What the book had as a day began, as far as a later export says it."""
-
-    def __init__(self, later, date):
-        self.later, self.date, self.name = later, date, None
-        self.begin = time.mktime(date.timetuple())
-
-    def moment(self):
-        return f"{self.date} 00:00:00 (reckoned from the later export)"
-
-    def rows(self, what):
-        """The rows that are older than the day; the balances are their sums."""
-        if what == "balances":
-            yield from self.balances()
-            return
-        column = {"sessions": "last", "topups": "when"}[what]
-        for row in self.later.rows(what):
-            if int(row[column]) < self.begin:
-                yield row
-
-    def balances(self):
-        found = {row["account"]: int(row["balance"]) for row in self.later.rows("balances")}
-        for what, column, sign in (("sessions", "charged", 1), ("topups", "sum", -1)):
-            for row in self.later.rows(what):
-                is_newer = int(row["last" if sign == 1 else "when"]) >= self.begin
-                found[row["account"]] += sign * int(row[column]) * is_newer
-        for account, balance in found.items():
-            yield {"account": account, "balance": balance}
-
-
 def readable(text):
     """A name as it is, unless it has what cannot be shown; then as exports spell it."""
     try:
@@ -175,85 +97,13 @@ def readable(text):
     return shown if shown.isprintable() else text
 
 
-def key_of_session(row):
-    # The client's name is written as it is.
-    return row["client"].encode(), names.octets_of(row["session"])
-
-
-def is_line(row):
-    """Whether this is a line of sessions that were carried forward. No client has such a name."""
-    return row["client"].startswith("(")
-
-
-def key_of_voucher(row):
-    return row["voucher"].encode()
-
-
-def ordered(rows, key_of):
-    """The rows with their keys, which an export has in order."""
-    last = None
-    for row in rows:
-        key = key_of(row)
-        if last is not None and key <= last:
-            raise Broken(f"an export is not in order at {row}")
-        last = key
-        yield key, row
-
-
-def paired(old, new, key_of):
-    """Each row of either export with the one of the same key in the other, or None."""
-    old, new = ordered(old, key_of), ordered(new, key_of)
-    left, right = next(old, None), next(new, None)
-    while left or right:
-        if right is None or (left and left[0] < right[0]):
-            yield left[1], None
-            left = next(old, None)
-        elif left is None or right[0] < left[0]:
-            yield None, right[1]
-            right = next(new, None)
-        else:
-            yield left[1], right[1]
-            left, right = next(old, None), next(new, None)
-
-
-def snapshots_of(folder):
-    try:
-        names = sorted(name for name in os.listdir(folder) if DATED.fullmatch(name))
-        return [Snapshot(folder, name) for name in names]
-    except (OSError, ValueError) as fault:
-        raise Broken(f"cannot read the exports: {fault}") from None
-
-
-def snapshot_at(snapshots, date):
-    """The first export of a date, else the last one before it, or None."""
-    on = next((it for it in snapshots if it.date == date), None)
-    before = [it for it in snapshots if it.date < date]
-    return on or (before[-1] if before else None)
-
-
-def span_of(snapshots, begin, end):
-    """The two exports whose difference is the report."""
-    first, last = snapshot_at(snapshots, begin), snapshot_at(snapshots, end)
-    if last is None or last.date < begin:
-        why = f"there are no two exports to compare, of {begin} and {end} or before"
-        raise Broken(f"{why}, nor one of this time")
-    if first is None or first.name == last.name:
-        first = Beginning(last, begin)
-    return first, last
-
-
 def cashiers_of(path):
     """The cashier of each voucher that nginx' logs of sales have."""
     # Of a sale that was sent again: 201 is its first answer, and 200 that it is known. Of one that
     # the book has all the same, the answer was lost.
     found = {LOST: {}, 200: {}, 201: {}}
-    for name in glob.glob(glob.escape(path) + "*"):
-        try:
-            with (gzip.open if name.endswith(".gz") else open)(name, "rb") as file:
-                for status, voucher, cashier in filter(None, map(sale_of, file)):
-                    found[status][voucher] = cashier
-        except (OSError, EOFError) as fault:
-            program.say(f"cannot read {name}: {fault}")
+    for status, voucher, cashier in filter(None, map(sale_of, sales_log.lines_of(path))):
+        found[status][voucher] = cashier
     return {**found[LOST], **found[200], **found[201]}
 
 
@@ -268,7 +118,7 @@ def cashiers_of_guests():
 
 
 def sale_of(line):
-    """Status, voucher and cashier of a line of the log, if it is of a sale that the book may have."""
+    """Status, voucher and cashier of a line of the log, if the book may have the sale."""
     try:
         entry = json.loads(line.decode("utf-8", "surrogateescape"))
         if entry["status"] in (200, 201, *NO_ANSWER) and entry["cashier"]:
@@ -304,10 +154,10 @@ class Report:
         self.plans = collections.defaultdict(Used)
         self.prefixes = collections.defaultdict(lambda: [0, 0])
         self.counts = collections.Counter()
-        for old, new in paired(first.rows("sessions"), last.rows("sessions"), key_of_session):
-            self.add_session(old, new)
-        for old, new in paired(first.rows("topups"), last.rows("topups"), key_of_voucher):
-            self.add_voucher(old, new)
+        for what, key_of, add in (("sessions", exports.key_of_session, self.add_session),
+                                  ("topups", exports.key_of_voucher, self.add_voucher)):
+            for old, new in exports.paired(first.rows(what), last.rows(what), key_of):
+                add(old, new)
         for row in first.rows("balances"):
             self.accounts[row["account"]].before = int(row["balance"])
         for row in last.rows("balances"):
@@ -321,7 +171,7 @@ class Report:
         columns = ("input", "output", "charged")
         moved = [int(new[it]) - (int(old[it]) if old else 0) for it in columns]
         account, name = self.accounts[new["account"]], new["class"]
-        if is_line(new):
+        if exports.is_line(new):
             account.gone -= moved[2]
             self.lines[new["account"]] += moved != [0, 0, 0]
             return
@@ -411,12 +261,10 @@ site = moneys.Money()
 def settle(path):
     """Reads what the site's money is."""
     try:
-        settings = moneys.settings_in(path)
-    except FileNotFoundError:
-        return
+        found = moneys.of_site(path)
     except (OSError, ValueError) as fault:
-        raise Broken(f"cannot read {path}: {fault}") from None
-    site.decimals, site.currency = settings["decimals"], settings["currency"]
+        raise exports.Broken(f"cannot read {path}: {fault}") from None
+    site.decimals, site.currency = found.decimals, found.currency
 
 
 def in_money(title):
@@ -453,7 +301,7 @@ def show(report, title, dates, top):
     for date, snapshot in zip(dates, (report.first, report.last)):
         if date != snapshot.date:
             print(f"there is no export of {date}: that of {snapshot.date} is taken")
-    if isinstance(report.first, Beginning):
+    if isinstance(report.first, exports.Beginning):
         print("a session that began before and was reported since counts with all that it used")
     counts = report.counts
     print(f"sessions begun {counts['begun']}, ended {counts['ended']}; debits {counts['debits']}")
@@ -498,7 +346,7 @@ def write_all(report, folder):
         write(folder, "cashiers.csv", ["cashier", *SOLD], sold_rows(report.sold_by))
         write(folder, "balances.csv", BALANCES, balance_rows(report))
     except OSError as fault:
-        raise Broken(f"cannot write: {fault}") from None
+        raise exports.Broken(f"cannot write: {fault}") from None
 
 
 def period_of(parser, words):
@@ -523,7 +371,7 @@ def parser():
     it.add_argument("--top", type=int, default=20, metavar="N")
     it.add_argument("--debit-class", default="debit", metavar="CLASS")
     it.add_argument("--settings", default=moneys.SETTINGS, metavar="FILE")
-    it.add_argument("--sales", default="/var/log/nginx/radacctd-sales.log", metavar="LOG")
+    it.add_argument("--sales", default=sales_log.FILE, metavar="LOG")
     it.add_argument("what", choices=["day", "month"])
     it.add_argument("date", nargs="?")
     return it
@@ -535,12 +383,12 @@ def main(words):
     title, begin, end = period_of(it, words)
     try:
         settle(words.settings)
-        first, last = span_of(snapshots_of(words.folder), begin, end)
+        first, last = exports.span_of(exports.snapshots_of(words.folder), begin, end)
         cashiers = {**cashiers_of_guests(), **cashiers_of(words.sales)}
         report = Report(first, last, words.debit_class, cashiers)
         if words.csv:
             write_all(report, words.csv)
-    except Broken as fault:
+    except exports.Broken as fault:
         program.say(fault)
         return 1
     show(report, title, (begin, end), words.top)

@@ -31,7 +31,6 @@ line on standard error says why.
 
 import argparse
 import contextlib
-import ctypes
 import fcntl
 import hashlib
 import os
@@ -44,31 +43,17 @@ import sys
 import time
 import urllib.parse
 
-from radacctl import program, site
+from radacctl import program, rows, site
 from radacctl.files import remove
 from radacctl.files import sync_folder as sync
 from radacctl.program import say
 
 EXPORTS = ("sessions", "balances", "topups", "overruns")
-# The tables that `init` fills, and those that are copied.
-FILLED = ("meta", "price_plan", "plan_count")
-COPIED = ("account", "voucher", "session", "session_plan")
 # What may be in BOOK.new.
 PARTS = ("book", "book-wal", "book-shm", "book-journal")
-ROWS = 10_000
 CHUNK = 1 << 20
-# A log shorter than its header, a frame's header and the smallest page has no frame.
-LEAST_LOG = 32 + 24 + 512
 # The memory for pages, in KiB.
 CACHE = 65_536
-# The octet of a database's header that says how many octets at the end of each page are a sum's.
-SUM_AT, SUM_OCTETS = 20, 8
-# Asks for a signal once the parent ends (prctl).
-PARENT_DEATH_SIGNAL = 1
-
-
-class Refused(Exception):
-    """Why the book stays as it is."""
 
 
 class Rewrite:
@@ -89,11 +74,11 @@ class Rewrite:
         try:
             status = os.stat(self.book)
         except OSError as fault:
-            raise Refused(f"{self.book}: {fault.strerror}") from None
+            raise rows.Refused(f"{self.book}: {fault.strerror}") from None
         if not stat.S_ISREG(status.st_mode):
-            raise Refused(f"{self.book} is no file")
+            raise rows.Refused(f"{self.book} is no file")
         if os.geteuid() not in (0, status.st_uid):
-            raise Refused(f"{self.book} is another user's: be root")
+            raise rows.Refused(f"{self.book} is another user's: be root")
         # One rewrite or restore at a time in a folder. The lock ends with this process.
         lock(os.open(self.folder, os.O_RDONLY), f"another rewrite or a restore is in {self.folder}")
         refuse_if_held(self.book)
@@ -108,7 +93,8 @@ class Rewrite:
             return
         is_own = stat.S_ISDIR(os.lstat(self.new_folder).st_mode)
         if not is_own or not set(os.listdir(self.new_folder)) <= set(PARTS):
-            raise Refused(f"{self.new_folder} is in the way, and no rewrite made it: move it away")
+            raise rows.Refused(f"{self.new_folder} is in the way, and no rewrite made it: move it "
+                               "away")
         for name in PARTS:
             with contextlib.suppress(FileNotFoundError):
                 os.remove(os.path.join(self.new_folder, name))
@@ -120,7 +106,7 @@ class Rewrite:
         done = subprocess.run(words, capture_output=True, text=True)
         if done.returncode:
             said = done.stderr.strip().replace("\n", "; ") or f"status {done.returncode}"
-            raise Refused(f"`radacctd {name}` says of {book}: {said}")
+            raise rows.Refused(f"`radacctd {name}` says of {book}: {said}")
 
     def export(self, what, book):
         """The length and the digest of an export."""
@@ -136,19 +122,19 @@ class Rewrite:
                 process.kill()
                 raise
         if process.returncode:
-            raise Refused(f"`radacctd export {what}` says of {book}: {errors}")
+            raise rows.Refused(f"`radacctd export {what}` says of {book}: {errors}")
         return length, digest.digest()
 
     def empty_log(self):
         """Lets the program copy the log into the file, so that the file alone is the book."""
         self.command("plans", self.book)
-        test_log(self.book)
-        self.digest = digest_of(self.book)
+        rows.test_log(self.book)
+        self.digest = rows.digest_of(self.book)
 
     def fill(self):
         """Copies all rows into the new file, and compares them."""
         if self.has_sums:
-            in_child(self.target, self.copy_rows)
+            rows.in_child(self.target, self.copy_rows)
             # Gives the pages in the log their sums, and copies them into the file.
             self.command("plans", self.new)
         else:
@@ -159,14 +145,14 @@ class Rewrite:
     def copy_rows(self, target):
         """Copies all rows in one transaction, and compares them."""
         with contextlib.closing(self.source()) as source:
-            test_tables(source, target)
+            rows.test_tables(source, target)
             target.execute("BEGIN IMMEDIATE")
-            for table in COPIED:
-                copy(source, target, table)
+            for table in rows.COPIED:
+                rows.copy(source, target, table)
             target.execute("COMMIT")
             say("comparing each row")
-            for table in (*FILLED, *COPIED):
-                compare(source, target, table)
+            for table in (*rows.FILLED, *rows.COPIED):
+                rows.compare(source, target, table)
 
     def target(self):
         """The new file. Its log is copied into it only if it is closed or this is asked for."""
@@ -187,7 +173,7 @@ class Rewrite:
         """Makes the new file, and compares it with the old one."""
         os.mkdir(self.new_folder, 0o700)
         if self.has_sums is None:
-            self.has_sums = has_sums(self.book)
+            self.has_sums = rows.has_sums(self.book)
         self.command("init", self.new, *(["--page-sums"] if self.has_sums else []))
         self.fill()
         say("checking the new file")
@@ -195,10 +181,10 @@ class Rewrite:
         for what in EXPORTS:
             say(f"comparing the export of {what}")
             if self.export(what, self.book) != self.export(what, self.new):
-                raise Refused(f"the new file has another export of {what}")
-        test_log(self.new)
-        if has_sums(self.new) != self.has_sums:
-            raise Refused(f"{self.new} is a file of another kind")
+                raise rows.Refused(f"the new file has another export of {what}")
+        rows.test_log(self.new)
+        if rows.has_sums(self.new) != self.has_sums:
+            raise rows.Refused(f"{self.new} is a file of another kind")
 
     def finish(self):
         """Gives the new file what the old one has but its name, and syncs it."""
@@ -231,9 +217,9 @@ class Rewrite:
 
     def refuse_if_changed(self, old):
         is_same = os.path.samestat(os.fstat(old.fileno()), os.stat(self.book))
-        if not is_same or digest_of(self.book) != self.digest:
-            raise Refused(f"{self.book} was changed meanwhile")
-        test_log(self.book)
+        if not is_same or rows.digest_of(self.book) != self.digest:
+            raise rows.Refused(f"{self.book} was changed meanwhile")
+        rows.test_log(self.book)
 
     def run(self):
         self.begin()
@@ -252,10 +238,10 @@ def refuse_if_held(book):
     for mode, what in (("--removed", "a removed file or log of it"), ("--all", "it")):
         done = subprocess.run([site.part("holders"), mode, book], capture_output=True, text=True)
         if done.returncode:
-            raise Refused(done.stderr.strip().removeprefix("holders: "))
+            raise rows.Refused(done.stderr.strip().removeprefix("holders: "))
         pids = " ".join(done.stdout.split())
         if pids:
-            raise Refused(f"process {pids} has {what} open: {book}. Stop the server first")
+            raise rows.Refused(f"process {pids} has {what} open: {book}. Stop the server first")
 
 
 def leave_root(words):
@@ -265,7 +251,7 @@ def leave_root(words):
     book, config = os.path.abspath(words.book), os.path.abspath(words.config)
     done = subprocess.run([site.part("as-owner"), "--words", book], capture_output=True, text=True)
     if done.returncode:
-        raise Refused(done.stderr.strip().removeprefix("as-owner: "))
+        raise rows.Refused(done.stderr.strip().removeprefix("as-owner: "))
     if not done.stdout:
         return
     # Root sees what other users' processes have open.
@@ -295,104 +281,11 @@ def lock(opened, fault):
     try:
         fcntl.flock(opened, fcntl.LOCK_EX | fcntl.LOCK_NB)
     except OSError:
-        raise Refused(fault) from None
-
-
-def digest_of(path):
-    with open(path, "rb") as file:
-        return hashlib.file_digest(file, "sha256").digest()
-
-
-def has_sums(book):
-    """Whether the pages of a database end in sums."""
-    with open(book, "rb") as file:
-        return file.read(SUM_AT + 1)[SUM_AT] == SUM_OCTETS
-
-
-def in_child(target, work):
-    """Works on a database in a child, which ends without closing it: SQLite copies the log into the
-    file as it closes a database. The child ends with this process.
-    """
-    parent = os.getpid()
-    read, write = os.pipe()
-    child = os.fork()
-    if child == 0:
-        fault = "it was cut off"
-        try:
-            end_with(parent)
-            opened = target()
-            work(opened)
-            fault = ""
-        except (Refused, OSError, sqlite3.Error) as found:
-            fault = str(found)
-        finally:
-            try:
-                os.write(write, fault.encode()[:1000])
-            finally:
-                os._exit(1 if fault else 0)
-    os.close(write)
-    try:
-        with open(read, encoding="utf-8", errors="replace") as told:
-            fault = told.read()
-    except BaseException:
-        os.kill(child, signal.SIGKILL)
-        os.waitpid(child, 0)
-        raise
-    status = os.waitpid(child, 0)[1]
-    if status:
-        raise Refused(fault or f"the copying of the rows ended with status {status}")
-
-
-def end_with(parent):
-    """Lets this process end with its parent."""
-    if ctypes.CDLL(None).prctl(PARENT_DEATH_SIGNAL, signal.SIGKILL) or os.getppid() != parent:
-        raise Refused("it cannot end with its parent")
-
-
-def test_log(book):
-    """The log has no frame, so the file alone is the book."""
-    with contextlib.suppress(FileNotFoundError):
-        size = os.stat(f"{book}-wal").st_size
-        if size >= LEAST_LOG:
-            raise Refused(f"the log of {book} still has {size} octets")
-
-
-def test_tables(source, target):
-    """Both have the tables that this program knows."""
-    text = "SELECT type, name, tbl_name, sql FROM sqlite_schema ORDER BY rowid"
-    schemas = [opened.execute(text).fetchall() for opened in (source, target)]
-    tables = {row[1] for row in schemas[0] if row[0] == "table"}
-    if schemas[0] != schemas[1] or tables != {*FILLED, *COPIED}:
-        raise Refused("the book has other tables than this tool knows")
-
-
-def copy(source, target, table):
-    """Copies the rows of a table in their order."""
-    total = source.execute(f"SELECT count(*) FROM {table}").fetchone()[0]
-    rows = source.execute(f"SELECT * FROM {table} ORDER BY rowid")
-    marks = ", ".join("?" * len(rows.description))
-    count = 0
-    while batch := rows.fetchmany(ROWS):
-        target.executemany(f"INSERT INTO {table} VALUES ({marks})", batch)
-        count += len(batch)
-        say(f"{count} of {total} rows of {table}")
-
-
-def compare(source, target, table):
-    """Each row is in both, in the same order; that of the tables that `init` fills is free."""
-    order = "1" if table in FILLED else "rowid"
-    text = f"SELECT * FROM {table} ORDER BY {order}"
-    one, other = source.execute(text), target.execute(text)
-    while True:
-        rows = one.fetchmany(ROWS), other.fetchmany(ROWS)
-        if rows[0] != rows[1]:
-            raise Refused(f"the new file has other rows of {table}")
-        if not rows[0]:
-            return
+        raise rows.Refused(fault) from None
 
 
 def ended(number, _):
-    raise Refused(f"ended by {signal.Signals(number).name}")
+    raise rows.Refused(f"ended by {signal.Signals(number).name}")
 
 
 def megabytes(octets):
@@ -417,14 +310,13 @@ def main(words):
         leave_root(words)
         rewrite = Rewrite(words.config, words.book, words.page_sums)
         before, after = rewrite.run()
-    except (Refused, site.Missing, OSError, sqlite3.Error) as fault:
+    except (rows.Refused, site.Missing, OSError, sqlite3.Error) as fault:
         is_placed = rewrite is not None and rewrite.is_placed
         say(f"{fault}. The book is {'the new file' if is_placed else 'as it was'}")
         return 0 if is_placed else 1
     finally:
         if rewrite is not None and rewrite.is_begun:
-            with contextlib.suppress(Refused, OSError):
+            with contextlib.suppress(rows.Refused, OSError):
                 rewrite.remove_new()
     print(f"{rewrite.book}: {megabytes(before)} before, {megabytes(after)} now")
     return 0
-

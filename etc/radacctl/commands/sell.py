@@ -2,6 +2,7 @@
 
     radacctl sell [--key-file FILE] [--host A.B.C.D] [--port PORT] [--in-flight N]
         [--give-up SECONDS] [--known BALANCES] [--dry-run] < vouchers.csv
+    radacctl sell --logged [--sales LOG] [--since YYYY-MM-DD] [--but TOPUPS] > vouchers.csv
 
 The file is that of `radacctd import`: the header voucher,account,sum and then a voucher a record.
 Each is sent to the desk as a top-up. If the desk is away, or answers 503, the same voucher is sent
@@ -16,6 +17,11 @@ An account that could not log in is refused, and so is what a spreadsheet made o
 error says why. BALANCES is the server's file of balances: an account in it is credited, whatever
 its name.
 
+--logged sells nothing. It prints such a file of the sales that nginx' log has, LOG and its older
+parts, /var/log/nginx/radacctd-sales.log unless named, from that day on: what a book that was
+restored from a copy may lack. With --but it leaves out what TOPUPS has, that book's `export topups`.
+A sale that was never answered is not in the file: a line names it, and its page sends it again.
+
 Progress and warnings go to standard error. The report is that of an import: `added A, repeated B,
 refused C`, a line `NUMBER: CAUSE` for each refused record, the header being record 1, and
 `stopped: WHY` if it ended early. It ends with 0 if every voucher was added or repeated, with 1 if
@@ -25,15 +31,19 @@ with 3 if the desk gave no answer for SECONDS, 600 unless given.
 
 import collections
 import csv
+import glob
+import gzip
 import http.client
 import io
+import json
+import re
 import sys
 import threading
 import time
 import urllib.parse
 
 from radacctl import desk as desks
-from radacctl import money, names, program, site
+from radacctl import money, names, program, site, stock
 
 HEADER = ["voucher", "account", "sum"]
 # The limits of an import.
@@ -41,6 +51,8 @@ LARGEST_TEXT, MOST_RECORDS = 67_108_864, 1_000_000
 # In seconds: the pauses between tries, how often progress is shown.
 FIRST_PAUSE, LAST_PAUSE, PROGRESS = 0.2, 5, 3
 MOST_WARNINGS, MOST_KEYS = 20, 1000
+# nginx' log of sales, and what it has of one whose answer it did not get.
+SALES, NO_ANSWER = "/var/log/nginx/radacctd-sales.log", (499, 503)
 STOPPED = "stopped; give the same file again: nothing is credited twice"
 # What an import calls these.
 CAUSES = {desks.DIFFERS: "VoucherDiffers", desks.LIMIT: "BalanceLimit"}
@@ -306,20 +318,92 @@ def dry_run(vouchers, refused, stop):
     return 1 if refused or stop else 0
 
 
-def parser():
-    it = program.parser(__doc__)
+def logged(words):
+    """The sales of nginx' logs: those that were answered, and the numbers of those that were not."""
+    answered, others = {}, set()
+    # An older part has a larger number, and the sales before: of two of one number the first counts.
+    age = lambda path: [int(it) for it in re.findall(r"\d+", path[len(words.sales):])]
+    for path in sorted(glob.glob(glob.escape(words.sales) + "*"), key=age, reverse=True):
+        with (gzip.open if path.endswith(".gz") else open)(path, "rb") as file:
+            for line in file:
+                found = sale_of(line, words.since)
+                if found and found[0] in (200, 201):
+                    answered.setdefault(found[1], found[1:])
+                elif found:
+                    others.add(found[1])
+    return answered, others - set(answered)
+
+
+def sale_of(line, since):
+    """Status, number, account and sum of a line of a day from `since` on, or None."""
+    try:
+        entry = json.loads(line.decode("utf-8", "surrogateescape"))
+        if entry["status"] not in (200, 201, *NO_ANSWER) or entry["time"][:10] < (since or ""):
+            return None
+        sale = json.loads(entry["sale"])
+        account = names.shown(urllib.parse.unquote_to_bytes(sale["account"]))
+        is_sale = desks.NUMBER.fullmatch(sale["voucher"]) and money.sum_of(str(sale["sum"]))
+        return (entry["status"], sale["voucher"], account, sale["sum"]) if is_sale else None
+    except (ValueError, KeyError, TypeError, AttributeError):
+        return None
+
+
+def numbers_in(path):
+    """The vouchers that an export of topups has."""
+    with open(path, encoding="ascii", newline="") as file:
+        header, *rows = list(csv.reader(file)) or [[]]
+    if header != [*HEADER, "when"]:
+        raise ValueError(f"{path} is no export of topups")
+    return {row[0] for row in rows}
+
+
+def print_logged(words):
+    try:
+        known = numbers_in(words.but) if words.but else set()
+        answered, others = logged(words)
+    except (OSError, EOFError, ValueError) as why:
+        return program.fail(why)
+    rows = [it for number, it in answered.items() if number not in known]
+    for number in sorted(others - known):
+        program.say(f"{number} was not answered: it is not in the file, and its page sends it again")
+    sys.stdout.write(stock.lines_of([HEADER, *rows]).decode())
+    total = sum(row[2] for row in rows)
+    program.say(f"{len(rows)} sales, {total} units; {len(answered) - len(rows)} are in {words.but}"
+                if words.but else f"{len(rows)} sales, {total} units")
+    return 0
+
+
+def day(text):
+    """A day, which is as it is written in the log."""
+    time.strptime(text, "%Y-%m-%d")
+    return text
+
+
+def add_desk(it, give_up):
+    """The options of a sale."""
     it.add_argument("--key-file", default=desks.CASHIER_KEY, metavar="FILE")
     it.add_argument("--host", default="127.0.0.1", metavar="A.B.C.D")
     it.add_argument("--port", type=int, default=8066)
+    it.add_argument("--give-up", type=int, default=give_up, metavar="SECONDS")
+
+
+def parser():
+    it = program.parser(__doc__)
+    add_desk(it, 600)
     it.add_argument("--in-flight", type=int, default=4, choices=range(1, 17), metavar="N")
-    it.add_argument("--give-up", type=int, default=600, metavar="SECONDS")
     it.add_argument("--known", metavar="BALANCES")
     it.add_argument("--dry-run", action="store_true")
+    it.add_argument("--logged", action="store_true")
+    it.add_argument("--sales", default=SALES, metavar="LOG")
+    it.add_argument("--since", type=day, metavar="YYYY-MM-DD")
+    it.add_argument("--but", metavar="TOPUPS")
     return it
 
 
 def main(words):
     words = parser().parse_args(words)
+    if words.logged:
+        return print_logged(words)
     try:
         key = None if words.dry_run else desks.keys_in(words.key_file, MOST_KEYS)[0]
     except desks.WrongKey as why:

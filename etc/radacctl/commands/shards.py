@@ -38,10 +38,7 @@ import argparse
 import concurrent.futures
 import csv
 import gzip
-import hashlib
 import io
-import ipaddress
-import json
 import os
 import re
 import subprocess
@@ -49,17 +46,10 @@ import sys
 import time
 import urllib.parse
 
-from radacctl import names, plans, program, site
+from radacctl import names, program, shards as books, site
 from radacctl.names import octets_of, shown
 
-SHARDS = [f"s{digit}" for digit in "0123456789abcdef"]
-HEADER = ["shard", "address", "radius", "desk"]
-BALANCES = ["account", "balance", "overrun"]
-PLANS = list(plans.HEADER)
 VOUCHERS = ["voucher", "account", "sum"]
-TABLE = "/etc/radacctd-shards.csv"
-# FreeRADIUS asks a book by it whether it answers at all; it has no octets and no money.
-PROBE = b"radacctd-probe"
 FREERADIUS = """\
 home_server radacctd-{shard} {{
 	type = acct
@@ -102,63 +92,14 @@ SUMMARY = re.compile(r"(added|vouchers) (\d+)(, repeated|, of) (\d+)( together)?
 MADE = "# Made by radacctd-shards of its table: change that, and make this again.\n"
 
 
-class Wrong(Exception):
-    """Why nothing was done, or not all."""
-
-
-def shard_of(account):
-    """The book of an account, as FreeRADIUS' policy radacctd_shard finds it."""
-    if account.count(b"\\") > 1:
-        digest = hashlib.sha256(account)
-    else:
-        digest = hashlib.sha256(b"=" + account.lower().replace(b"\\", b"/"))
-    return "s" + digest.hexdigest()[0]
-
-
-def place_of(path, row):
-    """The values of a record of the table, each within its bounds."""
-    try:
-        shard, address, radius, desk = row
-        ipaddress.IPv4Address(address)
-        if shard not in SHARDS or not 0 < int(radius) < 65536 or not 0 < int(desk) < 65536:
-            raise ValueError("a book or a port is none")
-    except ValueError as fault:
-        raise Wrong(f"{path}: {','.join(row)}: {fault}") from None
-    return {"shard": shard, "address": address, "radius": int(radius), "desk": int(desk)}
-
-
-def table_of(path):
-    """Where each book is, if the table has each one once and no place twice."""
-    try:
-        with open(path, encoding="ascii", newline="") as file:
-            header, *rows = [row for row in csv.reader(file) if row] or [[]]
-    except (OSError, ValueError) as fault:
-        raise Wrong(f"cannot read {path}: {fault}") from None
-    if header != HEADER:
-        raise Wrong(f"{path} does not begin with {','.join(HEADER)}")
-    found = {}
-    for row in rows:
-        place = place_of(path, row)
-        if place["shard"] in found:
-            raise Wrong(f"{path} has {place['shard']} twice")
-        found[place["shard"]] = place
-    missing = [it for it in SHARDS if it not in found]
-    if missing:
-        raise Wrong(f"{path} lacks {', '.join(missing)}")
-    for port in ("radius", "desk"):
-        if len({(it["address"], it[port]) for it in found.values()}) < len(SHARDS):
-            raise Wrong(f"{path}: two books have one address and port ({port})")
-    return {shard: found[shard] for shard in SHARDS}
-
-
 def show_books(words, _table):
     for name in words.account or (line.rstrip("\n") for line in sys.stdin):
-        print(shard_of(octets_of(name)), name)
+        print(books.shard_of(octets_of(name)), name)
     return 0
 
 
 def show_here(words, table):
-    print("\n".join(it for it in SHARDS if table[it]["address"] == words.address))
+    print("\n".join(it for it in books.SHARDS if table[it]["address"] == words.address))
     return 0
 
 
@@ -181,7 +122,7 @@ def run_each(words, table):
     """Runs the command for each book at an address."""
     worst = 0
     if not words.option:
-        raise Wrong("give a command")
+        raise books.Wrong("give a command")
     for place in table.values():
         if place["address"] == words.address:
             begin_command(place)
@@ -191,7 +132,7 @@ def run_each(words, table):
 
 def run_for(words, table):
     """Becomes the command for the book of an account."""
-    place = table[shard_of(octets_of(words.account))]
+    place = table[books.shard_of(octets_of(words.account))]
     command, more = {
         "for": (words.option, []),
         # Before a name that begins with -, radacctd-debit wants --.
@@ -200,12 +141,12 @@ def run_for(words, table):
     }[words.act]
     command = filled(command, place)
     if not command:
-        raise Wrong("give a command")
+        raise books.Wrong("give a command")
     begin_command(place)
     try:
         os.execvp(command[0], [*command, *more])
     except OSError as fault:
-        raise Wrong(f"{command[0]}: {fault.strerror}") from None
+        raise books.Wrong(f"{command[0]}: {fault.strerror}") from None
 
 
 def show_settings(words, table):
@@ -224,13 +165,13 @@ def nginx_of(table):
     text = "".join(line.format(**it) for it in table.values())
     text += "# A guest's key begins with its book. To another key the first desk answers 401.\n"
     text += "map $http_desk_key $radacctd_read {\n    default radacctd_s0;\n"
-    text += "".join(f'    "~^{it}-" radacctd_{it};\n' for it in SHARDS[1:])
+    text += "".join(f'    "~^{it}-" radacctd_{it};\n' for it in books.SHARDS[1:])
     for name, value in (
         ("desk", "radacctd_{0}"),
         ("balances", "/var/lib/radacctd-balances/{0}.csv"),
     ):
         text += f'}}\nmap $radacctd_book $radacctd_{name} {{\n    default "";\n'
-        text += "".join(f"    {it} {value.format(it)};\n" for it in SHARDS)
+        text += "".join(f"    {it} {value.format(it)};\n" for it in books.SHARDS)
     return text + "}\n"
 
 
@@ -238,7 +179,7 @@ class Parts:
     """The records of a file of vouchers, each in the part of its book."""
 
     def __init__(self, rows):
-        self.rows = {it: [] for it in SHARDS}
+        self.rows = {it: [] for it in books.SHARDS}
         # A record's number in the file, by its book and its number in the part.
         self.numbers, self.refused = {}, {}
         seen = {}
@@ -246,7 +187,7 @@ class Parts:
             # What is no voucher is refused by radacctd-sell, whichever book it asks.
             spelled = names.text_of_cell(row[1]) if row[1:] else ""
             account = urllib.parse.unquote_to_bytes(spelled.encode("latin-1"))
-            shard = shard_of(account)
+            shard = books.shard_of(account)
             # Two books would both credit the number, however a spreadsheet marked it.
             if len(row) == 3 and seen.setdefault(names.text_of_cell(row[0]), shard) != shard:
                 self.refused[number] = "VoucherDiffers"
@@ -279,8 +220,8 @@ def sell(words, table):
         print(said, end="")
         return status or 1
     parts = Parts(rows)
-    named = [it for it in SHARDS if parts.rows[it]]
-    with concurrent.futures.ThreadPoolExecutor(len(SHARDS)) as pool:
+    named = [it for it in books.SHARDS if parts.rows[it]]
+    with concurrent.futures.ThreadPoolExecutor(len(books.SHARDS)) as pool:
         ask = lambda it: sell_part(table[it], parts.text(it), words.option)
         answers = dict(zip(named, pool.map(ask, named)))
     return tell_sale(parts, answers)
@@ -308,14 +249,6 @@ def tell_sale(parts, answers):
     return max(statuses, default=0)
 
 
-def balances_in(folder, shard):
-    """The balances of a book by its accounts, and when they were written."""
-    path = os.path.join(folder, f"{shard}.csv")
-    # The time first: of a file that is replaced meanwhile it is too old, and never too new.
-    written = os.stat(path).st_mtime
-    return names.balances_in(path), written
-
-
 def faults_of(shard, rows, oldest):
     """What is wrong with a book's balances."""
     found, written = rows
@@ -323,17 +256,17 @@ def faults_of(shard, rows, oldest):
     if age > oldest:
         yield f"{shard}: the balances are {age:.0f} seconds old"
     for account, balance in found.items():
-        if shard_of(account) != shard and (account != PROBE or balance != 0):
-            yield f"{shard}: {shown(account)} belongs into {shard_of(account)}: {balance}"
+        if books.shard_of(account) != shard and (account != books.PROBE or balance != 0):
+            yield f"{shard}: {shown(account)} belongs into {books.shard_of(account)}: {balance}"
 
 
 def check(words, _table):
     if words.topups:
         return check_topups(words.topups)
     faults, places, total = [], {}, 0
-    for shard in SHARDS:
+    for shard in books.SHARDS:
         try:
-            rows = balances_in(words.balances, shard)
+            rows = books.balances_in(words.balances, shard)
         except (OSError, ValueError) as fault:
             faults.append(f"{shard}: {fault}")
             continue
@@ -341,12 +274,12 @@ def check(words, _table):
         total += sum(rows[0].values())
         for account in rows[0]:
             places.setdefault(account, []).append(shard)
-    twice = {it: at for it, at in places.items() if len(at) > 1 and it != PROBE}
+    twice = {it: at for it, at in places.items() if len(at) > 1 and it != books.PROBE}
     faults += [f"{shown(it)} is in {' and '.join(at)}" for it, at in twice.items()]
     for line in faults:
         print(line, file=sys.stderr)
-    count = len(set(places) - {PROBE})
-    print(f"{count} accounts in {len(SHARDS)} books, together {total}; faults {len(faults)}")
+    count = len(set(places) - {books.PROBE})
+    print(f"{count} accounts in {len(books.SHARDS)} books, together {total}; faults {len(faults)}")
     return 1 if faults else 0
 
 
@@ -366,92 +299,11 @@ def check_topups(paths):
     return 1 if faults else 0
 
 
-def written(path, text, moment=None):
-    """Writes a file whole or not at all, for those who may read its folder's files."""
-    with open(path + ".new", "w", encoding="ascii", newline="") as file:
-        file.write(text)
-        os.fchmod(file.fileno(), 0o640 if moment else 0o644)
-    if moment:
-        os.utime(path + ".new", (moment, moment))
-    os.rename(path + ".new", path)
-
-
-def join_balances(folder):
-    """One file of all balances, as old as the oldest part."""
-    made, oldest = io.StringIO(newline=""), time.time()
-    writer = csv.writer(made, lineterminator="\n")
-    writer.writerow(BALANCES)
-    for shard in SHARDS:
-        found, moment = balances_in(folder, shard)
-        oldest = min(oldest, moment)
-        for account, balance in found.items():
-            if account != PROBE:
-                writer.writerow((shown(account), balance, max(-balance, 0)))
-    path = os.path.join(folder, "balances.csv")
-    if not os.path.exists(path) or os.stat(path).st_mtime != oldest:
-        written(path, made.getvalue(), oldest)
-
-
-def plans_in(folder, shard):
-    """The plans of a book by their classes."""
-    path = os.path.join(folder, f"{shard}-plans.csv")
-    with open(path, encoding="ascii", newline="") as file:
-        rows = list(csv.reader(file))
-    if not rows or rows[0] != PLANS or any(len(row) != len(PLANS) for row in rows):
-        raise ValueError(f"{path} has no plans")
-    return {row[0]: tuple(row[1:]) for row in rows[1:]}
-
-
-def join_plans(folder):
-    """The plans that each book has: no other one is in force at every account."""
-    if not any(os.path.exists(os.path.join(folder, f"{it}-plans.csv")) for it in SHARDS):
-        return
-    first, *others = [plans_in(folder, shard) for shard in SHARDS]
-    all_have = {it: row for it, row in first.items()
-                if all(other.get(it) == row for other in others)}
-    made = io.StringIO(newline="")
-    writer = csv.writer(made, lineterminator="\n")
-    writer.writerows([PLANS, *((name, *row) for name, row in all_have.items())])
-    found = {
-        octets_of(name).decode(): {"block": int(block), "unit": int(unit), "count": count}
-        for name, (block, unit, count) in all_have.items()
-    }
-    text = json.dumps(found, indent=2) + "\n"
-    for name, text in (("plans.csv", made.getvalue()), ("plans.json", text)):
-        path = os.path.join(folder, name)
-        if not os.path.exists(path) or text_of(path) != text:
-            written(path, text, time.time())
-
-
-def text_of(path):
-    with open(path, encoding="utf-8") as file:
-        return file.read()
-
-
-def join_counts(folder):
-    """One file of the counts of the books that are here; a label names the book of each."""
-    heads, samples = {}, {}
-    for shard in SHARDS:
-        path = os.path.join(folder, f"{shard}.counts")
-        if not os.path.exists(path):
-            continue
-        with open(path, encoding="ascii") as file:
-            for line in file:
-                if found := re.fullmatch(r"# (?:HELP|TYPE) (\w+) .*\n", line):
-                    heads.setdefault(found[1], {})[line] = None
-                elif found := re.fullmatch(r"(\w+)(?:\{(.*)\})? (\S+)\n", line):
-                    labels = ",".join(filter(None, [f'shard="{shard}"', found[2]]))
-                    samples.setdefault(found[1], []).append(f"{found[1]}{{{labels}}} {found[3]}\n")
-    text = "".join("".join([*heads.get(name, ()), *lines]) for name, lines in samples.items())
-    if text:
-        written(os.path.join(folder, "radacctd.prom"), text)
-
-
 def join(words, _table):
     told = {}
     while True:
         folders = (words.balances, words.balances, words.counts)
-        for act, folder in zip((join_balances, join_plans, join_counts), folders):
+        for act, folder in zip((books.join_balances, books.join_plans, books.join_counts), folders):
             try:
                 act(folder)
                 said = None
@@ -467,7 +319,7 @@ def join(words, _table):
 
 def parser():
     top = program.parser(__doc__)
-    top.add_argument("--table", default=TABLE, metavar="FILE")
+    top.add_argument("--table", default=books.TABLE, metavar="FILE")
     top.add_argument("--balances", default="/var/lib/radacctd-balances", metavar="FOLDER")
     top.add_argument("--counts", default="/var/lib/radacctd-counts", metavar="FOLDER")
     acts = top.add_subparsers(dest="act", required=True, metavar="ACT")
@@ -483,7 +335,7 @@ def parser():
         it.add_argument("account")
         it.add_argument("option", nargs=argparse.REMAINDER)
     acts.add_parser("sell", add_help=False, allow_abbrev=False)
-    acts.add_parser("defaults").add_argument("book", choices=SHARDS)
+    acts.add_parser("defaults").add_argument("book", choices=books.SHARDS)
     acts.add_parser("freeradius")
     acts.add_parser("nginx")
     acts.add_parser("join").add_argument("seconds", nargs="?", type=float)
@@ -513,8 +365,8 @@ WITHOUT_TABLE = ("of", "join", "check")
 def main(words):
     words = parsed(words)
     try:
-        table = None if words.act in WITHOUT_TABLE else table_of(words.table)
+        table = None if words.act in WITHOUT_TABLE else books.table_of(words.table)
         return ACTS[words.act](words, table)
-    except (Wrong, OSError, ValueError, KeyError) as fault:
+    except (books.Wrong, OSError, ValueError, KeyError) as fault:
         program.say(fault)
         return 1

@@ -35,27 +35,23 @@ withdrawn), and with 2 for a bad command line.
 
 import argparse
 import collections
-import contextlib
 import csv
 import datetime
 import gzip
 import io
 import os
 import re
-import secrets
-import shutil
 import sys
 import time
 
-from radacctl import files, money as moneys, names, program, sheets
+from radacctl import files, money as moneys, names, program, sheets, site
 from radacctl import stock as stocks
 from radacctl.program import fail
 
-RANDOM, LARGEST_COUNT = 14, 10_000
+LARGEST_COUNT = 10_000
 # Above these a person is asked: so many codes, and so much money together.
 ASK_COUNT, ASK_TOTAL = 100, 1000
 STOCK, STOPPED = f"{stocks.FOLDER}/stock.csv", "stopped; --list shows what is in the stock"
-USER = "radacctd-redeem"
 SHEET = re.compile(r"vouchers-[0-9]{8}-[0-9]{6}(?:-[0-9]+)?")
 URL = re.compile(r"https://[A-Za-z0-9.:/-]{1,60}")
 LIVE, GIVEN, WITHDRAWN, UNANSWERED = "live", "given", "withdrawn", "unanswered"
@@ -78,19 +74,8 @@ def settings_of(path, is_needed):
 
 
 def confirm(words, question):
-    """Ends unless a person says y."""
-    if words.yes:
-        return
-    if not sys.stdin.isatty():
-        fail(f"{question} Nobody is there to answer: give --yes.")
-    print(f"{question} [y/N] ", end="", flush=True)
-    if sys.stdin.readline().strip().lower() not in ("y", "yes", "j", "ja"):
-        fail("nothing was done")
-
-
-def new_code():
-    code = "".join(secrets.choice(stocks.LETTERS) for _ in range(RANDOM))
-    return stocks.code_of(code + stocks.check_letter(code))
+    if not words.yes:
+        program.confirm(question)
 
 
 def make_file(path, content):
@@ -105,10 +90,7 @@ def make_file(path, content):
 
 def own(handle):
     """Lets the user who redeems read a file of root's, and nobody else."""
-    os.fchmod(handle, 0o640)
-    if os.getuid() == 0:
-        with contextlib.suppress(LookupError):
-            shutil.chown(handle, "root", USER)
+    files.give(handle, 0o640, site.REDEEM_USER)
 
 
 def rows_of(path):
@@ -163,14 +145,14 @@ def make(words, settings, money):
     texts.append("Scannen, oder Code auf dieser Seite tippen.")
     codes = set()
     while len(codes) < words.count:
-        codes.add(new_code())
+        codes.add(stocks.new_code())
     codes = sorted(codes)
     # Before the sheet is drawn: a folder that is missing is found now.
     with stocks.locked(os.path.dirname(words.stock)):
         sheet = new_sheet(words.to, {it.sheet for it in rows_of(words.stock)})
     name = os.path.join(words.to, sheet)
     try:
-        drawn = sheets.sheet(codes, texts, url + "/redeem/")
+        drawn = sheets.money(codes, texts, url + "/redeem/")
     except sheets.Fault as fault:
         fail(fault)
     make_file(name + ".pdf", drawn)
@@ -263,16 +245,7 @@ def write_logs(stock, codes):
     """Adds codes to both logs, unless they have them. The stock's folder is to be locked."""
     now = int(time.time())
     for path in stock.logs:
-        folder = os.path.dirname(path)
-        if not os.path.isdir(folder):
-            os.mkdir(folder, 0o750)
-            handle = os.open(folder, os.O_RDONLY | os.O_DIRECTORY | os.O_NOFOLLOW)
-            os.fchmod(handle, 0o750)
-            if os.getuid() == 0:
-                with contextlib.suppress(LookupError):
-                    shutil.chown(handle, "root", USER)
-            os.close(handle)
-            files.sync_folder(os.path.dirname(folder))
+        files.make_folder(os.path.dirname(path), site.REDEEM_USER)
         lacks = sorted(set(codes) - set(stocks.withdrawn_in(path)))
         if not lacks:
             continue

@@ -1,6 +1,5 @@
 """The configuration, its secrets and keys, the plans in force, and what the server writes."""
 
-import csv
 import glob
 import os
 import pwd
@@ -8,8 +7,8 @@ import re
 import time
 import tomllib
 
-from radacctl import desk, files, names, plans, site
-from radacctl.doctor import look
+from radacctl import desk, files, names, plans, site, stock
+from radacctl.doctor import copies, look
 from radacctl.doctor.faults import Fault
 from radacctl.doctor.kind import TABLE
 
@@ -22,6 +21,8 @@ OWN = "give each its own: openssl rand -hex 16"
 OLDEST = 120
 # Of a storm of drops the last ones are looked at.
 MOST_LINES = "100000"
+# How the server's line ends while its book is away.
+NOTHING = "nothing is answered"
 # What the server prints that needs a look, and what to do.
 ODD = {
     r"cannot write": "see whether the folder is there, and its disk has space",
@@ -31,10 +32,16 @@ ODD = {
 SECRETS = {
     "/etc/radacctd*.toml": (0o640, ("root",), (site.USER,)),
     "/etc/radacctd-cashier.key": (0o600, ("root",), None),
-    "/etc/radacctd-books.secret": (0o600, ("root",), None),
-    "/etc/radacctd-redeem.key": (0o640, ("root",), ("radacctd-redeem",)),
+    site.BOOKS_SECRET: (0o600, ("root",), None),
+    site.REDEEM_KEY: (0o640, ("root",), (site.REDEEM_USER,)),
     site.STATE: (0o700, (site.USER,), None),
     site.BACKUPS: (0o700, ("root",), None),
+}
+# What the user who redeems printed codes reads: else no code is redeemed.
+CODES = {
+    it: (mode, ("root",), (site.REDEEM_USER,))
+    for path in (f"{stock.FOLDER}/withdrawn.csv", stock.SECOND)
+    for it, mode in ((os.path.dirname(path), 0o750), (path, 0o640))
 }
 
 
@@ -43,10 +50,11 @@ def look_at(kind):
         yield Fault("config-wrong", f"{TABLE} names 16 books, and this machine has none of them",
                     "SHARDS.md")
     for book in kind.books:
+        yield from away(book)
         yield from configuration(book)
         yield from counts(book)
         yield from journal(book)
-    yield from modes()
+    yield from modes({**SECRETS, **CODES} if kind.has_codes else SECRETS)
     yield from groups(kind)
     yield from keys(kind)
 
@@ -95,17 +103,9 @@ def secrets(book, found):
         seen[secret] = name
 
 
-def plans_in(path):
-    """The plans of a file of plans in force, by their classes; None if it cannot be read."""
-    rows = list(csv.reader(files.text(path).splitlines()))
-    if not rows or rows[0] != list(plans.HEADER):
-        return None
-    return {row[0]: tuple(row[1:]) for row in rows[1:]}
-
-
 def plans_of(book, found):
     """The configuration has the plans in force, and no other one."""
-    force = plans_in(book.plans)
+    force = plans.in_force(book.plans)
     if force is None:
         yield Fault("plan-waits", f"{book.plans} is missing: nobody knows the plans in force",
                     f"systemctl restart {book.unit}")
@@ -122,6 +122,31 @@ def plans_of(book, found):
             text = ", ".join(force[name])
             yield Fault("plan-lost", f"plan {name} ({text}) of the book {is_there} {book.config}",
                         "write it back as it was: radacctl edit")
+
+
+def away(book):
+    """The names of book and log lead to the server's files, or it ended with these there."""
+    status, said = look.run(site.part("book-is-there"), book.unit, book.file)
+    if status not in (0, 1):
+        raise look.Unseen(look.last_line(said))
+    counted = look.samples(book.counts).get("radacctd_book_is_there", [({}, 1)])[0][1]
+    lines = re.findall(r"^db: the name of .*$", journal_of(book), re.M)
+    page = 'DAMAGE.md, "The book is missing"'
+    if look.status_of(book.file) is None and not look.is_active(book.unit):
+        last = None if book.name else copies.last_good()
+        copy = f"restore the last copy, {last}" if last else "restore the last copy"
+        yield Fault("book-away", f"there is no {book.file}, and {book.unit} cannot run",
+                    f"look for it; if it is gone, {copy}, and make no new one by init: {page}")
+    elif look.is_active(book.unit) and (status or not counted):
+        yield Fault("book-away", f"{book.unit} answers nothing: {book.file} or its log was moved, "
+                    "removed or replaced", "do not stop or restart it: what was removed ends with "
+                    f"it. Put it back, or copy it from the server that runs: {page}")
+    elif not counted:
+        yield Fault("book-away", f"{book.unit} ended while {book.file} or its log was away",
+                    f"do not start it before you have looked for them: {page}")
+    elif lines and lines[-1].endswith(NOTHING):
+        yield Fault("book-away", f"{book.unit} was started anew while {book.file} or its log was "
+                    "away: it may serve an older book", f"look for the other one: {page}")
 
 
 def counts(book):
@@ -142,11 +167,15 @@ def counts(book):
                     f"journalctl -u {book.unit} | grep balances:")
 
 
-def journal(book):
+def journal_of(book):
+    """What a server printed in the last hour."""
     words = ("journalctl", "-u", book.unit, "--since", "-1h", "-o", "cat", "--no-pager", "-n",
              MOST_LINES)
-    said = look.must(*words)
-    seen = set()
+    return look.must(*words)
+
+
+def journal(book):
+    said, seen = journal_of(book), set()
     for name, address in re.findall(r"^drop \d+ (\w+) from ([\d.]+):", said, re.M):
         if (name, address) in seen:
             continue
@@ -163,8 +192,8 @@ def journal(book):
             yield Fault(name, f"{book.unit} printed: {found[0][:120]}", cure)
 
 
-def modes():
-    for pattern, (most, owners, groups_allowed) in SECRETS.items():
+def modes(wanted):
+    for pattern, (most, owners, groups_allowed) in wanted.items():
         for path in glob.glob(pattern):
             yield from mode(path, most, owners, groups_allowed)
 
@@ -174,10 +203,9 @@ def mode(path, most, owners, groups_allowed):
     if status is None:
         return
     owner, group = look.must("stat", "-c", "%U %G", path).split()
-    if look.mode_of(status) & ~most & 0o077:
-        yield Fault("mode-open", f"others may read {path}: it has {look.mode_of(status):o}",
-                    f"chmod {most:o} {path}")
-    elif owner not in owners:
+    is_open = list(look.open_to_others(path, most))
+    yield from is_open
+    if not is_open and owner not in owners:
         yield Fault("mode-open", f"{path} belongs to {owner}", f"chown {owners[0]} {path}")
     if groups_allowed and look.mode_of(status) & 0o040 and group not in groups_allowed:
         yield Fault("mode-wrong", f"{path} is of the group {group}",
@@ -212,7 +240,7 @@ def groups(kind):
 # The files of cashiers' keys: of each, what finds the keys in it.
 KEY_FILES = {
     desk.CASHIER_KEY: r"(?m)^\s*(\S+)\s*$",
-    "/etc/radacctd-redeem.key": r"(?m)^\s*(\S+)\s*$",
+    site.REDEEM_KEY: r"(?m)^\s*(\S+)\s*$",
     "/etc/nginx/radacctd/cashier.conf": r'(?m)^\s*proxy_set_header\s+Desk-Key\s+"([^"]*)"',
 }
 

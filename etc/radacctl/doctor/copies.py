@@ -10,18 +10,33 @@ from radacctl.doctor.faults import Fault
 
 OLDEST = 36 * 3600
 NAME = re.compile(r"\d{4}-\d{2}-\d{2}(?:\.\d{6})?")
-DUMP = "/var/lib/radacctd-sql/radius.sql"
 NOW = "systemctl start radacctd-nightly; journalctl -u radacctd-nightly -n 20"
 
 
-def look_at(kind):
+def place():
+    """The folder of the copies, and the names in it."""
     values = look.values_in("/etc/default/radacctd-nightly")
     folder = values.get("RADACCTD_BACKUPS") or site.BACKUPS
-    names = os.listdir(folder) if os.path.isdir(folder) else []
+    return folder, os.listdir(folder) if os.path.isdir(folder) else []
+
+
+def is_to_come(name):
+    """A copy of a day to come would be the newest one until then, whatever fails meanwhile."""
+    return name[:10] > time.strftime("%F", time.localtime(time.time() + 86400))
+
+
+def last_good():
+    """The path of the newest copy that was not refused and has a book, or None."""
+    folder, names = place()
+    found = [it for it in names if NAME.fullmatch(it) and not is_to_come(it)
+             and os.path.exists(f"{folder}/{it}/book")]
+    return f"{folder}/{max(found)}" if found else None
+
+
+def look_at(kind):
+    folder, names = place()
     good = sorted(it for it in names if NAME.fullmatch(it))
-    # A copy of a day to come would be the newest one until then, whatever fails meanwhile.
-    tomorrow = time.strftime("%F", time.localtime(time.time() + 86400))
-    while good and good[-1][:10] > tomorrow:
+    while good and is_to_come(good[-1]):
         yield Fault("clock-wrong", f"{folder}/{good[-1]} is of a day to come",
                     "set the clock: timedatectl; if it is right, give that folder another name")
         good.pop()
@@ -57,8 +72,8 @@ def newest(folder, name):
 def database():
     """FreeRADIUS' own users, if they are in PostgreSQL."""
     text = freeradius.text("mods-enabled", "sql")
-    status = look.status_of(DUMP)
+    status = look.status_of(site.DUMP)
     if freeradius.value(text, "dialect") != "postgresql":
         return
     if status is None or time.time() - status.st_mtime > OLDEST:
-        yield Fault("copy-sql", f"{DUMP} is missing or old", NOW)
+        yield Fault("copy-sql", f"{site.DUMP} is missing or old", NOW)

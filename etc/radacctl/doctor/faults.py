@@ -13,13 +13,17 @@ CRITICAL, WARNING = "critical", "warning"
 Fault = collections.namedtuple("Fault", "name text cure")
 
 CRITICALS = {
+    "book-away": (
+        "the book is not where its name leads: nothing is answered, and a stop may lose it",
+        "**stop and restart nothing**: [the book is missing](DAMAGE.md#the-book-is-missing)",
+    ),
     "unit-down": (
         "a unit that the site needs does not run",
         "start it; `journalctl -u` and its name says why it stopped",
     ),
     "unit-failed": (
         "a unit of the site has failed",
-        "`journalctl -u` and its name; then `systemctl reset-failed`",
+        "`journalctl -u` and its name; once it is mended, start it: it shows that it runs",
     ),
     "config-wrong": (
         "the configuration has a fault: a restart fails",
@@ -47,6 +51,10 @@ CRITICALS = {
         "an access server has another secret than radacctd",
         "write one secret into both",
     ),
+    "device-secret": (
+        "FreeRADIUS ignores a device: the device has another secret",
+        "write one secret into access-servers.conf and there; restart freeradius",
+    ),
     "raddb-wrong": ("FreeRADIUS' configuration has a fault", "`freeradius -CX` names the line"),
     "raddb-steps": (
         "FreeRADIUS lacks a step of the set-up",
@@ -70,12 +78,13 @@ CRITICALS = {
     ),
     "queue-waits": (
         "reports wait in the queue",
-        "start radacctd; [secret and address](FREERADIUS.md#reports-that-do-not-reach-radacctd)",
+        "without `book-away`: start radacctd; "
+        "[secret and address](FREERADIUS.md#reports-that-do-not-reach-radacctd)",
     ),
     "mirror-missing": ("logins have no balances", "restart [the mirror](FREERADIUS.md#the-mirror)"),
     "mirror-old": (
         "logins go by old balances",
-        "restart radacctd and the mirror; look at the clock",
+        "without `book-away`: restart radacctd and the mirror; look at the clock",
     ),
     "mirror-plans": ("logins go by other plans than the book", "restart the mirror"),
     "packages-steps": (
@@ -83,8 +92,12 @@ CRITICALS = {
         "`radacctl setup`, or [the step](PACKAGES.md#switch-it-on)",
     ),
     "packages-lost": (
-        "the logins of packages cannot be read: logins are refused",
-        "put back the folder of the last copy ([GONE](GONE.md))",
+        "the logins of packages are gone or damaged: logins are refused",
+        "put their folder back from the last copy, as the line says",
+    ),
+    "packages-shut": (
+        "the logins of packages cannot be read: locked, no right, or a full disk",
+        "restore nothing: space and owner, then restart freeradius",
     ),
     "packages-key": (
         "the key of printed codes is another one: no code logs in",
@@ -96,7 +109,10 @@ CRITICALS = {
         "a cashier's key in a file is no cashier's in the configuration",
         "write one key into both",
     ),
-    "certificate-ended": ("a certificate is over, or not there", "renew it"),
+    "certificate-ended": (
+        "a certificate is over, or not there",
+        "renew it, and reload nginx, or restart freeradius",
+    ),
     "pair-alarm": (
         "one book of the pair refuses a voucher that the other took",
         "[decide for one](PAIR.md)",
@@ -141,7 +157,7 @@ WARNINGS = {
     "clock-unset": ("nothing keeps the clock", "install and start a service for NTP"),
     "file-old": (
         "a file of FreeRADIUS, nginx or systemd is not that of this version",
-        "`radacctl setup` makes it a link",
+        "`radacctl setup` makes it a link, and keeps what was there",
     ),
     "tunnel-login": (
         "PEAP or TTLS is on, and the inner tunnel has no radacctd_login",
@@ -154,6 +170,10 @@ WARNINGS = {
     "status-check": (
         "FreeRADIUS gives radacctd up for good after an outage",
         "[`status_check = none`](FREERADIUS.md#freeradius-as-a-plain-proxy)",
+    ),
+    "device-unknown": (
+        "FreeRADIUS ignores an address that is no client: a device with a new one, or a stranger",
+        "write it into access-servers.conf, and restart freeradius; or shut it out",
     ),
     "counts-old": ("nothing counts FreeRADIUS' side", "restart radacctd-front"),
     "unsent": (
@@ -176,7 +196,10 @@ WARNINGS = {
         "FreeRADIUS logs what guests type: printed codes are in its log",
         "set auth to no in the section log of radiusd.conf",
     ),
-    "certificate-ends": ("a certificate ends within three weeks", "renew it"),
+    "certificate-ends": (
+        "a certificate ends within three weeks",
+        "renew it, and reload nginx, or restart freeradius",
+    ),
     "pages-plans": (
         "the pages have other plans than the book, or none",
         "`radacctl pages`, and a restart of radacctd",

@@ -6,7 +6,7 @@ import re
 import tempfile
 import time
 
-from radacctl import files, freeradius, names, site
+from radacctl import files, freeradius, names, plans, site
 from radacctl.doctor import book as books
 from radacctl.doctor import look, machine
 from radacctl.doctor.faults import Fault
@@ -16,14 +16,26 @@ STATE = "/run/freeradius/radacctd-queue"
 MIRROR = "/run/radacctd-mirror/balances.db"
 # How old counts and balances may be, and how long a report may wait, in seconds.
 COUNTS_OLD, WAITS = 120, 300
-STATES = {
-    "fault": "reports are not written, and not answered",
-    "clock": "the clock is not set, so all reports wait",
-    "undated": "a report cannot be dated, and holds up its reader",
-    "volatile": "the queue's file system may lose what was synced",
-    "cut": "nobody who is overdrawn is cut off",
-}
 PAGE = "FREERADIUS.md"
+# What the queue's writer says, and where its cure is.
+STATES = {
+    "fault": ("reports are not written, and not answered",
+              f"df -h {site.RADACCT}; df -i {site.RADACCT}; dmesg | tail"),
+    "clock": ("the clock is not set, so all reports wait", "timedatectl; then set the clock"),
+    "undated": ("a report cannot be dated, and holds up its reader", "date; then set the clock"),
+    "volatile": ("the queue's file system may lose what was synced",
+                 f"findmnt -T {site.RADACCT}; then another file system there"),
+    "cut": ("nobody who is overdrawn is cut off", "df -h /run; df -i /run; ls -ld /run/freeradius/*"),
+}
+# FreeRADIUS' own log: only there is a device that it does not know, or whose secret is another one.
+LOG, TAIL, HOUR = "/var/log/freeradius/radius.log", 4_000_000, 3600
+# A line begins with its moment and its kind: names of logins are further behind.
+BEGIN = r"^.{24} : \w+: "
+UNKNOWN = re.compile(BEGIN + r"Ignoring request to .* unknown client (\S+) port \d+ ")
+DROPPED = BEGIN + "Dropping packet without response because of error: Received "
+OTHER_SECRET = re.compile(DROPPED + r"(?:\S+ )?packet from (?:client )?(\S+) with invalid .*secret is "
+                          "incorrect")
+MOST_NAMED = 3
 
 
 def look_at(kind):
@@ -31,16 +43,24 @@ def look_at(kind):
         return
     for place, own in freeradius.differing():
         yield Fault("file-old", f"{place} is not that of this version",
-                    f"ln -sf {own} {place}; systemctl restart freeradius radacctd-mirror "
-                    "radacctd-front")
+                    f"diff {place} {own}; {linked(place, own)}; systemctl restart freeradius "
+                    "radacctd-mirror radacctd-front")
     yield from steps(kind)
     yield from settings(kind)
     yield from samples()
     yield from proxies(kind)
     yield from names_refused()
+    yield from ignored()
     yield from queue()
     yield from counts()
     yield from mirror(kind)
+
+
+def linked(place, own):
+    """A command that makes a place a link, and keeps what was changed there by hand, as NAME.~1~:
+    FreeRADIUS reads no such name.
+    """
+    return f"ln -sf --backup=numbered {own} {place}"
 
 
 def steps(kind):
@@ -51,24 +71,34 @@ def steps(kind):
         if f"$INCLUDE radacctd/{name}" not in main and f"/radacctd/{name}" not in main:
             yield Fault("raddb-steps", f"radiusd.conf does not include radacctd/{name}",
                         f"add it before `modules`: {PAGE}")
-    for place in freeradius.OURS:
-        if not os.path.exists(freeradius.path(place)):
-            yield Fault("raddb-steps", f"{freeradius.path(place)} is missing",
-                        "radacctl setup, or step 1 of " + PAGE)
-    default = freeradius.text("sites-enabled", "default")
-    accounting = freeradius.section(default, "accounting").split()
-    if accounting[:1] != ["radacctd_accounting"]:
-        yield Fault("raddb-steps", "radacctd_accounting is not the first line of accounting",
-                    f"write it there in sites-enabled/default: step 6 of {PAGE}")
-    if "radacctd_login" not in freeradius.section(default, "post-auth").split():
-        yield Fault("raddb-steps", "post-auth has no radacctd_login: everybody gets in",
-                    f"write it into sites-enabled/default: step 7 of {PAGE}")
+    for place, own in freeradius.OURS.items():
+        path = freeradius.path(place)
+        if not os.path.exists(path):
+            yield Fault("raddb-steps", f"{path} is missing",
+                        f"radacctl setup, or {linked(path, site.shared('freeradius', own))}")
+    yield from lines()
     yield from tunnel()
     status, said = look.run("freeradius", "-C", "-l", "stdout")
     if status:
         errors = [it for it in said.splitlines() if "rror" in it or "ailed" in it]
         line = look.last_line("\n".join(errors) or said)
         yield Fault("raddb-wrong", f"FreeRADIUS says: {line}", "freeradius -CX | tail")
+
+
+def lines():
+    """Those of the virtual servers that the site sells by: others may be next to them."""
+    servers = {it: freeradius.text("sites-enabled", it)
+               for it in freeradius.serving("auth", "acct") or ["default"]}
+    sold = {name: freeradius.section(text, "accounting") for name, text in servers.items()
+            if "radacctd_accounting" in freeradius.section(text, "accounting").split()}
+    if not any(freeradius.first_word(it) == "radacctd_accounting" for it in sold.values()):
+        name = next(iter(sold or servers))
+        yield Fault("raddb-steps", "radacctd_accounting is not the first line of accounting",
+                    f"write it there in sites-enabled/{name}: step 6 of {PAGE}")
+    if not any("radacctd_login" in freeradius.section(it, "post-auth").split()
+               for it in servers.values()):
+        yield Fault("raddb-steps", "post-auth has no radacctd_login: everybody gets in",
+                    f"write it into sites-enabled/{next(iter(servers))}: step 7 of {PAGE}")
 
 
 def tunnel():
@@ -105,9 +135,7 @@ def settings(kind):
 
 def samples():
     """Secrets of the samples, short ones, and files that others may read."""
-    sql = freeradius.path("mods-enabled", "sql")
-    if os.path.exists(sql) and look.mode_of(look.status_of(sql)) & 0o007:
-        yield Fault("mode-open", f"others may read {sql}", f"chmod o= {sql}")
+    yield from look.open_to_others(freeradius.path("mods-enabled", "sql"))
     for name in ("settings.conf", "access-servers.conf", "pair.conf"):
         path = freeradius.path("radacctd", name)
         if not os.path.exists(path):
@@ -115,8 +143,7 @@ def samples():
         if "change-me" in freeradius.text("radacctd", name):
             yield Fault("sample-value", f"{path} has a secret that begins with change-me",
                         "replace it: openssl rand -hex 16")
-        if look.mode_of(look.status_of(path)) & 0o007:
-            yield Fault("mode-open", f"others may read {path}", f"chmod o= {path}")
+        yield from look.open_to_others(path)
     seen = {}
     for name, block in freeradius.blocks(freeradius.CLIENT, "radacctd", "access-servers.conf"):
         secret = freeradius.value(block, "secret")
@@ -142,17 +169,48 @@ def proxies(kind):
 
 def names_refused():
     """Accounts that were sold to, and whose login Debian's filter refuses."""
-    authorize = freeradius.section(freeradius.text("sites-enabled", "default"), "authorize")
-    if "filter_username" not in authorize.split():
+    servers = freeradius.serving("auth") or ["default"]
+    found = [freeradius.section(freeradius.text("sites-enabled", it), "authorize").split()
+             for it in servers]
+    if not any("filter_username" in it for it in found):
         return
     try:
-        accounts = names.balances_of(files.text(site.BALANCES), site.BALANCES)
+        accounts = names.balances()
     except ValueError:
         return
     count = sum(b" " in it for it in accounts)
     if count:
         yield Fault("names-refused", f"{count} accounts have a space, and filter_username refuses "
                     "their login", "write radacctd_filter in its place: " + PAGE)
+
+
+def ignored():
+    """Devices that FreeRADIUS did not answer in the last hour, by the end of its log."""
+    if look.status_of(LOG) is None:
+        return
+    said = look.must(*files.as_owner(LOG), "tail", "-c", str(TAIL), "--", LOG)
+    lines = [it for it in said.splitlines() if moment_of(it) > time.time() - HOUR]
+    place = freeradius.path("radacctd", "access-servers.conf")
+    for address in sorted(found_in(OTHER_SECRET, lines)):
+        yield Fault("device-secret", f"FreeRADIUS ignores {address}, which has another secret",
+                    f"write one secret into {place} and there, and restart freeradius")
+    if unknown := sorted(found_in(UNKNOWN, lines)):
+        more = f" and {len(unknown) - MOST_NAMED} more" if len(unknown) > MOST_NAMED else ""
+        yield Fault("device-unknown", f"FreeRADIUS ignores {', '.join(unknown[:MOST_NAMED])}{more}: "
+                    "no client of it", f"if it is yours, write it into {place}, and restart "
+                    "freeradius; if not, shut it out")
+
+
+def moment_of(line):
+    """When FreeRADIUS logged a line; 0 if the line does not begin with that."""
+    try:
+        return time.mktime(time.strptime(line[:24], "%a %b %d %H:%M:%S %Y"))
+    except (ValueError, OverflowError):
+        return 0
+
+
+def found_in(pattern, lines):
+    return {it[1] for it in map(pattern.search, lines) if it}
 
 
 def queue():
@@ -163,10 +221,14 @@ def queue():
         if owner != site.RADIUS_USER:
             yield Fault("queue-folder", f"{path} belongs to {owner}: no report is answered",
                         f"install -d -o freerad -g freerad -m 0700 {path}")
-    for ending, meaning in STATES.items():
+    yield from states()
+
+
+def states():
+    for ending, (meaning, cure) in STATES.items():
         if os.path.exists(f"{STATE}.{ending}"):
             line = files.text(f"{STATE}.{ending}").split("\n")[0][:120]
-            yield Fault("queue-state", f"{meaning}: {line}", f"df -h {site.RADACCT}; {PAGE}")
+            yield Fault("queue-state", f"{meaning}: {line}", f"{cure}: {PAGE}")
 
 
 def counts():
@@ -185,7 +247,8 @@ def counts():
         if count:
             folder = f"{site.RADACCT}/{labels['folder']}"
             yield Fault("unsent", f"{count:.0f} reports in {folder} were charged to nobody",
-                        f"look at them, and move them back or away: {PAGE}")
+                        "copy that folder; correct them, and move them back. If forward has run "
+                        f"since, some would be charged twice: first {PAGE}")
 
 
 def counted():
@@ -213,7 +276,7 @@ def mirror(kind):
     cure = "systemctl restart radacctd-mirror; journalctl -u radacctd-mirror -n 20"
     try:
         written = files.rows(MIRROR, "SELECT written FROM mirror")[0][0]
-        plans = files.rows(MIRROR, "SELECT class, block, unit, count FROM plan")
+        rows = files.rows(MIRROR, "SELECT class, block, unit, count FROM plan")
     except (OSError, IndexError, site.Missing) as why:
         yield Fault("mirror-missing", f"logins have no balances: {why}", cure)
         return
@@ -223,11 +286,11 @@ def mirror(kind):
     if age > (int(oldest) if oldest.isdigit() else 60):
         yield Fault("mirror-old", f"the balances of logins are {age:.0f} seconds old",
                     "systemctl status radacctd radacctd-mirror; date")
-    found = {names.shown(row[0].encode("latin-1")): tuple(map(str, row[1:])) for row in plans}
+    found = {names.shown(row[0].encode("latin-1")): tuple(map(str, row[1:])) for row in rows}
     path = "/var/lib/radacctd-pair/plans.csv" if kind.has_pair else kind.books[0].plans
     if kind.has_shards:
-        path = f"{os.path.dirname(site.BALANCES)}/plans.csv"
-    wanted = books.plans_in(path)
+        path = site.PLANS
+    wanted = plans.in_force(path)
     if wanted is None:
         yield Fault("mirror-plans", f"{path} is missing: nobody knows the plans of logins",
                     "systemctl restart radacctd; of a pair, start the other machine")

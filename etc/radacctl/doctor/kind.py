@@ -10,7 +10,6 @@ from radacctl.doctor import look
 PAIR = "/etc/default/radacctd-pair"
 TABLE = "/etc/radacctd-shards.csv"
 NGINX = "/etc/nginx/conf.d/radacctd.conf"
-REDEEM_KEY = "/etc/radacctd-redeem.key"
 CLERK = "/etc/systemd/system/sockets.target.wants/radacctd-clerk.socket"
 REDEEM = "/etc/systemd/system/sockets.target.wants/radacctd-redeem.socket"
 
@@ -30,7 +29,7 @@ class Book:
         self.file = f"{site.STATE}/{name}/book" if name else site.BOOK
         balances = os.path.dirname(site.BALANCES)
         self.balances = f"{balances}/{name}.csv" if name else site.BALANCES
-        self.plans = f"{balances}/{name}-plans.csv" if name else f"{balances}/plans.csv"
+        self.plans = f"{balances}/{name}-plans.csv" if name else site.PLANS
         counts = os.path.dirname(site.COUNTS)
         self.counts = f"{counts}/{name}.counts" if name else site.COUNTS
 
@@ -55,7 +54,7 @@ class Kind:
                                   "/etc/systemd/system/radacctd-mirror.service")
         self.has_pages = is_there(NGINX, "/etc/nginx/radacctd/cashier.conf")
         self.has_pair = is_there(PAIR, f"{site.RADDB}/radacctd/pair.conf")
-        self.has_codes = is_there(REDEEM_KEY, REDEEM)
+        self.has_codes = is_there(site.REDEEM_KEY, REDEEM)
         self.has_clerk = is_there("/etc/radacctd-clerk/rights.toml", CLERK)
         self.has_packages = is_there(f"{site.RADDB}/mods-enabled/radacctd-packages",
                                      f"{site.RADDB}/radacctd/packages.conf")

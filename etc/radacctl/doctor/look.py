@@ -5,8 +5,10 @@ import os
 import re
 import stat
 import subprocess
+import tempfile
 
 from radacctl import files
+from radacctl.doctor.faults import Fault
 
 PATH = "/usr/sbin:/usr/bin:/sbin:/bin"
 LONGEST = 60
@@ -26,6 +28,18 @@ def run(*words, seconds=LONGEST, text=None):
     except subprocess.TimeoutExpired:
         return 124, f"{words[0]} did not end in {seconds} seconds"
     return done.returncode, done.stdout + done.stderr
+
+
+def radclient(where, act, secret, lines, patience):
+    """What radclient printed, which sends a packet twice. The secret is in a file of memory, and in
+    no command line.
+    """
+    with tempfile.TemporaryDirectory(dir="/run") as folder:
+        path = os.path.join(folder, "secret")
+        files.make(path, secret.encode() + b"\n")
+        words = ["radclient", "-r", "2", "-t", str(patience), "-x", "-S", path, where, act]
+        # Its status is 1 if a login is refused, which may be what is wanted.
+        return run(*words, seconds=10 * patience, text="\n".join(lines) + "\n")[1]
 
 
 class Unseen(OSError):
@@ -70,6 +84,14 @@ def status_of(path):
 
 def mode_of(status):
     return stat.S_IMODE(status.st_mode)
+
+
+def open_to_others(path, most=None):
+    """The fault of a file that has more rights than `most`, or else any for all other users."""
+    status = status_of(path)
+    if status and mode_of(status) & (0o007 if most is None else ~most & 0o077):
+        yield Fault("mode-open", f"others may read {path}: it has {mode_of(status):o}",
+                    f"chmod {'o=' if most is None else f'{most:o}'} {path}")
 
 
 def values_in(path):

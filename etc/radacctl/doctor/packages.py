@@ -4,8 +4,7 @@ import os
 import re
 import time
 
-from radacctl import files, freeradius, logins, packages, site
-from radacctl.doctor import book
+from radacctl import files, freeradius, logins, packages, plans, site
 from radacctl.doctor.faults import Fault
 from radacctl.setup import packages as wanted
 from radacctl.setup.steps import Failed
@@ -13,6 +12,11 @@ from radacctl.setup.steps import Failed
 # How long a guest may be begun, or a debit decided, in seconds.
 UNFINISHED = 600
 CURE = "radacctl setup, with packages = true in its file: PACKAGES.md"
+# What SQLite says of a database that is gone or damaged. All else, as a lock or a full disk, passes.
+LOST = re.compile("no such table|not a database|malformed|no such column")
+PUT_BACK = f"systemctl stop freeradius; mv {logins.FOLDER} /root/; tar -xpzf $(ls -d "
+PUT_BACK += f"{site.BACKUPS}/20*[0-9] | tail -1)/site.tar.gz -C / {logins.FOLDER.lstrip('/')}; "
+PUT_BACK += "systemctl start freeradius"
 
 
 def look_at(kind):
@@ -35,7 +39,9 @@ def lines():
                         CURE)
     if wanted.INCLUDE.strip() not in freeradius.text("radiusd.conf"):
         yield Fault("packages-steps", "radiusd.conf does not include radacctd/packages.conf", CURE)
-    for name, change in (("default", wanted.default), ("inner-tunnel", wanted.inner)):
+    places = [(it, wanted.default) for it in freeradius.selling()]
+    places += [(it, wanted.inner) for it in freeradius.tunnels() or ["inner-tunnel"]]
+    for name, change in places:
         text = files.text(freeradius.path("sites-enabled", name))
         try:
             lacks = text and change(text) != text
@@ -57,8 +63,7 @@ def databases():
             store.read("SELECT count(*) FROM lapse WHERE is_taken = 0 AND moment < ?", late),
         ]
     except (logins.Fault, site.Missing, OSError) as why:
-        yield Fault("packages-lost", f"logins are refused: {why}",
-                    f"stop freeradius, and put {logins.FOLDER} of the last copy back")
+        yield refused(why)
         return
     if not re.fullmatch("[0-9a-f]{32,64}", found["key"]):
         yield Fault("packages-key", f"radacctd/{logins.CONF} has the sample's key, or none",
@@ -72,14 +77,23 @@ def databases():
                         "journalctl -u radacctd-packages -n 20")
 
 
+def refused(why):
+    """What refuses logins: a database that is lost, which a copy cures, or one that is not."""
+    paths = [logins.path_of(it) for it in ("logins", "uses")]
+    if LOST.search(str(why)) or not all(map(os.path.exists, paths)):
+        return Fault("packages-lost", f"logins are refused: {why}", PUT_BACK)
+    return Fault("packages-shut", f"logins are refused: {why}",
+                 f"restore nothing. df -h {logins.FOLDER}; ls -la {logins.FOLDER}; then systemctl "
+                 "restart freeradius")
+
+
 def file_of_packages():
     try:
         known, _ = packages.read()
     except packages.Wrong as why:
         yield Fault("packages-file", str(why), "correct it: PACKAGES.md has its members")
         return
-    plans = book.plans_in(f"{os.path.dirname(site.BALANCES)}/plans.csv")
+    force = plans.in_force()
     for it in known.values():
-        if plans is not None and it.plan not in plans:
-            yield Fault("packages-file", f"the package {it.name} has the plan {it.plan}, which is "
-                        "not in force", "add it to the book, or name another one: SITE.md")
+        if force is not None and (why := it.plan_missing(force)):
+            yield Fault("packages-file", why, "add it to the book, or name another one: SITE.md")

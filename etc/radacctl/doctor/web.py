@@ -13,11 +13,12 @@ from radacctl.doctor import look
 from radacctl.doctor.faults import Fault
 
 FOLDER, WEB = "/etc/nginx/radacctd", "/etc/radacctd-web"
-PLANS = f"{os.path.dirname(site.BALANCES)}/plans.json"
 # Of the file for nginx what a site changes: these directives, and where pages and tools are.
 CHANGED = re.compile(r"^(?:server_name|ssl_|listen|include radacctd/desks|root|limit_req_zone|"
                      r"fastcgi_param SCRIPT_FILENAME|access_log|error_log)")
 SOON = 21 * 86400
+# It keeps what was changed by hand, as NAME.~1~, which neither nginx nor fail2ban reads.
+COPY = "cp --backup=numbered"
 JAIL, FILTER = "/etc/fail2ban/jail.d/radacctd.conf", "/etc/fail2ban/filter.d/radacctd.conf"
 SECRETS = {
     f"{FOLDER}/cashier.conf": 0o600,
@@ -56,7 +57,7 @@ def configuration(text):
     for name in ("headers.conf", "to-desk.conf"):
         if files.text(f"{FOLDER}/{name}") != files.sample("nginx", "radacctd", name):
             yield Fault("file-old", f"{FOLDER}/{name} is not that of this version",
-                        f"cp {site.shared('nginx', 'radacctd', name)} {FOLDER}/")
+                        f"{COPY} {site.shared('nginx', 'radacctd', name)} {FOLDER}/")
     if "accounts.example.org" in text:
         yield Fault("sample-value", f"{kinds.NGINX} has the sample's name accounts.example.org",
                     "write your own in its place")
@@ -68,33 +69,31 @@ def certificates(text):
     eap = files.text(f"{site.RADDB}/mods-enabled/eap")
     found |= {it for it in re.findall(r"(?m)^\s*certificate_file\s*=\s*(\S+)", eap) if it[0] == "/"}
     for path in sorted(found):
+        renew = "renew it, then: systemctl reload nginx"
+        if path not in text:
+            renew = "renew it, then: systemctl restart freeradius"
         if look.status_of(path) is None:
-            yield Fault("certificate-ended", f"{path} is missing", "get it anew")
+            yield Fault("certificate-ended", f"{path} is missing", renew)
             continue
         words = ("openssl", "x509", "-in", path, "-noout")
         checked = lambda seconds, it=words: look.run(*it, "-checkend", str(seconds))[0]
         when = look.must(*words, "-enddate").strip().removeprefix("notAfter=")
         if checked(0):
-            yield Fault("certificate-ended", f"{path} is over, since {when}", "renew it")
+            yield Fault("certificate-ended", f"{path} is over, since {when}", renew)
         elif checked(SOON):
-            yield Fault("certificate-ends", f"{path} is over at {when}", "renew it")
+            yield Fault("certificate-ends", f"{path} is over at {when}", renew)
 
 
 def modes():
     for path, most in SECRETS.items():
-        status = look.status_of(path)
-        if status and look.mode_of(status) & ~most & 0o077:
-            yield Fault("mode-open", f"others may read {path}: it has {look.mode_of(status):o}",
-                        f"chmod {most:o} {path}")
+        yield from look.open_to_others(path, most)
     for path in sorted(glob.glob(LOGS)):
         if look.mode_of(os.stat(path)) & 0o007:
             yield Fault("log-open", f"others may read {path}",
                         f"chmod o= {path}; and radacctd-logs.tmpfiles: DESK.md")
     text = files.text(kinds.NGINX)
     for path in re.findall(r"(?m)^\s*ssl_certificate_key\s+(\S+?);", text):
-        status = look.status_of(path)
-        if status and look.mode_of(status) & 0o007:
-            yield Fault("mode-open", f"others may read {path}", f"chmod o= {path}")
+        yield from look.open_to_others(path)
 
 
 def settings():
@@ -109,13 +108,13 @@ def settings():
                         "write it there")
         classes = freeradius.time_classes()
         if classes and found["time_classes"] != classes:
-            yield Fault("pages-settings", f"{money.SETTINGS} has other time_classes than FreeRADIUS",
-                        f"write there: {classes}")
+            yield Fault("pages-settings", f"{money.SETTINGS} has other time_classes than "
+                        "FreeRADIUS", f"write there: {classes}")
     except (OSError, ValueError) as why:
         yield Fault("pages-settings", str(why), "radacctl pages; then write your values there")
-    path = f"{WEB}/plans.json"
-    if not os.path.islink(path) or os.path.realpath(path) != PLANS or not os.path.exists(PLANS):
-        yield Fault("pages-plans", f"{path} is no link to the plans in force, {PLANS}",
+    path, plans = f"{WEB}/plans.json", site.PLANS_JSON
+    if not os.path.islink(path) or os.path.realpath(path) != plans or not os.path.exists(plans):
+        yield Fault("pages-plans", f"{path} is no link to the plans in force, {plans}",
                     "radacctl pages; systemctl restart radacctd")
 
 
@@ -179,7 +178,7 @@ def fail2ban():
         return
     if files.text(FILTER) != files.sample("nginx", "fail2ban", "radacctd.filter.conf"):
         yield Fault("file-old", f"{FILTER} is not that of this version",
-                    f"cp {site.shared('nginx', 'fail2ban', 'radacctd.filter.conf')} {FILTER}")
+                    f"{COPY} {site.shared('nginx', 'fail2ban', 'radacctd.filter.conf')} {FILTER}")
     if look.run("fail2ban-client", "status", "radacctd")[0]:
         yield Fault("fail2ban-down", "fail2ban has no jail radacctd",
                     "systemctl restart fail2ban; tail /var/log/fail2ban.log")

@@ -1,0 +1,171 @@
+"""Changes the configuration: one at a time, checked, and put into place whole with its rights."""
+
+import collections
+import contextlib
+import os
+import stat
+import subprocess
+import time
+import tomllib
+
+from radacctl import files, keys, site
+from radacctl.program import fail
+
+# What follows the name of the configuration in the name of a file that is to take its place. A run
+# that was killed may leave one: the next run makes it anew.
+NEW = ".key-new"
+# And in the name of the file that is locked meanwhile.
+LOCK = ".lock"
+# How long another program may have it locked, and how long the check of a configuration may take,
+# in seconds. The service's user makes the check, and could stop it.
+PATIENCE, LONGEST_CHECK = 60, 20
+# What a change left: the tokens that were ended and made, and why the configuration is wrong.
+Changed = collections.namedtuple("Changed", "gone made fault")
+
+
+@contextlib.contextmanager
+def locked(path, ending=LOCK, patience=PATIENCE, fault=""):
+    """Holds the lock of a configuration, which `radacctl edit` takes for its rename, too.
+
+    The service's user may read the configuration, and so could lock that for ever.
+    """
+    is_held = False
+    while not is_held:
+        # Others that change the file take their turns meanwhile, and none of them takes a minute.
+        end = time.monotonic() + patience
+        file = open_lock(path + ending)
+        while not files.is_locked(file):
+            if time.monotonic() > end:
+                fail(fault or f"another program has {path} locked: try again", 3)
+            time.sleep(0.02)
+        is_held = is_same(file, path + ending)
+        if not is_held:
+            file.close()
+    with file:
+        try:
+            yield
+        finally:
+            with contextlib.suppress(OSError):
+                os.remove(path + ending)
+
+
+def open_lock(path):
+    """Opens the file of a lock, which no other user may open: else that user could hold it."""
+    way = os.O_RDWR | os.O_CREAT | os.O_NOFOLLOW | os.O_NONBLOCK
+    try:
+        while True:
+            file = os.fdopen(os.open(path, way, 0o600), "wb")
+            status = os.fstat(file.fileno())
+            is_own = stat.S_ISREG(status.st_mode) and status.st_uid == os.geteuid()
+            if is_own and not status.st_mode & 0o077:
+                return file
+            file.close()
+            os.remove(path)
+    except OSError as fault:
+        return fail(f"cannot lock {path}: {fault.strerror}; be root")
+
+
+def is_same(file, path):
+    """Whether a file still has its name: one that another run has removed counts for nothing."""
+    try:
+        return os.path.samestat(os.fstat(file.fileno()), os.lstat(path))
+    except FileNotFoundError:
+        return False
+
+
+def copy_rights(file, path):
+    """Gives a new file the owner, the group, the mode and the further attributes of another one."""
+    status = os.stat(path)
+    os.fchown(file.fileno(), status.st_uid, status.st_gid)
+    os.fchmod(file.fileno(), stat.S_IMODE(status.st_mode))
+    for name in os.listxattr(path):
+        with contextlib.suppress(OSError):
+            os.setxattr(file.fileno(), name, os.getxattr(path, name))
+
+
+def write_beside(path, text):
+    """Makes the file that is to take the place of a configuration, on the disk, with its rights."""
+    new = path + NEW
+    files.remove(new)
+    with os.fdopen(os.open(new, os.O_CREAT | os.O_EXCL | os.O_WRONLY, 0o600), "wb") as file:
+        copy_rights(file, path)
+        file.write(text.encode())
+        file.flush()
+        os.fsync(file.fileno())
+    return new
+
+
+def fault_of(new, path):
+    """What radacctd says against a file that is to take the place of a configuration, or ''."""
+    checker = site.program()
+    if not os.access(checker, os.X_OK):
+        return f"{checker} is missing, which checks it"
+    words = [checker, "check", "--config", new, "--explain"]
+    how = {"stdin": subprocess.DEVNULL, "stdout": subprocess.PIPE, "stderr": subprocess.STDOUT}
+    process = subprocess.Popen(words, text=True, errors="replace", **how)
+    try:
+        said = process.communicate(timeout=LONGEST_CHECK)[0]
+    except subprocess.TimeoutExpired:
+        # Nor is it waited for: who traces it could keep it from its end.
+        with contextlib.suppress(OSError):
+            process.kill()
+        return f"its check did not end in {LONGEST_CHECK} seconds"
+    if process.returncode == 0:
+        return ""
+    return (said.strip() or f"check ended with status {process.returncode}").replace(new, path)
+
+
+def change(path, decide):
+    """Changes the keys of a configuration, and nothing else of it, while nobody else does.
+
+    `decide` gets the text and its content, and returns the key to add, or "", and the tokens of
+    those to end. A configuration that is wrong gets no key. But its keys are ended all the same.
+    """
+    with locked(path):
+        before = keys.read(path)
+        was = keys.config_of(before, path)
+        block, ended = decide(before, was)
+        if not block and not ended:
+            return Changed([], [], "")
+        after, made = keys.without(before, ended), tomllib.loads(block).get("key", [])
+        if block:
+            after = keys.with_more(after, block)
+        wanted = [it for it in was.get("key", []) if it.get("token") not in ended] + made
+        test_same(after, was, wanted, path)
+        fault = put_in_place(path, after, is_needed=bool(block))
+    return Changed(list(ended), [it["token"] for it in made], fault)
+
+
+def test_same(text, was, wanted, path):
+    """Ends if a text is not what was, with the wanted keys."""
+    try:
+        now = tomllib.loads(text.replace("\r\n", "\n"))
+    except tomllib.TOMLDecodeError:
+        now = {}
+    if now.get("key", []) != wanted or {**now, "key": 0} != {**was, "key": 0}:
+        fail(f"the keys of {path} are not written as [[key]]: change them by radacctl edit")
+
+
+def put_in_place(path, text, is_needed):
+    """Renames a new file into place. Returns what is wrong with it; if it must be right, ends."""
+    try:
+        new = write_beside(path, text)
+    except OSError as fault:
+        with contextlib.suppress(OSError):
+            os.remove(path + NEW)
+        fail(f"cannot write {path}{NEW}: {fault.strerror}. Nothing was changed")
+    try:
+        fault = fault_of(new, path)
+        if fault and is_needed:
+            fail(f"{path} is wrong, so it gets no key:\n{fault}")
+        os.rename(new, path)
+        new = None
+        files.sync_folder(os.path.dirname(path))
+    except OSError as fault:
+        what = "Nothing was changed" if new else "The keys are as asked, unless power fails now"
+        fail(f"cannot write {path}: {fault.strerror}. {what}")
+    finally:
+        if new:
+            with contextlib.suppress(OSError):
+                os.remove(new)
+    return fault

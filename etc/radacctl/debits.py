@@ -1,0 +1,296 @@
+"""Debits: money that is taken from an account once, as a report of a plan of its own.
+
+A debit is in the journal before it is sent. Its number is the session's id: so the same one again
+takes nothing more.
+"""
+
+import contextlib
+import csv
+import errno
+import fcntl
+import hashlib
+import hmac
+import io
+import os
+import socket
+import stat
+import time
+import tomllib
+
+from radacctl import files, names, plans, program, site
+from radacctl.names import shown
+
+CLIENT, CLASS = "books", "debit"
+# What stands before the number of a sale that is taken back by hand, or of which a part is.
+BY_HAND = ("VOID-", "REFUND-")
+FILE = f"{site.BOOKS}/debits.csv"
+HEADER = ["moment", "event", "number", "account", "sum"]
+GIVEN, ANSWERED = "given", "answered"
+# How often the report is sent, and how long an answer is waited for each time, in seconds.
+TRIES, PATIENCE = 5, 3
+STOP = 2
+# What the unit of the server reads, and what a machine of a pair has.
+DEFAULTS = os.environ.get("RADACCTD_DEFAULTS", site.DEFAULTS)
+PAIR = DEFAULTS + "-pair"
+LINES = f"""\
+[[client]]
+name = "{CLIENT}"
+address = "127.0.0.9"
+secret = "..."
+
+[[plan]]
+class = "{CLASS}"
+block = 1
+unit = 1
+"""
+
+
+class Refused(Exception):
+    """Why a debit is not sent."""
+
+
+class NoAnswer(Exception):
+    """What to do about a debit that was sent and not answered."""
+
+
+def secret_of(path):
+    """The secret, from a file that only its owner may read; a line end behind it is no part."""
+    try:
+        with open(path, "rb") as file:
+            found = os.fstat(file.fileno())
+            secret = file.read(4096).rstrip(b"\r\n")
+    except OSError as fault:
+        raise Refused(f"cannot read the secret: {fault}") from None
+    if stat.S_IMODE(found.st_mode) & 0o077 or found.st_uid not in (0, os.getuid()):
+        raise Refused(f"others may read {path}, or it is another user's: chmod 600 {path}")
+    return secret
+
+
+def client_of(config, path, secret):
+    """The address of the client `books`, if the configuration has it with this secret."""
+    for client in config.get("client", []):
+        if client.get("name") == CLIENT:
+            if client.get("secret", "").encode() != secret:
+                raise Refused(f"the secret is not that of the client {CLIENT} in {path}")
+            return client.get("address", "")
+    raise Refused(f"{path} has no client {CLIENT}. It wants these lines:\n{LINES}")
+
+
+def test_plan_of_config(config, path):
+    found = plans.in_config(config).get(CLASS.encode())
+    if found is None:
+        raise Refused(f"{path} has no plan {CLASS}. It wants these lines:\n{LINES}")
+    if found != (1, 1, "both"):
+        raise Refused(f"the plan {CLASS} of {path} is not of block 1, unit 1, count both")
+
+
+def test_plan_of_book(path):
+    """Tests that the book keeps the plan. A plan is added while no server has the book, and never
+    removed: so the server that has the book now has the plan too.
+    """
+    try:
+        found = plans.of_book(path).get(CLASS.encode())
+    except OSError as why:
+        raise Refused(f"cannot read the plans of {why}: be root, or give it again") from None
+    if found is None:
+        raise Refused(
+            f"{path} does not keep the plan {CLASS} yet, so a debit would be priced by `default`.\n"
+            "Stop the server, give `radacctd plans`, and start it again."
+        )
+    if found != (1, 1, "both"):
+        raise Refused(f"the plan {CLASS} of {path} is not of block 1, unit 1, count both")
+
+
+def source_of(words, secret):
+    """The address to send from, once the configuration and the book have what a debit needs."""
+    try:
+        with open(words.config, "rb") as file:
+            config = tomllib.load(file)
+        test_plan_of_config(config, words.config)
+    except (OSError, ValueError) as fault:
+        raise Refused(f"cannot read {words.config}: {fault}") from None
+    address = client_of(config, words.config, secret)
+    test_plan_of_book(words.db)
+    return address
+
+
+class Journal:
+    """The debits that were given, in a file that is locked as long as it is open."""
+
+    def __init__(self, path):
+        folder = os.path.dirname(os.path.abspath(path))
+        files.make_folder(folder)
+        is_new = not os.path.exists(path)
+        self.file = os.open(path, os.O_RDWR | os.O_CREAT | os.O_APPEND, 0o600)
+        fcntl.flock(self.file, fcntl.LOCK_EX)
+        text = self.whole_lines(path)
+        if not text:
+            self.write(HEADER)
+            text = ",".join(HEADER) + "\n"
+        if is_new:
+            files.sync_folder(folder)
+        header, *self.rows = csv.reader(io.StringIO(text))
+        # A spreadsheet may open the journal.
+        self.rows = [[names.text_of_cell(it) for it in row] for row in self.rows]
+        if header != HEADER or any(len(row) != len(HEADER) for row in self.rows):
+            raise Refused(f"{path} is no journal of debits")
+        self.known = {}
+        for _, event, number, *debit in self.rows:
+            if event == GIVEN:
+                self.known.setdefault(number, debit)
+
+    def whole_lines(self, path):
+        """The text of the file. A last line without an end was cut as it was written, before its
+        debit was sent, so it is removed.
+        """
+        with open(path, "rb") as file:
+            octets = file.read()
+        whole = octets[: octets.rfind(b"\n") + 1]
+        if whole != octets:
+            cut = octets[len(whole) :]
+            program.say(f"removed from the journal, since its line was cut: {cut!r}")
+            os.ftruncate(self.file, len(whole))
+        return whole.decode("ascii", "replace")
+
+    def write(self, row):
+        """Adds a line. It is on the disk, or the file is as it was and this is a fault."""
+        text = io.StringIO()
+        csv.writer(text, lineterminator="\n").writerow(map(names.cell, row))
+        line, whole = text.getvalue().encode("ascii"), os.fstat(self.file).st_size
+        try:
+            if os.write(self.file, line) != len(line):
+                raise OSError(errno.ENOSPC, os.strerror(errno.ENOSPC))
+            os.fsync(self.file)
+        except OSError:
+            with contextlib.suppress(OSError):
+                os.ftruncate(self.file, whole)
+            raise
+
+    def given(self, number):
+        """The account and the sum that a number was first given with, or None."""
+        return self.known.get(number)
+
+    def add(self, event, number, account, total):
+        self.write([str(int(time.time())), event, number, account, str(total)])
+        self.known.setdefault(number, [account, str(total)])
+
+
+def others_of(number):
+    """The other numbers by which the same sale is taken back: by hand, or at the page."""
+    found = next((it for it in BY_HAND if number.startswith(it)), None)
+    return [number.removeprefix(found)] if found else [it + number for it in BY_HAND]
+
+
+def attribute(kind, value):
+    return bytes([kind, len(value) + 2]) + value
+
+
+def request(number, account, total, secret):
+    """The signed report (RFC 2866, section 3): a Stop of so many octets from the user."""
+    gigawords, octets = divmod(total, 1 << 32)
+    attributes = b"".join(
+        [
+            attribute(40, STOP.to_bytes(4, "big")),
+            attribute(44, number.encode()),
+            attribute(1, account),
+            attribute(25, CLASS.encode()),
+            attribute(42, octets.to_bytes(4, "big")),
+            attribute(52, gigawords.to_bytes(4, "big")),
+        ]
+    )
+    head = bytes([4, os.urandom(1)[0]]) + (20 + len(attributes)).to_bytes(2, "big")
+    return head + hashlib.md5(head + bytes(16) + attributes + secret).digest() + attributes
+
+
+def is_reply(reply, sent, secret):
+    """Whether this is the signed answer to the report that was sent."""
+    if len(reply) < 20 or reply[:2] != bytes([5, sent[1]]):
+        return False
+    reply = reply[: int.from_bytes(reply[2:4], "big")]
+    digest = hashlib.md5(reply[:4] + sent[4:20] + reply[20:] + secret).digest()
+    return hmac.compare_digest(reply[4:20], digest)
+
+
+def sender_from(source, words):
+    """A socket that sends from the address of the client."""
+    sender = socket.socket(socket.AF_INET, socket.SOCK_DGRAM)
+    try:
+        sender.bind((source, 0))
+        sender.connect((words.host, words.port))
+    except OSError as fault:
+        sender.close()
+        raise Refused(f"cannot send from {source}, the address of {CLIENT}: {fault}") from None
+    return sender
+
+
+class Books:
+    """Sends debits for which the configuration and the book have what is needed."""
+
+    def __init__(self, words):
+        self.words, self.is_refused = words, False
+        self.secret = secret_of(words.secret_file)
+        self.sender = sender_from(source_of(words, self.secret), words)
+        self.journal = Journal(words.journal)
+
+    def take(self, account, total, number):
+        """Takes a sum; refuses it before it is sent, or says that there was no answer."""
+        name, known = shown(account), self.journal.given(number)
+        for other in others_of(number):
+            if taken := self.journal.given(other):
+                raise Refused(f"{other} was given before: {taken[1]} from {taken[0]}. It takes the "
+                              "same sale back")
+        if known is None:
+            self.note(GIVEN, number, name, total)
+        elif known != [name, str(total)]:
+            raise Refused(f"{number} was given before: {known[1]} from {known[0]}")
+        else:
+            program.say(f"{number} was given before with this account and sum: it is sent again")
+        packet = request(number, account, total, self.secret)
+        if not self.is_answered(packet):
+            raise NoAnswer(self.silence(number))
+        # Whatever is full from now on: who took it for refused would take it twice.
+        with contextlib.suppress(OSError):
+            try:
+                self.note(ANSWERED, number, name, total)
+            except Refused as why:
+                program.say(f"{number} is taken, but {why}: so --list says that it has no answer")
+            program.show(f"{number}: {total} taken from {name}")
+
+    def note(self, event, *debit):
+        try:
+            self.journal.add(event, *debit)
+        except OSError as fault:
+            raise Refused(f"the journal cannot be written: {fault.strerror}") from None
+
+    def is_answered(self, packet):
+        """Sends the report until it is answered, a few times."""
+        for _ in range(TRIES):
+            end = time.monotonic() + PATIENCE
+            with contextlib.suppress(OSError):
+                self.sender.send(packet)
+            while (left := end - time.monotonic()) > 0:
+                self.sender.settimeout(left)
+                try:
+                    if is_reply(self.sender.recv(4096), packet, self.secret):
+                        return True
+                except ConnectionError:
+                    self.is_refused = True
+                    time.sleep(min(1, left))
+                    break
+                except OSError:
+                    break
+        return False
+
+    def silence(self, number):
+        """What is so if there was no answer, and what to do."""
+        host, port = self.words.host, self.words.port
+        text = f"no answer of {host} port {port} to {number}: give it again, it is taken once. "
+        if self.is_refused:
+            return f"{text}Nothing listens there. Is the server up? {DEFAULTS} has its port"
+        text += "Something listens there. "
+        if os.path.exists(PAIR):
+            return f"{text}Of a pair it is FreeRADIUS: does it have the client {CLIENT}?"
+        return (
+            f"{text}If it is FreeRADIUS, radacctd has another port: write it into {DEFAULTS}, or "
+            f"give --port. If it is radacctd, its log says why it drops a report"
+        )

@@ -1,0 +1,297 @@
+"""Vouchers that are on the disk until both desks of a pair took them."""
+
+import contextlib
+import csv
+import http.client
+import json
+import os
+import sqlite3
+import sys
+import threading
+import time
+import urllib.parse
+import zlib
+
+from radacctl import desk as desks
+from radacctl import money, names
+
+DESKS = ("own", "other")
+# In seconds: how long a desk has for a connection and for an answer, how long one that gave none is
+# left alone, and the pause between two rounds of what waits.
+CONNECT, PATIENCE, AWAY, PAUSE = 3, 8, 2, 1
+# How many vouchers are sent in one round.
+ROUND = 500
+# The states of a voucher at a desk: never sent, sent without an answer, taken, and refused.
+NEW, SENT, TAKEN, DIFFERS, LIMIT = "new", "sent", "taken", "differs", "limit"
+WAITS = {desk: f"{desk} IN ('{NEW}', '{SENT}')" for desk in DESKS}
+# The state after each answer of a desk.
+STATES = {desks.NEW: TAKEN, desks.REPEAT: TAKEN, desks.DIFFERS: DIFFERS, desks.LIMIT: LIMIT}
+REFUSED = {DIFFERS: (409, {"error": "voucher differs"}), LIMIT: (422, {"error": "balance limit"})}
+UNAVAILABLE = 503, {"error": "unavailable"}
+NEW_ONE, REPEAT = (201, {"result": "new"}), (200, {"result": "repeat"})
+ALARM = (
+    f"(own = '{TAKEN}' AND other IN ('{DIFFERS}', '{LIMIT}') OR "
+    f"other = '{TAKEN}' AND own IN ('{DIFFERS}', '{LIMIT}'))"
+)
+TABLE = f"""
+CREATE TABLE IF NOT EXISTS sale (
+    id INTEGER PRIMARY KEY, voucher TEXT NOT NULL UNIQUE, account TEXT NOT NULL,
+    sum INTEGER NOT NULL, given INTEGER NOT NULL, is_closed INTEGER NOT NULL DEFAULT 0,
+    own TEXT NOT NULL DEFAULT '{NEW}', other TEXT NOT NULL DEFAULT '{NEW}');
+CREATE INDEX IF NOT EXISTS own_waits ON sale (id) WHERE {WAITS["own"]};
+CREATE INDEX IF NOT EXISTS other_waits ON sale (id) WHERE {WAITS["other"]};
+CREATE INDEX IF NOT EXISTS alarm ON sale (id) WHERE {ALARM};
+"""
+
+
+def warn(text):
+    # Whoever cannot write a line goes on selling.
+    with contextlib.suppress(OSError):
+        print(f"radacctd-outbox: {text}", file=sys.stderr, flush=True)
+
+
+class Store:
+    """The vouchers, in a file whose commits are synced."""
+
+    def __init__(self, path, may_make=False):
+        if not may_make and not os.path.exists(path):
+            raise OSError(f"there is no {path}")
+        self.opened = sqlite3.connect(
+            path, timeout=30, isolation_level=None, check_same_thread=False
+        )
+        self.lock = threading.Lock()
+        self.opened.row_factory = sqlite3.Row
+        self.opened.execute("PRAGMA journal_mode = WAL")
+        self.opened.execute("PRAGMA synchronous = FULL")
+        self.opened.executescript(TABLE)
+
+    def run(self, text, *values):
+        """One statement, which is one transaction, and its rows."""
+        with self.lock:
+            return self.opened.execute(text, values).fetchall()
+
+    def keep(self, voucher, account, total):
+        """Keeps a voucher unless its number is kept, and returns what is kept under it."""
+        self.run(
+            "INSERT OR IGNORE INTO sale (voucher, account, sum, given) VALUES (?, ?, ?, ?)",
+            voucher, account, total, int(time.time()),
+        )  # fmt: skip
+        return self.of(voucher)
+
+    def of(self, voucher):
+        rows = self.run("SELECT * FROM sale WHERE voucher = ?", voucher)
+        return rows[0] if rows else None
+
+    def mark(self, voucher, desk, state):
+        """Sets the state at one of the two desks."""
+        self.run(f"UPDATE sale SET {desk} = ? WHERE voucher = ?", state, voucher)
+
+    def drop(self, voucher):
+        self.run("DELETE FROM sale WHERE voucher = ?", voucher)
+
+    def waiting(self, desk, most=-1):
+        """The numbers that wait for a desk, the oldest first."""
+        text = f"SELECT voucher FROM sale WHERE {WAITS[desk]} ORDER BY id LIMIT ?"
+        return [row["voucher"] for row in self.run(text, most)]
+
+    def alarms(self):
+        return self.run(f"SELECT * FROM sale WHERE {ALARM} AND is_closed = 0 ORDER BY id")
+
+    def summary(self):
+        """What waits, since when, and the numbers that one book took and the other refuses."""
+        text = "SELECT count(*) AS count, min(given) AS oldest FROM sale WHERE "
+        found = [self.run(text + WAITS[desk])[0] for desk in DESKS]
+        return {
+            "waiting": {desk: row["count"] for desk, row in zip(DESKS, found)},
+            "oldest": min((row["oldest"] for row in found if row["count"]), default=None),
+            "alarms": [row["voucher"] for row in self.alarms()],
+        }
+
+
+class Away(Exception):
+    """Why a desk gave no answer that counts."""
+
+
+class Desk:
+    """One of the two desks."""
+
+    def __init__(self, name, where, key):
+        self.name, self.where, self.key = name, where, key
+        self.away_until, self.told = 0, None
+
+    def ask(self, method, path, body=None, before=lambda: None):
+        """The status and the object that the desk gave. `before` runs once it is connected."""
+        if self.is_away():
+            raise Away(self.told)
+        caller = http.client.HTTPConnection(*self.where, timeout=CONNECT)
+        try:
+            caller.connect()
+            caller.sock.settimeout(PATIENCE)
+            before()
+            caller.request(method, path, body, {"Desk-Key": self.key, "Connection": "close"})
+            reply = caller.getresponse()
+            found = reply.status, json.loads(reply.read())
+        except (OSError, http.client.HTTPException, ValueError) as fault:
+            raise self.away(str(fault) or type(fault).__name__) from None
+        finally:
+            caller.close()
+        if self.told is not None:
+            warn(f"the desk `{self.name}` is back")
+            self.told = None
+        return found
+
+    def is_away(self):
+        return time.monotonic() < self.away_until
+
+    def away(self, why):
+        """Notes that the desk is away, and prints it once."""
+        self.away_until = time.monotonic() + AWAY
+        if self.told is None:
+            warn(f"no answer of the desk `{self.name}` ({why}); vouchers for it are kept")
+        self.told = why
+        return Away(why)
+
+    def take(self, sale, before):
+        """The state of a voucher after it was sent, and whether the book had it already."""
+        body = desks.topup(sale["account"], sale["sum"], sale["voucher"])
+        status, said = self.ask("POST", "/topups", body, before)
+        found = desks.meaning(status, said)
+        if found not in STATES:
+            raise self.away(f"status {status}")
+        return STATES[found], found == desks.REPEAT
+
+
+class Outbox:
+    """Takes vouchers, and sends them to both desks."""
+
+    def __init__(self, store, desks, balances):
+        self.store, self.desks, self.balances = store, desks, balances
+        # One sender at a time for a voucher.
+        self.locks = [threading.Lock() for _ in range(64)]
+
+    def is_known(self, account):
+        """Whether an account was sold to before, or has a balance."""
+        if self.store.run("SELECT 1 FROM sale WHERE account = ? LIMIT 1", account):
+            return True
+        wanted = names.octets_of(account)
+        try:
+            with open(self.balances, encoding="ascii", newline="") as file:
+                return any(names.octets_of(it[0]) == wanted for it in csv.reader(file) if it)
+        except (OSError, ValueError, csv.Error) as fault:
+            warn(f"cannot read {self.balances}, so no account of an odd name is known: {fault}")
+            return False
+
+    def give(self, voucher, account, total):
+        """The status and the object for a caller, once the voucher is on the disk."""
+        why = names.why_not(names.octets_of(account))
+        if why and not self.is_known(account):
+            warn(f"{voucher} is not taken: the account `{account}` may not enter: {why}")
+            return 422, {"error": "bad topup"}
+        with self.lock_of(voucher):
+            sale = self.store.keep(voucher, account, total)
+            if (sale["account"], sale["sum"]) != (account, total):
+                return REFUSED[DIFFERS]
+            if TAKEN in (sale["own"], sale["other"]):
+                return self.judged(sale, True)
+            return self.send(sale)
+
+    def send_again(self, voucher):
+        """Sends a voucher that waits."""
+        with self.lock_of(voucher):
+            sale = self.store.of(voucher)
+            if sale is not None:
+                self.send(sale)
+
+    def lock_of(self, voucher):
+        return self.locks[zlib.crc32(voucher.encode()) % len(self.locks)]
+
+    def send(self, sale):
+        """Sends a voucher to each desk that has not answered, and returns the caller's answer."""
+        voucher, is_repeat = sale["voucher"], True
+        for desk in self.desks:
+            sale = self.store.of(voucher)
+            if sale[desk.name] not in (NEW, SENT) or self.is_refused(sale, desk):
+                continue
+            try:
+                state, had_it = desk.take(sale, lambda it=sale, to=desk: self.sent(it, to))
+            except Away:
+                continue
+            self.store.mark(voucher, desk.name, state)
+            is_repeat = is_repeat and (had_it or state != TAKEN)
+        return self.concluded(self.store.of(voucher), is_repeat)
+
+    def sent(self, sale, desk):
+        """Notes that a desk may have a voucher, before it gets it."""
+        if sale[desk.name] == NEW:
+            self.store.mark(sale["voucher"], desk.name, SENT)
+
+    @staticmethod
+    def is_refused(sale, desk):
+        """Whether the other desk refused the voucher, and this one never got it."""
+        rest = sale["other" if desk.name == "own" else "own"]
+        return rest in REFUSED and sale[desk.name] == NEW
+
+    def concluded(self, sale, is_repeat):
+        """The caller's answer; a voucher that no book took or may have taken is not kept."""
+        states = {sale["own"], sale["other"]}
+        if states & set(REFUSED) and not states & {TAKEN, SENT}:
+            self.store.drop(sale["voucher"])
+        elif states & set(REFUSED) and TAKEN in states:
+            warn(f"ALARM: {sale['voucher']}: own {sale['own']}, other {sale['other']}")
+        return self.judged(sale, is_repeat)
+
+    @staticmethod
+    def judged(sale, is_repeat):
+        states = {sale["own"], sale["other"]}
+        refused = states & set(REFUSED)
+        if TAKEN in states and (not refused or sale["is_closed"]):
+            return REPEAT if is_repeat else NEW_ONE
+        if refused and not states & {TAKEN, SENT}:
+            return REFUSED[refused.pop()]
+        return UNAVAILABLE
+
+    def overruns(self):
+        for desk in self.desks:
+            try:
+                status, said = desk.ask("GET", "/overruns")
+                if status == 200:
+                    return status, said
+            except Away:
+                continue
+        return UNAVAILABLE
+
+    def work(self):
+        """Sends what waits, round after round."""
+        while True:
+            is_done = True
+            try:
+                for desk in self.desks:
+                    found = self.store.waiting(desk.name, ROUND)
+                    for voucher in found:
+                        if not desk.is_away():
+                            self.send_again(voucher)
+                    is_done = is_done and (len(found) < ROUND or desk.is_away())
+            except sqlite3.Error as fault:
+                warn(f"the file: {fault}")
+            if is_done:
+                time.sleep(PAUSE)
+
+
+def voucher_of(body):
+    """Number, account and sum of a request's body; None if a member is out of its bounds."""
+    try:
+        said = json.loads(body)
+    except ValueError:
+        return 400, {"error": "bad request"}
+    try:
+        account = urllib.parse.unquote_to_bytes(said["account"].encode())
+        voucher, total = said["voucher"], said["sum"]
+        is_right = (
+            1 <= len(account) <= names.LONGEST
+            and desks.NUMBER.fullmatch(voucher)
+            and type(total) is int
+            and 1 <= total <= money.LARGEST_SUM
+        )
+    except (KeyError, TypeError, AttributeError, UnicodeError):
+        is_right = False
+    return (voucher, names.for_desk(account), total) if is_right else (422, {"error": "bad topup"})

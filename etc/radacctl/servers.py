@@ -1,0 +1,119 @@
+"""The servers of a configuration that run here, and whether they have taken its new keys."""
+
+import contextlib
+import os
+import pwd
+import re
+import socket
+import time
+
+from radacctl import site
+from radacctl.program import say
+
+
+def option_of(words, name, default):
+    """The value of the first option of this name in a command line."""
+    for at, word in enumerate(words):
+        if word == name and at + 1 < len(words):
+            return words[at + 1]
+        if word.startswith(name + "="):
+            return word[len(name) + 1 :]
+    return default
+
+
+def trusted():
+    """The users whose servers are asked. Any other one would get to know keys."""
+    found = {0, os.geteuid()}
+    with contextlib.suppress(KeyError):
+        found.add(pwd.getpwnam(site.USER).pw_uid)
+    return found
+
+
+def users_of(process):
+    """All users that a process is, has been and may be again."""
+    with open(f"/proc/{process}/status", encoding="utf-8", errors="replace") as file:
+        return {int(it) for it in re.search(r"(?m)^Uid:(.*)$", file.read())[1].split()}
+
+
+def desk_of(process, path):
+    """Where the desk of a process is, if it is a server of this configuration, else None."""
+    try:
+        with open(f"/proc/{process}/cmdline", "rb") as file:
+            words = file.read().decode(errors="surrogateescape").split("\0")
+    except OSError:
+        return None
+    config = option_of(words, "--config", None)
+    if "serve" not in words or config is None:
+        return None
+    try:
+        if not users_of(process) <= trusted():
+            return None
+        # A container has another root, where the same name is another file.
+        if not os.path.samefile(f"/proc/{process}/root", "/"):
+            return None
+        config = os.path.join(os.readlink(f"/proc/{process}/cwd"), config)
+    except PermissionError:
+        pass
+    except OSError:
+        return None
+    if os.path.realpath(config) != path:
+        return None
+    host = option_of(words, "--desk-bind", option_of(words, "--bind", "127.0.0.1"))
+    return host.replace("0.0.0.0", "127.0.0.1"), option_of(words, "--desk-port", "8066")
+
+
+def desks_of(path):
+    """Where the servers of a configuration have their desks."""
+    found = {desk_of(it, path) for it in os.listdir("/proc") if it.isdigit()}
+    return sorted(found - {None})
+
+
+def is_known(desk, token):
+    """Whether a desk knows a key; None if it doesn't say so in 3 seconds."""
+    end, said = time.monotonic() + 3, b""
+    asks = f"GET /me/balance HTTP/1.1\r\nHost: {desk[0]}\r\nDesk-Key: {token}\r\n\r\n"
+    try:
+        with socket.create_connection((desk[0], int(desk[1])), 3) as caller:
+            caller.sendall(asks.encode("ascii"))
+            while b"\r\n" not in said:
+                caller.settimeout(max(0.001, end - time.monotonic()))
+                if not (more := caller.recv(4096)) or time.monotonic() > end:
+                    return None
+                said += more
+        return re.match(rb"HTTP/1\.[01] ([0-9]{3}) ", said)[1] != b"401"
+    except (OSError, ValueError, TypeError):
+        return None
+
+
+def not_taken(desks, changed):
+    """Why a server is not known to have taken a change, or ''."""
+    for desk in desks:
+        for tokens, wanted in ((changed.gone, False), (changed.made, True)):
+            for token in tokens:
+                known = is_known(desk, token)
+                if known is None:
+                    return f"its desk at {desk[0]}, port {desk[1]}, does not answer"
+                if known != wanted:
+                    return "it has the old keys"
+    return ""
+
+
+def wait_for_server(words, changed):
+    """Waits until each server of the configuration has taken a change; the status of this tool."""
+    end = time.monotonic() + words.wait
+    while True:
+        desks = desks_of(words.config)
+        why = not_taken(desks, changed)
+        if not why or changed.fault or time.monotonic() > end:
+            break
+        time.sleep(0.1)
+    if changed.fault:
+        say(f"{words.config} is wrong:\n{changed.fault}")
+    if not desks:
+        say(f"no server of {words.config} runs here: it takes this at its start")
+    elif why and changed.fault:
+        say("the server goes on with the old file, and the old keys, until that is mended")
+    elif why:
+        say(f"{words.config} is in place, but after {words.wait} s the server has not taken it: "
+            f"{why}. See its journal")
+    return 4 if why else 0

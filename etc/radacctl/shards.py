@@ -1,0 +1,158 @@
+"""The 16 books of a site: which one an account has, and one file of what all of them wrote."""
+
+import csv
+import hashlib
+import io
+import ipaddress
+import json
+import os
+import re
+import time
+
+from radacctl import names, plans
+from radacctl.names import octets_of, shown
+
+SHARDS = [f"s{digit}" for digit in "0123456789abcdef"]
+PLANS = list(plans.HEADER)
+# FreeRADIUS asks a book by it whether it answers at all; it has no octets and no money.
+PROBE = b"radacctd-probe"
+HEADER = ["shard", "address", "radius", "desk"]
+TABLE = "/etc/radacctd-shards.csv"
+
+
+class Wrong(Exception):
+    """Why nothing was done, or not all."""
+
+
+def place_of(path, row):
+    """The values of a record of the table, each within its bounds."""
+    try:
+        shard, address, radius, desk = row
+        ipaddress.IPv4Address(address)
+        if shard not in SHARDS or not 0 < int(radius) < 65536 or not 0 < int(desk) < 65536:
+            raise ValueError("a book or a port is none")
+    except ValueError as fault:
+        raise Wrong(f"{path}: {','.join(row)}: {fault}") from None
+    return {"shard": shard, "address": address, "radius": int(radius), "desk": int(desk)}
+
+
+def table_of(path):
+    """Where each book is, if the table has each one once and no place twice."""
+    try:
+        with open(path, encoding="ascii", newline="") as file:
+            header, *rows = [row for row in csv.reader(file) if row] or [[]]
+    except (OSError, ValueError) as fault:
+        raise Wrong(f"cannot read {path}: {fault}") from None
+    if header != HEADER:
+        raise Wrong(f"{path} does not begin with {','.join(HEADER)}")
+    found = {}
+    for row in rows:
+        place = place_of(path, row)
+        if place["shard"] in found:
+            raise Wrong(f"{path} has {place['shard']} twice")
+        found[place["shard"]] = place
+    missing = [it for it in SHARDS if it not in found]
+    if missing:
+        raise Wrong(f"{path} lacks {', '.join(missing)}")
+    for port in ("radius", "desk"):
+        if len({(it["address"], it[port]) for it in found.values()}) < len(SHARDS):
+            raise Wrong(f"{path}: two books have one address and port ({port})")
+    return {shard: found[shard] for shard in SHARDS}
+
+
+def shard_of(account):
+    """The book of an account, as FreeRADIUS' policy radacctd_shard finds it."""
+    if account.count(b"\\") > 1:
+        digest = hashlib.sha256(account)
+    else:
+        digest = hashlib.sha256(b"=" + account.lower().replace(b"\\", b"/"))
+    return "s" + digest.hexdigest()[0]
+
+
+def balances_in(folder, shard):
+    """The balances of a book by its accounts, and when they were written."""
+    path = os.path.join(folder, f"{shard}.csv")
+    # The time first: of a file that is replaced meanwhile it is too old, and never too new.
+    written = os.stat(path).st_mtime
+    return names.balances_in(path), written
+
+
+def written(path, text, moment=None):
+    """Writes a file whole or not at all, for those who may read its folder's files."""
+    with open(path + ".new", "w", encoding="ascii", newline="") as file:
+        file.write(text)
+        os.fchmod(file.fileno(), 0o640 if moment else 0o644)
+    if moment:
+        os.utime(path + ".new", (moment, moment))
+    os.rename(path + ".new", path)
+
+
+def join_balances(folder):
+    """One file of all balances, as old as the oldest part."""
+    made, oldest = io.StringIO(newline=""), time.time()
+    writer = csv.writer(made, lineterminator="\n")
+    writer.writerow(names.BALANCES)
+    for shard in SHARDS:
+        found, moment = balances_in(folder, shard)
+        oldest = min(oldest, moment)
+        for account, balance in found.items():
+            if account != PROBE:
+                writer.writerow((shown(account), balance, max(-balance, 0)))
+    path = os.path.join(folder, "balances.csv")
+    if not os.path.exists(path) or os.stat(path).st_mtime != oldest:
+        written(path, made.getvalue(), oldest)
+
+
+def plans_in(folder, shard):
+    """The plans of a book by their classes."""
+    path = os.path.join(folder, f"{shard}-plans.csv")
+    with open(path, encoding="ascii", newline="") as file:
+        rows = list(csv.reader(file))
+    if not rows or rows[0] != PLANS or any(len(row) != len(PLANS) for row in rows):
+        raise ValueError(f"{path} has no plans")
+    return {row[0]: tuple(row[1:]) for row in rows[1:]}
+
+
+def join_plans(folder):
+    """The plans that each book has: no other one is in force at every account."""
+    if not any(os.path.exists(os.path.join(folder, f"{it}-plans.csv")) for it in SHARDS):
+        return
+    first, *others = [plans_in(folder, shard) for shard in SHARDS]
+    all_have = {it: row for it, row in first.items()
+                if all(other.get(it) == row for other in others)}
+    made = io.StringIO(newline="")
+    writer = csv.writer(made, lineterminator="\n")
+    writer.writerows([PLANS, *((name, *row) for name, row in all_have.items())])
+    found = {
+        octets_of(name).decode(): {"block": int(block), "unit": int(unit), "count": count}
+        for name, (block, unit, count) in all_have.items()
+    }
+    text = json.dumps(found, indent=2) + "\n"
+    for name, text in (("plans.csv", made.getvalue()), ("plans.json", text)):
+        path = os.path.join(folder, name)
+        if not os.path.exists(path) or text_of(path) != text:
+            written(path, text, time.time())
+
+
+def text_of(path):
+    with open(path, encoding="utf-8") as file:
+        return file.read()
+
+
+def join_counts(folder):
+    """One file of the counts of the books that are here; a label names the book of each."""
+    heads, samples = {}, {}
+    for shard in SHARDS:
+        path = os.path.join(folder, f"{shard}.counts")
+        if not os.path.exists(path):
+            continue
+        with open(path, encoding="ascii") as file:
+            for line in file:
+                if found := re.fullmatch(r"# (?:HELP|TYPE) (\w+) .*\n", line):
+                    heads.setdefault(found[1], {})[line] = None
+                elif found := re.fullmatch(r"(\w+)(?:\{(.*)\})? (\S+)\n", line):
+                    labels = ",".join(filter(None, [f'shard="{shard}"', found[2]]))
+                    samples.setdefault(found[1], []).append(f"{found[1]}{{{labels}}} {found[3]}\n")
+    text = "".join("".join([*heads.get(name, ()), *lines]) for name, lines in samples.items())
+    if text:
+        written(os.path.join(folder, "radacctd.prom"), text)
