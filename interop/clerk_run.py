@@ -10,8 +10,8 @@ sys.path.insert(0, os.path.dirname(os.path.abspath(__file__)))
 
 import packages_run
 
-from radacctl import stock
-from radacctl.clerk import lists, work
+from radacctl import debits, sales_log, stock
+from radacctl.clerk import work
 from radacctl.commands import debit, guest
 
 
@@ -23,10 +23,10 @@ def main():
            "--wait", "8", "mend"]
     books = ["--config", config, "--db", book, "--secret-file", at("books.secret"), "--journal",
              at("debits.csv"), "--port", radius, "--list"]
-    lists.SALES, lists.DEBITS = at("nginx/log/radacctd-sales.log"), at("debits.csv")
+    sales_log.FILE, debits.FILE = at("nginx/log/radacctd-sales.log"), at("debits.csv")
     stock.SECOND = at("withdrawn/vouchers.csv")
     work.words = lambda: guest.parser().parse_args(own)
-    work.debit_words = lambda: debit.parser().parse_args(books)
+    debit.words_of = lambda words=None: debit.parser().parse_args(books)
     return work.main()
 
 

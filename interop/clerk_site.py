@@ -101,10 +101,10 @@ class Site:
 
     def tokens(self):
         """The guests' keys of the configuration, by their accounts."""
-        from radacctl.commands import key
+        from radacctl import keys
 
         with open(self.whole.box.config, encoding="utf-8") as file:
-            found = {it.members["account"]: it.members["token"] for it in key.guests(file.read())}
+            found = {it.members["account"]: it.members["token"] for it in keys.guests(file.read())}
         return {it: token for it, token in found.items() if "-1" in it or "-0" in it}
 
     def journal(self):

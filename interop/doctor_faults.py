@@ -17,6 +17,9 @@ PROGRAM = "/usr/local/libexec/radacctd/radacctd"
 # A report with a wrong secret, straight to radacctd.
 WRONG = "echo 'User-Name=a,Acct-Status-Type=Start,Acct-Session-Id=1"
 SENT = "radclient -r 1 -t 1 127.0.0.1:11813 acct wrong; journalctl --sync"
+# The same to FreeRADIUS, and its log without that.
+TO_FRONT = "radclient -r 1 -t 1 127.0.0.1 acct wrong"
+FORGET_FRONT = "truncate -s 0 /var/log/freeradius/radius.log"
 # A report that waits since 2023, as FreeRADIUS writes it.
 REPORT = "Tue Nov 14 22:13:20 2023\\n\\tUser-Name = \"al\"\\n\\tTimestamp = 1700000000\\n\\n"
 # The journal of the service without what a row has printed into it.
@@ -71,7 +74,11 @@ FULL = f"mount -t tmpfs -o size=20m tmpfs {COPIES} && head -c 20800000 /dev/zero
 CERTIFICATE = "openssl req -x509 -key /etc/ssl/private/radacctd.key -days {} -subj /CN=x -out "
 CERTIFICATE += "/root/new.pem 2>/dev/null; cat /root/new.pem > /etc/ssl/radacctd.pem"
 
+BOOK = "/var/lib/radacctd/book"
+
 BREAKS = {
+    # The server writes each ten seconds what it saw, and its line once it has seen it twice.
+    "book-away": (f"mv {BOOK} {BOOK}.kept; sleep 12", f"mv {BOOK}.kept {BOOK}; sleep 12"),
     "unit-down": ("systemctl stop radacctd-key.timer", "systemctl start radacctd-key.timer"),
     "unit-failed": ("systemd-run --unit=radacctd-broken false; sleep 1",
                     "systemctl reset-failed radacctd-broken"),
@@ -83,6 +90,7 @@ BREAKS = {
     "disk-full": (FULL, f"umount {COPIES}"),
     "clock-wrong": ("touch -d tomorrow /var/lib/radacctd-balances/balances.csv", "sleep 11"),
     "drop-secret": (f"{WRONG}' | {SENT}", FORGET),
+    "device-secret": (f"{WRONG}' | {TO_FRONT}", FORGET_FRONT),
     "raddb-wrong": (f"echo 'server x {{' > {RADDB}/sites-enabled/zz",
                     f"rm {RADDB}/sites-enabled/zz"),
     "raddb-steps": edited("s/^\\tradacctd_accounting$//", f"{RADDB}/sites-available/default"),
@@ -100,6 +108,7 @@ BREAKS = {
     "packages-steps": edited("s/^\\tradacctd_packages_report$//",
                              f"{RADDB}/sites-available/default"),
     "packages-lost": (f"mv {LOGINS} /root/kept.db", f"mv /root/kept.db {LOGINS}"),
+    "packages-shut": (f"chmod 0 {LOGINS}", f"chmod 600 {LOGINS}"),
     "packages-key": edited("s/^\\tkey = ./\\tkey = x/", f"{RADDB}/radacctd/packages.conf"),
     "packages-file": appended("\\n[[package]]\\n", "/etc/radacctd-packages/packages.toml"),
     "clerk-file": appended("\\nx = 1\\n", "/etc/radacctd-clerk/rights.toml"),
@@ -138,6 +147,7 @@ BREAKS = {
     "clock-unset": ("printf '#!/bin/sh\\necho NTP=no\\necho NTPSynchronized=no\\n' > /root/clock; "
                     "cp -a /usr/bin/timedatectl /root/kept; cat /root/clock > /usr/bin/timedatectl",
                     "cp -a /root/kept /usr/bin/timedatectl"),
+    "device-unknown": (f"{WRONG},Packet-Src-IP-Address=127.0.0.77' | {TO_FRONT}", FORGET_FRONT),
     "file-old": (f"cp {DEVICES} /root/new; rm {DEVICES}; (cat /root/new; echo '# old') > {DEVICES}",
                  f"ln -sf /usr/local/share/radacctd/freeradius/devices {DEVICES}"),
     "tunnel-login": edited("s/^\\tradacctd_login$//", f"{RADDB}/sites-available/inner-tunnel"),

@@ -211,7 +211,7 @@ class Again(Asking):
             ):
                 text = text.replace(old, new)
             if number == 2:
-                text = text.replace("/root/radacctd_0.1.0_amd64.deb ", "")
+                text = text.replace("/root/radacctd_*_amd64.deb ", "")
                 self.install(staged)
             if number == 1:
                 text = "mkdir -p /root/copy\n" + text

@@ -9,6 +9,7 @@ from served import PROGRAM, ROOT, check
 sys.path.append(os.path.join(ROOT, "etc"))
 
 from radacctl import names
+from radacctl import shards as books
 from radacctl.commands import shards
 
 # As a file of vouchers spells them: % and two digits are one octet.
@@ -86,7 +87,7 @@ def test_parts():
     """A file for 16 books: a field with a formula's apostrophe goes to the book of its name."""
     spelled = [f"'={at}" for at in range(40)]
     parts = shards.Parts([[f"V-{it[2:]}", it, "5"] for it in spelled])
-    wanted = {it: shards.shard_of(it[1:].encode()) for it in spelled}
+    wanted = {it: books.shard_of(it[1:].encode()) for it in spelled}
     found = {row[1]: shard for shard, rows in parts.rows.items() for row in rows}
     check("of 16 books a formula's apostrophe is none of the name's", found, wanted)
 

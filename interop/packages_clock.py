@@ -13,6 +13,7 @@ from packages_logins import AWAY, CODE, OVER, fate, part
 from packages_site import KEY, Site, report, started, station, steps, text_of
 from release import Missing
 
+DAY = 86_400
 METHODS = [("PEAP", "auth=MSCHAPV2"), ("TTLS", "auth=PAP"), ("TTLS", "auth=MSCHAPV2"),
            ("TTLS", "auth=CHAP"), ("TTLS", "autheap=MD5")]
 
@@ -26,7 +27,9 @@ def tunnels(folder):
     site = Site(folder, radius=False)
     account = site.add("week", CODE)
     guest = site.add("week", account="muller-1127-acde", password="acdef-hjkmn")
-    packaged(site, radius, {account: 500, guest: 500, "al": 105})
+    calm = site.add("calm", account="calm-1127-acde", password="acdef-hjkmn", first=1,
+                    ends=int(time.time()) + DAY)
+    packaged(site, radius, {account: 500, guest: 500, "al": 105, calm: -7})
     try:
         radius.start()
         for method in METHODS:
@@ -39,6 +42,9 @@ def tunnels(folder):
                 check(f"{name}: {one}", got and got[0], [wanted])
             check(f"{name}: a wrong password", tried(radius, method, CODE, "wrong"), None)
             check(f"{name}: another user", tried(radius, method, "al", "right")[0], ["al"])
+            got = tried(radius, method, calm, "acdef-hjkmn")
+            check(f"{name}: without money, slow", got and (got[0], got[1][0].partition(";")[0]),
+                  ([calm], "free"))
         check("each login noted its device", bool(site.uses.read(
             "SELECT 1 FROM use WHERE account = ?", guest.encode())), True)
         site.change(account, state="withdrawn")
@@ -77,9 +83,6 @@ def packaged(site, radius, balances):
     mirror = os.path.join(radius.folder, "run", "balances.db")
     subprocess.run([os.path.join(FILES, "balances-mirror"), site.balances, plans, mirror],
                    check=True)
-
-
-DAY = 86_400
 
 
 @part

@@ -10,7 +10,7 @@ sys.dont_write_bytecode = True
 HERE = os.path.dirname(os.path.abspath(__file__))
 sys.path.insert(0, os.path.join(os.path.dirname(HERE), "etc"))
 
-from radacctl import lapses, logins, main, money, packages, site
+from radacctl import codes, drafts, lapses, logins, main, money, packages, site
 from radacctl.clerk import journal, rights
 from radacctl.commands import guest
 from radacctl.commands import packages as command
@@ -20,13 +20,14 @@ def moved(folder):
     """Lets the modules look for a site below a folder."""
     path = lambda name: os.path.join(folder, name)
     site.RADDB, site.BALANCES = path("raddb"), path("balances.csv")
+    site.PLANS = path("plans.csv")
     usual = os.path.join(site.REPOSITORY, "bin", "radacctd")
     site.program = lambda: os.environ.get("RADACCTD") or usual
     logins.LOG, command.LOCK = path("withdrawn/logins.csv"), path("tick.lock")
     logins.FOLDER, logins.USES_FOLDER = path("logins"), path("uses")
-    guest.LOCK, guest.DRAFTS = path("guest.lock"), path("guests")
+    guest.LOCK, drafts.FOLDER = path("guest.lock"), path("guests")
     journal.FILE, rights.FILE = path("books/clerk.csv"), path("clerk.toml")
-    lapses.MIRROR, command.SHEETS = path("run/balances.db"), path("sheets.csv")
+    lapses.MIRROR, codes.LOG = path("run/balances.db"), path("sheets.csv")
     log = (logins.LOG,)
     changed = {
         money.settings_in: (path("settings.json"),),

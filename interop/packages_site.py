@@ -52,6 +52,29 @@ plan = "gold"
 until = "2099-01-01T00:00"
 reply.all = ["Idle-Timeout := 77"]
 reply.wispr = ["WISPr-Location-Name := here"]
+
+[[package]]
+name = "calm"
+price = "4.00"
+credit = "0.40"
+plan = "gold"
+devices = 9
+valid = "1 day"
+down = 20000
+up = 5000
+reply.all = ["Idle-Timeout := 77"]
+slow.down = 512
+slow.up = 128
+slow.plan = "free"
+
+[[package]]
+name = "dear"
+price = "4.00"
+credit = "0.40"
+plan = "gold"
+valid = "1 day"
+slow.plan = "up"
+slow.reply.mikrotik = ["Mikrotik-Rate-Limit := 1k/1k"]
 """
 # Debian's sections, in short; `files` has the site's own users.
 DEFAULT = """
@@ -189,9 +212,7 @@ class Site:
 
     def package(self, name):
         """The number of a package in the database."""
-        from radacctl.commands import packages as command
-
-        return command.package_row(self.store, self.packages[name])
+        return logins.package_row(self.store, self.packages[name])
 
     def add(self, package, code=None, account=None, password=None, state="live", **more):
         """Adds a login, and returns its account."""

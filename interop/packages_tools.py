@@ -19,6 +19,8 @@ from packages_site import FILE, Site, report, station
 from release import Missing
 
 KILLS = int(os.environ.get("KILLS", "20"))
+# Of a sheet: to print, to sell and to withdraw it.
+THIRD = KILLS // 3 + 1
 SEED = int(os.environ.get("RADACCTD_SEED", "61"))
 # So that a test need not wait: in seconds.
 INTERVAL = 2
@@ -227,6 +229,70 @@ def number_of(account):
     from radacctl import lapses
 
     return lapses.number_of(account.encode())
+
+
+@part
+def sheets(folder):
+    """A sheet is made in whole or not at all, and its codes are sold and end once: killed anywhere."""
+    with Whole(folder) as site:
+        waits_for("the balances are there", lambda: os.path.exists(site.box.balances), True)
+        words = ("packages print", "week", "--count", "4", "--to", folder)
+        begun = time.monotonic()
+        check("a sheet is printed", site.tool(*words)[0], 0)
+        within = 1.5 * (time.monotonic() - begun)
+        for _ in range(THIRD):
+            site.killed(*words, within=within)
+        rows = site.store.read("SELECT sheet, account FROM login WHERE state = 'live' ORDER BY 1")
+        found = {}
+        for sheet, account in rows:
+            found.setdefault(sheet, set()).add(account.decode())
+        print(f"         {len(found) - 1} of {THIRD} were made", flush=True)
+        drawn = {it: set(codes_in(os.path.join(folder, f"{it}.pdf"))) for it in found}
+        check("each sheet has the codes that log in", found, drawn)
+        check("four each", {len(it) for it in found.values()}, {4})
+        kept = sorted(found)[:5]
+        sold_once(site, kept, found)
+        withdrawn_once(site, kept, found)
+
+
+def sold_once(site, kept, found):
+    """Each code is credited once, here or by the desk's page before."""
+    at_desk = {min(found[it]) for it in kept}
+    for at, account in enumerate(sorted(at_desk)):
+        site.buys(account, 50, f"D1-{at}")
+    for at in range(THIRD):
+        site.killed("packages sell", kept[at % len(kept)], within=2.5)
+        if at % 7 == 3:
+            site.box.kill()
+            site.box.start()
+    for _ in range(2):
+        check("given again, they are sold", {site.tool("packages sell", it)[0] for it in kept}, {0})
+    accounts = {account for it in kept for account in found[it]}
+    by_desk = {account for account, _ in site.box.vouchers("D1-").values()}
+    check("the desk's are the desk's", by_desk, at_desk)
+    sums = site.box.vouchers("P-").values()
+    check("each other one is credited once", sorted(sums), [(it, 50) for it in sorted(
+        accounts - at_desk)])
+    waits_for("all have one credit", lambda: {it: left for it, left in site.box.money().items()
+                                              if it in accounts}, dict.fromkeys(accounts, 50))
+
+
+def withdrawn_once(site, kept, found):
+    """Withdrawn by runs that are killed, and what is left is taken once."""
+    for at in range(THIRD):
+        site.killed("packages withdraw", "--yes", kept[at % len(kept)], within=1.5)
+    check("given again, they are withdrawn",
+          {site.tool("packages withdraw", "--yes", it)[0] for it in kept}, {0})
+    accounts = {account for it in kept for account in found[it]}
+    states = lambda: {state for account, state in site.store.read(
+        "SELECT account, state FROM login") if account.decode() in accounts}
+    check("nobody logs in by them", states() <= {"withdrawn", "lapsed"}, True)
+    waits_for("what is left lapses", lambda: site.tool("packages tick", "--steady", "0") and states(),
+              {"lapsed"}, 120)
+    check("by one debit each", site.box.debits(), {number_of(it): (it, 50) for it in accounts})
+    others = {state for account, state in site.store.read("SELECT account, state FROM login")
+              if account.decode() not in accounts}
+    check("other sheets are live", others <= {"live"}, True)
 
 
 NAMES = ["al", "=1+2", "müller 1", "50%", "-x", 'a"b,c', "é" * 60]

@@ -38,7 +38,6 @@ def load(path):
 
 
 COMPARE = load(os.path.join(PAIR, "radacctd-compare"))
-OUTBOX = load(os.path.join(PAIR, "radacctd-outbox"))
 
 
 class Book(front.Book):
@@ -74,7 +73,7 @@ class Book(front.Book):
 
     def topup(self, account, total, number):
         """A sale straight at this desk: the status."""
-        named = OUTBOX.names.for_desk(account.encode())
+        named = COMPARE.names.for_desk(account.encode())
         body = json.dumps({"account": named, "sum": total, "voucher": number})
         return self.ask("POST", "/topups", KILL.CASHIER, body)[0]
 
@@ -210,7 +209,7 @@ class Machine:
     def sell(self, account, total, number):
         """The status of a sale at the outbox, or None if nobody answers."""
         body = json.dumps(
-            {"account": OUTBOX.names.for_desk(account.encode()), "sum": total, "voucher": number}
+            {"account": COMPARE.names.for_desk(account.encode()), "sum": total, "voucher": number}
         )
         caller = KILL.http.client.HTTPConnection("127.0.0.1", self.outbox_port, timeout=30)
         try:
@@ -226,7 +225,7 @@ class Machine:
         words = [os.path.join(TOOLS, "radacctd-debit"), "--config", self.book.config]
         words += ["--db", self.book.book, "--secret-file", self.secret, "--journal", journal]
         words += ["--port", str(self.radius.acct)]
-        words += [OUTBOX.names.for_desk(account.encode()), str(total), number]
+        words += [COMPARE.names.for_desk(account.encode()), str(total), number]
         return subprocess.run(words, capture_output=True, text=True).returncode
 
     def processes(self):
@@ -304,6 +303,6 @@ def sum_of(sessions, vouchers, debits):
     moves = [*vouchers.values(), *((account, -total) for account, total in debits.values())]
     moves += [(account, -price(plan, octets)) for account, plan, octets in sessions.values()]
     for account, total in moves:
-        name = OUTBOX.names.for_desk(account.encode())
+        name = COMPARE.names.for_desk(account.encode())
         wanted[name] = wanted.get(name, 0) + total
     return wanted

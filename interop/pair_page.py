@@ -133,7 +133,7 @@ def set_up(it, own, other):
     run(it, "step 3", commands[3])
     lines = f"RADACCTD_OWN={own}\nRADACCTD_OTHER={other}\n"
     it.write("/etc/default/radacctd-pair", lines)
-    run(it, "step 4", f"cd {SHARED}/pair\n" + commands[4])
+    run(it, "step 4", commands[4])
     run(it, "step 5", commands[5])
     pair = f"{RADDB}/radacctd/pair.conf"
     changes = [("own = 10.0.0.5", f"own = {own}"), ("other = 10.0.0.6", f"other = {other}")]
@@ -247,7 +247,6 @@ def lives(first, second):
 def restored(first, second):
     """The steps of "Restore a lost book", on the first machine."""
     commands = steps(section(PAGE, "Restore a lost book"))
-    commands[7] = commands[7].split("\n")[0]
     run(first, "restore, step 1", commands[1])
     first.must("rm /var/lib/radacctd/book*")
     check("meanwhile a sale", sell(second, ["V-3,cy,70"]), ADDED)
@@ -262,7 +261,8 @@ def restored(first, second):
     run(second, "restore, step 6", other)
     both_have([first, second], "all after the loss", {"al": 400, "bo": 95, "cy": 60})
     # Root writes what the timer's user writes: both can.
-    waits_for("restore, step 7", lambda: first.run(commands[7])[0], 0, 240)
+    status, said = first.run(commands[7])
+    check("restore, step 7", (status, "still moving 0; compared until" in said), (0, True))
     waits_for("and the timer goes on", lambda: is_well(first), True, 240)
     failed = lambda: first.run("systemctl --failed --no-legend")[1].strip()
     waits_for("and nothing has failed", failed, "", 240)

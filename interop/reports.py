@@ -124,7 +124,8 @@ def people(exports):
     told = "by Class, in EUR" in text and "3,000.50" in text
     check("its sums are in the site's money", told, True)
     check("its names are as they are", "Müller 7" in text and "%C3" not in text, True)
-    wanted = [["", "1", "0.05"], ["anna", "1", "3000.50"], ["jörg", "1", "7.00"]]
+    # The book has W-9, so eve's sale of it was taken: only its answer was lost.
+    wanted = [["eve", "1", "0.05"], ["anna", "1", "3000.50"], ["jörg", "1", "7.00"]]
     wanted += [[it, "1", "0.01"] for it in ("bert", "CN=Jörg", "100%25", "j%F6rg")]
     check("it has who sold", sorted(tables["cashiers.csv"]), sorted(wanted))
     wanted = [
