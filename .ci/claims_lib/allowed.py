@@ -2,9 +2,10 @@
 
 # Programs that are no part of this repository: the system's, FreeRADIUS', and the kit's tool.
 PROGRAMS = {
-    "apt", "apt-get", "chown", "cp", "curl", "df", "dmesg", "free", "freeradius", "gcc",
+    "apt", "apt-get", "chown", "cp", "curl", "df", "dmesg", "find", "free", "freeradius", "fuser", "gcc",
     "journalctl", "ldd", "lintian", "ls", "man", "mv", "nginx", "promtool", "python3", "radclient",
-    "rt", "sensible-editor", "sqlite3", "ss", "strace", "systemctl", "systemd-analyze", "tcpdump",
+    "rt", "sensible-editor", "sqlite3", "ss", "strace", "systemctl", "systemd-analyze", "tail",
+    "tcpdump",
 }
 
 
@@ -20,8 +21,9 @@ FREERADIUS = each(
     '"last"',
     '"refuse"',
     ".../etc",
+    "Configuration appears to be OK",
     "Session-Timeout",
-    "Simultaneous-Use := 1",
+    "Simultaneous-Use",
     "access-servers/*.conf",
     "ap1=10.0.0.1",
     "detail.work",
@@ -38,9 +40,12 @@ FREERADIUS = each(
     "radacctd/access-servers.conf",
     "radacctd/settings.conf",
     "settings.conf",
+    "radacctd = no",
+    "al@campus.example",
     "sites-available/tls",
     "tls",
     "clients.conf",
+    "proxy.conf",
     "radiusd.conf",
     "sites-enabled/default",
     "sites-enabled/inner-tunnel",
@@ -74,9 +79,9 @@ ALLOWED = {
         **each("systemd's and chrony's own", "chrony-wait", "time-sync.target"),
         **each("the kit's clap prints it", "error: invalid data"),
         "book-wal": "the kit's SQLite names a log after its book",
+        "book-away": "a fault's name: .ci/tools compares them",
     },
     "CHANGELOG.md": {
-        "BOOK.replaced-DATE-TIME": "restore makes it",
         **each("FreeRADIUS' own file, or a copy of one", "mods-enabled/radacctd-pair"),
         **each("a copy of a file of etc/freeradius, and lines of it", "radacctd/settings.conf"),
         **each("a line of a client in FreeRADIUS", "radacctd_stamp", "mirror"),
@@ -95,7 +100,9 @@ ALLOWED = {
     "docs/DAMAGE.md": each("restore makes it", ".restore.*", "book.replaced-..."),
     "man/radacctl.8": each("a command of radacctl", "edit", "redeem", "night", "guest", "allow"),
     "docs/PACKAGES.md": {
-        **each("a member of the file of packages", "title", "valid", "until", '"sale"'),
+        **each("a member of the file of packages", "title", "valid", "until", '"sale"',
+               "slow.down", "slow.up", "slow.plan", "slow.reply"),
+        "slow_below": "a line of etc/packages/packages.conf",
         **each("a line of a client in FreeRADIUS", "radacctd_quota", "radacctd_speed"),
         **each("FreeRADIUS' own", "home_server"),
         **each("the form of a name", "t-0123456789ab", "LAPSE-"),
@@ -111,9 +118,13 @@ ALLOWED = {
     },
     "docs/START.md": {
         "/desk/": "nginx' path",
-        **each("a member of the answers", "desk_guests", "desk_corrections", "operators"),
+        **each("a member of the answers", "desk_guests", "desk_corrections", "operators",
+               "left_out", "virtual_servers"),
+        **each("a file, section or module of FreeRADIUS, or its database's", "clients.conf",
+               "filter_username", "mods-enabled/sql", "sql", "radacct", "accounting",
+               "accounting = true"),
         "/root/radacctd-setup": "radacctl setup makes it",
-        "[sql]": "a table of the answers",
+        **each("a table of the answers", "[sql]", "[secrets]"),
         "~before-": "a part of a name that radacctl setup makes",
     },
     "docs/ACCESS-SERVERS.md": {
@@ -137,7 +148,6 @@ ALLOWED = {
     "docs/GATE.md": {
         **each("Rust's own", "Debug", "Vec::new"),
         "grind": "the kit's own",
-        "out/incremental": "a check makes it",
     },
     "docs/INSTALL.md": {
         **each("Debian's packages", "binutils", "libbpf1"),
@@ -146,7 +156,7 @@ ALLOWED = {
     },
     "docs/GONE.md": {
         **each("a folder of root's, as in the steps", "/root", "/root/copy"),
-        "radacctd_0.1.0_amd64.deb": "bin/package makes it",
+        "radacctd_*_amd64.deb": "bin/package makes it",
     },
     "man/radacctd-backup.8": {"FOLDER/book-wal": "a copy"},
     "man/radacctd-edit.8": {

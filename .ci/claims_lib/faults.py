@@ -64,7 +64,11 @@ CURES = {
         "an [earlier cutoff](FORWARD.md#late-reports)",
     ),
     "forward: no report for 7 days; give --yes if the clock is right": (
-        "the last report is older than a week",
+        "no report is of the last week, by the clock",
+        "the clock, or [`--yes`](FORWARD.md#late-reports)",
+    ),
+    "forward: the file is not of the last 7 days; give --yes if the clock is right": (
+        "the file's date and the clock differ",
         "the clock, or [`--yes`](FORWARD.md#late-reports)",
     ),
     "socket: cannot bind": (

@@ -8,36 +8,9 @@ import re
 
 from claims_lib.promises import OPERATORS, page_of
 from claims_lib.tree import text_of
+from claims_lib.typed import BY_HAND, RUN
 
 COMMAND = re.compile(r"^\s*(?:systemctl|radacctd|apt|apt-get|sqlite3|nginx|freeradius)\b", re.M)
-# The scripts that run a page's commands, by its name.
-RUN = {
-    "DESK": "interop/desk_page.py",
-    "FORWARD": "interop/pair_page.py",
-    "FREERADIUS": "interop/front_page.py",
-    "GONE": "interop/gone_page.py",
-    "INSTALL": "interop/install_page.py",
-    "PAIR": "interop/pair_page.py",
-    "SHARDS": "interop/shards_page.py",
-    "SITE": "interop/front_page.py",
-    "START": "interop/start",
-    "WATCHING": "interop/monitoring",
-}
-# Pages whose commands a person types, and why no script does.
-BY_HAND = {
-    "ACCESS-SERVERS": "each setting is of another maker's device: interop/access-servers",
-    "BOOK": "interop/backup, flips and run use the same commands over their own books",
-    "CLERK": "interop/clerk does each act, interop/packages the set-up's steps",
-    "DOCTOR": "interop/doctor breaks a site in each way of the page",
-    "DAMAGE": "each way needs damage of its own; interop/flips and interop/telling make some of it",
-    "FRONTDESK": "a clerk's page: no command",
-    "PACKAGES": "interop/packages runs each of its tools over a site of its own",
-    "README": "bin/try and bin/build run it",
-    "SEMANTICS": "what replies mean: its commands are those of other pages",
-    "SIZING": "it changes the kernel's settings",
-    "TROUBLE": "a person looks; interop/telling makes what it explains",
-    "VOUCHERS": "interop/tools runs each of its tools over sites of its own",
-}
 # A path of the repository in a command: on these pages it is meant so.
 FROM_REPOSITORY = {"README": "A first run, Install", "INSTALL": "From the repository"}
 OF_REPOSITORY = re.compile(r"^\s*(?:sudo )?((?:bin|interop|bench|crates|\.ci)/[\w.-]+)", re.M)
@@ -69,7 +42,7 @@ def check(checker):
             for found in OF_REPOSITORY.finditer(block.text):
                 line = block.line_at(found.start())
                 checker.find(line, f"{found[1]}: no installed machine has it")
-    checker.page = ".ci/claims_lib/followed.py"
+    checker.page = ".ci/claims_lib/typed.py"
     for name in sorted({*RUN, *BY_HAND} - {*OPERATORS}):
         checker.find(1, f"{name} is no page for operators")
 
@@ -78,6 +51,6 @@ def check_run(checker, name):
     """The page's commands are run by the script that stands here, or there is a reason."""
     script = RUN.get(name)
     if not script and name not in BY_HAND:
-        checker.find(1, "which script runs its commands? See claims_lib/followed.py")
+        checker.find(1, "which script runs its commands? See claims_lib/typed.py")
     elif script and (script not in checker.tree.scripts or f"{name}.md" not in text_of(script)):
-        checker.find(1, f"{script} does not read this page: see claims_lib/followed.py")
+        checker.find(1, f"{script} does not read this page: see claims_lib/typed.py")

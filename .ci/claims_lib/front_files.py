@@ -23,9 +23,10 @@ def rows(_checker, which):
     if which == "units":
         lines = [f"cp {SOURCE}/{name} {UNIT_FOLDER}" for name in value_of("UNITS")]
     else:
-        places = {f"radacctd/{name}": name for name in value_of("SETTINGS")} | value_of("OURS")
         lines = ["cd /etc/freeradius/3.0", "mkdir -p radacctd"]
-        lines += [f"cp {SOURCE}/{own} {place}" for place, own in places.items()]
+        # What the site wrote stays, if the steps are done again.
+        lines += [f"cp -n {SOURCE}/{name} radacctd/{name}" for name in value_of("SETTINGS")]
+        lines += [f"cp {SOURCE}/{own} {place}" for place, own in value_of("OURS").items()]
     return [f"       {line}" for line in lines]
 
 

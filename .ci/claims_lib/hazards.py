@@ -42,7 +42,7 @@ KEPT = {
     "docs/FORWARD.md": (
         "A report of a session that was carried forward opens it anew, and charges it again in whole",
         "as long as the clocks of the server and of FreeRADIUS were right all the while",
-        "A report that came while the clock was ahead hides that",
+        "A clock that was wrong while reports came is not noticed",
         "If an open session that `--silent` took reports again, credit what it was charged before",
         "An old report without it is taken for one of now",
         "These stay for ever",
@@ -87,7 +87,7 @@ KEPT = {
         "Restart radacctd on a machine that serves already",
     ),
     "docs/PROOFS.md": (
-        "No theorem joins `serve --oldest-report` with `forward --oldest-report`",
+        "It needs the copy's right delay, and a clock that was not behind before",
         "the octets of a sector that were not being written stay",
         "an argument (parametricity), not a proof",
         "What a start finds is taken as written",
@@ -119,7 +119,7 @@ KEPT = {
         "the kernel drops the rest",
     ),
     "docs/START.md": (
-        "Both files have all secrets: remove them",
+        "Both files have all secrets. Remove the first one",
         "The book of a site that has sold is copied by hand",
         "It never changes a plan, a secret or a key that is there",
         "Without a certificate it makes one that browsers warn of",

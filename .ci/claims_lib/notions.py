@@ -2,7 +2,8 @@
 
 A mark names files, each with definitions of it: `notions CRATE/specs/FILE: name name; FILE: name`. A
 file without a folder is in the folder of the file before it. A definition has its comment directly
-above it, in lines that begin with `--`, or `///` in a source of the code.
+above it, in lines that begin with `--`, or `///` in a source of the code. `members CRATE/specs/FILE:
+name` has the members of a record or the variants of a type, each with its comment.
 """
 
 import os
@@ -62,4 +63,26 @@ def notions(checker, words):
             yield f"| `{name}` | {shown(comment)} | {link} |"
 
 
-MAKERS = {"notions": notions}
+def members(checker, words):
+    """A row for each member of a record, or variant of a type."""
+    [(path, [of])] = named(words)
+    text = text_of(path) if path in checker.tree.paths else ""
+    head = re.search(HEAD.format(re.escape(of)), text, re.M)
+    yield f"| Of `{of}` | What it is |"
+    yield "|---|---|"
+    if not head:
+        checker.find(1, f"{path} has no `{of}`")
+        return
+    comment = []
+    for line in text[head.end() :].split("\n\n")[0].split("\n")[1:]:
+        found = re.match(r"  (?:pub )?(\w+) :", line)
+        if line.strip().startswith("--"):
+            comment.append(line.strip(" -"))
+        elif found and comment:
+            yield f"| `{found[1]}` | {shown(' '.join(comment))} |"
+            comment = []
+        elif found:
+            checker.find(1, f"{path}: `{found[1]}` has no comment")
+
+
+MAKERS = {"notions": notions, "members": members}

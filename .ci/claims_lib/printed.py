@@ -40,6 +40,8 @@ LOGINS = {
     "Too many devices use this login now.": "as many as [the package](PACKAGES.md) has are logged in",
     "radacctd: the name '...' cannot be charged": "as above",
     "radacctd: radacctd_login is missing in the inner tunnel": "do step 7 in the inner tunnel, too",
+    "radacctd: the other server says no other name than the outer one": "by `proxied = \"yes\"` that"
+    " server is to say [who pays](#who-is-left-alone)",
     "radacctd: nothing proves the name": "EAP-TLS or EAP-PWD, by a name of somebody else",
 }
 # A text of Debian's own policy.
@@ -102,7 +104,7 @@ def names(checker):
 
 COMPARE = "etc/pair/radacctd-compare"
 VALUES = {"name": "here", "account": "al", "pair[0]": "480", "pair[1]": "530", "number": "V-1",
-          "now - moment": "700"}
+          "now - moment": "700", "abs(apart)": "3591", "way": "ahead"}
 START = "start it"
 FAULTS = {
     "account al: 480 here, 530 there": ("the books differ", "[below](#if-balances-differ)"),
@@ -121,6 +123,8 @@ FAULTS = {
         "[FREERADIUS](FREERADIUS.md#reports-that-do-not-reach-radacctd)"),
     "here: the queue for the other machine: 700 s old": (
         "FreeRADIUS there is down, or the secrets differ", "`pair.conf` on both"),
+    "there: the clock is 3591 s ahead": (
+        "logins go by each machine's own balances", "set the clock that is wrong, there or here"),
     "here: the queue for this machine: ...": ("its folder cannot be read", "make it, or its rights"),
     "here: the queue for the other machine: ...": ("the same", "the same"),
 }

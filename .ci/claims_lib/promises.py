@@ -24,7 +24,8 @@ OPERATORS = (
 PROMISE = re.compile(
     r"\b(?:never|always|charged\s+once|credited\s+once|exactly\s+once|acts?\s+once|counts\s+once"
     r"|(?:nothing|none|no\s\w+)\b[^.;|]{0,40}?\bis\s+lost|loses\s+nothing|not\s+lost"
-    r"|nobody\s+else\s+gets)\b",
+    r"|nobody\s+else\s+gets|(?:charges|credits|takes)\s+nothing"
+    r"|nothing\s+is\s+(?:charged|credited|taken|filed)|at\s+most\s+one\s+more)\b",
     re.I,
 )
 # A sentence that says what to do begins so.

@@ -9,6 +9,8 @@ import re
 from claims_lib import contracts
 from claims_lib.tree import text_of, without_comments
 
+# The test that is a whole caller.
+CALLER = "crates/acct_model_tests/src/caller.rt"
 ITEM = re.compile(r"^pub (struct|enum) (\w+)[^\n]*", re.M)
 OWNER = re.compile(r"^impl(?:<[^>]*>)? [^\n]*?\{$", re.M)
 CALL = re.compile(r"^( *)pub fn (\w+)", re.M)
@@ -83,4 +85,10 @@ def constants(_checker, words):
     yield f"`{words}`: " + ", ".join(f"`{name}` ({number})" for name, number in found) + "."
 
 
-MAKERS = {"signatures": signatures, "constants": constants}
+def caller(_checker):
+    """A whole caller of both crates: the source of a test, without its first comment."""
+    lines = text_of(CALLER).rstrip("\n").split("\n")
+    return ["```rust", *(it for it in lines if not it.startswith("//!")), "```"]
+
+
+MAKERS = {"signatures": signatures, "constants": constants, "caller": caller}

@@ -262,7 +262,8 @@ class Checker:
         folder = own.get(self.page, "no folder")
         if self.page == "docs/WATCHING.md" and word.startswith("radacctd_"):
             # The counts that are not the program's.
-            return has(tree.scripts["etc/freeradius/front-counts"], word)
+            places = ("etc/freeradius/front-counts", "etc/radacctl/commands/doctor.py")
+            return any(has(tree.scripts[it], word) for it in places)
         texts = [it for path, it in tree.scripts.items() if path.startswith(folder)]
         texts.append(self.tool(os.path.basename(self.page)[:-2]))
         if any(has(it, word) for it in texts):

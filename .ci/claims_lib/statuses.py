@@ -59,4 +59,18 @@ def rows(checker):
     yield "| 200 | a page | a question was answered |"
 
 
-MAKERS = {"statuses": rows}
+def requests(checker):
+    """Each path of the desk with its method, whose key it takes, and what is there."""
+    routes, asking = text_of("crates/acct_desk/src/routes.rt"), text_of("crates/acct_desk/src/asking.rt")
+    yield "| Path | Method | Key | What is there |"
+    yield "|---|---|---|---|"
+    found = re.findall(r"    /// `(/[a-z/]+)`: (.+?)\.\n    (\w+),", routes)
+    for path, about, name in found:
+        method = "POST" if re.search(rf"Endpoint::{name} => \"POST\"", routes) else "GET"
+        is_cashiers = re.search(rf"Endpoint::{name}, Role::Cashier", asking)
+        yield f"| `{path}` | {method} | {'the cashier' if is_cashiers else 'a guest'}'s | {about} |"
+    if {it[0] for it in found} != set(re.findall(r'router.insert\("([^"]+)"', routes)):
+        checker.find(1, "a path of the desk has no comment")
+
+
+MAKERS = {"statuses": rows, "requests": requests}

@@ -25,10 +25,10 @@ CURES = {
     " file](DAMAGE.md#the-book-is-missing): the log has what was answered",
     "it has fewer than 100 octets, so it is no book": "look for the book; if there is none, as"
     " printed",
-    "another program has it": "stop the server, or the other command",
+    "another program has it": "stop the server, or the other command: `fuser -v` and the file",
     "this user may not read and write it": RIGHTS,
     "root made it, and this user may not read and write it": RIGHTS,
-    "it has a second name (a hard link)": "remove the other name",
+    "it has a second name (a hard link)": "remove the other name: `find /var/lib -samefile` and the file",
     "its name has more than 247 octets": "a shorter name",
     "its folder is missing": "make the folder",
     "this user may not make it in its folder": "the folder's owner",

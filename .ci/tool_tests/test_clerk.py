@@ -9,13 +9,12 @@ import socket
 import subprocess
 import tempfile
 import threading
-import time
 import unittest
 from unittest import mock
 
-from radacctl import files, lapses, logins, names
+from radacctl import configuration, debits, drafts, files, keys, lapses, logins, names
 from radacctl.clerk import forms, journal, lists, rights, work
-from radacctl.commands import allow, debit, guest, key, packages as sold, report
+from radacctl.commands import allow, guest, packages as sold, report
 from radacctl.doctor import web as doctor
 from radacctl.setup import answers, clerk as steps_of_clerk, steps, web
 from tool_tests import ROOT
@@ -99,7 +98,7 @@ class Desk(unittest.TestCase):
             (rights, "FILE", self.site.path("clerk.toml")),
             (journal, "FILE", self.site.path("books/clerk.csv")),
             (work, "words", lambda: guest.parser().parse_args(words)),
-            (work.debit, "Books", lambda _: books),
+            (work.debits, "Books", lambda _: books),
             (work.packages, "read", work.sold.packages.read),
             (work.packages, "wifi", lambda: {"name": "Hotel", "security": "enterprise"}),
             (work.sheets, "bars", lambda text: ([(0, 0, len(text))], 25)),
@@ -185,7 +184,7 @@ class Guests(Desk):
                 card = body["card"]
                 self.assertEqual((card["account"], card["password"]), (account.decode(), password))
                 self.assertEqual((self.keys(), len(self.site.money)), (1, 1))
-                self.assertEqual(list(guest.drafts()), [])
+                self.assertEqual(list(drafts.all_of_them()), [])
             if not was_killed:
                 break
             at += 1
@@ -227,7 +226,7 @@ class Guests(Desk):
             self.assertEqual(len(self.rows()), 1)
 
     def test_no_more_keys_fit(self):
-        with mock.patch.object(key, "MOST_KEYS", 0):
+        with mock.patch.object(keys, "MOST_KEYS", 0):
             self.assertEqual(self.guest(), (409, {"error": "keys full"}))
         self.assertEqual(self.rows(), [])
 
@@ -432,17 +431,19 @@ class Corrections(Desk):
     def test_nothing_is_credited_by_it(self):
         """Not if the number was debited otherwise, nor if the debit gets no answer."""
         for number, known in ((SALE["voucher"], ["bo", "500"]), (SALE["voucher"], ["room 12", "50"]),
-                              ("VOID-" + SALE["voucher"], ["room 12", "500"])):
+                              ("VOID-" + SALE["voucher"], ["room 12", "500"]),
+                              ("REFUND-" + SALE["voucher"], ["room 12", "300"])):
             self.begin()
             self.sold()
             self.books.known[number] = known
             self.assertEqual(self.ask("anna", SALE)[0], 409)
             self.assertEqual(self.ask("anna", SALE)[1],
-                             {"error": "taken" if number.startswith("VOID") else "differs"})
+                             {"error": "differs" if number == SALE["voucher"] else "taken"})
             self.assertEqual((len(self.site.money), self.books.taken), (1, {}))
         self.begin()
-        silent = mock.Mock(take=mock.Mock(side_effect=debit.NoAnswer("no")), journal=self.books.journal)
-        with mock.patch.object(work.debit, "Books", lambda _: silent):
+        silent = mock.Mock(take=mock.Mock(side_effect=debits.NoAnswer("no")),
+                           journal=self.books.journal)
+        with mock.patch.object(work.debits, "Books", lambda _: silent):
             self.assertEqual(self.ask("anna", SALE), (404, {"error": "no such sale"}))
         self.assertEqual((self.site.money, self.keys()), ({}, 0))
         silent.take.assert_not_called()
@@ -460,7 +461,7 @@ class Corrections(Desk):
 
     def test_a_key_that_was_left_ends_with_the_next_one(self):
         self.sold()
-        with mock.patch.object(key, "change", failing(key.change, 2)):
+        with mock.patch.object(configuration, "change", failing(configuration.change, 2)):
             self.assertEqual(self.ask("anna", SALE), (200, {"result": "new"}))
         self.assertEqual(self.keys(), 1)
         self.assertEqual(self.ask("anna", {**SALE, "voucher": NUMBERS[0]})[0], 404)
@@ -482,8 +483,9 @@ class Corrections(Desk):
         self.site.answers = ["away"]
         self.assertEqual(self.ask("anna", SALE), (503, {"error": "away"}))
         self.assertEqual(self.books.taken, {})
-        silent = mock.Mock(take=mock.Mock(side_effect=debit.NoAnswer("no")), journal=self.books.journal)
-        with mock.patch.object(work.debit, "Books", lambda _: silent):
+        silent = mock.Mock(take=mock.Mock(side_effect=debits.NoAnswer("no")),
+                           journal=self.books.journal)
+        with mock.patch.object(work.debits, "Books", lambda _: silent):
             self.assertEqual(self.ask("anna", SALE), (503, {"error": "away"}))
         self.assertEqual(self.ask("anna", SALE), (200, {"result": "new"}))
         self.assertEqual(self.left(), 0)
@@ -527,8 +529,8 @@ home_server lobby {
         self.site.write("clerk.toml", RIGHTS + 'operators = ["anna"]\n')
         os.makedirs(self.site.path("radacctd"), exist_ok=True)
         self.site.write("radacctd/access-servers.conf", self.SERVERS)
-        for where, name, new in ((lists, "SALES", self.site.path("sales.log")),
-                                 (lists, "DEBITS", self.site.path("debits.csv")),
+        for where, name, new in ((lists.sales_log, "FILE", self.site.path("sales.log")),
+                                 (lists.books, "FILE", self.site.path("debits.csv")),
                                  (lists.stock, "SECOND", self.site.path("vouchers.csv"))):
             patched = mock.patch.object(where, name, new)
             patched.start()

@@ -1,16 +1,19 @@
 """What commands do with texts: keys in a configuration, files of vouchers, stock, shards."""
 
 import contextlib
+import gzip
 import io
+import json
 import os
 import re
 import subprocess
 import tempfile
 import tomllib
 import unittest
+from unittest import mock
 
-from radacctl import desk, stock
-from radacctl.commands import debit, key, sell, shards
+from radacctl import debits, desk, keys, names, shards as books, stock
+from radacctl.commands import debit, sell, shards
 from tool_tests import ROOT
 
 CONFIG = '''# A site.
@@ -39,39 +42,69 @@ class Keys(unittest.TestCase):
     """No octet outside of a key changes."""
 
     def test_a_key_goes_with_its_mark_alone(self):
-        after = key.without(CONFIG, {"bo-key-0000000001"})
+        after = keys.without(CONFIG, {"bo-key-0000000001"})
         begin = CONFIG.index("\n# radacctd-key")
         end = CONFIG.index("\n# The next one")
         self.assertEqual(after, CONFIG[:begin] + CONFIG[end:])
 
     def test_the_comment_of_the_next_key_stays(self):
-        after = key.without(CONFIG, {"al-key-0000000001", "bo-key-0000000001"})
+        after = keys.without(CONFIG, {"al-key-0000000001", "bo-key-0000000001"})
         self.assertIn("# The next one is a cashier.\n[[key]]", after)
         self.assertEqual(len(tomllib.loads(after)["key"]), 1)
 
     def test_ends_of_lines_stay(self):
         text = CONFIG.replace("\n", "\r\n")
-        after = key.with_more(key.without(text, {"al-key-0000000001"}), "[[key]]\ntoken = 1\n")
+        after = keys.with_more(keys.without(text, {"al-key-0000000001"}), "[[key]]\ntoken = 1\n")
         self.assertNotIn("\n", after.replace("\r\n", ""))
 
     def test_what_is_made_and_ended_again_is_as_it_was(self):
         block = '# radacctd-key: made 2026-11-27\n[[key]]\ntoken = "t"\naccount = "x"\n'
-        self.assertEqual(key.without(key.with_more(CONFIG, block), {"t"}), CONFIG)
+        self.assertEqual(keys.without(keys.with_more(CONFIG, block), {"t"}), CONFIG)
+
+
+class DebitCommand(unittest.TestCase):
+    """What the command ends with, whoever sends the debits."""
+
+    def ends(self, words, take=None):
+        books = mock.Mock(take=mock.Mock(side_effect=take))
+        with tempfile.TemporaryDirectory() as folder, contextlib.redirect_stdout(io.StringIO()), \
+                contextlib.redirect_stderr(io.StringIO()), \
+                mock.patch.object(debits, "Books", lambda _: books):
+            path = os.path.join(folder, "debits.csv")
+            with open(path, "w", encoding="utf-8") as file:
+                file.write("account,sum,number\nal,5,V-1\nbo,6,V-2\n")
+            status = debit.main([it.format(path) for it in words])
+        return status, [it.args for it in books.take.call_args_list]
+
+    def test_statuses(self):
+        one, each = ["al", "5", "V-1"], ["--file", "{}"]
+        al, bo = (b"al", 5, "V-1"), (b"bo", 6, "V-2")
+        self.assertEqual(self.ends(one), (0, [al]))
+        self.assertEqual(self.ends(each), (0, [al, bo]))
+        self.assertEqual(self.ends(one, debits.Refused("no")), (1, [al]))
+        self.assertEqual(self.ends(each, [debits.Refused("no"), None]), (1, [al, bo]))
+        self.assertEqual(self.ends(one, debits.NoAnswer("none")), (3, [al]))
+        self.assertEqual(self.ends(each, debits.NoAnswer("none")), (3, [al]))
+        self.assertEqual(self.ends(["--list", "--journal", "{}.none"]), (1, []))
+        self.assertEqual(self.ends(["--file", "{}.none"]), (1, []))
 
 
 class Debits(unittest.TestCase):
-    """A sale is taken back once: at the page, or by hand with VOID- before its number."""
+    """A sale is taken back once: at the page, or by hand with VOID- or REFUND- before its number."""
 
     def test_of_both_numbers_the_first_one_counts(self):
-        for first, second in (("D1-1", "VOID-D1-1"), ("VOID-D1-1", "D1-1")):
+        for first, second, third in (
+            ("D1-1", "VOID-D1-1", "VOID-D1-2"), ("VOID-D1-1", "D1-1", "REFUND-D1-1"),
+            ("D1-1", "REFUND-D1-1", "REFUND-D1-2"), ("REFUND-D1-1", "D1-1", "VOID-D1-1"),
+        ):
             with tempfile.TemporaryDirectory() as folder:
-                books = debit.Books.__new__(debit.Books)
-                books.journal = debit.Journal(os.path.join(folder, "debits.csv"))
+                books = debits.Books.__new__(debits.Books)
+                books.journal = debits.Journal(os.path.join(folder, "debits.csv"))
                 books.secret, books.is_answered = b"s", lambda packet: True
                 with contextlib.redirect_stdout(io.StringIO()):
                     books.take(b"al", 500, first)
-                    self.assertRaises(debit.Refused, books.take, b"al", 500, second)
-                    books.take(b"al", 500, "REFUND-D1-1")
+                    self.assertRaises(debits.Refused, books.take, b"al", 500, second)
+                    books.take(b"al", 500, third)
                 self.assertIsNone(books.journal.given(second))
                 os.close(books.journal.file)
 
@@ -97,6 +130,66 @@ class Vouchers(unittest.TestCase):
         self.assertEqual(found, ["new", "VoucherDiffers", "BalanceLimit"])
         for it in (desk.NO_KEY, desk.STRANGE):
             self.assertRaises(sell.Stop, sell.judged, it, 401, b"")
+
+
+
+class Logged(unittest.TestCase):
+    """The sales of nginx' log as a file that `sell` takes again."""
+
+    def setUp(self):
+        folder = tempfile.TemporaryDirectory()
+        self.addCleanup(folder.cleanup)
+        self.log = os.path.join(folder.name, "sales.log")
+        self.but = os.path.join(folder.name, "topups.csv")
+        lines = self.line("D-3", "al", 7), self.line("D-2", "al", 6, 200, "2026-11-26")
+        self.write(self.log, *lines, "no line of ours\n", self.line("D-9", "al", 9, 409))
+        self.write(f"{self.log}.1", self.line("D-2", "al", 5), self.line("D-4", "al", 8, 503),
+                   self.line("D-3", "al", 7, 499), self.line("X 1", "al", 8),
+                   self.line("D-5", "al", "x"))
+        older = self.line("D-1", "=m\u00fcller, 1", 3, 201, "2026-11-25")
+        with gzip.open(f"{self.log}.2.gz", "wb") as file:
+            file.write(older.encode())
+
+    def line(self, number, account, units, status=201, day="2026-11-26"):
+        sale = json.dumps({"voucher": number, "account": names.for_desk(account.encode()),
+                           "sum": units})
+        return json.dumps({"time": f"{day}T10:00:00+00:00", "from": "10.0.0.5", "cashier": "anna",
+                           "book": "", "status": status, "sale": sale}) + "\n"
+
+    def write(self, path, *lines):
+        with open(path, "w", encoding="utf-8") as file:
+            file.writelines(lines)
+
+    def printed(self, *more):
+        with contextlib.redirect_stdout(io.StringIO()) as file, contextlib.redirect_stderr(
+            io.StringIO()
+        ) as said:
+            self.assertEqual(sell.main(["--logged", "--sales", self.log, *more]), 0)
+        vouchers, refused, *_ = sell.read(file.getvalue().encode(), {"=müller, 1".encode()})
+        self.assertEqual(refused, {})
+        return [it[1:] for it in vouchers], said.getvalue()
+
+    def test_sell_takes_the_file(self):
+        found, said = self.printed()
+        self.assertEqual(found, [("D-1", "=müller, 1".encode(), 3), ("D-2", b"al", 5),
+                                 ("D-3", b"al", 7)])
+        self.assertIn("D-4 was not answered", said)
+        self.assertNotIn("D-3 was", said)
+        self.assertIn("3 sales, 15 units", said)
+
+    def test_from_a_day_on_and_what_the_book_lacks(self):
+        self.assertEqual([it[0] for it in self.printed("--since", "2026-11-26")[0]], ["D-2", "D-3"])
+        self.write(self.but, "voucher,account,sum,when\n", "D-2,al,5,1\n", "D-4,al,8,1\n")
+        found, said = self.printed("--but", self.but)
+        self.assertEqual([it[0] for it in found], ["D-1", "D-3"])
+        self.assertNotIn("D-4", said)
+
+    def test_no_export(self):
+        for text in ("", "voucher,account,sum\nD-2,al,5\n"):
+            self.write(self.but, text)
+            with contextlib.redirect_stderr(io.StringIO()):
+                self.assertRaises(SystemExit, sell.main, ["--logged", "--sales", self.log, "--but",
+                                                          self.but])
 
 
 class Stock(unittest.TestCase):
@@ -152,14 +245,14 @@ class Stock(unittest.TestCase):
 
 class Shards(unittest.TestCase):
     def test_case_is_ignored_and_the_book_is_known(self):
-        self.assertEqual(shards.shard_of(b"Al"), shards.shard_of(b"al"))
-        self.assertEqual({shards.shard_of(b"%d" % it) for it in range(999)}, set(shards.SHARDS))
+        self.assertEqual(books.shard_of(b"Al"), books.shard_of(b"al"))
+        self.assertEqual({books.shard_of(b"%d" % it) for it in range(999)}, set(books.SHARDS))
 
 
     def test_a_number_is_for_one_book_however_it_is_spelled(self):
         """A spreadsheet marks what begins with - by an apostrophe: it is the same number."""
         one, other = "al", next(it for it in ("bo", "cy", "di", "ed") if (
-            shards.shard_of(it.encode()) != shards.shard_of(b"al")))
+            books.shard_of(it.encode()) != books.shard_of(b"al")))
         for mark in ("", "'"):
             rows = [["-1", one, "5"], [mark + "-1", other, "5"]]
             parts = shards.Parts(rows)

@@ -1,6 +1,7 @@
 """The doctor's table of faults, and what setup makes of answers and of files."""
 
 import contextlib
+import hashlib
 import io
 import os
 import re
@@ -44,6 +45,46 @@ class Table(unittest.TestCase):
         one, other = (faults.Fault(it, "", "") for it in ("unsent", "unit-down"))
         found = [faults.gravity_of(it) for it in ([], [one], [one, other])]
         self.assertEqual(found, [0, 1, 3])
+
+
+class Counts(unittest.TestCase):
+    """What node_exporter is given of it."""
+
+    def test_each_fault_has_a_count(self):
+        one, other = faults.Fault("copy-old", "x", "y"), faults.Fault("copy-old", "z", "y")
+        text = doctor.counts_of([one, one, other], ["the pages: it took long"])
+        with tempfile.NamedTemporaryFile("w") as file:
+            file.write(text)
+            file.flush()
+            found = look.samples(file.name)
+        lines = {labels["name"]: (labels["gravity"], count)
+                 for labels, count in found["radacctd_doctor_fault"]}
+        self.assertEqual(set(lines), set(faults.MEANINGS))
+        self.assertEqual(lines["copy-old"], ("warning", 2))
+        self.assertEqual(lines["unit-down"], ("critical", 0))
+        self.assertEqual(found["radacctd_doctor_unseen"], [({}, 1)])
+        self.assertLess(time.time() - found["radacctd_doctor_time_seconds"][0][1], 60)
+
+    def test_they_are_written_whatever_is_shown(self):
+        side = unittest.mock.Mock(look_at=lambda _: [faults.Fault("unsent", "x", "y")])
+        with tempfile.TemporaryDirectory() as folder, contextlib.ExitStack() as stack:
+            path = os.path.join(os.path.realpath(folder), "doctor.prom")
+            for target, name, value in ((doctor, "SIDES", {"a side": side}),
+                                        (os, "geteuid", lambda: 0), (kind, "Kind", object)):
+                stack.enter_context(unittest.mock.patch.object(target, name, value))
+            stack.enter_context(contextlib.redirect_stdout(io.StringIO()))
+            self.assertEqual(doctor.main(["--quiet", "--only", "copy-old", "--counts", path]), 0)
+            self.assertEqual(stat.S_IMODE(os.stat(path).st_mode), 0o644)
+            self.assertIn('{name="unsent",gravity="warning"} 1', files.text(path))
+
+    def test_the_alerts_know_each_gravity_and_name(self):
+        rules = files.text(os.path.join(ROOT, "etc/monitoring/radacctd.rules.yml"))
+        for gravity in (faults.CRITICAL, faults.WARNING):
+            self.assertIn(f'gravity="{gravity}"', rules)
+        names = re.search(r'gravity="critical", name!~"(.*)"', rules)[1]
+        left = [it for it in faults.CRITICALS if re.fullmatch(names, it)]
+        self.assertEqual(left, ["book-away", "balances-old", "queue-state", "queue-waits",
+                                "mirror-missing", "mirror-old"])
 
 
 class Answers(unittest.TestCase):
@@ -100,7 +141,7 @@ class Answers(unittest.TestCase):
         rows = (("decimals = 2", "decimals = 9", "decimals is 0 to 6"),
                 ("block = 10000000", "block = 0", "block is a whole number from 1 to"),
                 ("unit = 1", "unit = 1.5", "unit is a whole number from 0 to"),
-                ('"mikrotik" ', '"cisco" ', "vendor is one of mikrotik"),
+                ('"mikrotik" ', '"juniper" ', "vendor is one of mikrotik"),
                 ('"10.0.0.1"', '5', "no address"), ('"10.0.0.1"', '"10.0.0.1/24"', "host bits"),
                 ('"10.0.0.1"', '"127.0.0.8"', "this machine's own"),
                 ('"10.0.0.5" ', '"10.0.0.0/24" ', "one address of this machine"),
@@ -229,8 +270,15 @@ post-auth {
         self.assertEqual(front.default(text, wanted), text)
         self.assertEqual(freeradius.section(text, "accounting").split()[0], "radacctd_accounting")
         words = freeradius.section(freeradius.without_comments(text), "post-auth").split()
-        self.assertLess(words.index("&Class"), words.index("radacctd_login"))
-        self.assertNotIn("filter_username", text)
+        self.assertEqual(words[0], "radacctd_login")
+        self.assertIn("filter_username", text)
+
+    def test_a_file_of_debians_gets_the_filter_of_radacctd(self):
+        listed = hashlib.md5(self.SITE.encode()).hexdigest()
+        for name, is_own in (("/x", True), ("/y", False)):
+            with unittest.mock.patch.object(steps, "given", lambda _: f" /x {listed}\n"):
+                text = front.default(self.SITE, answers.Answers({"plan": [PLAN]}), name)
+            self.assertEqual("radacctd_filter" in text, is_own)
 
     def test_clients_keep_their_secrets(self):
         one = {"name": "a", "address": "10.0.0.1", "vendor": "mikrotik"}
@@ -264,7 +312,7 @@ post-auth {
         with unittest.mock.patch("radacctl.freeradius.text", lambda *names: text):
             made = pair.Text(wanted, config)(None)
         other = answers.Answers(tomllib.loads(made))
-        self.assertEqual(other.pair, {"own": "10.9.0.6", "other": "10.9.0.5"})
+        self.assertEqual(other.pair, {"own": "10.9.0.6", "other": "10.9.0.5", "second": True})
         self.assertEqual((other.name, other.has_codes), ('The "Inn"', False))
         with unittest.mock.patch("radacctl.site.CONFIG", "/nonexistent"):
             again = alone.Config(other)
@@ -305,6 +353,112 @@ class Look(unittest.TestCase):
         self.assertEqual(found["a"], [({}, 5.0)])
         self.assertEqual(found["b"], [({"queue": "x", "y": "z"}, 1000.0)])
         self.assertNotIn("c", found)
+
+
+class Cures(unittest.TestCase):
+    """A cure is of what is wrong, and of nothing beside it."""
+
+    def test_of_each_state_of_the_queue(self):
+        with tempfile.TemporaryDirectory() as folder:
+            folder = os.path.realpath(folder)
+            with unittest.mock.patch.object(fronts, "STATE", f"{folder}/queue"):
+                for it in fronts.STATES:
+                    files.make(f"{folder}/queue.{it}", b"no space left\nmore\n")
+                found = {it.text.split(":")[0]: it.cure for it in fronts.states()}
+        self.assertEqual(len(found), 5)
+        self.assertIn("df -h /run", found["nobody who is overdrawn is cut off"])
+        self.assertNotIn("radacct;", found["nobody who is overdrawn is cut off"])
+        for it in ("the clock is not set, so all reports wait",
+                   "a report cannot be dated, and holds up its reader"):
+            self.assertNotIn("df ", found[it])
+            self.assertIn("set the clock", found[it])
+
+    def test_of_a_file_that_is_missing(self):
+        """The samples of a set-up are put over no site."""
+        with tempfile.TemporaryDirectory() as folder:
+            with unittest.mock.patch("radacctl.site.RADDB", folder), said((0, "")):
+                found = [it for it in fronts.steps(unittest.mock.Mock(has_pair=False))
+                         if it.text.endswith(" is missing")]
+        self.assertEqual(len(found), len(freeradius.OURS))
+        for it in found:
+            self.assertRegex(it.cure, r"^radacctl setup, or ln -sf --backup=numbered /\S+ /\S+$")
+
+    def test_of_a_unit_that_failed(self):
+        units = "radacctd-nightly.service", "radacctd@s3.service", "radacctd-clerk-work@7-1.service"
+        with said((0, "".join(f"{it} loaded failed failed x\n" for it in units))):
+            acts = [it.cure.rpartition("systemctl ")[2] for it in machine.failed()]
+        self.assertEqual(acts, [f"start {units[0]}", f"start {units[1]}", f"reset-failed {units[2]}"])
+
+
+class Kept(unittest.TestCase):
+    """A cure of an old file keeps what somebody wrote into it."""
+
+    def test_each_cure(self):
+        with tempfile.TemporaryDirectory() as folder:
+            place, own = (os.path.join(folder, it) for it in ("theirs", "ours"))
+            commands = (fronts.linked(place, own), f"{pages.COPY} {own} {place}")
+            for number, command in enumerate(commands, 1):
+                for path, text in ((place, f"by hand {number}"), (own, "ours")):
+                    files.remove(path)
+                    files.make(path, text.encode())
+                look.must("sh", "-c", command)
+                with open(place, encoding="ascii") as file:
+                    self.assertEqual(file.read(), "ours")
+                self.assertEqual(files.text(f"{place}.~{number}~"), f"by hand {number}")
+
+    def test_the_doctor_prints_them(self):
+        with open(pages.__file__, encoding="utf-8") as file:
+            self.assertEqual(re.findall(r'f"cp ', file.read()), [])
+        differing = unittest.mock.patch.object(freeradius, "differing", lambda: [("/a", "/b")])
+        with differing, unittest.mock.patch.object(fronts, "steps", side_effect=StopIteration):
+            fault = next(fronts.look_at(unittest.mock.Mock(has_front=True)))
+        self.assertIn("diff /a /b; ln -sf --backup=numbered /b /a; systemctl restart", fault.cure)
+
+
+class Ignored(unittest.TestCase):
+    """What FreeRADIUS logs of devices that it does not answer."""
+
+    LINES = (
+        (60, "Info: Dropping packet without response because of error: Received Accounting-Request "
+         "packet from client 10.0.0.7 with invalid Request Authenticator!  (Shared secret is "
+         "incorrect.) (from client lobby)"),
+        (60, "Info: Dropping packet without response because of error: Received packet from 10.0.0.8 "
+         "with invalid Message-Authenticator!  (Shared secret is incorrect.) (from client attic)"),
+        (60, "Error: Ignoring request to acct address * port 1813 bound to server default from "
+         "unknown client 10.0.0.9 port 32897 proto udp"),
+        (3700, "Error: Ignoring request to auth address * port 1812 bound to server default from "
+         "unknown client 10.0.0.10 port 32897 proto udp"),
+        (60, "Auth: (3) Login incorrect: [ unknown client 10.0.0.12 port 1 proto udp] (from client "
+         "lobby port 0)"),
+    )
+
+    def found(self, lines):
+        with tempfile.NamedTemporaryFile("w") as file:
+            for ago, text in lines:
+                at = time.localtime(time.time() - ago)
+                file.write(f"{time.strftime('%a %b %d %H:%M:%S %Y', at)} : {text}\n")
+            file.write("a line without a moment from unknown client 10.0.0.11 port 1 proto udp\n")
+            file.flush()
+            with unittest.mock.patch.object(fronts, "LOG", file.name):
+                return [(it.name, it.text) for it in fronts.ignored()]
+
+    def test_each_device_of_the_last_hour(self):
+        secret, other, unknown = self.found(self.LINES)
+        self.assertEqual([it[0] for it in (secret, other, unknown)],
+                         ["device-secret", "device-secret", "device-unknown"])
+        self.assertIn("10.0.0.7,", secret[1])
+        self.assertIn("10.0.0.8,", other[1])
+        self.assertIn("ignores 10.0.0.9:", unknown[1])
+        self.assertEqual(self.found(self.LINES[3:]), [])
+
+    def test_a_storm_of_strangers_is_one_line(self):
+        [(_, text)] = self.found([(5, self.LINES[2][1].replace("0.9", f"0.{it}"))
+                                  for it in range(1, 6)] * 2)
+        self.assertIn("10.0.0.1, 10.0.0.2, 10.0.0.3 and 2 more:", text)
+
+    def test_without_a_log(self):
+        with unittest.mock.patch.object(fronts, "LOG", "/nonexistent/radius.log"):
+            self.assertEqual(list(fronts.ignored()), [])
 
 
 def said(*answers):

@@ -8,8 +8,8 @@ import tempfile
 import unittest
 from unittest import mock
 
-from radacctl import files, site
-from radacctl.commands import edit, key
+from radacctl import configuration, files, server_log, site
+from radacctl.commands import edit
 
 CONFIG = '''[[client]]
 name = "a"
@@ -57,10 +57,10 @@ class Edits(unittest.TestCase):
             for it in (mock.patch.dict(os.environ, env),
                        mock.patch.object(edit, "asked", lambda _, known: (
                            given.pop(0) if given else known[-1])),
-                       mock.patch.object(key, "fault_of", is_wrong),
+                       mock.patch.object(configuration, "fault_of", is_wrong),
                        mock.patch.object(files, "rows", rows),
                        mock.patch.object(site, "USER", "no-such-user"),
-                       mock.patch.object(edit.Journal, "said", lambda *_, **__: ""),
+                       mock.patch.object(server_log.Journal, "said", lambda *_, **__: ""),
                        contextlib.redirect_stdout(out), contextlib.redirect_stderr(out)):
                 stack.enter_context(it)
             try:
@@ -95,7 +95,7 @@ class Edits(unittest.TestCase):
         self.assertEqual(stat.S_IMODE(os.stat(self.config).st_mode), 0o640)
 
     def test_of_two_the_second_is_refused(self):
-        with key.locked(self.config, ".edit-lock"):
+        with configuration.locked(self.config, ".edit-lock"):
             status, said = self.edit('echo "# mine" >>"$1"')
         self.assertEqual((status, self.read()), (3, CONFIG))
         self.assertIn("another edit", said)

@@ -2,11 +2,14 @@
 
 import json
 import os
+import re
 import stat
 import tempfile
 import unittest
 
 from radacctl import desk, files, money, names
+from radacctl.doctor import front
+from tool_tests import ROOT
 
 
 class Names(unittest.TestCase):
@@ -35,6 +38,21 @@ class Names(unittest.TestCase):
             with open(path, "w", encoding="ascii") as file:
                 file.write("account,balance,overrun\na%2Cb,-5,5\n")
             self.assertEqual(names.balances_in(path), {b"a,b": -5})
+
+
+class Away(unittest.TestCase):
+    """A 503 means two things, by its body: the page for trouble has a row of each."""
+
+    def test_each_503_has_a_row(self):
+        with open(os.path.join(ROOT, "etc/nginx/radacctd.conf"), encoding="utf-8") as file:
+            bodies = set(re.findall(r"return 503 '\{\"error\":\"(\w+)\"\}'", file.read()))
+        with open(os.path.join(ROOT, "docs/DESK.md"), encoding="utf-8") as file:
+            bodies |= set(re.findall(r'\| 503 \| `\{"error":"(\w+)"\}` \|', file.read()))
+        self.assertEqual(bodies, {"away", "unavailable"})
+        with open(os.path.join(ROOT, "docs/TROUBLE.md"), encoding="utf-8") as file:
+            rows = re.findall(r"(?m)^\| 503 with `(\w+)` \| (.*?) \| (.*) \|$", file.read())
+        self.assertEqual({name for name, _, _ in rows}, bodies)
+        self.assertEqual(len({cure for _, _, cure in rows}), 2)
 
 
 class Money(unittest.TestCase):
@@ -115,6 +133,19 @@ class Files(unittest.TestCase):
             self.assertRaises(FileExistsError, files.make, os.path.join(folder, "link"), b"two")
             self.assertEqual(sorted(os.listdir(folder)), ["file", "link"])
 
+    def test_a_folder_is_for_its_owner_or_a_group_whatever_the_umask(self):
+        with tempfile.TemporaryDirectory() as folder:
+            for umask in (0o077, 0o022):
+                before = os.umask(umask)
+                try:
+                    for name, group, mode in (("own", None, 0o700), ("shared", "nogroup", 0o750)):
+                        path = os.path.join(folder, f"{name}-{umask}")
+                        files.make_folder(path, group)
+                        files.make_folder(path, group)
+                        self.assertEqual(stat.S_IMODE(os.stat(path).st_mode), mode)
+                finally:
+                    os.umask(before)
+
     @unittest.skipUnless(os.geteuid() == 0, "only root can become another user")
     def test_a_users_link_leads_root_to_no_secret(self):
         with tempfile.TemporaryDirectory() as folder:
@@ -152,6 +183,26 @@ class Files(unittest.TestCase):
             self.assertEqual(files.read(os.path.join(folder, "file")), b"one")
             for name in ("link", "pipe"):
                 self.assertRaises(OSError, files.read, os.path.join(folder, name))
+
+
+class States(unittest.TestCase):
+    """What the queue's writer says is wrong is counted, raised, and explained."""
+
+    def text(self, *names):
+        with open(os.path.join(ROOT, *names), encoding="utf-8") as file:
+            return file.read()
+
+    def test_each_has_its_places(self):
+        written = set(re.findall(r'\bmark\("(\w+)"', self.text("etc", "freeradius", "queue.pl")))
+        counted = re.search(r"^STATES = \((.*)\)$", self.text("etc", "freeradius", "front-counts"),
+                            re.MULTILINE)[1]
+        raised = re.findall(r'radacctd_queue_state\{state=~?"([\w|]+)"\}',
+                            self.text("etc", "monitoring", "radacctd.rules.yml"))
+        page = re.findall(r"`radacctd-queue\.(\w+)`", self.text("docs", "FREERADIUS.md"))
+        places = {"counts": re.findall(r"\w+", counted), "doctor": front.STATES, "page": page,
+                  "alerts": "|".join(raised).split("|")}
+        for place, found in places.items():
+            self.assertEqual(sorted(found), sorted(written), place)
 
 
 if __name__ == "__main__":

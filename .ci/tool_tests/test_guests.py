@@ -7,20 +7,20 @@ import json
 import os
 import tempfile
 import tomllib
-import types
 import unittest
 from unittest import mock
 
 from radacctl import desk as desks
-from radacctl import files, lapses, logins, money, names, site
-from radacctl.commands import allow, debit, guest, key, packages as sold
+from radacctl import cards, codes, configuration, debits, drafts, files, lapses, logins, money
+from radacctl import names, servers, site, stock
+from radacctl.commands import allow, guest, packages as sold
 from tool_tests.test_packages import Books, Here, MEMORY, PACKAGE
 
 CONFIG = '[[plan]]\nclass = "default"\nblock = 1\nunit = 1\n'
 CASHIER = "cash-key-00000001"
 # What a site puts something of its own in the place of.
 SETTINGS_IN, LOG_ENDED, ENDED_IN = money.settings_in, logins.log_ended, logins.ended_in
-RUN, CHANGE, MAKE, REMOVE = logins.Store.run, key.change, files.make, files.remove
+RUN, CHANGE, MAKE, REMOVE = logins.Store.run, configuration.change, files.make, files.remove
 
 
 def failing(does, at):
@@ -79,12 +79,13 @@ class Site:
             (logins, "Child", Here), (site, "RADDB", self.folder), (sold, "store", self.store),
             (sold, "uses", self.uses), (money, "settings_in", settings),
             (site, "BALANCES", self.path("balances.csv")), (logins, "LOG", self.log),
-            (guest, "LOCK", self.path("lock")), (guest, "DRAFTS", self.path("drafts")), (key, "fault_of", lambda *_: ""),
-            (key, "desks_of", lambda _: []), (key, "say", lambda _: None),
-            (guest, "say", lambda _: None), (guest, "qr", lambda text: f"<svg>{text}</svg>"),
+            (guest, "LOCK", self.path("lock")), (drafts, "FOLDER", self.path("drafts")),
+            (configuration, "fault_of", lambda *_: ""),
+            (servers, "desks_of", lambda _: []), (servers, "say", lambda _: None),
+            (guest, "say", lambda _: None), (cards, "svg", lambda text: f"<svg>{text}</svg>"),
             (desks, "ask", self.effect(self.ask)), (guest.time, "sleep", lambda _: None),
             (logins.Store, "run", self.effect(RUN)),
-            (key, "change", self.effect(CHANGE)), (files, "make", self.effect(MAKE)),
+            (configuration, "change", self.effect(CHANGE)), (files, "make", self.effect(MAKE)),
             (files, "remove", self.effect(REMOVE)),
             (logins, "log_ended", self.effect(lambda accounts, state, now, path=None:
                                               LOG_ENDED(accounts, state, now, self.log))),
@@ -191,7 +192,7 @@ class Guests(unittest.TestCase):
                          sorted(row[0] for row in rows))
         self.assertEqual(text.count("[[key]]"), len(rows))
         self.assertEqual(len(cards), len(rows))
-        self.assertEqual(list(guest.drafts()), [])
+        self.assertEqual(list(drafts.all_of_them()), [])
         for account, _, _, password in rows:
             self.assertIn(f'account = "{account.decode()}"', text)
             self.assertIn(password, "".join(files.text(self.site.path(it)) for it in cards))
@@ -218,9 +219,9 @@ class Guests(unittest.TestCase):
 
     def test_each_step_fails(self):
         """A full disk, say: nothing is left, at once."""
-        for where, name, at in ((key, "change", 1), (files, "make", 1), (files, "make", 2),
+        for where, name, at in ((configuration, "change", 1), (files, "make", 1), (files, "make", 2),
                                 (files, "make", 3), (os, "rename", 1), (os, "rename", 2),
-                                (os, "rename", 3), (guest, "qr", 1)):
+                                (os, "rename", 3), (cards, "svg", 1)):
             full = mock.patch.object(where, name, failing(getattr(where, name), at))
             with self.subTest(f"{name} {at}"), full:
                 self.assertRaises((OSError, guest.NotMade, SystemExit), self.new)
@@ -269,7 +270,7 @@ class Guests(unittest.TestCase):
         os.makedirs(self.site.path("mods-config/files"))
         self.site.write("mods-config/files/authorize", f'{taken[2]} Cleartext-Password := "x"\n')
         logins.log_ended([taken[3].encode()], "ended", 1)
-        with mock.patch.object(guest, "letters", lambda _: next(letters)):
+        with mock.patch.object(stock, "letters", lambda _: next(letters)):
             found = guest.new_account("Müller", self.site.store(), self.site.config)
         self.assertEqual(found, f"muller-{day}-eeee")
 
@@ -338,14 +339,19 @@ class Codes(unittest.TestCase):
                        contextlib.redirect_stderr(io.StringIO())):
             stream.__enter__()
             self.addCleanup(stream.__exit__, None, None, None)
-        for where, name, new in ((sold, "SHEETS", self.site.path("sheets.csv")),
+        for where, name, new in ((codes, "LOG", self.site.path("sheets.csv")),
                                  (sold.desks, "CASHIER_KEY", self.site.path("cashier.key"))):
             patched = mock.patch.object(where, name, new)
             patched.start()
             self.addCleanup(patched.stop)
+        # What the book has, and the file once it is written anew: while `sell` waits for that.
+        self.book = []
+        written = mock.patch.object(sold.time, "sleep", lambda _: self.write_book())
+        written.start()
+        self.addCleanup(written.stop)
         self.site.write("sheets.csv", "moment,sheet,package,credit,price\n"
                         "1,week-20261128-acdef,week,500,900\n")
-        number = sold.package_row(self.site.store(), sold.packages.read()[0]["week"])
+        number = logins.package_row(self.site.store(), sold.packages.read()[0]["week"])
         for at in range(3):
             self.site.store().run((
                 "INSERT INTO login VALUES (?, ?, NULL, ?, 'default', 1, 100, 'week-20261128-acdef',"
@@ -358,9 +364,12 @@ class Codes(unittest.TestCase):
         self.said.truncate(0)
         return sold.main(["sell", what, "--give-up", "0"])
 
-    def in_book(self, *accounts):
-        rows = "".join(f"{it.decode()},1,0\n" for it in accounts)
+    def write_book(self):
+        rows = "".join(f"{it.decode()},1,0\n" for it in self.book)
         self.site.write("balances.csv", "account,balance,overrun\n" + rows)
+
+    def in_book(self, *accounts):
+        self.book = accounts
 
     def test_a_code_that_the_desk_sold_is_credited_no_more(self):
         self.site.money["D1-261128-ACDEFHJKMNPA"] = (self.account(0), 500)
@@ -374,6 +383,14 @@ class Codes(unittest.TestCase):
         self.assertIn("added 0, repeated 3, refused 0", self.said.getvalue())
         rows = self.site.store().read("SELECT count(*) FROM login WHERE sold IS NULL")
         self.assertEqual((len(self.site.money), rows), (3, [(0,)]))
+
+    def test_nothing_is_sold_by_balances_of_before(self):
+        """The file lacks what the desk sold since it was written: a newer one is awaited."""
+        moments = iter(range(10_000))
+        with mock.patch.object(sold.time, "sleep", lambda _: None), \
+                mock.patch.object(sold.time, "monotonic", lambda: next(moments)):
+            self.assertRaises(SystemExit, self.sell)
+        self.assertEqual(self.site.money, {})
 
     def test_a_code_whose_end_is_past_is_not_sold(self):
         self.site.store().run(("UPDATE login SET ends = 5 WHERE account = ?", (self.account(1),)))
@@ -392,7 +409,7 @@ class Allow(unittest.TestCase):
     def setUp(self):
         self.site = Site(self)
         self.books, self.before = Books(), {b"al": 70, "ü 1".encode(): 30, b"bo": -5}
-        books = mock.patch.object(debit, "Books", lambda _: self.books)
+        books = mock.patch.object(debits, "Books", lambda _: self.books)
         books.start()
         self.addCleanup(books.stop)
         take = self.books.take

@@ -1,5 +1,7 @@
-"""No language of the pages lacks a text, and no text is one too many."""
+"""No language of the pages lacks a text, no text is one too many, and a page is one file."""
 
+import base64
+import hashlib
 import importlib.machinery
 import importlib.util
 import os
@@ -99,6 +101,33 @@ class Languages(unittest.TestCase):
                for code, it in self.found.items()}
         with mock.patch.object(self.web, "languages", lambda: odd):
             self.assertNotIn("<", self.web.texts_of("guest"))
+
+
+class Parts(unittest.TestCase):
+    """A page of its parts is whole: a browser asks for nothing else, by the page's own policy."""
+
+    def setUp(self):
+        self.web = web()
+
+    def source(self, page):
+        return os.path.join(ROOT, "web", page, "index.html")
+
+    def test_a_page_is_one_file(self):
+        for page in PAGES:
+            text = self.web.with_sums(self.source(page), self.web.joined(self.source(page)))
+            self.assertTrue(text.startswith("<!doctype html>\n"), page)
+            self.assertEqual(re.findall(r'<link rel="stylesheet|<script src|<!-- \S+\.html', text), [])
+            for tag in ("style", "script"):
+                [body] = re.findall(f"<{tag}>(.*?)</{tag}>", text, re.S)
+                total = base64.b64encode(hashlib.sha256(body.encode()).digest()).decode()
+                self.assertIn(f"{tag}-src 'sha256-{total}'", text, page)
+
+    def test_a_page_that_lacks_a_part_is_not_made(self):
+        read = self.web.read
+        for part in ("<!-- ../head.html -->\n", "<style>\n", "<script>\n"):
+            lacks = lambda path: read(path).replace(part, "")
+            with self.subTest(part), mock.patch.object(self.web, "read", lacks):
+                self.assertRaises(SystemExit, self.web.joined, self.source("desk"))
 
 
 if __name__ == "__main__":

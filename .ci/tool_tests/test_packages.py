@@ -1,21 +1,24 @@
 """Packages and the logins of them: the file, codes, what ends, and the debit of what is left."""
 
 import contextlib
+import grp
 import io
 import json
 import os
 import sqlite3
+import subprocess
 import tempfile
 import types
 import unittest
 from unittest import mock
 
-from radacctl import files, lapses, logins, money, names, packages, site
-from radacctl.commands import debit
+from radacctl import codes, debits, files, lapses, logins, money, names, packages, program, site
+from radacctl import stock
 from radacctl.commands import packages as command
+from radacctl.doctor import book
 from radacctl.doctor import packages as doctor
 from radacctl.setup import packages as setup_packages
-from radacctl.setup import steps
+from radacctl.setup import steps, web
 
 MONEY = money.Money(2, "EUR")
 PACKAGE = '''
@@ -74,10 +77,34 @@ class PackagesFile(unittest.TestCase):
             ("reply.mikrotik", "reply.cisco", "reply has all, mikrotik"),
             ("devices = 2", "device = 2", "has no member `device`"),
             ("devices = 2", 'devices = "2"', "`devices` is of another kind"),
+            ("up = 5000", "up = 5000\nslow.down = 9", "slow lacks `plan`"),
+            ("up = 5000", 'up = 5000\nslow.plan = "free"', "give down and up, or reply"),
+            ("up = 5000", 'up = 5000\nslow.plan = "free"\nslow.down = 9', "or neither"),
+            ("up = 5000", 'up = 5000\nslow.plan = "default"\nslow.reply.all = ["A := b"]',
+             "another one than that of the package"),
+            ("up = 5000", 'up = 5000\nslow.name = "free"', "slow has no member `name`"),
+            ("up = 5000", "up = 5000\nslow = 9", "`slow` is of another kind"),
         ]
         for old, new, why in rows:
             with self.subTest(new), self.assertRaisesRegex(packages.Wrong, why):
                 packages.packages_of(PACKAGE.replace(old, new), MONEY)
+
+    def test_what_it_does_without_money(self):
+        """Rows of kinds of their own, so that no login with money gets one of them."""
+        text = PACKAGE + 'slow.plan = "free"\nslow.down = 512\nslow.up = 128\n'
+        it = packages.packages_of(text, MONEY)["week"]
+        own = packages.packages_of(PACKAGE, MONEY)["week"].replies
+        self.assertEqual(it.replies[: len(own)], own)
+        slow = it.replies[len(own) :]
+        self.assertIn(("slow", "Class", ":=", "free"), slow)
+        self.assertIn(("slow-mikrotik", "Mikrotik-Rate-Limit", ":=", "128k/512k"), slow)
+        self.assertEqual({kind for kind, *_ in slow},
+                         {"slow", *(f"slow-{kind}" for kind, *_ in own)})
+        plans = {"default": ("1", "5", "both"), "free": ("1", "0", "both")}
+        self.assertIsNone(it.plan_missing(plans))
+        for changed in ({"default": plans["default"]}, {**plans, "free": ("1", "5", "both")}):
+            self.assertRegex(it.plan_missing(changed), "^the plan free of week is not in force, or")
+        self.assertRegex(it.plan_missing({"free": plans["free"]}), "^the plan default of week is")
 
     def test_two_of_one_name_and_no_toml(self):
         for text in (PACKAGE * 2, "[[package", "[other]\n"):
@@ -102,13 +129,13 @@ class Pages(unittest.TestCase):
         self.path, self.text, self.plans = os.path.join(folder.name, "p.json"), PACKAGE, None
         read = lambda: (packages.packages_of(self.text, MONEY), MONEY)
         for where, name, new in ((packages, "read", read), (command, "say", lambda _: None),
-                                 (command, "plans_in", lambda _: self.plans)):
+                                 (command.plans, "in_force", lambda: self.plans)):
             patched = mock.patch.object(where, name, new)
             patched.start()
             self.addCleanup(patched.stop)
 
     def written(self):
-        command.write_for_pages(self.path)
+        packages.write_for_pages(self.path)
         with open(self.path, encoding="utf-8") as file:
             return json.load(file)["packages"]
 
@@ -124,7 +151,7 @@ class Pages(unittest.TestCase):
         for until, count in (("2020-01-01T00:00", 0), ("2100-01-01T00:00", 1)):
             self.text = PACKAGE.replace('valid = "7 days"', f'until = "{until}"')
             self.assertEqual(len(self.written()), count)
-            with mock.patch.object(command, "plans_in", lambda _: None):
+            with mock.patch.object(command.plans, "in_force", lambda: None):
                 if count:
                     self.assertEqual(command.found_package("week")[0].name, "week")
                 else:
@@ -148,8 +175,113 @@ class Pages(unittest.TestCase):
                 self.assertEqual({**found[0], "price": 900}, before[0])
 
     def test_a_site_without_pages_has_none(self):
-        command.write_for_pages("/nonexistent/folder/p.json")
+        packages.write_for_pages("/nonexistent/folder/p.json")
         self.assertFalse(os.path.exists("/nonexistent"))
+
+
+class Refused(unittest.TestCase):
+    """A copy is put back for a database that is lost, and for no other."""
+
+    def test_what_was_said(self):
+        there = lambda path: not path.endswith(gone)
+        for text, gone, name in (
+            ("logins.db: database is locked", "none", "packages-shut"),
+            ("logins.db: database or disk is full", "none", "packages-shut"),
+            ("logins.db: disk I/O error", "none", "packages-shut"),
+            ("logins.db: unable to open database file", "none", "packages-shut"),
+            ("logins.db: its user's process ended, or did not answer in time", "none",
+             "packages-shut"),
+            ("logins.db: unable to open database file", "logins.db", "packages-lost"),
+            ("logins.db: no such table: key", "none", "packages-lost"),
+            ("logins.db: file is not a database", "none", "packages-lost"),
+            ("logins.db: database disk image is malformed", "none", "packages-lost"),
+        ):
+            with mock.patch("os.path.exists", there), mock.patch.object(
+                logins, "path_of", lambda it: f"/x/{it}.db"
+            ):
+                found = doctor.refused(logins.Fault(text))
+            self.assertEqual(found.name, name, text)
+            self.assertEqual("tar -x" in found.cure, name == "packages-lost", text)
+            self.assertEqual("restore nothing" in found.cure, name == "packages-shut", text)
+
+    def test_the_command_puts_back_the_folder(self):
+        """As the archive of a copy names it."""
+        with tempfile.TemporaryDirectory() as folder:
+            os.makedirs(f"{folder}/copies/2026-11-26/var/lib/radacctd-logins")
+            os.makedirs(f"{folder}/copies/2026-11-27.bad")
+            os.makedirs(f"{folder}/root/var/lib/radacctd-logins")
+            os.mkdir(f"{folder}/moved")
+            with open(f"{folder}/copies/2026-11-26/var/lib/radacctd-logins/logins.db", "w") as file:
+                file.write("of the copy")
+            copy = f"{folder}/copies/2026-11-26"
+            subprocess.run(["tar", "-czf", f"{copy}/site.tar.gz", "-C", copy, "var"], check=True)
+            text = doctor.PUT_BACK
+            for old, new in (("systemctl", "true"), (" -C / ", f" -C {folder}/root "),
+                             (site.BACKUPS, f"{folder}/copies"), (" /root/;", f" {folder}/moved;"),
+                             (f"mv {logins.FOLDER}", f"mv {folder}/root{logins.FOLDER}")):
+                self.assertEqual(text.count(old), 2 if old == "systemctl" else 1, old)
+                text = text.replace(old, new)
+            subprocess.run(["sh", "-ec", text], check=True)
+            with open(f"{folder}/root{logins.FOLDER}/logins.db", encoding="ascii") as file:
+                self.assertEqual(file.read(), "of the copy")
+
+
+class Withdraw(unittest.TestCase):
+    """Codes that guests have paid for are ended by nobody who did not know of them."""
+
+    SHEET = "week-20261127-acdef"
+
+    def setUp(self):
+        row = lambda name, state, sold: command.Code(name, state, sold, None, 500, 900)
+        self.codes = [row(b"t-000000000001", logins.LIVE, None), row(b"t-000000000002", "ended", 1),
+                      row(b"t-000000000003", logins.LIVE, 1), row(b"t-000000000004", logins.LIVE, None)]
+        self.balances, self.ended, self.asked = "", [], []
+        end = lambda _, accounts, state, now: self.ended.extend(accounts)
+        for where, name, new in (
+            (command, "store", lambda: None), (command, "uses", lambda: None),
+            (logins, "mend", lambda _: 0), (command, "named", lambda *_: self.codes),
+            (logins, "own_log", lambda: None), (lapses, "end", end),
+            (lapses, "disconnect", lambda *_: 0), (program, "confirm", self.asked.append),
+            (names, "balances", self.balances_now),
+        ):
+            patched = mock.patch.object(where, name, new)
+            patched.start()
+            self.addCleanup(patched.stop)
+
+    def balances_now(self):
+        return names.balances_of(self.balances, "balances.csv")
+
+    def withdrawn(self, *more):
+        self.ended, self.asked = [], self.asked
+        self.asked.clear()
+        with contextlib.redirect_stdout(io.StringIO()) as printed:
+            self.assertEqual(command.main(["withdraw", self.SHEET, *more]), 0)
+        return [int(it[-1:]) for it in self.ended], "".join(self.asked), printed.getvalue()
+
+    def test_it_asks_how_many_are_sold(self):
+        # The desk sold one within this minute: only the balances have it.
+        for balances, sold in (("", 1), ("account,balance,overrun\nt-000000000004,500,0\n", 2)):
+            self.balances = balances
+            ended, asked, said = self.withdrawn()
+            self.assertEqual(ended, [1, 3, 4])
+            self.assertIn(f"{sold} of these 3 codes are sold, as t-000000000003.", asked)
+            self.assertIn(f"withdrawn: 3 codes; {sold} of them were sold; 1 were over before", said)
+
+    def test_only_those_that_nobody_bought(self):
+        self.balances = "account,balance,overrun\nt-000000000004,500,0\n"
+        ended, asked, said = self.withdrawn("--unsold")
+        self.assertEqual((ended, asked), ([1], ""))
+        self.assertIn("withdrawn: 1 codes; 2 sold ones stay; 1 were over before", said)
+
+    def test_nobody_is_taken_for_one_who_did_not_buy(self):
+        with contextlib.redirect_stderr(io.StringIO()):
+            self.assertRaises(SystemExit, command.main, ["withdraw", self.SHEET, "--unsold"])
+        self.assertEqual(self.ended, [])
+
+    def test_without_sold_ones_it_asks_as_ever(self):
+        self.codes = [self.codes[0], self.codes[3]]
+        self.assertEqual(self.withdrawn()[1], "Withdraw 2 codes for ever?")
+        self.assertEqual(self.withdrawn("--yes")[:2], ([1, 4], ""))
 
 
 class Codes(unittest.TestCase):
@@ -239,11 +371,52 @@ class Places(unittest.TestCase):
         user = mock.Mock(return_value=types.SimpleNamespace(pw_uid=7, pw_gid=8))
         with mock.patch.object(command.os, "fchown", given), \
                 mock.patch.object(command.os, "getuid", lambda: 0), \
-                mock.patch.object(command.pwd, "getpwnam", user):
+                mock.patch.object(logins.pwd, "getpwnam", user):
             for name in ("mine.db", "mine.db", "other.db"):
                 self.says(self.path(f"uses/{name}"))
                 self.assertEqual(command.uses_made().read("SELECT count(*) FROM use"), [(0,)])
         self.assertEqual([it.args[1:] for it in given.call_args_list], [(7, 8)])
+
+    def test_who_redeems_may_read_the_folder_of_what_ended(self):
+        """What was withdrawn is in it. An earlier version made it for root alone."""
+        folder = self.path("withdrawn")
+        before = os.umask(0o077)
+        try:
+            with mock.patch.object(logins, "LOG", os.path.join(folder, "logins.csv")):
+                for mode in (None, 0o700):
+                    if mode is not None:
+                        os.chmod(folder, mode)
+                    logins.own_log()
+                    self.assertEqual(os.stat(folder).st_mode & 0o777, 0o750)
+        finally:
+            os.umask(before)
+
+    @unittest.skipUnless(os.geteuid() == 0, "only root gives folders away")
+    def test_who_redeems_gets_the_folder_of_what_ended_once_there_is_such_a_user(self):
+        """The timer begins before the set-up makes the user. The doctor and the set-up see it."""
+        folder, group = self.path("withdrawn"), "daemon"
+        number = grp.getgrnam(group).gr_gid
+        step = steps.Folder(folder, 0o750, of_group=group)
+        seen = lambda: [it.name for it in book.mode(folder, 0o750, ("root",), (group,))]
+        self.assertIn(book.CODES[os.path.dirname(stock.SECOND)], [(0o750, ("root",), (
+            site.REDEEM_USER,))])
+        with mock.patch.object(logins, "LOG", os.path.join(folder, "logins.csv")):
+            with mock.patch.object(site, "REDEEM_USER", "nobody-has-this-name"):
+                logins.own_log()
+            self.assertEqual(os.stat(folder).st_gid, 0)
+            self.assertEqual((seen(), step.is_done()), (["mode-wrong"], False))
+            with mock.patch.object(site, "REDEEM_USER", group):
+                logins.own_log()
+            self.assertEqual((os.stat(folder).st_gid, os.stat(folder).st_mode & 0o777),
+                             (number, 0o750))
+            self.assertEqual((seen(), step.is_done()), ([], True))
+
+    def test_the_set_up_gives_who_redeems_both_folders(self):
+        keys = types.SimpleNamespace(keys={"redeem": "a-key-of-16-letters"})
+        found = {it.path: (it.mode, it.group) for it in web.codes(keys)
+                 if isinstance(it, steps.Folder)}
+        wanted = {os.path.dirname(logins.LOG), stock.FOLDER, os.path.dirname(stock.SECOND)}
+        self.assertEqual(found, {it: (0o750, site.REDEEM_USER) for it in wanted})
 
     def test_a_link_in_its_place_leads_nowhere(self):
         os.mkdir(self.path("uses"))
@@ -273,9 +446,9 @@ class Books:
     def take(self, account, total, number):
         name = names.shown(account)
         if self.known.setdefault(number, [name, str(total)]) != [name, str(total)]:
-            raise debit.Refused("given before")
+            raise debits.Refused("given before")
         if self.fails and self.fails.pop(0):
-            raise debit.NoAnswer("no answer")
+            raise debits.NoAnswer("no answer")
         self.taken[number] = max(total, self.taken.get(number, 0))
 
 
@@ -438,7 +611,7 @@ class Sheets(unittest.TestCase):
     def test_a_sum_is_not_that_of_the_database(self):
         with tempfile.TemporaryDirectory(dir=MEMORY) as folder, \
                 mock.patch.object(logins, "Child", Here), \
-                mock.patch.object(command, "SHEETS", os.path.join(folder, "sheets.csv")), \
+                mock.patch.object(codes, "LOG", os.path.join(folder, "sheets.csv")), \
                 contextlib.redirect_stderr(io.StringIO()):
             found = Site(folder)
             found.login(b"t-0123456789ab")
@@ -446,7 +619,7 @@ class Sheets(unittest.TestCase):
                             ("UPDATE package SET terms = '{\"credit\": 999999}'", ()))
             for what in ("t-0123456789ab", "week-20261127-acdef.pdf"):
                 self.assertRaises(SystemExit, command.named, found.store, what)
-            command.log_sheet([1, "week-20261127-acdef", "week", 50, 900])
+            codes.log([1, "week-20261127-acdef", "week", 50, 900])
             for what in ("t-0123456789ab", "week-20261127-acdef.pdf"):
                 self.assertEqual(command.named(found.store, what),
                                  [(b"t-0123456789ab", "live", None, None, 50, 900)])
@@ -539,7 +712,7 @@ class Doctor(unittest.TestCase):
     def found(self):
         read = lambda: (packages.packages_of(self.text, MONEY), MONEY)
         with mock.patch.object(doctor.packages, "read", read), \
-                mock.patch.object(doctor.book, "plans_in", lambda _: self.plans):
+                mock.patch.object(doctor.plans, "in_force", lambda: self.plans):
             return {it.name for it in doctor.look_at(types.SimpleNamespace(has_packages=True))}
 
     def test_a_sound_site_has_no_line(self):

@@ -11,9 +11,10 @@ import tempfile
 import unittest
 from unittest import mock
 
-from radacctl import files, freeradius, site as places
-from radacctl.commands import debit, pages, site
-from radacctl.setup import alone, answers, front, proof, steps, web
+from radacctl import debits, files, freeradius, site as places
+from radacctl.commands import debit, pages, setup, site
+from radacctl.doctor import front as doctor_front
+from radacctl.setup import alone, answers, away, front, pair, proof, sql, steps, web
 
 PLAN = {"class": "default", "block": 1000, "unit": 5}
 FULL = OSError(errno.ENOSPC, os.strerror(errno.ENOSPC))
@@ -103,16 +104,29 @@ class Site(Folder):
 
     def test_another_usual_class_is_written(self):
         plans = [PLAN, {**PLAN, "class": "gold"}]
-        begun = "server x {\naccounting {\n}\npost-auth {\n}\n}\n"
-        text = front.default(begun, self.wanted(plan=plans))
-        again = front.default(text, self.wanted(plan=plans, **{"class": "gold"}))
-        self.assertEqual(again, text.replace('&Class = "default"', '&Class = "gold"'))
+        text = front.settings(None, self.wanted(plan=plans), "x" * 16)
+        again = front.settings(text, self.wanted(plan=plans, **{"class": "gold"}), "x" * 16)
+        self.assertEqual(again, text.replace('\tclass = "default"', '\tclass = "gold"'))
         self.assertNotEqual(again, text)
+
+    def test_settings_of_an_earlier_version_get_what_they_lack(self):
+        old = 'radacctd {\n\tsecret = x\n\toldest = 61\n}\n'
+        text = front.settings(old, self.wanted(left_out=["vpn", "nro"]), "y" * 16)
+        self.assertEqual(text, 'radacctd {\n\tsecret = yyyyyyyyyyyyyyyy\n\toldest = 61\n'
+                         '\tclass = "default"\n\tleft_out = "vpn nro"\n}\n')
+        self.assertEqual(front.settings(text, self.wanted(), "y" * 16), text)
+
+    def test_the_class_of_an_earlier_version_leaves_the_virtual_server(self):
+        block = '\t# radacctl setup: who pays, and by which plan\n\tupdate reply {\n'
+        block += '\t\t&Class = "default"\n\t}\n'
+        begun = "server x {\naccounting {\n\tradacctd_accounting\n}\npost-auth {\n"
+        text = front.default(f"{begun}{block}\tradacctd_login\n}}\n}}\n", self.wanted())
+        self.assertEqual(text, f"{begun}\tradacctd_login\n}}\n}}\n")
 
     def test_a_plan_whose_class_is_no_ascii_is_in_the_book(self):
         self.write("class,block,unit,count\ndefault,1,1,both\ndebit,1,1,both\n"
                    "gr%C3%B6%C3%9Fe,1,1,both\n".encode())
-        with mock.patch.object(alone, "PLANS", self.path):
+        with mock.patch.object(places, "PLANS", self.path):
             wanted = self.wanted(plan=[PLAN, {**PLAN, "class": "gr\u00f6\u00dfe"}])
             self.assertTrue(alone.plans_are_in(wanted))
             wanted = self.wanted(plan=[PLAN, {**PLAN, "class": "gold"}])
@@ -142,15 +156,323 @@ class Site(Folder):
             self.write(b"x" * 4096)
             self.assertTrue(alone.has_book())
 
+    def lost(self, *files, is_new_wanted=False, is_away=False):
+        """What the set-up says without a book, where a site left these files; None if it goes on."""
+        away = steps.Failed("the book of radacctd.service is not at its name")
+        root = {it: os.path.join(self.folder, it) for it in ("book", "backups", "proved", "csv")}
+        for name, text in files:
+            path = os.path.join(self.folder, name)
+            os.makedirs(os.path.dirname(path), exist_ok=True)
+            self.write(text, path=path)
+        with mock.patch.object(places, "BOOK", root["book"]), \
+                mock.patch.object(places, "BACKUPS", root["backups"]), \
+                mock.patch.object(places, "BALANCES", root["csv"]), \
+                mock.patch.object(alone, "PROVED", root["proved"]), \
+                mock.patch.object(steps, "refuse_if_away", side_effect=away if is_away else None):
+            try:
+                alone.refuse_if_lost(is_new_wanted)
+            except steps.Failed as why:
+                return str(why)
+        return None
+
+    def test_a_site_that_lost_its_book_gets_no_empty_one(self):
+        copies = [(f"backups/{it}", b"x") for it in (
+            "2026-11-26/book", "2026-11-27/book", "2026-11-28/site.tar.gz", "2026-11-29.bad/book",
+            "9999-01-01/book")]
+        header, line = b"account,balance,quota\n", b"anna,5,1\n"
+        self.assertIsNone(self.lost())
+        self.assertIsNone(self.lost(("csv", header)), "a server without an account")
+        rows = ((("proved", b""),), (("csv", header + line),), copies, (("book", b""), *copies))
+        for row in rows:
+            said = self.lost(*row)
+            self.assertIn('DAMAGE.md, "The book is missing"', said, row)
+            self.assertIn("--new-book", said)
+            self.assertEqual("the newest good copy is " in said, len(row) > 1)
+            self.assertIsNone(self.lost(is_new_wanted=True))
+            for name in os.listdir(self.folder):
+                path = os.path.join(self.folder, name)
+                shutil.rmtree(path) if os.path.isdir(path) else os.remove(path)
+        self.assertIn("backups/2026-11-27. ", self.lost(*copies).replace("; ", ". "))
+        self.assertIsNone(self.lost(("book", b"x" * 4096)), "a book that is there")
+
+    def test_no_new_book_takes_the_name_of_one_whose_server_runs(self):
+        for is_new_wanted in (False, True):
+            said = self.lost(is_new_wanted=is_new_wanted, is_away=True)
+            self.assertEqual(said, "the book of radacctd.service is not at its name")
+
+    def test_the_set_up_asks_for_a_lost_book_before_all_else(self):
+        """So the mark of an earlier one is still there, and a dry run says it, too."""
+        for words in ([], ["--dry-run"], ["--new-book"]):
+            given = setup.parser().parse_args([*words, "site.toml"])
+            lost = mock.Mock(side_effect=steps.Failed("lost"))
+            with mock.patch.object(alone, "refuse_if_lost", lost), \
+                    self.assertRaises(steps.Failed):
+                setup.do(given, None)
+            lost.assert_called_once_with(words == ["--new-book"])
+
     def test_a_sample_that_is_missing_empties_no_file(self):
         with mock.patch.object(places, "shared", lambda *_: self.path):
-            for change in (lambda: web.server(self.wanted()), lambda: front.settings(None, "x"),
-                           lambda: list(web.logs())):
+            for change in (lambda: web.server(self.wanted()), lambda: list(web.logs()),
+                           lambda: front.settings(None, self.wanted(), "x")):
                 self.assertRaises(OSError, change)
 
     def test_a_secret_that_cannot_be_found_is_not_written_as_none(self):
         with mock.patch.object(freeradius, "text", lambda *_: ""):
             self.assertRaises(steps.Failed, front.secret_of, "lobby")
+
+
+RADIUSD = """prefix = /usr
+raddbdir = {}
+confdir = ${{raddbdir}}
+$INCLUDE proxy.conf
+$INCLUDE clients.conf
+modules {{
+}}
+"""
+CLIENTS = """client localhost {
+	ipaddr = 127.0.0.1
+	secret = testing123
+}
+# client gone { ipaddr = 10.0.0.1 }
+client wlc1 {
+	# A brace in a comment: }
+	ipaddr = 10.0.0.1
+	secret = "of wlc1"
+	limit {
+		max_connections = 16
+	}
+}
+client halls {
+	ipaddr = 10.1.0.0/16
+	secret = of-the-halls-of-residence
+}
+"""
+SERVER = """server eduroam {
+listen {
+	type = auth
+	port = 1812
+}
+listen {
+	type = acct
+}
+authorize {
+	filter_username
+	suffix
+}
+accounting {
+	detail
+	sql
+	-sql
+}
+post-auth {
+	if (1) {
+		noop
+	}
+}
+}
+"""
+
+class Existing(Folder):
+    """A FreeRADIUS that a campus has."""
+
+    def setUp(self):
+        super().setUp()
+        patch = mock.patch.object(places, "RADDB", self.folder)
+        patch.start()
+        self.addCleanup(patch.stop)
+        for name in ("sites-enabled", "sites-available", "mods-enabled", "mods-available"):
+            os.mkdir(os.path.join(self.folder, name))
+        self.put("radiusd.conf", RADIUSD.format(self.folder))
+        self.put("clients.conf", CLIENTS)
+        self.put("proxy.conf", "realm LOCAL {\n}\n")
+        self.put("sites-enabled/eduroam", SERVER)
+
+    def put(self, name, text):
+        self.write(text.encode(), path=os.path.join(self.folder, name))
+
+    def wanted(self, *servers, **more):
+        return answers.Answers({"plan": [PLAN], "access_server": list(servers), **more})
+
+    def changed(self, name, change):
+        path = os.path.join(self.folder, name)
+        text = self.read(path).decode()
+        return change(text)
+
+    def test_a_client_that_is_there_keeps_its_place_and_its_secret(self):
+        one = {"name": "wlc", "address": "10.0.0.1", "vendor": "aruba"}
+        wanted = self.wanted(one)
+        text = front.clients(None, wanted)
+        self.assertNotIn("client wlc ", text)
+        [(name, block)] = freeradius.HOME_SERVER.findall(text)
+        self.assertEqual((name, freeradius.value(block, "secret"), freeradius.value(block, "port")),
+                         ("cut-10.0.0.1", "of wlc1", "3799"))
+        self.assertEqual(front.clients(text, wanted), text)
+        self.assertEqual(front.secret_of("wlc", "10.0.0.1"), "of wlc1")
+        found = self.changed("clients.conf", lambda it: front.with_lines(it, "clients.conf", wanted))
+        lines = "\tradacctd_quota = none\n\tradacctd_cut = yes\n\tradacctd_stamp = name\n}\n"
+        self.assertEqual(found, CLIENTS.replace("16\n\t}\n}\n", "16\n\t}\n" + lines))
+        self.put("clients.conf", found)
+        self.assertEqual(front.with_lines(found, "clients.conf", wanted), found)
+
+    def test_a_part_of_a_network_keeps_its_secret(self):
+        text = front.clients(None, self.wanted({"name": "b", "address": "10.1.2.3"}))
+        found = dict(freeradius.CLIENT.findall(text))
+        self.assertEqual(freeradius.value(found["b"], "secret"), "of-the-halls-of-residence")
+
+    def test_a_client_of_the_same_name_elsewhere_is_told(self):
+        wanted = self.wanted({"name": "halls", "address": "10.2.0.0/16"})
+        self.assertRaisesRegex(steps.Failed, "halls", front.clients, None, wanted)
+
+    def test_a_client_that_is_left_out_is_no_access_server(self):
+        self.put("clients.conf", CLIENTS.replace("\tlimit", "\tradacctd = no\n\tlimit"))
+        wanted = self.wanted({"name": "wlc", "address": "10.0.0.1"})
+        self.assertRaisesRegex(steps.Failed, "radacctd = no", self.changed, "clients.conf",
+                               lambda it: front.with_lines(it, "clients.conf", wanted))
+
+    def test_a_home_server_that_is_there_is_enough(self):
+        self.put("proxy.conf", "home_server x {\n\ttype = coa\n\tipaddr = 10.0.0.1\n}\n")
+        wanted = self.wanted({"name": "wlc", "address": "10.0.0.1", "vendor": "cisco"})
+        self.assertNotIn("home_server", front.clients(None, wanted))
+
+    def test_kinds(self):
+        found = {it: [{"name": "x", "address": "10.0.9.9", "vendor": it}] for it in answers.VENDORS}
+        texts = {it: front.clients(None, self.wanted(*rows)) for it, rows in found.items()}
+        ports = {it: freeradius.value(text.split("home_server ")[-1], "port")
+                 for it, text in texts.items()}
+        self.assertEqual((ports["cisco"], ports["aruba"], ports["other"]), ("1700", "3799", ""))
+        stamps = {it: freeradius.value(text, "radacctd_stamp") for it, text in texts.items()}
+        self.assertEqual((stamps["mikrotik"], stamps["cisco"]), ("login", "name"))
+
+    def test_the_virtual_server_that_is_live(self):
+        path = os.path.join(self.folder, "sites-enabled/eduroam")
+        self.assertEqual(front.outer(self.wanted()), [path])
+        found = self.changed("sites-enabled/eduroam",
+                             lambda it: front.default(it, self.wanted(), path))
+        bare = freeradius.without_comments(found)
+        self.assertEqual(freeradius.section(bare, "accounting").split()[:2],
+                         ["radacctd_accounting", "detail"])
+        self.assertEqual(freeradius.section(bare, "post-auth").split()[0], "radacctd_login")
+        self.assertEqual(freeradius.section(bare, "authorize").split()[0], "filter_username")
+        self.assertEqual(front.default(found, self.wanted(), path), found)
+
+    def test_one_that_a_link_leads_to(self):
+        self.put("sites-available/own", SERVER.replace("eduroam", "own"))
+        os.remove(os.path.join(self.folder, "sites-enabled/eduroam"))
+        os.symlink("../sites-available/own", os.path.join(self.folder, "sites-enabled/own"))
+        path = os.path.join(self.folder, "sites-available/own")
+        self.assertEqual(front.outer(self.wanted()), [path])
+
+    def test_several_are_told(self):
+        self.put("sites-enabled/more", SERVER.replace("eduroam", "more"))
+        self.assertRaisesRegex(steps.Failed, "eduroam, more", front.outer, self.wanted())
+        found = front.outer(self.wanted(virtual_servers=["more"]))
+        self.assertEqual(found, [os.path.join(self.folder, "sites-enabled/more")])
+
+    def test_the_doctor_knows_lines_of_another_form(self):
+        lines = "accounting {\n\tif (!&control:Proxy-To-Realm) {\n\t\tradacctd_accounting\n\t}\n"
+        lines = SERVER.replace("accounting {\n", lines)
+        right = front.default(SERVER, self.wanted(), "x")
+        late = SERVER.replace("detail", "detail\n\tradacctd_accounting")
+        for text, count in ((SERVER, 2), (lines, 1), (right, 0), (late, 2)):
+            self.put("sites-enabled/eduroam", text)
+            self.assertEqual(len(list(doctor_front.lines())), count)
+        # Another virtual server, for others, is no fault.
+        self.put("sites-enabled/more", SERVER.replace("eduroam", "more"))
+        self.put("sites-enabled/eduroam", right)
+        self.assertEqual(list(doctor_front.lines()), [])
+        self.assertEqual(freeradius.selling(), ["eduroam"])
+
+    def test_both_lines_of_the_database_are_taken_out(self):
+        wanted = {"password_file": "/root/x"}
+        for more, left in (({}, []), ({"accounting": True}, ["sql", "-sql"])):
+            text = front.default(SERVER, self.wanted(sql={**wanted, **more}), "x")
+            words = freeradius.section(freeradius.without_comments(text), "accounting").split()
+            self.assertEqual(words, ["radacctd_accounting", "detail", *left])
+
+    def test_a_module_of_the_site_stays(self):
+        place = os.path.join(self.folder, "mods-enabled/sql")
+        self.put("mods-available/sql", 'sql {\n\tdialect = "postgresql"\n}\n')
+        wanted = self.wanted(sql={"password_file": self.path})
+        self.write(b"a-password\n")
+        self.assertEqual([it.path for it in sql.of(wanted)], [place])
+        os.symlink("../mods-available/sql", place)
+        self.assertEqual(list(sql.of(wanted)), [])
+        os.remove(place)
+        shutil.copy(os.path.join(self.folder, "mods-available/sql"), place)
+        self.assertEqual(list(sql.of(wanted)), [])
+        self.put("mods-enabled/sql", sql.OURS + "\nsql {\n}\n")
+        self.assertEqual(len(list(sql.of(wanted))), 1)
+
+    def test_what_was_put_in_is_taken_out(self):
+        servers = {"x": SERVER.replace("\t-sql\n", ""), "y": SERVER.replace("\tsql\n", "")}
+        packages = {"packages": True, "sql": {"password_file": "/root/x"}}
+        for name, text in servers.items():
+            more = "preacct {\n}\npost-auth {\n\tPost-Auth-Type REJECT {\n\t}\n"
+            text = text.replace("post-auth {\n", more)
+            found = front.default(text, self.wanted(**packages), name)
+            self.assertNotEqual(found, text)
+            self.assertEqual(away.lines_out(found), text)
+        text = RADIUSD.format(self.folder)
+        pair = {"own": "10.9.0.5", "other": "10.9.0.6"}
+        for more in ({"pair": pair}, {"packages": True}):
+            found = away.includes_out(front.main(text, self.wanted(**more)))
+            self.assertEqual(found.replace(f"$INCLUDE {away.CLIENTS}\n", ""), text)
+        text = "# mine\nal Cleartext-Password := x\n"
+        self.assertEqual(away.test_user_out(front.users(text)), text)
+        wanted = self.wanted({"name": "ap", "address": "10.0.0.2"})
+        books = {"address": "127.0.0.9", "secret": "x" * 32}
+        found = away.own_clients_out(front.clients(None, wanted, books))
+        self.assertEqual([name for name, _ in freeradius.CLIENT.findall(found)], ["ap"])
+
+    def test_a_link_goes_and_a_file_is_kept(self):
+        os.symlink("/usr/share/x", self.path)
+        step = away.Gone(self.path)
+        self.assertFalse(step.is_done())
+        step.do()
+        self.assertTrue(step.is_done())
+        self.write(b"mine\n")
+        step.do()
+        [kept] = [it for it in os.listdir(self.folder) if it.startswith("file~before-")]
+        self.assertEqual(self.read(os.path.join(self.folder, kept)), b"mine\n")
+
+    def test_what_waits_is_waited_for(self):
+        left = [{"radacctd_queue_reports": [({"queue": "a"}, count)]} for count in (2.0, 1.0, 0.0)]
+        with mock.patch.object(away.counts, "counted", lambda: left.pop(0)):
+            with mock.patch.object(away.time, "sleep"):
+                away.drain()
+        with mock.patch.object(away, "waiting", lambda: 3), mock.patch.object(away, "PATIENCE", -1):
+            self.assertRaisesRegex(steps.Failed, "3 reports wait", away.drain)
+
+    def test_what_a_file_names_is_there_before_it(self):
+        names = ("sites-available/default", "sites-enabled/radacctd", "policy.d/radacctd",
+                 "mods-enabled/radacctd", "radiusd.conf", "radacctd/settings.conf", "clients.conf")
+        found = [steps.Link(os.path.join(self.folder, it), "x") for it in names]
+        self.assertEqual([it.path for it in sorted(found, key=front.rank)][2:],
+                         [os.path.join(self.folder, it) for it in reversed(names[:5])])
+
+
+@NEEDS_ROOT
+@unittest.skipUnless(shutil.which("freeradius") and os.path.isdir("/etc/freeradius/3.0"),
+                     "freeradius is missing")
+class Trying(Folder):
+    """A fault that FreeRADIUS finds leaves all files as they were."""
+
+    def test_a_fault_changes_nothing(self):
+        raddb = os.path.join(self.folder, "raddb")
+        steps.given(["cp", "-a", "/etc/freeradius/3.0", raddb])
+        path = os.path.join(raddb, "clients.conf")
+        before = self.read(path)
+        with mock.patch.object(places, "RADDB", raddb):
+            for more, is_right in (("client x {\n}\n", False), ("# right\n", True)):
+                step = steps.File(path, lambda old, more=more: old.replace("# right\n", "") + more)
+                trial = steps.Trial([step])
+                self.assertFalse(trial.is_done())
+                if is_right:
+                    trial.do()
+                else:
+                    self.assertRaisesRegex(steps.Failed, "none was changed", trial.do)
+                self.assertEqual(self.read(path), before)
+        self.assertFalse(os.path.exists(steps.TRIAL))
 
 
 @NEEDS_ROOT
@@ -183,6 +505,41 @@ class Certificates(Folder):
         self.assertEqual([it.split("~")[0] for it in self.kept()], ["own.key", "own.pem"])
         self.assertEqual(self.read(os.path.join(self.folder, self.kept()[1])),
                          b"a bought certificate\n")
+
+
+class Cashiers(Folder):
+    def test_one_who_is_not_in_the_answers_is_told(self):
+        """Setup ends no login by itself: of a site that was set up by hand it knows no cashier."""
+        self.write(b"# ours: two\nanna:$2y$x\ncarla:$2y$y\nde luca:$2y$z\n",
+                   path=os.path.join(self.folder, "cashiers"))
+        words = {"name": "x", "currency": "EUR", "decimals": 2, "plan": [PLAN], "server": "10.0.0.5"}
+        told = lambda **more: list(web.others(answers.Answers({**words, **more})))
+        with mock.patch.object(web, "FOLDER", self.folder):
+            found = told(host="a.example.org", cashiers=["anna", "ben"])
+            self.assertEqual([it.split(" may ")[0] for it in found], ["carla", "de luca"])
+            self.assertIn(f"htpasswd -D {self.folder}/cashiers carla", found[0])
+            self.assertIn(f"htpasswd -D {self.folder}/cashiers 'de luca'", found[1])
+            left = told(host="a.example.org", cashiers=["anna", "carla"])
+            self.assertEqual(left, found[1:])
+            self.assertEqual(told(), [])
+
+
+class Once(Folder):
+    """A file with secrets that a person took away is not written again, unless it is another."""
+
+    @NEEDS_ROOT
+    def test_it_is_written_once(self):
+        found = {"text": "one\n"}
+        with mock.patch.object(pair, "WRITTEN", self.path + ".written"):
+            step = pair.Once(self.path, lambda _: found["text"], 0o600)
+            for text in ("one\n", "two\n"):
+                found["text"] = text
+                self.assertFalse(step.is_done())
+                step.do()
+                self.assertEqual(self.read(), text.encode())
+                self.assertTrue(step.is_done())
+                os.remove(self.path)
+                self.assertTrue(step.is_done())
 
 
 class Proving(unittest.TestCase):
@@ -236,7 +593,7 @@ class Others(Folder):
 
     def test_a_file_of_debits_with_an_endless_field_is_refused(self):
         self.write(b'account,sum,number\n"' + b"x" * 200_000)
-        self.assertRaises(debit.Refused, debit.debits_of, self.path)
+        self.assertRaises(debits.Refused, debit.debits_of, self.path)
 
 
 if __name__ == "__main__":

@@ -14,7 +14,7 @@ URL = "https://accounts.example.org/redeem/"
 
 def sheet(count=3, name="Hotel"):
     codes = [f"ACDEF-HJKMN-PQR{at:02d}" for at in range(count)]
-    return sheets.sheet(codes, [name, "5.00 EUR", "one", "two"], URL)
+    return sheets.money(codes, [name, "5.00 EUR", "one", "two"], URL)
 
 
 class Bars(unittest.TestCase):

@@ -1,0 +1,43 @@
+"""Who types the commands of an operator's page: the script that reads it and runs its steps, or a
+person, and why. docs/BENCHES.md has the table.
+"""
+
+# The scripts that run a page's commands, by its name.
+RUN = {
+    "DESK": "interop/desk_page.py",
+    "FORWARD": "interop/pair_page.py",
+    "FREERADIUS": "interop/front_page.py",
+    "GONE": "interop/gone_page.py",
+    "INSTALL": "interop/install_page.py",
+    "PAIR": "interop/pair_page.py",
+    "SHARDS": "interop/shards_page.py",
+    "SITE": "interop/front_page.py",
+    "START": "interop/start",
+    "WATCHING": "interop/monitoring",
+}
+# Pages whose commands a person types, and why no script does.
+BY_HAND = {
+    "ACCESS-SERVERS": "each setting is of another maker's device: interop/access-servers",
+    "BOOK": "interop/backup, flips and run use the same commands over their own books",
+    "CLERK": "interop/clerk does each act, interop/packages the set-up's steps",
+    "DOCTOR": "interop/doctor breaks a site in each way of the page",
+    "DAMAGE": "each way needs damage of its own; interop/flips and interop/telling make some of it",
+    "FRONTDESK": "a clerk's page: no command",
+    "PACKAGES": "interop/packages runs each of its tools over a site of its own",
+    "README": "bin/try and bin/build run it",
+    "SEMANTICS": "what replies mean: its commands are those of other pages",
+    "SIZING": "it changes the kernel's settings",
+    "TROUBLE": "each symptom is another; interop/telling makes what it explains",
+    "VOUCHERS": "interop/tools runs each of its tools over sites of its own",
+}
+
+
+def rows(_checker):
+    """Each page for operators with the script that types its commands, or why a person does."""
+    yield "| Page | Its commands are typed by |"
+    yield "|---|---|"
+    for name in sorted({*RUN, *BY_HAND} - {"README"}):
+        yield f"| {name} | {f'`{RUN[name]}`' if name in RUN else f'a person: {BY_HAND[name]}'} |"
+
+
+MAKERS = {"followed": rows}

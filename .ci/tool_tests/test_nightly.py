@@ -1,0 +1,91 @@
+"""What the night's copy takes for a damaged book, and what only for a full disk or memory."""
+
+import os
+import shutil
+import subprocess
+import tempfile
+import unittest
+
+from tool_tests import ROOT
+
+# What each command of the program prints and ends with, by files of the test.
+PROGRAM = """#!/bin/sh
+if [ -e {0}/said.$1 ]; then cat {0}/said.$1 >&2; exit $(cat {0}/status.$1); fi
+echo "$1"
+"""
+BACKUP = '#!/bin/sh\nmkdir "$2" && echo book >"$2/book"\n'
+SITE = """#!/bin/sh
+case $1 in
+    plans) echo '# plans' ;;
+    save) echo site >"$2" ;;
+esac
+"""
+
+
+class Night(unittest.TestCase):
+    def setUp(self):
+        folder = tempfile.TemporaryDirectory()
+        self.addCleanup(folder.cleanup)
+        self.folder = folder.name
+        for name in ("sbin", "libexec/radacctd", "backups"):
+            os.makedirs(os.path.join(self.folder, name))
+        shutil.copy(os.path.join(ROOT, "etc/tools/radacctd-nightly"), self.place("sbin"))
+        shutil.copy(os.path.join(ROOT, "etc/as-owner"), self.place("libexec/radacctd"))
+        self.write("libexec/radacctd/book-is-there", "#!/bin/sh\n")
+        self.write("libexec/radacctd/radacctd", PROGRAM.format(self.folder))
+        self.write("sbin/radacctd-backup", BACKUP)
+        self.write("sbin/radacctd-site", SITE)
+        self.write("radacctd.toml", "# a configuration\n")
+
+    def place(self, name):
+        return os.path.join(self.folder, name)
+
+    def write(self, name, text):
+        with open(self.place(name), "w", encoding="ascii") as file:
+            file.write(text)
+        os.chmod(self.place(name), 0o755)
+
+    def night(self, **faults):
+        """The status, what was said, and the names in the folder of copies."""
+        for command, (text, status) in faults.items():
+            self.write(f"said.{command}", text)
+            self.write(f"status.{command}", str(status))
+        more = {"RADACCTD_BACKUPS": self.place("backups"), "RADACCTD_BOOK": self.place("book"),
+                "RADACCTD_CONFIG": self.place("radacctd.toml"),
+                "RADACCTD_JOURNAL": self.place("none")}
+        done = subprocess.run([self.place("sbin/radacctd-nightly")], capture_output=True, text=True,
+                              env={**os.environ, **more})
+        names = [it for it in os.listdir(self.place("backups")) if it not in ("exports", ".lock")]
+        return done.returncode, done.stdout + done.stderr, names
+
+    def test_a_sound_copy(self):
+        status, said, names = self.night()
+        self.assertEqual((status, len(names)), (0, 1), said)
+        self.assertRegex(names[0], r"^\d{4}-\d\d-\d\d$")
+
+    def test_a_book_that_is_damaged(self):
+        for text in ("db: Unbalanced\n", "db: cannot open\n", "db: Unavailable\n"):
+            status, said, names = self.night(check=(text, 3))
+            self.assertEqual((status, len(names)), (1, 1), said)
+            self.assertRegex(names[0], r"\.bad$")
+            self.assertIn(text.strip(), said)
+
+    def test_what_is_no_damage(self):
+        for command, text, status, why in (
+            ("check", "db: Memory\n", 3, "without more memory"),
+            ("check", "out of memory\n", 3, "without more memory"),
+            ("export", "out of memory\n", 3, "without more memory"),
+            ("check", "", 137, "without more memory"),
+            ("export", "", 1, "exports can't be written"),
+        ):
+            for it in ("said.check", "said.export"):
+                if os.path.exists(self.place(it)):
+                    os.remove(self.place(it))
+            found, said, names = self.night(**{command: (text, status)})
+            self.assertEqual((found, names), (1, []), said)
+            self.assertIn(why, said)
+            self.assertIn("there is no copy of this night, and no older one was removed", said)
+
+
+if __name__ == "__main__":
+    unittest.main()

@@ -1,0 +1,102 @@
+"""The version that all of it says, and the units: each is shut in as the server is."""
+
+import glob
+import os
+import re
+import unittest
+
+from tool_tests import ROOT
+
+# What shuts a service in. radacctd.service has all of it, and each other one as much but for these.
+SHUT_IN = """NoNewPrivileges SystemCallArchitectures SystemCallErrorNumber MemoryDenyWriteExecute
+    LockPersonality RestrictNamespaces RestrictRealtime RestrictSUIDSGID KeyringMode ProtectSystem
+    ProtectHome PrivateTmp PrivateDevices DevicePolicy PrivateUsers ProtectProc ProcSubset RemoveIPC
+    ProtectClock ProtectControlGroups ProtectHostname ProtectKernelLogs ProtectKernelModules
+    ProtectKernelTunables UMask SystemCallFilter CapabilityBoundingSet""".split()
+# Root's: it works in folders of other users, as these, and looks at their processes.
+ROOTS = {"PrivateUsers", "ProcSubset", "RemoveIPC", "CapabilityBoundingSet", "SystemCallFilter"}
+EXCEPTIONS = {
+    "radacctd-balances-from@.service": ROOTS | {"ProtectProc", "ProtectHome", "UMask"},
+    "radacctd-clerk-work@.service": ROOTS | {"ProtectProc"},
+    # It gives systemd an order, reads /proc/stat, and has no right and no network.
+    "radacctd-clock.service": {"PrivateUsers", "ProcSubset", "RemoveIPC", "ProtectProc"},
+    # A group reads what it writes.
+    "radacctd-compare.service": {"UMask"},
+    "radacctd-shards.service": {"UMask"},
+    "radacctd-doctor.service": ROOTS | {"ProtectProc"},
+    # The doctor, too.
+    "radacctd-faults.service": ROOTS | {"ProtectProc"},
+    "radacctd-forward.service": ROOTS,
+    # Everybody reads the counts. FreeRADIUS has the same user: what it shares is not to be removed.
+    "radacctd-front.service": {"UMask", "PrivateUsers", "RemoveIPC"},
+    # The same. It reads which boot this is from /proc/sys.
+    "radacctd-mirror.service": {"PrivateUsers", "RemoveIPC", "ProcSubset"},
+    "radacctd-key.service": ROOTS | {"ProtectProc"},
+    # A command of the site, where the site says.
+    "radacctd-nightly.service": ROOTS | {"ProtectSystem", "ProtectHome"},
+    "radacctd-packages.service": ROOTS | {"ProtectProc", "ProtectHome"},
+}
+
+
+def text(*names):
+    with open(os.path.join(ROOT, *names), encoding="utf-8") as file:
+        return file.read()
+
+
+class Version(unittest.TestCase):
+    """Program, package and pages say one version; the changelogs move together."""
+
+    def test_all_say_the_same(self):
+        says = re.search(r'radacctd_build_info\{version=\\"([\d.]+)\\"', text(
+            "crates", "acct_program_commands", "src", "figures.rt"))[1]
+        packaged = re.match(r"radacctd \(([\d.]+)(\+\d+)?\) ", text("etc", "package", "changelog"))
+        heading = re.search(r"(?m)^## (Since )?([\d.]+)\b", text("CHANGELOG.md"))
+        self.assertEqual((packaged[1], heading[2]), (says, says))
+        # What is not released yet is a package that is newer than the release.
+        self.assertEqual(bool(packaged[2]), bool(heading[1]))
+        for path in glob.glob(os.path.join(ROOT, "docs", "*.md")):
+            found = re.findall(r"\bradacctd[ _]v?(\d+\.\d+\.\d+)\b", text(path))
+            self.assertEqual([it for it in found if it != says], [], path)
+
+
+class Units(unittest.TestCase):
+    def settings(self, path):
+        found = {}
+        whole = text(path).replace("@shut-in@\n", text("etc", "shut-in")).replace("\\\n", " ")
+        for name, value in re.findall(r"(?m)^(\w+)=(.*)$", whole):
+            found.setdefault(name, []).append(" ".join(value.split()))
+        return found
+
+    def test_each_is_shut_in_as_the_server_is(self):
+        paths = glob.glob(os.path.join(ROOT, "etc", "**", "*.service"), recursive=True)
+        wanted = self.settings(os.path.join(ROOT, "etc", "radacctd.service"))
+        self.assertEqual(set(SHUT_IN) - set(wanted), set())
+        for path in paths:
+            name, found = os.path.basename(path), self.settings(path)
+            differs = {it for it in SHUT_IN if found.get(it) != wanted[it]}
+            self.assertEqual(differs, EXCEPTIONS.get(name, set()), name)
+
+    def test_what_an_exception_leaves(self):
+        """Root's units have a list of rights and of calls, too, and may write in few places."""
+        for path in glob.glob(os.path.join(ROOT, "etc", "**", "*.service"), recursive=True):
+            name, found = os.path.basename(path), self.settings(path)
+            self.assertEqual(found["SystemCallFilter"][0], "@system-service", name)
+            self.assertEqual(len(found["CapabilityBoundingSet"]), 1, name)
+            self.assertNotIn("CAP_SYS_ADMIN", found["CapabilityBoundingSet"][0], name)
+            self.assertIn(found["ProtectSystem"], (["strict"], ["full"]), name)
+
+
+class Files(unittest.TestCase):
+    def test_none_is_a_link(self):
+        """The gate takes no link."""
+        for folder, folders, files in os.walk(ROOT):
+            if os.path.basename(folder) in (".git", "out"):
+                folders.clear()
+                continue
+            for name in folders + files:
+                path = os.path.join(folder, name)
+                self.assertFalse(os.path.islink(path), os.path.relpath(path, ROOT))
+
+
+if __name__ == "__main__":
+    unittest.main()

@@ -1,0 +1,117 @@
+"""What a comparison of a pair's books says of two clocks, and when it is over."""
+
+import contextlib
+import importlib.machinery
+import importlib.util
+import io
+import json
+import os
+import socket
+import tempfile
+import threading
+import time
+import unittest
+from unittest import mock
+
+from tool_tests import ROOT
+
+
+def load():
+    path = os.path.join(ROOT, "etc", "pair", "radacctd-compare")
+    loader = importlib.machinery.SourceFileLoader("compare", path)
+    spec = importlib.util.spec_from_loader("compare", loader)
+    module = importlib.util.module_from_spec(spec)
+    loader.exec_module(module)
+    return module
+
+
+COMPARE = load()
+HOUR = 3600
+
+
+def state(moment, balances, **more):
+    """A machine's state, in which nothing waits."""
+    return {"sampled": moment, "faults": [], "to_other": None, "to_own": None, "limits": 0,
+            "outbox": {"oldest": None, "alarms": []}, "plans": [],
+            "book": (moment, dict(balances)), **more}
+
+
+class Pair(unittest.TestCase):
+    def setUp(self):
+        folder = tempfile.TemporaryDirectory()
+        self.addCleanup(folder.cleanup)
+        self.folder = folder.name
+
+    def turn(self, here, there):
+        words = mock.Mock(state=self.folder, margin=5, quiet=False)
+        it = COMPARE.Turn(here, there, words)
+        it.run()
+        return it
+
+    def copied(self):
+        with open(os.path.join(self.folder, "balances.csv"), encoding="ascii") as file:
+            return file.read().splitlines()[1:]
+
+    def test_another_clock_is_told_and_its_balances_are_not_taken(self):
+        now = time.time()
+        for apart, said in ((HOUR, "ahead"), (-HOUR, "behind"), (3, None)):
+            there = state(now + apart, {"al": 7}, apart=apart)
+            it = self.turn(state(now - 30, {"al": 5}), there)
+            wanted = [f"there: the clock is 3600 s {said}"] if said else []
+            self.assertEqual([line for line in it.faults if "clock" in line], wanted)
+            if said:
+                self.assertEqual(self.copied(), ["al,5,0"])
+
+    def test_by_one_clock_those_of_the_further_book_are_taken(self):
+        now = time.time()
+        self.turn(state(now - 60, {"al": 5}), state(now, {"al": 7}, apart=0))
+        self.assertEqual(self.copied(), ["al,7,0"])
+
+    def asked(self, ahead):
+        """What is read of another machine whose clock is so far ahead."""
+        with socket.create_server(("127.0.0.1", 0)) as server:
+            def answer():
+                opened, _ = server.accept()
+                with opened:
+                    opened.sendall(json.dumps({"sampled": time.time() + ahead}).encode())
+            thread = threading.Thread(target=answer)
+            thread.start()
+            found = COMPARE.there_at(server.getsockname())
+            thread.join()
+        return found["apart"]
+
+    def test_how_far_it_is(self):
+        for ahead in (HOUR, -HOUR):
+            self.assertAlmostEqual(self.asked(ahead), ahead, delta=5)
+        self.assertEqual(self.asked(0), 0)
+
+    def settle(self, *pairs):
+        """What --settle prints and returns if both machines have these balances, turn by turn."""
+        moments = iter(range(0, 10_000, 20))
+        left, now = list(pairs), time.time()
+
+        def state_of(_):
+            one, other = left.pop(0) if len(left) > 1 else left[0]
+            moment = now + next(moments)
+            return {**state(moment, one), "there": state(moment, other, apart=0)}
+
+        words = ["x", "--other", "127.0.0.1:1", "--settle", "--state", self.folder]
+        said = io.StringIO()
+        with mock.patch.object(COMPARE, "state_of", state_of), mock.patch("sys.argv", words):
+            with mock.patch.object(COMPARE.time, "sleep"), contextlib.redirect_stdout(said):
+                status = COMPARE.main()
+        return status, said.getvalue()
+
+    def test_it_is_over_once_all_of_before_is_in_both(self):
+        status, said = self.settle(({"al": 500}, {"al": 111}), ({"al": 500}, {"al": 111}),
+                                   ({"al": 500}, {"al": 500}))
+        self.assertEqual(status, 0)
+        self.assertIn("still moving 0; compared until", said)
+
+    def test_it_is_over_once_they_differ_for_good(self):
+        self.assertEqual(self.settle(({"al": 500}, {"al": 111})),
+                         (1, "account al: 500 here, 111 there\n"))
+
+
+if __name__ == "__main__":
+    unittest.main()

@@ -1,0 +1,104 @@
+"""What a restore takes: a copy that was refused, or has wrong balances, only if it is asked to."""
+
+import os
+import shutil
+import subprocess
+import tempfile
+import unittest
+
+from tool_tests import ROOT
+
+# What `check` prints and ends with, by the file `fault`, if it is asked for an audit.
+PROGRAM = """#!/bin/sh
+case " $* " in
+    *' --audit '*)
+        if [ -s {0}/fault ]; then
+            echo 'al: balance 480, vouchers 501'
+            cat {0}/fault >&2
+            exit 3
+        fi
+        ;;
+esac
+echo "$@" >>{0}/words
+for it; do if [ "$before" = --config ]; then cat "$it" >{0}/plans; fi; before=$it; done
+"""
+
+
+class Restore(unittest.TestCase):
+    def setUp(self):
+        folder = tempfile.TemporaryDirectory()
+        self.addCleanup(folder.cleanup)
+        self.folder = folder.name
+        tools = os.path.join(self.folder, "libexec/radacctd")
+        os.makedirs(tools)
+        os.mkdir(os.path.join(self.folder, "sbin"))
+        for name in ("as-owner", "restore"):
+            shutil.copy(os.path.join(ROOT, "etc", name), tools)
+        # No process has the book.
+        self.write("libexec/radacctd/holders", "#!/bin/sh\n", 0o755)
+        self.write("libexec/radacctd/radacctd", PROGRAM.format(self.folder), 0o755)
+        self.write("sbin/radacctl", "#!/bin/sh\necho '# plans of the copy'\n", 0o755)
+        for name in ("2026-11-26", "2026-11-27.bad", "now"):
+            os.mkdir(os.path.join(self.folder, name))
+            self.write(f"{name}/book", name)
+
+    def write(self, name, text, mode=0o600):
+        path = os.path.join(self.folder, name)
+        with open(path, "w", encoding="ascii") as file:
+            file.write(text)
+        os.chmod(path, mode)
+
+    def text(self, name):
+        with open(os.path.join(self.folder, name), encoding="ascii") as file:
+            return file.read()
+
+    def restored(self, *words):
+        """The status, what was printed, and the copy that is the book now."""
+        *options, copy = words
+        place = lambda name: os.path.join(self.folder, name)
+        command = [place("libexec/radacctd/restore"), *options, place(copy), place("now/book")]
+        done = subprocess.run(command, capture_output=True, text=True)
+        return done.returncode, done.stdout + done.stderr, self.text("now/book")
+
+    def test_a_copy_that_was_refused(self):
+        status, said, book = self.restored("2026-11-27.bad")
+        self.assertEqual((status, book), (1, "now"))
+        self.assertIn("take an older copy. If there is none: --unsound", said)
+        # A stroke at the end makes it no other copy.
+        self.assertEqual(self.restored("2026-11-27.bad/")[::2], (1, "now"))
+        self.assertEqual(self.restored("--unsound", "2026-11-27.bad")[::2], (0, "2026-11-27.bad"))
+
+    def test_a_copy_with_wrong_balances(self):
+        self.write("fault", "db: Unbalanced\n")
+        status, said, book = self.restored("2026-11-26")
+        self.assertEqual((status, book), (1, "now"))
+        self.assertIn("wrong balances", said)
+        self.assertIn("al: balance 480", said)
+        self.assertEqual(os.listdir(os.path.join(self.folder, "now")), ["book"])
+        self.assertEqual(self.restored("--unsound", "2026-11-26")[::2], (0, "2026-11-26"))
+
+    def test_a_sound_copy_is_audited_by_its_own_plans(self):
+        self.assertEqual(self.restored("2026-11-26")[::2], (0, "2026-11-26"))
+        self.assertIn(" --audit ", self.text("words"))
+        self.assertEqual(self.text("plans"), "# plans of the copy\n")
+
+    def test_a_copy_that_cannot_be_audited(self):
+        os.remove(os.path.join(self.folder, "sbin/radacctl"))
+        self.write("fault", "db: PlansDiffer\n")
+        status, said, book = self.restored("2026-11-26")
+        self.assertEqual((status, book), (0, "2026-11-26"))
+        self.assertIn("its balances were not audited", said)
+
+    def test_the_plans_of_a_configuration(self):
+        self.write("config", "# another one\n")
+        config = os.path.join(self.folder, "config")
+        for words in (("--config", config), ("--config", config, "--unsound")):
+            self.assertEqual(self.restored(*words, "2026-11-26")[0], 0, words)
+            self.assertEqual(self.text("plans"), "# another one\n")
+        self.write("fault", "db: PlansDiffer\n")
+        self.assertEqual(self.restored("--config", config, "2026-11-27.bad")[0], 1)
+        self.assertEqual(self.restored("--config", config, "--unsound", "2026-11-27.bad")[0], 1)
+
+
+if __name__ == "__main__":
+    unittest.main()
