@@ -115,7 +115,6 @@ KEPT = {
     ),
     "docs/SIZING.md": (
         "nothing of what was written; other octets of the sector stay",
-        "If one stops trying, that report is lost until the session's next report",
         "the kernel drops the rest",
     ),
     "docs/START.md": (
@@ -128,6 +127,8 @@ KEPT = {
         "Delete nothing in `/var/lib/radacctd`",
         "A restart fails",
         "FreeRADIUS keeps them in its queue",
+        "that report is lost until the session's next report",
+        "what it used since the last answered one is lost",
         "look for the book first, then give `init` again",
         "do not sell it again",
         "Moments will be wrong, balances not",

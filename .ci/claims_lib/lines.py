@@ -44,7 +44,8 @@ LINES = {
          "the changed file cannot be read, or is a named pipe"),
     ],
     "{what}: {fault}": [
-        ("status: cannot write", "that file cannot be written; printed once until it can"),
+        ("status: cannot write", "that file cannot be written; printed once until it can. Look at space"
+         " and rights of its folder"),
         ("balances: cannot write", "the same"),
         ("balances: db: Unavailable", "the balances could not be read"),
         ("balances: db: Memory", "the same"),

@@ -78,29 +78,42 @@ def metrics(checker, side):
 RULES = "etc/monitoring/radacctd.rules.yml"
 
 
+def labelled(text):
+    """A text of an alert as the page has it: labels in capitals, N for the value, no machine."""
+    machine = r"\{\{ \$labels\.instance \}\}"
+    text = re.sub(rf" on {machine}| \({machine}\)", "", text)
+    text = re.sub(r"\{\{ \$labels\.(\w+) \}\}", lambda it: it[1].upper(), text)
+    return re.sub(r"\{\{ \$value[^}]*\}\}", "N", text).replace("|", "\\|")
+
+
 def alert_of(part):
-    """A rule: its name, its severity, what to do first, and the page with its heading."""
+    """A rule: its name, its severity, what it means, what to do first, the page and its heading."""
     name = re.search(r"alert: (\w+)", part)[1]
     severity = re.search(r"severity: (\w+)", part)[1]
+    summary = re.search(r'summary: "?(.*?)"?\n', part)[1]
     about = re.search(r"description: (?:>-\n)?(.*?)(?=\n\s*\n|\n  [a-z-]|\Z)", part, re.S)[1]
     about = " ".join(about.split())
     first = re.search(r"First: (.*?)(?:\. (?=[A-Z`{])|\.$|$)", about)
-    first = re.sub(r"\{\{ \$labels\.(\w+) \}\}", lambda it: it[1].upper(), first[1] if first else "")
     page = re.search(r'docs/([A-Z-]+)\.md, "([^"]+)"', about)
-    return name, severity, first.replace("|", "\\|"), page[1], page[2]
+    return name, severity, labelled(summary), labelled(first[1] if first else ""), page[1], page[2]
 
 
 def alerts(_checker):
     """The alerts, the critical ones first."""
     found = [alert_of(it) for it in re.split(r"\n(?= +- alert: )", text_of(RULES))[1:]]
-    yield row("Alert", "Severity", "What to do first", "Read")
-    yield "|---|---|---|---|"
+    yield row("Alert", "Severity", "It means", "What to do first", "Read")
+    yield "|---|---|---|---|---|"
     for wanted in ("critical", "warning", "info"):
-        for name, severity, first, page, heading in found:
+        for name, severity, summary, first, page, heading in found:
             if severity == wanted:
                 anchor = re.sub(r"[^\w\- ]", "", heading.lower()).replace(" ", "-")
                 link = f"[{page}]({page}.md#{anchor})"
-                yield row(f"`{name}`", severity, first or "in the morning", link)
+                yield row(f"`{name}`", severity, summary, first or "in the morning", link)
+
+
+def layers(_checker):
+    """README's drawing of what is proved: that of docs/PROOFS.md, without names of contracts."""
+    yield from re.findall(r"^(    \w+ -> \w+ .*?)(?:: \w+)?$", text_of("docs/PROOFS.md"), re.M)
 
 
 def commands(_checker):
@@ -263,6 +276,7 @@ def files_with(checker, word):
 
 MAKERS = {
     "alerts": alerts,
+    "layers": layers,
     "files-with": files_with,
     "metrics": metrics,
     "commands": commands,
