@@ -5,15 +5,16 @@ A sentence with a word such as "never", "always" or "charged once" is followed b
     A reply means recorded, always. <!-- held: interop/kill: nothing answered is lost -->
 
 The words after the path stand in that file, as the name of a row or in a clause. So a promise whose
-test or clause goes, or is renamed, is found. Each row of docs/PROOFS.md on what is only tested
-names its test in the same way. An instruction ("Never copy one file alone") is no
-promise. If a sentence only looks like one, `<!-- no promise -->` follows it.
+test or clause goes, or is renamed, is found. In some parts each row or item has such a mark,
+whatever its words: what one can rely on, what is not found, what is only tested. Who promises that
+a report is charged once says what carrying forward does to that. An instruction ("Never copy one
+file alone") is no promise. If a sentence only looks like one, `<!-- no promise -->` follows it.
 """
 
 import os
 import re
 
-from claims_lib.style import made_lines
+from claims_lib.style import made_lines, plain
 from claims_lib.tree import ROOT, text_of
 
 OPERATORS = (
@@ -25,8 +26,25 @@ PROMISE = re.compile(
     r"\b(?:never|always|charged\s+once|credited\s+once|exactly\s+once|acts?\s+once|counts\s+once"
     r"|(?:nothing|none|no\s\w+)\b[^.;|]{0,40}?\bis\s+lost|loses\s+nothing|not\s+lost"
     r"|nobody\s+else\s+gets|(?:charges|credits|takes)\s+nothing"
-    r"|nothing\s+is\s+(?:charged|credited|taken|filed)|at\s+most\s+one\s+more)\b",
+    r"|nothing\s+is\s+(?:charged|credited|taken|filed)|at\s+most\s+one\s+more"
+    r"|no\s+(?:crash|kill|power\s+cut)|(?:costs|forgets|loses)\s+(?:nothing|none)"
+    r"|(?:not|none\s+is)\s+charged\s+twice"
+    r"|(?:charges|credits|takes)(?:\s+\w+){1,3}\s+once(?!\s\w))\b",
     re.I,
+)
+# What carrying forward does to a report that comes again; and those that come again at once.
+ONCE, CARRIED = re.compile(r"charged\s+once", re.I), re.compile(r"carried\s+forward|`forward`")
+AT_ONCE = re.compile(r"After a power cut|The queues and outboxes drain|If its sync\s+failed")
+# Parts of which each row, or each item, names what holds it.
+WHOLE = (
+    ("docs/PROOFS.md", "What is only tested", "row"),
+    ("docs/CLERK.md", "What you can rely on", "row"),
+    ("docs/DAMAGE.md", "What is not found", "text"),
+    ("docs/FREERADIUS.md", "What you can rely on", "row"),
+    ("docs/FREERADIUS.md", "Reports that do not reach radacctd", "row"),
+    ("docs/PACKAGES.md", "What you can rely on", "row"),
+    ("docs/SEMANTICS.md", "What a kill leaves", "row"),
+    ("docs/SIZING.md", "How often a commit syncs", "row"),
 )
 # A sentence that says what to do begins so.
 ADVICE = re.compile(r"(?:^|[.:;] |\| |\*\*|- )(?:\*\*)?Never\b")
@@ -68,23 +86,23 @@ def fault_of(mark, tree):
     return "" if words in has or words in joined else f"{path} has no `{words}`"
 
 
-def check_tested(checker):
-    """What is only tested names a test that has it."""
-    checker.page = "docs/PROOFS.md"
-    for block in checker.pages[checker.page]:
-        if block.kind != "row" or block.section.title != "What is only tested":
-            continue
-        marks = list(MARK.finditer(block.text))
-        if not marks and not re.match(r"\|(?:-| What \|)", block.text):
-            checker.find(block.line, "which test has it?")
-        for mark in marks:
-            wrong = fault_of(mark, checker.tree)
-            if wrong:
-                checker.find(block.line, wrong)
+def check_whole(checker):
+    """Each row or item of these parts names what holds it."""
+    for checker.page, title, kind in WHOLE:
+        found = [it for it in checker.pages[checker.page] if it.section.title == title]
+        if not found:
+            checker.find(1, f"it has no part `{title}`: see claims_lib/promises.py")
+        for block, after in zip(found, [*found[1:], None]):
+            is_head = re.match(r"\|-", after.text if after else "")
+            is_one = block.kind == kind and re.match(r"- |\| ", block.text) and not is_head
+            if is_one and not MARK.search(block.text):
+                said = " ".join(block.text[:60].split())
+                checker.find(block.line, f"`{said}`: which script or clause holds it?")
+            check_marks(checker, block)
 
 
 def check(checker):
-    check_tested(checker)
+    check_whole(checker)
     for checker.page in map(page_of, OPERATORS):
         blocks = checker.pages.get(checker.page, [])
         kept = made_lines(text_of(checker.page)) if blocks else ()
@@ -100,7 +118,15 @@ def check_block(checker, block):
         if not of_it:
             said = " ".join(block.text[start : start + 60].split())
             checker.find(block.line_at(start), f"`{said}`: which script or clause holds it?")
-    for mark in marks:
+        said = plain(block.text[start:end])
+        if ONCE.search(said) and not CARRIED.search(said) and not AT_ONCE.search(block.text):
+            checker.find(block.line_at(start), "charged once: what if it was carried forward?")
+    check_marks(checker, block)
+
+
+def check_marks(checker, block):
+    """Each mark names words that its file has."""
+    for mark in MARK.finditer(block.text):
         wrong = fault_of(mark, checker.tree)
         if wrong:
             checker.find(block.line_at(mark.start()), wrong)
