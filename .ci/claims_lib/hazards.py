@@ -32,7 +32,7 @@ KEPT = {
         "`init` refuses next to a log with commits",
     ),
     "docs/DECISIONS.md": ("nothing is assumed of the octets written",),
-    "docs/DEFINITIONS.md": ("if its delay is right and no clock went back",),
+    "docs/DEFINITIONS.md": ("for copies of the right delay, if no clock went back",),
     "docs/DESK.md": (
         "Anyone who can watch the network reads keys and answers",
         "and else empty",
