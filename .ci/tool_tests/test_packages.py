@@ -196,10 +196,8 @@ class Refused(unittest.TestCase):
             ("logins.db: file is not a database", "none", "packages-lost"),
             ("logins.db: database disk image is malformed", "none", "packages-lost"),
         ):
-            with mock.patch("os.path.exists", there), mock.patch.object(
-                logins, "path_of", lambda it: f"/x/{it}.db"
-            ):
-                found = doctor.refused(logins.Fault(text))
+            with mock.patch("os.path.exists", there):
+                found = doctor.refused("logins", "/x/logins.db", logins.Fault(text))
             self.assertEqual(found.name, name, text)
             self.assertEqual("tar -x" in found.cure, name == "packages-lost", text)
             self.assertEqual("restore nothing" in found.cure, name == "packages-shut", text)

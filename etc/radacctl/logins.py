@@ -19,6 +19,7 @@ import hashlib
 import json
 import os
 import pwd
+import re
 import select
 import subprocess
 import weakref
@@ -99,6 +100,8 @@ LOOP = """
 for line in sys.stdin:
     print(answer(line), flush=True)
 """
+# What SQLite says of a database that is gone or damaged. All else, as a lock or a full disk, passes.
+LOST = re.compile("no such table|not a database|malformed|no such column")
 
 
 class Fault(Exception):
@@ -144,6 +147,21 @@ def mark_of(key):
 
 def octets(value):
     return {"hex": value.hex()} if isinstance(value, bytes) else value
+
+
+def is_lost(path, why):
+    """Whether a database is gone or damaged, by the fault that reading it gave."""
+    return bool(LOST.search(str(why))) or not os.path.exists(path)
+
+
+def forget(path):
+    """Removes a database and its log, as the user whose folder it is in: root's timer may not change
+    another user's folder.
+    """
+    words = [*files.as_owner(path), "rm", "-f", "--", *(path + it for it in ("", "-wal", "-shm"))]
+    done = subprocess.run(words, capture_output=True, text=True, cwd="/", timeout=60)
+    if done.returncode:
+        raise Fault(f"{path} cannot be removed: {done.stderr.strip()[-200:]}")
 
 
 class Child:

@@ -353,15 +353,18 @@ def mend_guests(logins_store, words):
 
 
 def uses_made():
-    """The devices of now; a file that was lost or damaged is made anew: nothing is lost by it."""
+    """The devices of now; a file that was lost or damaged is made anew. One that is locked, or on a
+    full disk, stays: it says who is on.
+    """
     found = uses()
     logins.give_folder(os.path.dirname(found.path))
     try:
         found.read("SELECT count(*) FROM use, try")
-    except logins.Fault:
-        # FreeRADIUS makes an empty file of one that is missing. Root removes names, and no more.
-        for ending in ("", "-wal", "-shm"):
-            files.remove(found.path + ending)
+    except logins.Fault as why:
+        if not logins.is_lost(found.path, why):
+            raise
+        # FreeRADIUS makes an empty file of one that is missing.
+        logins.forget(found.path)
         found.make(logins.USES_TABLES)
         say(f"{found.path} is made anew")
     return found

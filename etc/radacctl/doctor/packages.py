@@ -1,6 +1,5 @@
 """Packages: FreeRADIUS' lines, the databases of logins, the key of codes, what was not finished."""
 
-import os
 import re
 import time
 
@@ -12,11 +11,10 @@ from radacctl.setup.steps import Failed
 # How long a guest may be begun, or a debit decided, in seconds.
 UNFINISHED = 600
 CURE = "radacctl setup, with packages = true in its file: PACKAGES.md"
-# What SQLite says of a database that is gone or damaged. All else, as a lock or a full disk, passes.
-LOST = re.compile("no such table|not a database|malformed|no such column")
 PUT_BACK = f"systemctl stop freeradius; mv {logins.FOLDER} /root/; tar -xpzf $(ls -d "
 PUT_BACK += f"{site.BACKUPS}/20*[0-9] | tail -1)/site.tar.gz -C / {logins.FOLDER.lstrip('/')}; "
 PUT_BACK += "systemctl start freeradius"
+MADE_ANEW = "restore nothing: systemctl start radacctd-packages makes it anew"
 
 
 def look_at(kind):
@@ -54,17 +52,20 @@ def lines():
 def databases():
     """Both can be read, the key is that of the codes, and nothing is left unfinished."""
     found, late = logins.settings(), time.time() - UNFINISHED
-    try:
-        store = logins.Store(logins.path_of("logins"))
-        logins.Store(logins.path_of("uses")).read("SELECT count(*) FROM use, try")
-        keys = store.read("SELECT digest FROM key")
-        counts = [
-            store.read("SELECT count(*) FROM login WHERE state = 'making' AND made < ?", late),
-            store.read("SELECT count(*) FROM lapse WHERE is_taken = 0 AND moment < ?", late),
-        ]
-    except (logins.Fault, site.Missing, OSError) as why:
-        yield refused(why)
-        return
+    for name, look in (("uses", "SELECT count(*) FROM use, try"), ("logins", "SELECT 1 FROM key")):
+        path = None
+        try:
+            path = logins.path_of(name)
+            logins.Store(path).read(look)
+        except (logins.Fault, site.Missing, OSError) as why:
+            yield refused(name, path, why)
+            return
+    store = logins.Store(logins.path_of("logins"))
+    keys = store.read("SELECT digest FROM key")
+    counts = [
+        store.read("SELECT count(*) FROM login WHERE state = 'making' AND made < ?", late),
+        store.read("SELECT count(*) FROM lapse WHERE is_taken = 0 AND moment < ?", late),
+    ]
     if not re.fullmatch("[0-9a-f]{32,64}", found["key"]):
         yield Fault("packages-key", f"radacctd/{logins.CONF} has the sample's key, or none",
                     "openssl rand -hex 32 makes one, before the first code is printed")
@@ -77,11 +78,13 @@ def databases():
                         "journalctl -u radacctd-packages -n 20")
 
 
-def refused(why):
-    """What refuses logins: a database that is lost, which a copy cures, or one that is not."""
-    paths = [logins.path_of(it) for it in ("logins", "uses")]
-    if LOST.search(str(why)) or not all(map(os.path.exists, paths)):
-        return Fault("packages-lost", f"logins are refused: {why}", PUT_BACK)
+def refused(name, path, why):
+    """What refuses logins: a database that is lost, or one that is not. A copy cures lost logins; that
+    of devices is in no copy, and made anew. Without a path FreeRADIUS' file names a strange one.
+    """
+    if path and logins.is_lost(path, why):
+        cure = PUT_BACK if name == "logins" else MADE_ANEW
+        return Fault("packages-lost", f"logins are refused: {why}", cure)
     return Fault("packages-shut", f"logins are refused: {why}",
                  f"restore nothing. df -h {logins.FOLDER}; ls -la {logins.FOLDER}; then systemctl "
                  "restart freeradius")
