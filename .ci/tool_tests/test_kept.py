@@ -6,10 +6,11 @@ import shutil
 import subprocess
 import sys
 import tempfile
+import threading
 import unittest
 from unittest import mock
 
-from radacctl import files, logins, site
+from radacctl import files, logins, site, stock
 from radacctl.commands import packages as command
 from radacctl.doctor import packages as doctor
 from tool_tests.test_packages import Here, MEMORY
@@ -89,6 +90,31 @@ class Devices(unittest.TestCase):
             done = subprocess.run(words, capture_output=True, text=True)
             self.assertEqual((done.returncode, done.stdout), (0, "[(0,)]\n"), done.stderr[-300:])
             self.assertEqual(os.stat(f"{folder}/uses.db").st_uid, user)
+
+
+class Ended(unittest.TestCase):
+    """The log of what ended, to which the timer, a tool and the page add lines at once."""
+
+    def test_no_line_of_two_that_add_at_once_is_lost(self):
+        """Else a code that was withdrawn would live again with an older copy of the logins."""
+        with tempfile.TemporaryDirectory(dir=MEMORY) as folder:
+            path, found = os.path.join(folder, "ended.csv"), stock.Log.text
+            other = threading.Thread(
+                target=logins.log_ended, args=([b"withdrawn"], logins.WITHDRAWN, 2, path))
+
+            def text(log):
+                """What the first one has read, before the other one adds its line."""
+                read = found(log)
+                if not other.ident:
+                    other.start()
+                    other.join(0.3)
+                return read
+
+            with mock.patch.object(stock.Log, "text", text):
+                logins.log_ended([b"lapsed"], logins.LAPSED, 1, path)
+            other.join()
+            self.assertEqual(logins.ended_in(path), {b"lapsed": logins.LAPSED,
+                                                     b"withdrawn": logins.WITHDRAWN})
 
 
 if __name__ == "__main__":

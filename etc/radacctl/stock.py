@@ -169,7 +169,7 @@ def wait_for(lock, what, patience):
 
 
 class Log:
-    """A file that only grows. The folder of the stock is to be locked while lines are added."""
+    """A file that only grows. Of two processes that add lines one waits for the other."""
 
     def __init__(self, path, header):
         self.path, self.header = path, header
@@ -186,6 +186,14 @@ class Log:
 
     def add(self, octets):
         """Adds whole lines; they are on the disk, or the file is as it was and this is a fault."""
+        lock = lambda: fcntl.flock(self.handle, fcntl.LOCK_EX | fcntl.LOCK_NB)
+        wait_for(lock, self.path, PATIENCE)
+        try:
+            self.add_alone(octets)
+        finally:
+            fcntl.flock(self.handle, fcntl.LOCK_UN)
+
+    def add_alone(self, octets):
         whole = len(self.text())
         try:
             # A line without its end was never counted.
@@ -262,5 +270,5 @@ class Given(Log):
         return state
 
     def note(self, event, code, account, desks):
-        """Adds an event; the folder of the stock is to be locked."""
+        """Adds an event; the folder of the stock is locked, so that none is withdrawn meanwhile."""
         self.add(lines_of([[int(time.time()), event, code, account, desks]]))
