@@ -6,6 +6,7 @@ import io
 import json
 import os
 import tempfile
+import time
 import tomllib
 import unittest
 from unittest import mock
@@ -420,8 +421,11 @@ class Allow(unittest.TestCase):
             self.addCleanup(stream.__exit__, None, None, None)
         self.site.write("list.csv", "account,sum\nal,5.00\n%C3%BC 1,6.00\nbo,7\n")
 
-    def allow(self, *more, month="2026-12"):
+    def allow(self, *more, month="2026-12", seconds=0):
+        """Gives it, with balances that are so old."""
         self.balances()
+        then = time.time() - seconds
+        os.utime(self.site.path("balances.csv"), (then, then))
         return allow.main([self.site.path("list.csv"), "--month", month, "--notes",
                            self.site.path("notes.csv"), "--balances",
                            self.site.path("balances.csv"), "--key-file", self.site.path("cashier.key"), "--give-up", "0", *more])
@@ -476,6 +480,15 @@ class Allow(unittest.TestCase):
         with contextlib.suppress(FileNotFoundError):
             os.remove(self.site.path("notes.csv"))
         return self.site.killed_at(at, lambda: self.allow("--lapse"))
+
+    def test_balances_of_before_say_of_nobody_what_is_left(self):
+        """What was used since would be taken a second time."""
+        moments = iter(range(10_000))
+        with mock.patch.object(sold.time, "monotonic", lambda: next(moments)):
+            self.assertRaises(SystemExit, self.allow, "--lapse", seconds=allow.OLDEST + 5)
+            self.assertEqual((self.site.money, self.books.taken), ({}, {}))
+        self.assertEqual(self.allow("--lapse", seconds=allow.OLDEST - 60), 0)
+        self.assertEqual(self.balance()[b"al"], 500)
 
     def test_another_sum_is_refused(self):
         self.allow()

@@ -233,14 +233,16 @@ class Withdraw(unittest.TestCase):
         row = lambda name, state, sold: command.Code(name, state, sold, None, 500, 900)
         self.codes = [row(b"t-000000000001", logins.LIVE, None), row(b"t-000000000002", "ended", 1),
                       row(b"t-000000000003", logins.LIVE, 1), row(b"t-000000000004", logins.LIVE, None)]
-        self.balances, self.ended, self.asked = "", [], []
+        self.balances, self.ended, self.asked, self.newer = "", [], [], ""
+        # The balances have a sale of the last seconds once they are written anew.
+        anew = lambda moment: setattr(self, "balances", self.newer or self.balances)
         end = lambda _, accounts, state, now: self.ended.extend(accounts)
         for where, name, new in (
             (command, "store", lambda: None), (command, "uses", lambda: None),
             (logins, "mend", lambda _: 0), (command, "named", lambda *_: self.codes),
             (logins, "own_log", lambda: None), (lapses, "end", end),
             (lapses, "disconnect", lambda *_: 0), (program, "confirm", self.asked.append),
-            (names, "balances", self.balances_now),
+            (names, "balances", self.balances_now), (codes, "await_balances", anew),
         ):
             patched = mock.patch.object(where, name, new)
             patched.start()
@@ -270,6 +272,12 @@ class Withdraw(unittest.TestCase):
         ended, asked, said = self.withdrawn("--unsold")
         self.assertEqual((ended, asked), ([1], ""))
         self.assertIn("withdrawn: 1 codes; 2 sold ones stay; 1 were over before", said)
+
+    def test_a_sale_of_this_moment_is_one(self):
+        """The desk sold it, and the balances are of before."""
+        self.balances = "account,balance,overrun\nal,5,0\n"
+        self.newer = self.balances + "t-000000000004,500,0\n"
+        self.assertEqual(self.withdrawn("--unsold")[0], [1])
 
     def test_nobody_is_taken_for_one_who_did_not_buy(self):
         with contextlib.redirect_stderr(io.StringIO()):

@@ -47,12 +47,12 @@ def sold():
     return {row[1]: (int(row[3]), int(row[4])) for row in rows}
 
 
-def await_balances(moment):
+def await_balances(moment, path=None):
     """Waits until the balances were written since a moment: what was sold before it is in them."""
-    end = time.monotonic() + WRITTEN
-    while not os.path.exists(site.BALANCES) or os.stat(site.BALANCES).st_mtime < moment:
+    path, end = path or site.BALANCES, time.monotonic() + WRITTEN
+    while not os.path.exists(path) or os.stat(path).st_mtime < moment:
         if time.monotonic() > end:
-            fail(f"{site.BALANCES} is not written anew: nothing was sold. Is radacctd running?")
+            fail(f"{path} is not written anew: nothing was done. Is radacctd running?")
         time.sleep(0.2)
 
 

@@ -8,8 +8,9 @@ given, and by whichever list: the voucher's number is made of the month and the 
 says another sum than the one that was credited, it is refused and said.
 
 With --lapse what an account had left is taken once the month's sum is credited, by a debit LAPSE-..
-of its own. What is left is looked up in the balances before, and noted on the disk: a second run
-takes nothing more. Without --lapse what is left stays, for this month.
+of its own. What is left is looked up in the balances before, which are to be of the last two
+minutes, and noted on the disk: a second run takes nothing more. Without --lapse what is left stays,
+for this month.
 
 --dry-run tests the list, and sends nothing. Options of a sale: --key-file, --host, --port and
 --give-up, as `radacctl sell` has them; of a debit: --config, --db, --secret-file, --journal and
@@ -29,7 +30,7 @@ import re
 import time
 
 from radacctl import desk as desks
-from radacctl import debits, files, names, program, site, stock
+from radacctl import codes, debits, files, names, program, site, stock
 from radacctl.commands import debit
 from radacctl.commands import packages as sold
 from radacctl.commands import sell as sells
@@ -38,6 +39,8 @@ from radacctl.program import fail, say
 STOPPED = "stopped; give the same again: nothing is credited or taken twice"
 MONTH = re.compile(r"20[0-9]{2}-(?:0[1-9]|1[0-2])")
 NOTES, NOTES_HEADER = f"{site.BOOKS}/allowed.csv", b"moment,number,account,left\n"
+# How old the balances may be that say what was left, in seconds: what was used since is not in them.
+OLDEST = 120
 # An account of a list, and the numbers of its voucher and of its debit.
 Row = collections.namedtuple("Row", "account sum number lapse")
 
@@ -121,6 +124,7 @@ class Allowing:
         self.books, self.left = None, {}
         if words.lapse:
             self.books = debits.Books(debit.words_of(words))
+            codes.await_balances(time.time() - OLDEST, words.balances)
             self.left = names.balances(words.balances)
         self.notes = Notes(words.notes)
 

@@ -22,7 +22,8 @@ end (`until`) is past is not sold.
 
 `withdraw` ends codes that were lost or stolen, and their sessions. What is left on them lapses, also
 on codes that guests have paid for: it says how many these are, and asks. With --unsold it ends only
-those that nobody bought. There is no hurry: these log nobody in.
+those that nobody bought, by balances that are newer than the command. There is no hurry: these log
+nobody in.
 
 `make` makes the databases, once, as the set-up does. `mend` ends what had ended, if the databases
 are those of an older copy: each start of FreeRADIUS gives it. `tick` is what
@@ -226,8 +227,11 @@ def site_money():
 
 
 def withdraw(words):
-    logins_store = store()
+    begun, logins_store = time.time(), store()
     logins.mend(logins_store)
+    if words.unsold:
+        # Else a code that the desk sold just now would count as one that nobody bought.
+        codes.await_balances(begun)
     found = {it.account: it for what in words.what for it in named(logins_store, what)}
     over = sum(it.state != logins.LIVE for it in found.values())
     live = [it.account for it in found.values() if it.state == logins.LIVE]
