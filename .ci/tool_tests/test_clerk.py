@@ -483,10 +483,10 @@ class Corrections(Desk):
         self.site.answers = ["away"]
         self.assertEqual(self.ask("anna", SALE), (503, {"error": "away"}))
         self.assertEqual(self.books.taken, {})
-        silent = mock.Mock(take=mock.Mock(side_effect=debits.NoAnswer("no")),
-                           journal=self.books.journal)
-        with mock.patch.object(work.debits, "Books", lambda _: silent):
-            self.assertEqual(self.ask("anna", SALE), (503, {"error": "away"}))
+        for why in (debits.NoAnswer("no"), debits.Refused("the journal's disk is full")):
+            fails = mock.Mock(take=mock.Mock(side_effect=why), journal=self.books.journal)
+            with mock.patch.object(work.debits, "Books", lambda _, it=fails: it):
+                self.assertEqual(self.ask("anna", SALE), (503, {"error": "away"}))
         self.assertEqual(self.ask("anna", SALE), (200, {"result": "new"}))
         self.assertEqual(self.left(), 0)
 

@@ -7,6 +7,7 @@ import json
 import os
 import shutil
 import stat
+import subprocess
 import tempfile
 import unittest
 from unittest import mock
@@ -585,11 +586,17 @@ class Others(Folder):
         self.assertEqual(stat.S_IMODE(os.stat(self.path).st_mode), 0o644)
 
     def test_a_password_is_in_no_command_line(self):
-        sql = 'dialect = "postgresql"\nradius_db = "dbname=radius password=hidden"\n'
-        with mock.patch.object(freeradius, "text", lambda *_: sql):
-            with mock.patch.object(site.subprocess, "run") as run, mock.patch.object(site, "say"):
+        for text in ("dbname=radius password=hidden", "postgresql://radius:hidden@db/radius"):
+            text = f'dialect = "postgresql"\nradius_db = "{text}"\n'
+            with mock.patch.object(freeradius, "text", lambda *_, it=text: it), \
+                    mock.patch.object(subprocess, "run") as run, \
+                    mock.patch.object(site, "say"), contextlib.redirect_stdout(io.StringIO()):
                 site.dump_sql()
-        self.assertEqual(run.call_count, 0)
+                sql.Ended().do()
+            self.assertEqual(run.call_count, 0)
+        text = 'server = "db"\nlogin = "radius"\npassword = "a:b\\c"\nradius_db = "radius"\n'
+        self.assertEqual(freeradius.postgres(text), (
+            ["-h", "db", "-U", "radius", "-d", "radius"], "*:*:*:*:a\\:b\\\\c\n"))
 
     def test_a_file_of_debits_with_an_endless_field_is_refused(self):
         self.write(b'account,sum,number\n"' + b"x" * 200_000)

@@ -166,6 +166,19 @@ def time_classes():
     return value(text("radacctd", "settings.conf"), "time_classes")
 
 
+def postgres(block):
+    """The options by which PostgreSQL's tools find the database of mods-enabled/sql, and its
+    password as they read it. None if radius_db may have the password, too: each user sees a command
+    line.
+    """
+    names = {"-h": "server", "-p": "port", "-U": "login", "-d": "radius_db"}
+    found = {option: value(block, name) for option, name in names.items()}
+    if "=" in found["-d"] or "://" in found["-d"]:
+        return None
+    password = re.sub(r"([:\\])", r"\\\1", value(block, "password"))
+    return [it for pair in found.items() if pair[1] for it in pair], f"*:*:*:*:{password}\n"
+
+
 def blocks(pattern, *names):
     """The blocks `client NAME { .. }`, say, of a file: name and text of each."""
     return pattern.findall(text(*names))

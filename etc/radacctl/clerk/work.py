@@ -286,10 +286,8 @@ class Act:
     def debit(self, books, account, number):
         try:
             books.take(names.octets_of(account), self.asked["sum"], number)
-        except debits.Refused as why:
-            program.say(why)
-            raise Refused(409, "differs") from None
-        except debits.NoAnswer as why:
+        except (debits.Refused, debits.NoAnswer) as why:
+            # The journal, which is locked, refuses nothing of it: its disk may be full.
             program.say(why)
             raise Refused(503, "away") from None
 

@@ -171,19 +171,17 @@ def dump_sql():
     text = freeradius.text("mods-enabled", "sql")
     if freeradius.value(text, "dialect") != "postgresql":
         return
-    names = {"-h": "server", "-p": "port", "-U": "login", "-d": "radius_db"}
-    words = [it for option, name in names.items() for it in (option, freeradius.value(text, name))]
-    if "=" in freeradius.value(text, "radius_db"):
-        # It may have the password, and each user sees a command line.
+    found = freeradius.postgres(text)
+    if found is None:
         say("FreeRADIUS' database is not in this copy: radius_db of mods-enabled/sql is to be the "
             "name of a database alone, with server, login and password on lines of their own")
         return
+    words, password = found
     os.makedirs(os.path.dirname(site.DUMP), mode=0o700, exist_ok=True)
-    password = re.sub(r"([:\\])", r"\\\1", freeradius.value(text, "password"))
     # In memory: a run that is killed leaves no password on the disk.
     with tempfile.TemporaryDirectory(dir="/run") as folder:
         path = os.path.join(folder, "pgpass")
-        files.make(path, f"*:*:*:*:{password}\n".encode())
+        files.make(path, password.encode())
         files.remove(site.DUMP + ".new")
         environment = {"PATH": "/usr/bin:/bin", "PGPASSFILE": path, "PGCONNECT_TIMEOUT": "20"}
         try:

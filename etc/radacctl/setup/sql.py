@@ -100,13 +100,15 @@ class Ended:
 
     def do(self):
         text = freeradius.text("mods-enabled", "sql")
-        names = {"-h": "server", "-p": "port", "-U": "login", "-d": "radius_db"}
-        found = {option: freeradius.value(text, name) for option, name in names.items()}
-        words = [it for option, value in found.items() if value for it in (option, value)]
-        password = re.sub(r"([:\\])", r"\\\1", freeradius.value(text, "password"))
+        found = freeradius.postgres(text)
+        if found is None:
+            print("the table radacct keeps its open sessions: radius_db of mods-enabled/sql is to be "
+                  "the name of a database alone, with the password on a line of its own")
+            return
+        words, password = found
         with tempfile.TemporaryDirectory(dir="/run") as folder:
             path = os.path.join(folder, "pgpass")
-            files.make(path, f"*:*:*:*:{password}\n".encode())
+            files.make(path, password.encode())
             command = ["env", f"PGPASSFILE={path}", "PGCONNECT_TIMEOUT=20", "psql", "-wqX", *words]
             try:
                 steps.given(command, text=END)
