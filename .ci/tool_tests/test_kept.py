@@ -1,5 +1,7 @@
-"""What says who is on, who ended and what was left: kept, whoever writes at once and whatever fails."""
+"""What says who is on, who ended and what was sold: kept, whoever writes and whatever fails."""
 
+import contextlib
+import io
 import os
 import pwd
 import shutil
@@ -10,10 +12,10 @@ import threading
 import unittest
 from unittest import mock
 
-from radacctl import files, logins, site, stock
+from radacctl import files, logins, packages, site, stock
 from radacctl.commands import packages as command
 from radacctl.doctor import packages as doctor
-from tool_tests.test_packages import Here, MEMORY
+from tool_tests.test_packages import Here, MEMORY, MONEY, PACKAGE, Site
 
 # What radacctd-packages.service leaves root: it may read all, and write in no folder of others.
 RIGHTS = "-all,+chown,+fowner,+dac_read_search,+kill,+setuid,+setgid"
@@ -115,6 +117,46 @@ class Ended(unittest.TestCase):
             other.join()
             self.assertEqual(logins.ended_in(path), {b"lapsed": logins.LAPSED,
                                                      b"withdrawn": logins.WITHDRAWN})
+
+
+class Free(unittest.TestCase):
+    """A plan that costs nothing lets everybody in: so no code of it is made before it is sold."""
+
+    PLANS = {"default": ("1", "0", "both"), "w%C3%BC": ("1", "5", "both")}
+
+    def setUp(self):
+        for it in (mock.patch.object(command.plans, "in_force", lambda: self.PLANS),
+                   mock.patch.object(logins, "Child", Here)):
+            it.start()
+            self.addCleanup(it.stop)
+
+    def test_no_code_of_it_is_printed(self):
+        known = packages.packages_of(PACKAGE, MONEY)
+        with mock.patch.object(packages, "read", lambda: (known, MONEY)), \
+                mock.patch.object(command, "store") as store, \
+                contextlib.redirect_stderr(io.StringIO()) as said:
+            self.assertRaises(SystemExit, command.main, ["print", "week", "--count", "1"])
+        store.assert_not_called()
+        self.assertIn("the plan default costs nothing, so codes of week", said.getvalue())
+
+    def test_the_doctor_names_those_that_were(self):
+        with tempfile.TemporaryDirectory(dir=MEMORY) as folder:
+            store = Site(folder).store
+            rows = [("a", "default", None, "live"), ("b", "default", 1, "live"),
+                    ("c", "default", None, "withdrawn"), ("d", "w\u00fc", None, "live")]
+            for account, plan, sold, state in rows:
+                store.run(("INSERT INTO login VALUES (?, ?, NULL, 1, ?, 1, 9, 'week-20261127-acdef'"
+                           ", ?, 0, ?, NULL, NULL, NULL)",
+                           (account.encode(), account, plan, state, sold)))
+            [found] = doctor.free_codes(store)
+        self.assertIn("1 codes of week-20261127-acdef log in without a sale", found.text)
+        self.assertIn("withdraw --unsold week-20261127-acdef", found.cure)
+
+    def test_a_plan_whose_class_is_no_ascii_is_in_force(self):
+        it = packages.packages_of(PACKAGE.replace('"default"', '"w\u00fc"'), MONEY)["week"]
+        self.assertIsNone(it.plan_missing(self.PLANS))
+        self.assertFalse(it.is_free(self.PLANS))
+        self.assertIsNotNone(it.plan_missing({"default": ()}))
 
 
 if __name__ == "__main__":

@@ -100,11 +100,15 @@ class Package:
 
     def plan_missing(self, plans):
         """What is wrong with its plans, by those in force, or None."""
-        if self.plan not in plans:
+        if plan_in(plans, self.plan) is None:
             return f"the plan {self.plan} of {self.name} is not in force"
-        if self.slow is not None and plans.get(self.slow, ("", ""))[1] != "0":
+        if self.slow is not None and not costs_nothing(plans, self.slow):
             return f"the plan {self.slow} of {self.name} is not in force, or costs something"
         return None
+
+    def is_free(self, plans):
+        """Whether its plan costs nothing: then nobody needs a sale to log in by it."""
+        return costs_nothing(plans, self.plan)
 
     def terms(self):
         """What decides whether two packages of a name are the same, as a text."""
@@ -122,6 +126,15 @@ class Package:
                             if self.seconds % each == 0)
         count = self.seconds // length
         return f"{count} {name}{'s' * (count != 1)} from the {self.begins}"
+
+
+def plan_in(plans, name):
+    """A plan in force, whose files spell its Class as an export does, or None."""
+    return plans.get(names.shown(name.encode()))
+
+
+def costs_nothing(plans, name):
+    return (plan_in(plans, name) or ())[1:2] == ("0",)
 
 
 def need_members(found, known, where):

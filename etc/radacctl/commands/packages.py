@@ -15,10 +15,10 @@ password. It has 63 random bits. Its account is a serial number, which is on the
 sheet is the only place that has the codes: keep it as money. With --link a voucher has a QR code of
 this address, in which {code} stands for the code; else one of the code.
 
-No code logs in before it is sold. `sell` credits what the package gives, once for each code. WHAT
-is a serial number, as t-0123456789ab, or a sheet. A sale at the desk's page counts as well: `sell`
-waits until radacctd has written the balances anew, and credits nothing more for it. A package whose
-end (`until`) is past is not sold.
+No code logs in before it is sold: none is made of a package whose plan costs nothing. `sell`
+credits what the package gives, once for each code. WHAT is a serial number, as t-0123456789ab, or a
+sheet. A sale at the desk's page counts as well: `sell` waits until radacctd has written the
+balances anew, and credits nothing more for it. A package whose end (`until`) is past is not sold.
 
 `withdraw` ends codes that were lost or stolen, and their sessions. What is left on them lapses, also
 on codes that guests have paid for: it says how many these are, and asks. With --unsold it ends only
@@ -106,6 +106,9 @@ def found_package(name):
 
 def print_codes(words):
     package, money = found_package(words.package)
+    if package.is_free(plans.in_force() or {}):
+        fail(f"the plan {package.plan} costs nothing, so codes of {package.name} would log in "
+             "before they are sold: radacctl guest new makes a login as it is sold")
     logins_store = store()
     key, number = key_of(logins_store), logins.package_row(logins_store, package)
     if words.link and not LINK.fullmatch(words.link):

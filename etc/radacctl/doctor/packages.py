@@ -3,7 +3,7 @@
 import re
 import time
 
-from radacctl import files, freeradius, logins, packages, plans, site
+from radacctl import files, freeradius, logins, names, packages, plans, site
 from radacctl.doctor.faults import Fault
 from radacctl.setup import packages as wanted
 from radacctl.setup.steps import Failed
@@ -72,15 +72,30 @@ def databases():
     elif keys and keys[0][0] != logins.mark_of(found["key"]):
         yield Fault("packages-key", f"radacctd/{logins.CONF} has another key than the codes",
                     "put the old one back, and restart freeradius")
+    yield from free_codes(store)
     for [(count,)], what in zip(counts, ("guests are begun", "debits are decided")):
         if count:
             yield Fault("packages-wait", f"{count} {what}, and not finished",
                         "journalctl -u radacctd-packages -n 20")
 
 
+def free_codes(store):
+    """Codes that log in without a sale: an earlier version made them of a plan without a price."""
+    free = {name for name, plan in (plans.in_force() or {}).items() if plan[1:2] == ("0",)}
+    for name, sheet, count in store.read(
+        "SELECT class, sheet, count(*) FROM login WHERE digest IS NOT NULL AND sold IS NULL "
+        "AND state = 'live' GROUP BY class, sheet"
+    ):
+        if names.shown(name.encode()) in free:
+            yield Fault("packages-file", f"{count} codes of {sheet} log in without a sale: the "
+                        f"plan {name} costs nothing", "radacctl packages withdraw --unsold "
+                        f"{sheet}; radacctl guest new sells such a package")
+
+
 def refused(name, path, why):
-    """What refuses logins: a database that is lost, or one that is not. A copy cures lost logins; that
-    of devices is in no copy, and made anew. Without a path FreeRADIUS' file names a strange one.
+    """What refuses logins: a database that is lost, or one that is not. A copy cures lost logins;
+    that of devices is in no copy, and made anew. Without a path FreeRADIUS' file names a strange
+    one.
     """
     if path and logins.is_lost(path, why):
         cure = PUT_BACK if name == "logins" else MADE_ANEW
