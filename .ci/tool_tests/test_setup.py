@@ -335,6 +335,49 @@ class Existing(Folder):
         wanted = self.wanted({"name": "wlc", "address": "10.0.0.1", "vendor": "cisco"})
         self.assertNotIn("home_server", front.clients(None, wanted))
 
+    def test_who_is_slowed_is_asked_by_coa(self):
+        """Only by an answer, since such a session has no quota, and only where somebody is asked."""
+        one = {"name": "lobby", "address": "10.0.9.9", "vendor": "mikrotik"}
+        coa = {**one, "coa": True}
+        text = front.clients(None, self.wanted(one, packages=True))
+        self.assertNotIn("radacctd_coa", text)
+        new = front.clients(None, self.wanted(coa, packages=True))
+        later = front.clients(text, self.wanted(coa, packages=True))
+        alone = front.clients("client lobby {\n\tipaddr = 10.0.9.9\n\tsecret = x\n}\n",
+                              self.wanted(coa, packages=True))
+        for text in (new, later, alone):
+            block = dict(freeradius.CLIENT.findall(text))["lobby"]
+            self.assertEqual(freeradius.value(block, "radacctd_coa"), "yes")
+            self.assertEqual(text.count("home_server cut-10.0.9.9 {"), 1)
+            self.assertEqual(front.clients(text, self.wanted(coa, packages=True)), text)
+        said = "client lobby {\n\tipaddr = 10.0.9.9\n\tradacctd_coa = no\n}\n"
+        self.assertNotIn("coa = yes", front.clients(said, self.wanted(coa, packages=True)))
+        wlc = {**coa, "address": "10.0.0.1"}
+        found = self.changed("clients.conf", lambda it: front.with_lines(
+            it, "clients.conf", self.wanted(wlc, packages=True)))
+        self.assertIn("\tradacctd_stamp = login\n\tradacctd_coa = yes\n}\n", found)
+        for more in ({"vendor": "openwrt"}, {"address": "10.0.9.0/24"}, {"packages": False}):
+            packages = more.pop("packages", True)
+            self.assertRaisesRegex(answers.Wrong, "coa", self.wanted, {**coa, **more},
+                                   packages=packages)
+
+    def test_the_doctor_knows_who_is_asked(self):
+        self.put("clients.conf", CLIENTS.replace("\tlimit", "\tradacctd_cut = yes\n\tlimit"))
+        os.mkdir(os.path.join(self.folder, "radacctd"))
+        one = {"name": "lobby", "address": "10.0.9.9", "vendor": "mikrotik", "coa": True}
+        text = front.clients(None, self.wanted(one, packages=True))
+        self.put("radacctd/access-servers.conf", text)
+        [found] = doctor_front.cut_off()
+        self.assertEqual(found.name, "raddb-steps")
+        self.assertIn("client wlc1 has radacctd_cut = yes, and no home_server", found.text)
+        self.put("proxy.conf", "home_server x {\n\ttype = coa\n\tipaddr = 10.0.0.1\n}\n")
+        self.assertEqual(list(doctor_front.cut_off()), [])
+        self.put("radacctd/access-servers.conf", text.replace("type = coa", "type = auth"))
+        [found] = doctor_front.cut_off()
+        self.assertIn("client lobby has radacctd_coa = yes", found.text)
+        self.put("proxy.conf", "home_server x {\n\ttype = coa\n\tipaddr = ap.example\n}\n")
+        self.assertEqual(list(doctor_front.cut_off()), [])
+
     def test_kinds(self):
         found = {it: [{"name": "x", "address": "10.0.9.9", "vendor": it}] for it in answers.VENDORS}
         texts = {it: front.clients(None, self.wanted(*rows)) for it, rows in found.items()}

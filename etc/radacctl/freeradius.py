@@ -144,6 +144,15 @@ def client_at(address):
                  if it == wanted), None)
 
 
+def cuts(text_of_clients):
+    """The addresses at which access servers take Disconnect- and CoA-Requests, by access-servers.conf
+    and the site's own files; None is one of a name.
+    """
+    found = HOME_SERVER.findall(without_comments(text_of_clients))
+    found += [it for file in included() for it in blocks(HOME_SERVER, file)]
+    return {network(name, block) for name, block in found if value(block, "type") == "coa"}
+
+
 def end_of_block(text_of_file, begin):
     """Where a block ends whose brace is before `begin`. Those of comments and texts do not count."""
     depth = 1

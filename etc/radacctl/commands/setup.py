@@ -61,6 +61,7 @@ unit = 1
 name = "lobby"
 address = "10.0.0.1"
 vendor = "mikrotik"                 # or unifi, pfsense, openwrt, aruba, cisco, other
+# coa = true                        # with packages: slowed by CoA where money ends, without a quota
 
 # FreeRADIUS also serves others: clients of its own whose logins are left alone, and your realms.
 # left_out = ["switches", "eduroam-proxy"]

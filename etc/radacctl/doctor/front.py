@@ -48,6 +48,7 @@ def look_at(kind):
     yield from steps(kind)
     yield from settings(kind)
     yield from samples()
+    yield from cut_off()
     yield from proxies(kind)
     yield from names_refused()
     yield from ignored()
@@ -154,6 +155,22 @@ def samples():
             text = f"{seen[secret]} and {name} of FreeRADIUS have one secret"
             yield Fault("secret-shared", text, books.OWN)
         seen[secret] = name
+
+
+def cut_off():
+    """Each access server that is to cut sessions off, or to slow them, can be asked to."""
+    text = freeradius.text("radacctd", "access-servers.conf")
+    known = freeradius.cuts(text)
+    found = [(name, freeradius.network(name, block), block)
+             for name, block in freeradius.CLIENT.findall(text)]
+    found += [it[1:] for it in freeradius.other_clients()]
+    for name, network, block in found if None not in known else []:
+        wants = [it for it in ("radacctd_cut", "radacctd_coa")
+                 if freeradius.value(block, it) == "yes"]
+        if wants and network and network.num_addresses == 1 and network not in known:
+            yield Fault("raddb-steps", f"client {name} has {wants[-1]} = yes, and no home_server of "
+                        "the type coa has its address: nobody is cut off there",
+                        f"write one as in access-servers.conf, and restart freeradius: {PAGE}")
 
 
 def proxies(kind):

@@ -28,7 +28,7 @@ PLAN = {"class": None, "block": None, "unit": None, "count": "both"}
 PAIR = {"own": None, "other": None, "second": False}
 SQL = {"server": "localhost", "port": 5432, "database": "radius", "login": "radius",
        "accounting": False, "password_file": None}
-ACCESS_SERVER = {"name": None, "address": None, "vendor": "other"}
+ACCESS_SERVER = {"name": None, "address": None, "vendor": "other", "coa": False}
 # Plans, names and addresses that setup or Debian's FreeRADIUS has itself.
 TAKEN = ("debit",)
 TAKEN_NAMES = ("freeradius", "books", "radacctd-setup", "localhost", "localhost_ipv6")
@@ -126,6 +126,8 @@ def access_server_of(found, number, has_front):
     need(it["vendor"] in VENDORS, f"{where}: vendor is one of {', '.join(VENDORS)}",
          *place("vendor"))
     it["address"] = str(network) if network.num_addresses > 1 else str(network.network_address)
+    need(not it["coa"] or (it["vendor"] == "mikrotik" and network.num_addresses == 1),
+         f"{where}: coa is for a mikrotik of one address", *place("coa"))
     need(it["address"] not in TAKEN_ADDRESSES, f"{where}: {it['address']} is this machine's own",
          *place("address"))
     it["version"] = network.version
@@ -176,6 +178,9 @@ class Answers:
                  f"secrets: {name} is no secret of a set-up", "secrets", 0, name)
         need(self.has_front or not self.has_packages, "packages need FreeRADIUS in front",
              "packages")
+        for number, it in enumerate(self.access_servers):
+            need(self.has_packages or not it["coa"], f"access server {it['name']}: coa needs "
+                 "packages = true", "access_server", number, "coa")
         need(not (self.pair and self.has_packages), "packages are not for a pair of machines",
              "packages")
         for name in ("left_out", "realms", "virtual_servers"):

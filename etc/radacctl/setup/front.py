@@ -26,7 +26,9 @@ LINES = """\
 	radacctd_quota = {quota}
 	radacctd_cut = {cut}
 	radacctd_stamp = {stamp}
-"""
+{coa}"""
+# A package goes on slowly where its money ends: it has no quota then, so only an answer says so.
+COA = "\tradacctd_coa = yes\n"
 CLIENT = """\
 client {name} {{
 	{kind} = {address}
@@ -198,6 +200,7 @@ def clients(old, answers, books=None):
     for it in [*answers.access_servers, test]:
         if it["name"] in known:
             test_address(it, known[it["name"]])
+            text = with_coa(text, it, known[it["name"]])
             continue
         values = {**it, **lines_of(it, test)}
         there = freeradius.client_at(it["address"])
@@ -214,11 +217,30 @@ def clients(old, answers, books=None):
     return text
 
 
+def with_coa(text, it, block):
+    """access-servers.conf whose client has the line of the answer, unless it says otherwise."""
+    if not it.get("coa") or freeradius.value(block, "radacctd_coa"):
+        return text
+    if not is_cut(it["address"], text):
+        secret_there = quoted(freeradius.value(block, "secret"))
+        text = text.rstrip("\n") + "\n" + HOME.format(
+            port=CUT_PORT[it["vendor"]], address=it["address"], secret=secret_there)
+    return in_client(text, it["name"], [COA])
+
+
+def in_client(text, name, lines):
+    """A text whose client has more lines at its end."""
+    begun = re.search(rf"(?m)^\s*client\s+{re.escape(name)}\s*\{{", text)
+    end = freeradius.end_of_block(text, begun.end()) if begun else 0
+    return text[:end].rstrip(" \t\n") + "\n" + "".join(lines) + text[end:] if end else text
+
+
 def lines_of(it, test=None):
     is_one = "/" not in it["address"]
     cut = "yes" if it["vendor"] in CUT_PORT and is_one and it is not test else "no"
     stamp = "name" if it is test else STAMPS.get(it["vendor"], "name")
-    return {"quota": QUOTAS.get(it["vendor"], "none"), "cut": cut, "stamp": stamp}
+    return {"quota": QUOTAS.get(it["vendor"], "none"), "cut": cut, "stamp": stamp,
+            "coa": COA if it.get("coa") else ""}
 
 
 def quoted(own):
@@ -227,11 +249,7 @@ def quoted(own):
 
 def is_cut(address, text):
     """Whether a home_server takes Disconnect-Requests there already."""
-    found = [*freeradius.HOME_SERVER.findall(freeradius.without_comments(text))]
-    found += [it for file in freeradius.included()
-              for it in freeradius.blocks(freeradius.HOME_SERVER, file)]
-    return any(freeradius.value(block, "type") == "coa" and address == freeradius.value(
-        block, "ip(?:v4|v6)?addr") for _, block in found)
+    return ipaddress.ip_network(address) in freeradius.cuts(text)
 
 
 def covering(wanted):
@@ -260,12 +278,9 @@ def with_lines(old, file, answers):
         if freeradius.value(found[2], "radacctd") == "no":
             raise steps.Failed(f"{file}: the client {found[1]} has radacctd = no, and the file of "
                                "answers has it as an access server")
-        begun = re.search(rf"(?m)^\s*client\s+{re.escape(found[1])}\s*\{{", text)
         lacking = [line for line in LINES.format(**lines_of(it)).splitlines(True)
                    if not freeradius.value(found[2], line.split()[0])]
-        end = freeradius.end_of_block(text, begun.end()) if begun else 0
-        if end and lacking:
-            text = text[:end].rstrip(" \t\n") + "\n" + "".join(lacking) + text[end:]
+        text = in_client(text, found[1], lacking) if lacking else text
     return text
 
 
