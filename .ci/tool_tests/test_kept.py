@@ -119,6 +119,45 @@ class Ended(unittest.TestCase):
                                                      b"withdrawn": logins.WITHDRAWN})
 
 
+class Minute(unittest.TestCase):
+    """What the timer does each minute: a part that fails keeps no other one."""
+
+    def test_each_part_is_done_whatever_fails(self):
+        fails = {"mirror": OSError("no mirror"), "configuration": SystemExit(1), "nothing": None}
+        for name, why in fails.items():
+            done = self.tick(mends=why if name == "configuration" else None,
+                             lapses=why if name == "mirror" else None)
+            self.assertEqual(done, (int(bool(why)), ["ends sessions", "mends", "lapses"]), name)
+
+    def tick(self, mends, lapses):
+        calls = []
+
+        def part(name, why=None):
+            def call(*_):
+                calls.append(name)
+                if why:
+                    raise why
+                return 0, 0
+            return call
+
+        lapse = mock.Mock(store=None, wait=900, run=part("takes"))
+        with tempfile.TemporaryDirectory(dir=MEMORY) as folder, contextlib.ExitStack() as patches:
+            for where, what, new in (
+                (logins, "own_log", mock.Mock()), (logins, "mend", lambda _: 0),
+                (command, "store", mock.Mock()), (command, "uses_made", mock.Mock()),
+                (command.packages, "write_for_pages", mock.Mock()), (command, "say", mock.Mock()),
+                (command.lapses, "tidy", mock.Mock()), (command.lapses, "steady", lambda _: 9999),
+                (command.lapses, "Lapse", lambda *_: lapse),
+                (command.lapses, "disconnect", part("ends sessions")),
+                (command.lapses, "note_sales", part("lapses", lapses)),
+                (command.lapses, "bring_back", mock.Mock()),
+                (command, "mend_guests", part("mends", mends)),
+            ):
+                patches.enter_context(mock.patch.object(where, what, new))
+            status = command.main(["tick", "--lock", os.path.join(folder, "lock")])
+        return status, [it for it in calls if it != "takes"]
+
+
 class Free(unittest.TestCase):
     """A plan that costs nothing lets everybody in: so no code of it is made before it is sold."""
 

@@ -339,16 +339,33 @@ def tick(words):
     use_store = uses_made()
     lapses.tidy(use_store, now)
     long = lapses.steady(logins_store)
-    if long >= min(words.steady, lapses.STEADY // 6):
-        lapses.note_sales(logins_store, now, words.mirror)
-        lapses.bring_back(logins_store, now)
     lapse = lapses.Lapse(logins_store, use_store, debit.words_of(words), logins.LOG, words.mirror)
     lapses.disconnect(logins_store, use_store, now, lapse.wait)
-    mend_guests(logins_store, words)
+    return max(went_wrong(lambda: mend_guests(logins_store, words)),
+               went_wrong(lambda: take_what_is_left(lapse, now, long, words)))
+
+
+def went_wrong(part):
+    """Does a part of the minute's work: 1 if it failed, which it has said. The others go on."""
+    try:
+        part()
+    except SystemExit:
+        # A command of radacctl said why.
+        return 1
+    except (logins.Fault, stock.Fault, site.Missing, OSError) as why:
+        say(why)
+        return 1
+    return 0
+
+
+def take_what_is_left(lapse, now, long, words):
+    """Notes what the desk has sold, and takes what is left on logins that are over."""
+    if long >= min(words.steady, lapses.STEADY // 6):
+        lapses.note_sales(lapse.store, now, words.mirror)
+        lapses.bring_back(lapse.store, now)
     done, _ = lapse.run(now, long >= words.steady)
     if done:
         print(f"lapsed: {done}")
-    return 0
 
 
 def mend_guests(logins_store, words):
