@@ -436,10 +436,12 @@ class Places(unittest.TestCase):
 
     def test_words_for_radclient_are_addresses_and_ports(self):
         block = "home_server a {{\n\ttype = coa\n\tipaddr = {}\n\tport = {}\n\tsecret = s\n}}\n"
-        rows = [("10.0.0.1", "3799"), ("-f/etc/shadow", "1"), ("10.0.0.2", "1:-x"), ("::1", "1700")]
+        rows = [("10.0.0.1", "3799"), ("-f/etc/shadow", "1"), ("10.0.0.2", "1:-x"),
+                ("2001:DB8:0::7", "1700")]
         with open(self.path("raddb/radacctd/access-servers.conf"), "w", encoding="utf-8") as file:
             file.write("".join(block.format(*it) for it in rows))
-        self.assertEqual(lapses.cut_servers(), {"10.0.0.1": ("3799", "s"), "::1": ("1700", "s")})
+        self.assertEqual(lapses.cut_servers(), {"10.0.0.1": ("3799", "s"),
+                                                "2001:db8::7": ("1700", "s")})
 
 
 class Books:

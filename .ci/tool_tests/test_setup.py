@@ -12,7 +12,7 @@ import tempfile
 import unittest
 from unittest import mock
 
-from radacctl import debits, files, freeradius, site as places
+from radacctl import debits, files, freeradius, lapses, site as places
 from radacctl.commands import debit, pages, setup, site
 from radacctl.doctor import front as doctor_front
 from radacctl.setup import alone, answers, away, front, pair, proof, sql, steps, web
@@ -331,9 +331,12 @@ class Existing(Folder):
                                lambda it: front.with_lines(it, "clients.conf", wanted))
 
     def test_a_home_server_that_is_there_is_enough(self):
-        self.put("proxy.conf", "home_server x {\n\ttype = coa\n\tipaddr = 10.0.0.1\n}\n")
+        self.put("proxy.conf", "home_server x {\n\ttype = coa\n\tipaddr = 10.0.0.1\n"
+                 "\tport = 1700\n\tsecret = of-it\n}\n")
         wanted = self.wanted({"name": "wlc", "address": "10.0.0.1", "vendor": "cisco"})
         self.assertNotIn("home_server", front.clients(None, wanted))
+        # Nor is it only FreeRADIUS that asks there: so do check-out and the end of a validity.
+        self.assertEqual(lapses.cut_servers(), {"10.0.0.1": ("1700", "of-it")})
 
     def test_who_is_slowed_is_asked_by_coa(self):
         """Only by an answer, since such a session has no quota, and only where somebody is asked."""

@@ -144,13 +144,18 @@ def client_at(address):
                  if it == wanted), None)
 
 
-def cuts(text_of_clients):
-    """The addresses at which access servers take Disconnect- and CoA-Requests, by access-servers.conf
-    and the site's own files; None is one of a name.
+def cutting(text_of_clients):
+    """The home servers that take Disconnect- and CoA-Requests, name and text of each: those of
+    access-servers.conf, and of the site's own files.
     """
     found = HOME_SERVER.findall(without_comments(text_of_clients))
     found += [it for file in included() for it in blocks(HOME_SERVER, file)]
-    return {network(name, block) for name, block in found if value(block, "type") == "coa"}
+    return [it for it in found if value(it[1], "type") == "coa"]
+
+
+def cuts(text_of_clients):
+    """The addresses at which these are; None is one of a name."""
+    return {network(name, block) for name, block in cutting(text_of_clients)}
 
 
 def end_of_block(text_of_file, begin):

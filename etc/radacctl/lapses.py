@@ -180,14 +180,14 @@ class Lapse:
 def cut_servers():
     """Where each access server takes a Disconnect-Request, by its address."""
     found = {}
-    blocks = freeradius.blocks(freeradius.HOME_SERVER, "radacctd", "access-servers.conf")
-    for _, block in blocks:
-        if freeradius.value(block, "type") == "coa":
-            address = freeradius.value(block, "ipaddr") or freeradius.value(block, "ipv6addr")
-            port = freeradius.value(block, "port") or "3799"
-            # FreeRADIUS' user may write that file, and is to give root no other words.
-            if is_address(address) and port.isdecimal():
-                found[address] = (port, freeradius.value(block, "secret"))
+    for _, block in freeradius.cutting(freeradius.text("radacctd", "access-servers.conf")):
+        address = freeradius.value(block, "ip(?:v[46])?addr")
+        port = freeradius.value(block, "port") or "3799"
+        # FreeRADIUS' user may write that file, and is to give root no other words.
+        if is_address(address) and port.isdecimal():
+            # As FreeRADIUS spells where a report came from.
+            place = str(ipaddress.ip_address(address))
+            found.setdefault(place, (port, freeradius.value(block, "secret")))
     return found
 
 
