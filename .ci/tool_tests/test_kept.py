@@ -188,6 +188,9 @@ class Free(unittest.TestCase):
                            ", ?, 0, ?, NULL, NULL, NULL)",
                            (account.encode(), account, plan, state, sold)))
             [found] = doctor.free_codes(store)
+            # FreeRADIUS' user writes it, and a person gives the cure to a shell of root's.
+            store.run(("UPDATE login SET sheet = 'x; reboot'", ()))
+            self.assertIn("--unsold 'x; reboot'; ", next(doctor.free_codes(store)).cure)
         self.assertIn("1 codes of week-20261127-acdef log in without a sale", found.text)
         self.assertIn("withdraw --unsold week-20261127-acdef", found.cure)
 

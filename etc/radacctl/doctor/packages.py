@@ -1,6 +1,7 @@
 """Packages: FreeRADIUS' lines, the databases of logins, the key of codes, what was not finished."""
 
 import re
+import shlex
 import time
 
 from radacctl import files, freeradius, logins, names, packages, plans, site
@@ -89,7 +90,7 @@ def free_codes(store):
         if names.shown(name.encode()) in free:
             yield Fault("packages-file", f"{count} codes of {sheet} log in without a sale: the "
                         f"plan {name} costs nothing", "radacctl packages withdraw --unsold "
-                        f"{sheet}; radacctl guest new sells such a package")
+                        f"{shlex.quote(sheet)}; radacctl guest new sells such a package")
 
 
 def refused(name, path, why):
