@@ -178,6 +178,25 @@ class Free(unittest.TestCase):
         store.assert_not_called()
         self.assertIn("the plan default costs nothing, so codes of week", said.getvalue())
 
+    def test_a_sheet_whose_codes_are_not_kept_is_said(self):
+        """Its PDF is there, and looks as if it could be sold."""
+        known, store = packages.packages_of(PACKAGE, MONEY), mock.Mock()
+        store.run.side_effect = logins.Fault("l.db: database or disk is full")
+        with tempfile.TemporaryDirectory(dir=MEMORY) as folder, contextlib.ExitStack() as patches:
+            for where, what, new in (
+                (packages, "read", lambda: (known, MONEY)), (command, "store", lambda: store),
+                (command.plans, "in_force", lambda: {"default": ("1", "5", "both")}),
+                (command, "key_of", lambda _: "k"), (logins, "package_row", lambda *_: 1),
+                (command, "new_codes", lambda *_: [("A-B-C", "t-0123456789ab", "d")]),
+                (command.codes, "sheet", lambda *_: b"%PDF"), (command.codes, "log", mock.Mock()),
+            ):
+                patches.enter_context(mock.patch.object(where, what, new))
+            said = patches.enter_context(contextlib.redirect_stderr(io.StringIO()))
+            self.assertRaises(SystemExit, command.main,
+                              ["print", "week", "--count", "1", "--to", folder])
+            [name] = os.listdir(folder)
+        self.assertIn(f"sell none of {folder}/{name} unless", said.getvalue())
+
     def test_the_doctor_names_those_that_were(self):
         with tempfile.TemporaryDirectory(dir=MEMORY) as folder:
             store = Site(folder).store

@@ -627,6 +627,8 @@ class Sheets(unittest.TestCase):
                             ("UPDATE package SET terms = '{\"credit\": 999999}'", ()))
             for what in ("t-0123456789ab", "week-20261127-acdef.pdf"):
                 self.assertRaises(SystemExit, command.named, found.store, what)
+                # It may be withdrawn all the same: it was stolen, say.
+                self.assertEqual(len(command.named(found.store, what, False)), 1)
             codes.log([1, "week-20261127-acdef", "week", 50, 900])
             for what in ("t-0123456789ab", "week-20261127-acdef.pdf"):
                 self.assertEqual(command.named(found.store, what),

@@ -127,10 +127,14 @@ def print_codes(words):
         fail(f"cannot write {path}: {why.strerror}")
     now = int(time.time())
     codes.log([now, sheet, package.name, package.credit, package.price])
-    logins_store.run(*((
-        "INSERT INTO login VALUES (?, ?, NULL, ?, ?, ?, ?, ?, 'live', ?, NULL, NULL, ?, NULL)",
-        (account.encode(), digest, number, package.plan, package.devices, package.seconds, sheet,
-         now, package.until)) for _, account, digest in made))
+    try:
+        logins_store.run(*((
+            "INSERT INTO login VALUES (?, ?, NULL, ?, ?, ?, ?, ?, 'live', ?, NULL, NULL, ?, NULL)",
+            (account.encode(), digest, number, package.plan, package.devices, package.seconds,
+             sheet, now, package.until)) for _, account, digest in made))
+    except logins.Fault as why:
+        fail(f"{why}\nIts codes may log nobody in: sell none of {path} unless radacctl packages "
+             f"list {sheet} has them. Else remove it, and print others")
     print(f"{len(made)} codes of {package.name}, {money.shown(package.price)} each: {path}. "
           f"None is sold yet: radacctl packages sell {sheet}")
     return 0
@@ -156,8 +160,8 @@ def new_codes(count, key, logins_store):
     return list(made.values())
 
 
-def named(logins_store, what):
-    """The codes of a sheet or a serial number."""
+def named(logins_store, what, is_for_sale=True):
+    """The codes of a sheet or a serial number. What they give is root's word; to end them is not."""
     if SERIAL.fullmatch(what):
         condition, value = "account = ?", what.encode()
     elif SHEET.fullmatch(os.path.basename(what).removesuffix(".pdf")):
@@ -166,11 +170,12 @@ def named(logins_store, what):
         return fail(f"{what} is no serial number, as t-0123456789ab, and no sheet")
     found = logins_store.read("SELECT account, state, sold, ends, sheet FROM login WHERE "
                               f"digest IS NOT NULL AND {condition} ORDER BY account", value)
-    known = codes.sold()
+    known = codes.sold() if is_for_sale else {}
     lost = {it[-1] for it in found} - set(known)
-    if lost:
+    if is_for_sale and lost:
         fail(f"{codes.LOG} has no {min(lost)}: nobody knows what its codes give")
-    return [Code(*it[:4], *known[it[4]]) for it in found] or fail(f"no code is of {what}")
+    return [Code(*it[:4], *known.get(it[4], (0, 0))) for it in found] or fail(
+        f"no code is of {what}")
 
 
 def number_of(account):
@@ -235,7 +240,7 @@ def withdraw(words):
     if words.unsold:
         # Else a code that the desk sold just now would count as one that nobody bought.
         codes.await_balances(begun)
-    found = {it.account: it for what in words.what for it in named(logins_store, what)}
+    found = {it.account: it for what in words.what for it in named(logins_store, what, False)}
     over = sum(it.state != logins.LIVE for it in found.values())
     live = [it.account for it in found.values() if it.state == logins.LIVE]
     sold = sold_of(found, live, words.unsold)
