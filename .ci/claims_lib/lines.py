@@ -46,7 +46,8 @@ LINES = {
     "{what}: {fault}": [
         ("status: cannot write", "that file cannot be written; printed once until it can. Look at space"
          " and rights of its folder"),
-        ("balances: cannot write", "the same"),
+        ("balances: cannot write",
+         "the same; logins go by [old balances](FREERADIUS.md#how-old-a-balance-is)"),
         ("balances: db: Unavailable", "the balances could not be read"),
         ("balances: db: Memory", "the same"),
     ],

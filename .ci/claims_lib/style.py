@@ -15,7 +15,7 @@ MOST = {
     "docs/ACCESS-SERVERS.md": 1305,
     "docs/ARCHITECTURE.md": 840,
     "docs/BENCHES.md": 770,
-    "docs/BOOK.md": 1485,
+    "docs/BOOK.md": 1475,
     "docs/CHANGE.md": 955,
     "docs/CLERK.md": 800,
     "docs/CODEC.md": 990,
@@ -38,14 +38,14 @@ MOST = {
     "docs/PROOFS.md": 2335,
     "docs/SEMANTICS.md": 880,
     "docs/SHARDS.md": 1420,
-    "docs/SITE.md": 655,
+    "docs/SITE.md": 635,
     "docs/SIZING.md": 575,
     "docs/START.md": 865,
-    "docs/TROUBLE.md": 1740,
+    "docs/TROUBLE.md": 1760,
     "docs/VOUCHERS.md": 920,
     "docs/WATCHING.md": 395,
 }
-MOST_IN_ALL = 35490
+MOST_IN_ALL = 35480
 # A page that no other work has bounded yet.
 NEW_PAGE = 1500
 MOST_IN_SENTENCE, MOST_IN_CELL = 30, 25
