@@ -130,6 +130,7 @@ KEPT = {
     ),
     "docs/TROUBLE.md": (
         "Delete nothing in `/var/lib/radacctd`",
+        "these are reports that are not charged yet",
         "A restart fails",
         "FreeRADIUS keeps them in its queue",
         "that report is lost until the session's next report",

@@ -10,7 +10,7 @@ from claims_lib.tree import text_of
 
 # The most words of a page by hand, and of all pages together.
 MOST = {
-    "CHANGELOG.md": 1050,
+    "CHANGELOG.md": 1040,
     "README.md": 675,
     "docs/ACCESS-SERVERS.md": 1305,
     "docs/ARCHITECTURE.md": 840,
@@ -18,7 +18,7 @@ MOST = {
     "docs/BOOK.md": 1475,
     "docs/CHANGE.md": 955,
     "docs/CLERK.md": 800,
-    "docs/CODEC.md": 990,
+    "docs/CODEC.md": 970,
     "docs/CONTRACTS.md": 100,
     "docs/DAMAGE.md": 1225,
     "docs/DECISIONS.md": 1440,
@@ -30,7 +30,7 @@ MOST = {
     "docs/FORWARD.md": 1020,
     "docs/FREERADIUS.md": 2555,
     "docs/FRONTDESK.md": 660,
-    "docs/GATE.md": 975,
+    "docs/GATE.md": 965,
     "docs/GONE.md": 710,
     "docs/INSTALL.md": 1050,
     "docs/PACKAGES.md": 1600,
@@ -41,11 +41,11 @@ MOST = {
     "docs/SITE.md": 635,
     "docs/SIZING.md": 575,
     "docs/START.md": 865,
-    "docs/TROUBLE.md": 1760,
+    "docs/TROUBLE.md": 1795,
     "docs/VOUCHERS.md": 920,
     "docs/WATCHING.md": 395,
 }
-MOST_IN_ALL = 35480
+MOST_IN_ALL = 35465
 # A page that no other work has bounded yet.
 NEW_PAGE = 1500
 MOST_IN_SENTENCE, MOST_IN_CELL = 30, 25
