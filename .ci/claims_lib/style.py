@@ -45,7 +45,7 @@ MOST = {
     "docs/VOUCHERS.md": 920,
     "docs/WATCHING.md": 395,
 }
-MOST_IN_ALL = 35465
+MOST_IN_ALL = 35470
 # A page that no other work has bounded yet.
 NEW_PAGE = 1500
 MOST_IN_SENTENCE, MOST_IN_CELL = 30, 25
