@@ -45,6 +45,7 @@ WHOLE = (
     ("docs/PACKAGES.md", "What you can rely on", "row"),
     ("docs/SEMANTICS.md", "What a kill leaves", "row"),
     ("docs/SIZING.md", "How often a commit syncs", "row"),
+    ("docs/TROUBLE.md", "What an outage costs", "row"),
 )
 # A sentence that says what to do begins so.
 ADVICE = re.compile(r"(?:^|[.:;] |\| |\*\*|- )(?:\*\*)?Never\b")
@@ -114,8 +115,9 @@ def check(checker):
 def check_block(checker, block):
     marks = list(MARK.finditer(block.text))
     for start, end in found_in(block.text):
-        of_it = [it for it in marks if start <= it.start() < end]
-        if not of_it:
+        # The mark of a later sentence holds no promise of this one.
+        places = [it.start() for it in marks if start <= it.start() < end]
+        if all(re.search(r"\.\s+\S", block.text[start:it].rstrip()) for it in places):
             said = " ".join(block.text[start : start + 60].split())
             checker.find(block.line_at(start), f"`{said}`: which script or clause holds it?")
         said = plain(block.text[start:end])
