@@ -1,6 +1,7 @@
 -- What a book knows stays true of its tables.
 use Rattle.std.proofs.Common.{◌≡◌, ◌≢◌, ℕ, ℤ, pos, List, Bool, true, false, cond, true≢false}
-use Rattle.std.proofs.Common.{bytes_eq, Option, Some, None, IfSome, unwrap_or, Ok, Result, OnOk}
+use Rattle.std.proofs.Common.{bytes_eq, Option, Some, None, IfSome, unwrap_or, Ok, Err}
+use Rattle.std.proofs.Common.{Result, OnOk, is_ok}
 use Rattle.std.proofs.Common.{refl, sym, ap, subst, ◌∙◌}
 use Rattle.std.proofs.lemmas.Slice.Eq.{bytes_eq-Decides}
 use Rattle.std.specs.Bool.{Decides, MatchBool}
@@ -12,17 +13,17 @@ use Rattle.acct_model.specs.Vouchers.{TopUpFacts}
 use Rattle.acct_book.specs.declared.key.Key.{Key}
 use Rattle.acct_book.specs.Row.{RowFacts}
 use Rattle.acct_book.specs.Content.{Content, kept_balance, same_key, key_of, with_session}
-use Rattle.acct_book.specs.Content.{with_topup}
-use Rattle.acct_book.specs.Content.{with_closed}
+use Rattle.acct_book.specs.Content.{with_topup, with_closed, with_forward}
 use Rattle.acct_book.proofs.Keys.{Decides-same_key, key_is, key_refl}
 use Rattle.acct_sql.specs.declared.known.Known.{Known}
-use Rattle.acct_sql_tables.specs.Book.{Wrote, content_at, is_open_at, is_sound_at}
-use Rattle.acct_sql_tables.specs.inner.AtRest.{IsAtRest, ReadsAtRest}
+use Rattle.acct_sql_tables.specs.Book.{content_at, is_open_at, is_sound_at}
+use Rattle.acct_sql_tables.specs.inner.AtRest.{IsAtRest, ReadsAtRest, WritesAtRest}
 use Rattle.acct_sql_tables.proofs.ReadLemmas.{stays_read, stays_first}
 use Rattle.acct_sql_tables.specs.Content.{content_without_plans, plans_in_tables, with_plan}
 use Rattle.acct_sql_tables.specs.inner.Inside.{HasPlanOf}
 use Rattle.acct_sql.specs.inner.Known.{known_balance, balance_among, Learns, IsTold, Knows, AllTold}
 use Rattle.acct_sql.specs.inner.Known.{HasKept, HasRow, known_session, session_among, KnowsPlan}
+use Rattle.acct_sql.specs.inner.Known.{KnowsNothing, KeepsOrForgets}
 use Rattle.acct_sql.specs.inner.Remembered.{HasEnded}
 use Rattle.acct_sql.proofs.ColumnLemmas.{was_found, plan_told}
 use Rattle.acct_sql.proofs.RememberLemmas.{closes_none}
@@ -118,192 +119,213 @@ row_other f key other row differs = go (same_key key other) refl
     go true same = absurd (differs (key_is key other same))
     go false is = refl
 
--- ---- all that is known
+-- ---- what is known once the answer of a call was kept, or all forgotten
 
--- nothing is known
-pub knows_nothing : (s : State) (known : Known)
-    → ((name : List ℕ) → known_balance known name ≡ None)
-    → ((key : Key) → known_session known key ≡ None) → Knows s known
-knows_nothing s known none no_rows = record {
-  balances = none_told s HasKept (known_balance known) none;
-  sessions = none_told s HasRow (known_session known) no_rows;
+pub knows_nothing : {s : State} {known : Known} → KnowsNothing known → Knows s known
+knows_nothing {s = s} {known = known} none = record {
+  balances = none_told s HasKept (known_balance known) none.balances;
+  sessions = none_told s HasRow (known_session known) none.sessions;
 }
 
-module _ {S T E : Type 0} (g : Ghosts S) (old new : Held S) (result : Result T E) (x : T)
-    (is : result ≡ Ok x) (before : Known) (was : Knows (state g old) before) where
-  module _ (reads : ReadsAtRest g old new result) where
+same_value : {T F : Type 0} (x value : T) (told : Result T F) → told ≡ Ok x → told ≡ Ok value
+    → value ≡ x
+same_value x value told one other = cc
+
+pub was_ok : {T E F : Type 0} {r : Result T E} {before after : Known} {x : T}
+    → KeepsOrForgets {F = F} r before after (Ok x) → r ≡ Ok x
+was_ok {r = Ok value} {x = x} kept = ap Ok (same_value x value (Ok x) refl kept.answers)
+was_ok {r = Err e} kept = let no : false ≡ true = kept.answers in cc
+
+was_kept : {T E F : Type 0} {r : Result T E} {before after : Known} {x : T}
+    → KeepsOrForgets {F = F} r before after (Ok x) → after ≡ before
+was_kept {r = Ok value} kept = kept.keeps
+was_kept {r = Err e} kept = let no : false ≡ true = kept.answers in absurd cc
+
+known_as_kept : {T E F : Type 0} {s : State} {r : Result T E} {before after : Known} {x : T}
+    → KeepsOrForgets {F = F} r before after (Ok x) → Knows s before → Knows s after
+known_as_kept {s = s} kept was = subst (Knows s) (sym (was_kept kept)) was
+
+-- the call failed
+pub knows_no_more : {T E F : Type 0} {s : State} {r : Result T E} {before after : Known} {e : F}
+    → KeepsOrForgets {F = F} r before after (Err e) → Knows s after
+knows_no_more {r = Ok value} kept = let no : false ≡ true = ap is_ok kept.answers in absurd cc
+knows_no_more {r = Err e} kept = knows_nothing kept.keeps
+
+-- the call was answered
+module _ {S T E F : Type 0} {g : Ghosts S} {old new : Held S} {r : Result T E} {x : T}
+    {before kept : Known} (keeps : KeepsOrForgets {F = F} r before kept (Ok x))
+    (was : Knows (state g old) before) where
+  module _ (reads : ReadsAtRest g old new r) where
     same_balance : (name : List ℕ) (balance : ℤ) → is_open_at g new
         → HasKept name balance (content_at g old) → HasKept name balance (content_at g new)
-    same_balance name balance o kept = ap (λ c. kept_balance c name) (reads.read.same o) ∙ kept
+    same_balance name balance o is = ap (λ c. kept_balance c name) (reads.read.same o) ∙ is
 
     same_row : (key : Key) (row : Option RowFacts) → is_open_at g new
         → HasRow key row (content_at g old) → HasRow key row (content_at g new)
     same_row key row o there = ap (λ (c : Content). c.rows key) (reads.read.same o) ∙ there
 
-    same_balances : AllTold (state g new) HasKept (known_balance before)
-    same_balances = still_told g old new result x is reads.read.was_sound reads.read.answers
-        HasKept (known_balance before) was.balances same_balance
+    same_balances : AllTold (state g new) HasKept (known_balance kept)
+    same_balances = still_told g old new r x (was_ok keeps) reads.read.was_sound reads.read.answers
+        HasKept (known_balance kept) (known_as_kept keeps was).balances same_balance
 
-    same_rows : AllTold (state g new) HasRow (known_session before)
-    same_rows = still_told g old new result x is reads.read.was_sound reads.read.answers
-        HasRow (known_session before) was.sessions same_row
+    same_rows : AllTold (state g new) HasRow (known_session kept)
+    same_rows = still_told g old new r x (was_ok keeps) reads.read.was_sound reads.read.answers
+        HasRow (known_session kept) (known_as_kept keeps was).sessions same_row
 
-    -- a read leaves all of it true
-    pub knows_read : Knows (state g new) before
-    knows_read = record { balances = same_balances; sessions = same_rows }
+    -- nothing more was learned
+    still_known : Knows (state g new) kept
+    still_known = record { balances = same_balances; sessions = same_rows }
 
     -- a balance was read
-    pub knows_balance : (after : Known) (account : List ℕ) (balance : ℤ)
-        → Learns account balance (known_balance before) (known_balance after)
-        → after.sessions ≡ before.sessions
-        → (is_open_at g new → kept_balance (content_at g old) account ≡ balance)
+    pub knows_balance : {after : Known} (account : List ℕ) (balance : ℤ)
+        → Learns account balance (known_balance kept) (known_balance after)
+        → after.sessions ≡ kept.sessions
+        → (is_open_at g new → balance ≡ kept_balance (content_at g old) account)
         → Knows (state g new) after
-    knows_balance after account balance learns same found = record {
-      balances = one_told g old new result x is reads.read.was_sound reads.read.answers
-          HasKept (known_balance before) was.balances bytes_eq bytes_eq-Decides
+    knows_balance {after = after} account balance learns same found = record {
+      balances = one_told g old new r x (was_ok keeps) reads.read.was_sound reads.read.answers
+          HasKept (known_balance kept) (known_as_kept keeps was).balances bytes_eq bytes_eq-Decides
           (known_balance after) account balance learns
-          (λ o. same_balance account balance o (found o)) (λ name other. same_balance name);
+          (λ o. same_balance account balance o (sym (found o))) (λ name other. same_balance name);
       sessions = subst (λ rows. AllTold (state g new) HasRow (session_among rows)) (sym same)
           same_rows;
     }
 
     -- a row was read
-    pub knows_row : (after : Known) (key : Key) (row : Option RowFacts)
-        → Learns key row (known_session before) (known_session after)
-        → after.balances ≡ before.balances
-        → (is_open_at g new → (content_at g old).rows key ≡ row) → Knows (state g new) after
-    knows_row after key row learns same found = record {
+    pub knows_row : {after : Known} (key : Key) (row : Option RowFacts)
+        → Learns key row (known_session kept) (known_session after)
+        → after.balances ≡ kept.balances
+        → (is_open_at g new → row ≡ (content_at g old).rows key) → Knows (state g new) after
+    knows_row {after = after} key row learns same found = record {
       balances = subst (λ kept. AllTold (state g new) HasKept (balance_among kept)) (sym same)
           same_balances;
-      sessions = one_told g old new result x is reads.read.was_sound reads.read.answers
-          HasRow (known_session before) was.sessions same_key Decides-same_key
+      sessions = one_told g old new r x (was_ok keeps) reads.read.was_sound reads.read.answers
+          HasRow (known_session kept) (known_as_kept keeps was).sessions same_key Decides-same_key
           (known_session after) key row learns
-          (λ o. same_row key row o (found o)) (λ other differs. same_row other);
+          (λ o. same_row key row o (sym (found o))) (λ other differs. same_row other);
     }
 
-  module _ (change : Content → Content) (w : Wrote g old new change result) where
+  module _ (change : Content → Content) (w : WritesAtRest g old new change r) where
     now_is : is_open_at g new → content_at g new ≡ change (content_at g old)
-    now_is o = subst (λ r. OnOk r (content_at g new ≡ change (content_at g old))) is (w.ok o)
+    now_is o = subst (λ r. OnOk r (content_at g new ≡ change (content_at g old))) (was_ok keeps)
+        (w.wrote.ok o)
 
     -- no balance was set
-    kept_balances : ((content : Content) → (change content).balances ≡ content.balances)
-        → AllTold (state g new) HasKept (known_balance before)
-    kept_balances same = still_told g old new result x is w.was_sound w.answers
-        HasKept (known_balance before) was.balances
-        (λ name b o kept. ap (λ c. kept_balance c name) (now_is o)
-        ∙ (ap (λ (f : List ℕ → Option ℤ). unwrap_or (f name) (pos 0)) (same (content_at g old))
-        ∙ kept))
+    kept_balances : (after : Known) → after.balances ≡ kept.balances
+        → ((content : Content) → (change content).balances ≡ content.balances)
+        → AllTold (state g new) HasKept (known_balance after)
+    kept_balances after same stays =
+        subst (λ known. AllTold (state g new) HasKept (balance_among known)) (sym same)
+        (still_told g old new r x (was_ok keeps) w.wrote.was_sound w.wrote.answers
+        HasKept (known_balance kept) (known_as_kept keeps was).balances
+        (λ name b o is. ap (λ c. kept_balance c name) (now_is o)
+        ∙ (ap (λ (f : List ℕ → Option ℤ). unwrap_or (f name) (pos 0)) (stays (content_at g old))
+        ∙ is)))
 
     -- a balance was set
-    set_balances : (after : Known) (account : List ℕ) (balance : ℤ)
-        → Learns account balance (known_balance before) (known_balance after)
+    set_balances : (mid after : Known) (account : List ℕ) (balance : ℤ)
+        → mid.balances ≡ kept.balances
+        → Learns account balance (known_balance mid) (known_balance after)
         → ((content : Content) → (change content).balances
         ≡ update bytes_eq content.balances account (Some balance))
         → AllTold (state g new) HasKept (known_balance after)
-    set_balances after account balance learns sets =
-        one_told g old new result x is w.was_sound w.answers
-        HasKept (known_balance before) was.balances bytes_eq bytes_eq-Decides
-        (known_balance after) account balance learns
+    set_balances mid after account balance same learns sets =
+        one_told g old new r x (was_ok keeps) w.wrote.was_sound w.wrote.answers
+        HasKept (known_balance kept) (known_as_kept keeps was).balances bytes_eq bytes_eq-Decides
+        (known_balance after) account balance
+        (subst (λ known. Learns account balance (balance_among known) (known_balance after)) same
+        learns)
         (λ o. ap (λ c. kept_balance c account) (now_is o)
         ∙ (ap (λ (f : List ℕ → Option ℤ). unwrap_or (f account) (pos 0))
         (sets (content_at g old)) ∙ set_here (content_at g old).balances account balance))
-        (λ name other b o kept. ap (λ c. kept_balance c name) (now_is o)
+        (λ name other b o is. ap (λ c. kept_balance c name) (now_is o)
         ∙ (ap (λ (f : List ℕ → Option ℤ). unwrap_or (f name) (pos 0)) (sets (content_at g old))
-        ∙ (set_other (content_at g old).balances account name balance other ∙ kept)))
+        ∙ (set_other (content_at g old).balances account name balance other ∙ is)))
 
     -- no row was set
-    kept_rows : ((content : Content) → (change content).rows ≡ content.rows)
-        → AllTold (state g new) HasRow (known_session before)
-    kept_rows same = still_told g old new result x is w.was_sound w.answers
-        HasRow (known_session before) was.sessions
-        (λ key row o there. ap (λ (c : Content). c.rows key) (now_is o)
-        ∙ (ap (λ (f : Key → Option RowFacts). f key) (same (content_at g old)) ∙ there))
-
-    -- a row was set
-    set_rows : (after : Known) (key : Key) (row : RowFacts)
-        → Learns key (Some row) (known_session before) (known_session after)
-        → ((content : Content) → (change content).rows
-        ≡ update same_key content.rows key (Some row))
+    kept_rows : (after : Known) → after.sessions ≡ kept.sessions
+        → (is_open_at g old → (change (content_at g old)).rows ≡ (content_at g old).rows)
         → AllTold (state g new) HasRow (known_session after)
-    set_rows after key row learns sets =
-        one_told g old new result x is w.was_sound w.answers
-        HasRow (known_session before) was.sessions same_key Decides-same_key
-        (known_session after) key (Some row) learns
-        (λ o. ap (λ (c : Content). c.rows key) (now_is o)
-        ∙ (ap (λ (f : Key → Option RowFacts). f key) (sets (content_at g old))
-        ∙ row_here (content_at g old).rows key row))
-        (λ other differs row' o there. ap (λ (c : Content). c.rows other) (now_is o)
-        ∙ (ap (λ (f : Key → Option RowFacts). f other) (sets (content_at g old))
-        ∙ (row_other (content_at g old).rows key other row differs ∙ there)))
+    kept_rows after same stays =
+        subst (λ rows. AllTold (state g new) HasRow (session_among rows)) (sym same)
+        (still_told g old new r x (was_ok keeps) w.wrote.was_sound w.wrote.answers
+        HasRow (known_session kept) (known_as_kept keeps was).sessions
+        (λ key row o there. ap (λ (c : Content). c.rows key) (now_is o)
+        ∙ (ap (λ (f : Key → Option RowFacts). f key) (stays (w.wrote.was_open o)) ∙ there)))
 
-    -- rows were closed or removed, and no session is known any more
-    pub knows_no_row : (after : Known) → after.balances ≡ before.balances
-        → ((key : Key) → known_session after key ≡ None)
-        → ((content : Content) → (change content).balances ≡ content.balances)
-        → Knows (state g new) after
-    knows_no_row after same none stays = record {
-      balances = subst (λ kept. AllTold (state g new) HasKept (balance_among kept)) (sym same)
-          (kept_balances stays);
-      sessions = none_told (state g new) HasRow (known_session after) none;
-    }
+  -- a row was set with the balance of its account: first the session was kept, and then the balance
+  pub knows_set : (mid : Known) {after : Known} (row : RowFacts) (balance : ℤ)
+      → WritesAtRest g old new (λ content. with_session content row balance) r
+      → Learns (key_of row) (Some row) (known_session kept) (known_session mid)
+      → mid.balances ≡ kept.balances
+      → Learns row.account balance (known_balance mid) (known_balance after)
+      → after.sessions ≡ mid.sessions → Knows (state g new) after
+  knows_set mid {after = after} row balance w session same_balances learns same = record {
+    balances = set_balances (λ content. with_session content row balance) w mid after row.account
+        balance same_balances learns (λ content. refl);
+    sessions = one_told g old new r x (was_ok keeps) w.wrote.was_sound w.wrote.answers
+        HasRow (known_session kept) (known_as_kept keeps was).sessions same_key Decides-same_key
+        (known_session after) (key_of row) (Some row)
+        (subst (λ rows. Learns (key_of row) (Some row) (known_session kept) (session_among rows))
+        (sym same) session)
+        (λ o. ap (λ (c : Content). c.rows (key_of row)) (now o)
+        ∙ row_here (content_at g old).rows (key_of row) row)
+        (λ other differs row' o there. ap (λ (c : Content). c.rows other) (now o)
+        ∙ (row_other (content_at g old).rows (key_of row) other row differs ∙ there));
+  }
+    where
+      now : is_open_at g new → content_at g new ≡ with_session (content_at g old) row balance
+      now = now_is (λ content. with_session content row balance) w
 
--- the live sessions of a client were closed, and no session is known any more if there were any
-pub knows_closed : {S T E : Type 0} (g : Ghosts S) (old new : Held S) (result : Result T E) (x : T)
-    → result ≡ Ok x → (before after : Known) → Knows (state g old) before → (client : List ℕ)
-    → Wrote g old new (λ content. with_closed content client) result
-    → after.balances ≡ before.balances → (has_ended : Bool)
-    → (has_ended ≡ true → is_open_at g old → HasEnded (content_at g old) client)
-    → MatchBool has_ended (after.sessions ≡ before.sessions)
-    ((key : Key) → known_session after key ≡ None) → Knows (state g new) after
-knows_closed g old new result x is before after was client w same false ended none =
-    knows_no_row g old new result x is before was (λ content. with_closed content client) w after
-    same none (λ content. refl)
-knows_closed g old new result x is before after was client w same true ended kept = record {
-  balances = subst (λ kept. AllTold (state g new) HasKept (balance_among kept)) (sym same)
-      (kept_balances g old new result x is before was (λ content. with_closed content client) w
-      (λ content. refl));
-  sessions = subst (λ rows. AllTold (state g new) HasRow (session_among rows)) (sym kept)
-      (still_told g old new result x is w.was_sound w.answers HasRow (known_session before)
-      was.sessions (λ key row o there. ap (λ (c : Content). c.rows key)
-      (now_is g old new result x is before was (λ content. with_closed content client) w o
-      ∙ closes_none (content_at g old) client (ended refl (w.was_open o))) ∙ there));
-}
+  -- a top-up was set with the balance of its account
+  pub knows_credit : {after : Known} (topup : TopUpFacts) (balance : ℤ)
+      → WritesAtRest g old new (λ content. with_topup content topup balance) r
+      → Learns topup.account balance (known_balance kept) (known_balance after)
+      → after.sessions ≡ kept.sessions → Knows (state g new) after
+  knows_credit {after = after} topup balance w learns same = record {
+    balances = set_balances (λ content. with_topup content topup balance) w kept after
+        topup.account balance refl learns (λ content. refl);
+    sessions = kept_rows (λ content. with_topup content topup balance) w after same (λ o. refl);
+  }
 
--- a row was set with the balance of its account: first the session was kept, and then the balance
-pub knows_set : {S T E : Type 0} (g : Ghosts S) (old new : Held S) (result : Result T E) (x : T)
-    → result ≡ Ok x → (before mid after : Known) → Knows (state g old) before
-    → (row : RowFacts) (balance : ℤ)
-    → Wrote g old new (λ content. with_session content row balance) result
-    → Learns (key_of row) (Some row) (known_session before) (known_session mid)
-    → mid.balances ≡ before.balances
-    → Learns row.account balance (known_balance mid) (known_balance after)
-    → after.sessions ≡ mid.sessions → Knows (state g new) after
-knows_set g old new result x is before mid after was row balance w session kept learns same = record {
-  balances = set_balances g old new result x is before was
-      (λ content. with_session content row balance) w after row.account balance
-      (subst (λ kept. Learns row.account balance (balance_among kept) (known_balance after)) kept
-      learns) (λ content. refl);
-  sessions = set_rows g old new result x is before was
-      (λ content. with_session content row balance) w after (key_of row) row
-      (subst (λ rows. Learns (key_of row) (Some row) (known_session before) (session_among rows))
-      (sym same) session) (λ content. refl);
-}
+  -- sessions were removed and a row was set, and no session is known any more
+  pub knows_no_row : {after : Known} (gone : List Key) (row : RowFacts)
+      → WritesAtRest g old new (λ content. with_forward content gone row) r
+      → after.balances ≡ kept.balances → ((key : Key) → known_session after key ≡ None)
+      → Knows (state g new) after
+  knows_no_row {after = after} gone row w same none = record {
+    balances = kept_balances (λ content. with_forward content gone row) w after same
+        (λ content. refl);
+    sessions = none_told (state g new) HasRow (known_session after) none;
+  }
 
--- a top-up was set with the balance of its account
-pub knows_credit : {S T E : Type 0} (g : Ghosts S) (old new : Held S) (result : Result T E) (x : T)
-    → result ≡ Ok x → (before after : Known) → Knows (state g old) before
-    → (topup : TopUpFacts) (balance : ℤ)
-    → Wrote g old new (λ content. with_topup content topup balance) result
-    → Learns topup.account balance (known_balance before) (known_balance after)
-    → after.sessions ≡ before.sessions → Knows (state g new) after
-knows_credit g old new result x is before after was topup balance w learns same = record {
-  balances = set_balances g old new result x is before was
-      (λ content. with_topup content topup balance) w after topup.account balance learns
-      (λ content. refl);
-  sessions = subst (λ rows. AllTold (state g new) HasRow (session_among rows)) (sym same)
-      (kept_rows g old new result x is before was
-      (λ content. with_topup content topup balance) w (λ content. refl));
-}
+  -- the live sessions of a client were closed, and no session is known any more if there were any
+  pub knows_closed : {after : Known} (client : List ℕ) (has_ended : Bool)
+      → WritesAtRest g old new (λ content. with_closed content client) r
+      → after.balances ≡ kept.balances
+      → (has_ended ≡ true → is_open_at g old → HasEnded (content_at g old) client)
+      → MatchBool has_ended (after.sessions ≡ kept.sessions)
+      ((key : Key) → known_session after key ≡ None) → Knows (state g new) after
+  knows_closed {after = after} client has_ended w same ended rows = record {
+    balances = kept_balances (λ content. with_closed content client) w after same
+        (λ content. refl);
+    sessions = left has_ended ended rows;
+  }
+    where
+      left : (b : Bool) → (b ≡ true → is_open_at g old → HasEnded (content_at g old) client)
+          → MatchBool b (after.sessions ≡ kept.sessions)
+          ((key : Key) → known_session after key ≡ None)
+          → AllTold (state g new) HasRow (known_session after)
+      left false ended none = none_told (state g new) HasRow (known_session after) none
+      left true ended same = kept_rows (λ content. with_closed content client) w after same
+          (λ o. ap (λ (c : Content). c.rows) (closes_none (content_at g old) client (ended refl o)))
+
+-- a read was answered or not, and nothing more was learned
+pub knows_read : {S T E F : Type 0} {g : Ghosts S} {old new : Held S} {r : Result T E}
+    {before after : Known} {told : Result T F} → ReadsAtRest g old new r
+    → KeepsOrForgets r before after told → Knows (state g old) before → Knows (state g new) after
+knows_read {told = Ok x} reads keeps was = still_known keeps was reads
+knows_read {told = Err e} reads keeps was = knows_no_more keeps
 
 -- ---- a call that is answered by what is known
 

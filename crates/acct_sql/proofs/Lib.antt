@@ -6,5 +6,6 @@ mod TiedLemmas
 mod RememberLemmas
 mod CacheLemmas
 mod KnownLemmas
+mod CallLemmas
 mod NewRowLemmas
 mod NextStartLemmas

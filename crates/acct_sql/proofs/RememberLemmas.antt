@@ -35,10 +35,10 @@ remembers_none s memory none = record {
 }
 
 -- a read leaves all of it true
-pub remembers_read : {S T E : Type 0} (g : Ghosts S) (old new : Held S) (result : Result T E)
-    (memory : Memory) → ReadsAtRest g old new result → Remembers (state g old) memory
+pub remembers_read : {S T E : Type 0} {g : Ghosts S} {old new : Held S} {result : Result T E}
+    {memory : Memory} → ReadsAtRest g old new result → Remembers (state g old) memory
     → Remembers (state g new) memory
-remembers_read g old new result memory reads was = record {
+remembers_read reads was = record {
   ended = λ client there o. subst (λ content. HasEnded content client)
       (sym (reads.read.same o)) (was.ended client there (reads.read.was_open o));
 }
@@ -170,7 +170,8 @@ pub holds_after : {S T E : Type 0} (g : Ghosts S) (old new : Held S) (change : C
     → (is_open_at g old → P (content_at g old))
     → (P (content_at g old) → P (change (content_at g old)))
     → is_open_at g new → P (content_at g new)
-holds_after g old new change P (Ok x) w was then o = subst P (sym (w.ok o)) (then (was (w.was_open o)))
+holds_after g old new change P (Ok x) w was then o =
+    subst P (sym (w.ok o)) (then (was (w.was_open o)))
 holds_after g old new change P (Err e) w was then o = subst P (sym (w.err o)) (was (w.was_open o))
 
 told : {T E P : Type 0} (r : Result T E) → P → OnOk r P
@@ -204,73 +205,68 @@ not_true : (b : Bool) → not b ≡ true → b ≡ false
 not_true false is = refl
 not_true true is = absurd (true≢false (sym is))
 
-module _ {S T E : Type 0} (g : Ghosts S) (old new : Held S) (before after : Memory)
-    (result : Result T E) (was : Remembers (state g old) before) where
+module _ {S T E : Type 0} {g : Ghosts S} {old new : Held S} {before : Memory}
+    {change : Content → Content} {result : Result T E} where
+  remembers_by : {after : Memory} → Remembers (state g old) before
+      → WritesAtRest g old new change result
+      → ((client : List ℕ) → Has after.ended.items client → Has before.ended.items client
+      × (HasEnded (content_at g old) client → HasEnded (change (content_at g old)) client))
+      → Remembers (state g new) after
+  remembers_by was w stays = record {
+    ended = λ client there o.
+        let it = stays client there in
+        holds_after g old new change (λ content. HasEnded content client) result w.wrote
+        (was.ended client it.0) it.1 o;
+  }
+
+module _ {S T E : Type 0} {g : Ghosts S} {old new : Held S} {before after : Memory}
+    {result : Result T E} (was : Remembers (state g old) before) where
   -- a row was set
   pub remembers_set : (row : RowFacts) (balance : ℤ)
-      → AreEndedAfter row before.ended.items after.ended.items
-      → Wrote g old new (λ content. with_session content row balance) result
-      → Remembers (state g new) after
-  remembers_set row balance ended w = record {
-    ended = λ client there o.
-        let it = ended client there in
-        holds_after g old new (λ content. with_session content row balance)
-        (λ content. HasEnded content client) result w (was.ended client it.0)
-        (sets_none (content_at g old) row balance client it.1) o;
-  }
+      → WritesAtRest g old new (λ content. with_session content row balance) result
+      → AreEndedAfter row before.ended.items after.ended.items → Remembers (state g new) after
+  remembers_set row balance w ended = remembers_by was w (λ client there.
+      let it = ended client there in
+      (it.0, sets_none (content_at g old) row balance client it.1))
 
   -- sessions were removed and a row was set
   pub remembers_forward : (gone : List Key) (row : RowFacts)
-      → AreEndedAfter row before.ended.items after.ended.items
-      → Wrote g old new (λ content. with_forward content gone row) result
-      → Remembers (state g new) after
-  remembers_forward gone row ended w = record {
-    ended = λ client there o.
-        let it = ended client there in
-        holds_after g old new (λ content. with_forward content gone row)
-        (λ content. HasEnded content client) result w (was.ended client it.0)
-        (forwards_none (content_at g old) gone row client it.1) o;
-  }
+      → WritesAtRest g old new (λ content. with_forward content gone row) result
+      → AreEndedAfter row before.ended.items after.ended.items → Remembers (state g new) after
+  remembers_forward gone row w ended = remembers_by was w (λ client there.
+      let it = ended client there in
+      (it.0, forwards_none (content_at g old) gone row client it.1))
 
+module _ {S T E : Type 0} {g : Ghosts S} {old new : Held S} {memory : Memory}
+    {result : Result T E} (was : Remembers (state g old) memory) where
   -- a top-up was set
   pub remembers_credit : (topup : TopUpFacts) (balance : ℤ)
-      → after.ended.items ≡ before.ended.items
-      → Wrote g old new (λ content. with_topup content topup balance) result
-      → Remembers (state g new) after
-  remembers_credit topup balance same w = record {
-    ended = λ client there o. holds_after g old new
-        (λ content. with_topup content topup balance) (λ content. HasEnded content client)
-        result w (was.ended client (subst (λ names. Has names client) same there))
-        (λ ended. ended) o;
-  }
+      → WritesAtRest g old new (λ content. with_topup content topup balance) result
+      → Remembers (state g new) memory
+  remembers_credit topup balance w = remembers_by was w (λ client there. (there, λ ended. ended))
 
   -- the live sessions of a client were closed
   pub remembers_close : (client : List ℕ)
-      → after.ended.items ≡ before.ended.items
-      → Wrote g old new (λ content. with_closed content client) result
-      → Remembers (state g new) after
-  remembers_close client same w = record {
-    ended = λ other there o. holds_after g old new
-        (λ content. with_closed content client) (λ content. HasEnded content other)
-        result w (was.ended other (subst (λ names. Has names other) same there))
-        (closes_others (content_at g old) client other) o;
-  }
+      → WritesAtRest g old new (λ content. with_closed content client) result
+      → Remembers (state g new) memory
+  remembers_close client w = remembers_by was w (λ other there.
+      (there, closes_others (content_at g old) client other))
 
 -- the client has no live session then
-pub closed_now : {S T E : Type 0} (g : Ghosts S) (old new : Held S) (client : List ℕ)
-    (result : Result T E) (x : T) → result ≡ Ok x
-    → Wrote g old new (λ content. with_closed content client) result → is_open_at g new
+pub closed_now : {S T E : Type 0} {g : Ghosts S} {old new : Held S} {result : Result T E} {x : T}
+    (client : List ℕ) → result ≡ Ok x
+    → WritesAtRest g old new (λ content. with_closed content client) result → is_open_at g new
     → HasEnded (content_at g new) client
-closed_now g old new client result x is w o =
-    let v = subst (λ r. Wrote g old new (λ content. with_closed content client) r) is w in
+closed_now {g = g} {old = old} {new = new} client is w o =
+    let v = subst (λ r. Wrote g old new (λ content. with_closed content client) r) is w.wrote in
     subst (λ content. HasEnded content client) (sym (v.ok o)) (closes (content_at g old) client)
 
 -- one client more is remembered, or none
-pub remembers_more : (s : State) (before after : Memory) (client : List ℕ) → Remembers s before
+pub remembers_more : {s : State} {before after : Memory} (client : List ℕ) → Remembers s before
     → (after.ended.items ≡ before.ended.items)
     ⊎ (after.ended.items ≡ before.ended.items ++ client ∷ [])
     → (IsOpenBook s → HasEnded (content_in_tables s.now.trees) client) → Remembers s after
-remembers_more s before after client was more ended = record {
+remembers_more {s = s} {before = before} {after = after} client was more ended = record {
   ended = λ other there. go more other there;
 }
   where

@@ -1,13 +1,13 @@
 //! What an open book knows of its tables, so that it need not query them again.
-ghost use Rattle.std.specs.Prelude.{◌≡◌, ℕ, List, Some, None, IfOk, IfSome, IsTrue};
+ghost use Rattle.std.specs.Prelude.{◌≡◌, Some, None, IfOk, IfSome, IsTrue};
 ghost use Rattle.std.specs.Prelude.{MatchBool};
 ghost use Rattle.std.specs.Option.{option_copied};
 ghost use Rattle.acct_book.specs.declared.key.Key.{Key as KeyFacts};
 ghost use Rattle.acct_sql.specs.inner.Known.{entries_of, balance_among, known_balance, Learns};
 ghost use Rattle.acct_sql.specs.inner.Known.{session_among, session_name, known_session};
-ghost use Rattle.acct_sql.specs.inner.Known.{KnowsPlan};
+ghost use Rattle.acct_sql.specs.inner.Known.{KnowsPlan, KnowsNothing, KeepsOrForgets};
 
-use acct_book::{Key, Row};
+use acct_book::{Key, Row, Unavailable};
 use lru::LruCache;
 use std::alloc::{AllocError, Global};
 use std::hash::Hash;
@@ -43,8 +43,7 @@ pub(crate) struct Known {
 impl Known {
     /// Nothing is known.
     pub(crate) fn nothing() -> Known
-        ensures balances { (name : List ℕ) → known_balance result name ≡ None }
-        ensures sessions { (key : KeyFacts) → known_session result key ≡ None }
+        ensures { KnowsNothing result }
     {
         Known {
             balances: None,
@@ -53,10 +52,24 @@ impl Known {
         }
     }
 
-    /// Forgets all of it.
-    pub(crate) fn forget(&mut self)
-        ensures balances { (name : List ℕ) → known_balance self.new name ≡ None }
-        ensures sessions { (key : KeyFacts) → known_session self.new key ≡ None }
+    /// What a call of the store answered, or `Unavailable` once all of it is forgotten.
+    pub(crate) fn kept_or_forget<T, E: Drop>(
+        &mut self,
+        answer: Result<T, E>,
+    ) -> Result<T, Unavailable>
+        ensures { KeepsOrForgets answer self.old self.new result }
+    {
+        match answer {
+            Ok(value) => Ok(value),
+            Err(_) => {
+                self.forget();
+                Err(Unavailable)
+            }
+        }
+    }
+
+    fn forget(&mut self)
+        ensures { KnowsNothing self.new }
     {
         self.balances = None;
         self.forget_sessions();

@@ -324,13 +324,9 @@ impl<S: Alter> Book for SqlBook<S> {
         if let Some(row) = self.known.session(self.alloc, key) {
             return Ok(row);
         }
-        let row = match read_session(self.alloc, &mut self.conn, key) {
-            Ok(row) => row,
-            Err(_) => {
-                self.known.forget();
-                return Err(Unavailable);
-            }
-        };
+        let row = self
+            .known
+            .kept_or_forget(read_session(self.alloc, &mut self.conn, key))?;
         let (client, session) = (key.client.as_str(), key.session.as_slice());
         self.known
             .keep_session(self.alloc, client, session, row.as_ref());
@@ -347,13 +343,9 @@ impl<S: Alter> Book for SqlBook<S> {
         if let Some(balance) = self.known.balance(account) {
             return Ok(balance);
         }
-        let balance = match read_balance(&mut self.conn, account) {
-            Ok(balance) => balance,
-            Err(_) => {
-                self.known.forget();
-                return Err(Unavailable);
-            }
-        };
+        let balance = self
+            .known
+            .kept_or_forget(read_balance(&mut self.conn, account))?;
         self.known.keep_balance(self.alloc, account, balance);
         Ok(balance)
     }
@@ -364,14 +356,8 @@ impl<S: Alter> Book for SqlBook<S> {
         ensures reads { HasReadBook S.Store self.old self.new result }
         ensures plans { LeavesPlans (state S.Store self.old) (state S.Store self.new) }
     {
-        let topup = match read_voucher(self.alloc, &mut self.conn, number) {
-            Ok(topup) => topup,
-            Err(_) => {
-                self.known.forget();
-                return Err(Unavailable);
-            }
-        };
-        Ok(topup)
+        self.known
+            .kept_or_forget(read_voucher(self.alloc, &mut self.conn, number))
     }
 
     fn put_session(&mut self, row: &Row, balance: i64) -> Result<(), Unavailable>
@@ -382,13 +368,7 @@ impl<S: Alter> Book for SqlBook<S> {
         let is_new = self.known.is_absent(self.alloc, row);
         let is_planned = self.known.has_plan(self.alloc, row);
         self.memory.forget_ended(row);
-        match write_session(&mut self.conn, row, is_new, is_planned, balance) {
-            Ok(()) => {}
-            Err(_) => {
-                self.known.forget();
-                return Err(Unavailable);
-            }
-        }
+        self.known.kept_or_forget(write_session(&mut self.conn, row, is_new, is_planned, balance))?;
         let (client, session) = (row.client.as_str(), row.session.as_slice());
         self.known
             .keep_session(self.alloc, client, session, Some(row));
@@ -402,13 +382,8 @@ impl<S: Alter> Book for SqlBook<S> {
             (λ content. with_topup content topup.now balance) result }
         ensures plans { LeavesPlans (state S.Store self.old) (state S.Store self.new) }
     {
-        match write_topup(&mut self.conn, topup, balance) {
-            Ok(()) => {}
-            Err(_) => {
-                self.known.forget();
-                return Err(Unavailable);
-            }
-        }
+        self.known
+            .kept_or_forget(write_topup(&mut self.conn, topup, balance))?;
         self.known
             .keep_balance(self.alloc, topup.account.as_slice(), balance);
         Ok(())
@@ -420,13 +395,8 @@ impl<S: Alter> Book for SqlBook<S> {
         ensures plans { LeavesPlans (state S.Store self.old) (state S.Store self.new) }
     {
         let has_ended = self.memory.has_ended(client);
-        match close_client(&mut self.conn, client, has_ended) {
-            Ok(()) => {}
-            Err(_) => {
-                self.known.forget();
-                return Err(Unavailable);
-            }
-        }
+        self.known
+            .kept_or_forget(close_client(&mut self.conn, client, has_ended))?;
         self.known.forget_closed(has_ended);
         self.memory.keep_ended(self.alloc, client);
         Ok(())
@@ -438,13 +408,8 @@ impl<S: Alter> Book for SqlBook<S> {
         ensures plans { LeavesPlans (state S.Store self.old) (state S.Store self.new) }
     {
         self.memory.forget_ended(row);
-        match write_forward(&mut self.conn, gone, row) {
-            Ok(()) => {}
-            Err(_) => {
-                self.known.forget();
-                return Err(Unavailable);
-            }
-        }
+        self.known
+            .kept_or_forget(write_forward(&mut self.conn, gone, row))?;
         self.known.forget_sessions();
         Ok(())
     }
@@ -455,14 +420,8 @@ impl<S: Alter> Book for SqlBook<S> {
         ensures reads { HasReadBook S.Store self.old self.new result }
         ensures plans { LeavesPlans (state S.Store self.old) (state S.Store self.new) }
     {
-        let rows = match read_sessions(self.alloc, &mut self.conn, account) {
-            Ok(rows) => rows,
-            Err(_) => {
-                self.known.forget();
-                return Err(Unavailable);
-            }
-        };
-        Ok(rows)
+        self.known
+            .kept_or_forget(read_sessions(self.alloc, &mut self.conn, account))
     }
 
     fn keys_of(&mut self, account: &[u8]) -> Result<Vec<Key>, Unavailable>
@@ -471,14 +430,8 @@ impl<S: Alter> Book for SqlBook<S> {
         ensures reads { HasReadBook S.Store self.old self.new result }
         ensures plans { LeavesPlans (state S.Store self.old) (state S.Store self.new) }
     {
-        let keys = match read_keys(self.alloc, &mut self.conn, account) {
-            Ok(keys) => keys,
-            Err(_) => {
-                self.known.forget();
-                return Err(Unavailable);
-            }
-        };
-        Ok(keys)
+        self.known
+            .kept_or_forget(read_keys(self.alloc, &mut self.conn, account))
     }
 
     fn topups_of(&mut self, account: &[u8]) -> Result<Vec<TopUp>, Unavailable>
@@ -487,14 +440,8 @@ impl<S: Alter> Book for SqlBook<S> {
         ensures reads { HasReadBook S.Store self.old self.new result }
         ensures plans { LeavesPlans (state S.Store self.old) (state S.Store self.new) }
     {
-        let topups = match read_topups(self.alloc, &mut self.conn, account) {
-            Ok(topups) => topups,
-            Err(_) => {
-                self.known.forget();
-                return Err(Unavailable);
-            }
-        };
-        Ok(topups)
+        self.known
+            .kept_or_forget(read_topups(self.alloc, &mut self.conn, account))
     }
 
     fn next_session(&mut self, after: Option<&Key>) -> Result<Option<Row>, Unavailable>
@@ -503,14 +450,8 @@ impl<S: Alter> Book for SqlBook<S> {
         ensures reads { HasReadBook S.Store self.old self.new result }
         ensures plans { LeavesPlans (state S.Store self.old) (state S.Store self.new) }
     {
-        let row = match read_next_session(self.alloc, &mut self.conn, after) {
-            Ok(row) => row,
-            Err(_) => {
-                self.known.forget();
-                return Err(Unavailable);
-            }
-        };
-        Ok(row)
+        self.known
+            .kept_or_forget(read_next_session(self.alloc, &mut self.conn, after))
     }
 
     fn next_account(&mut self, after: Option<&[u8]>) -> Result<Option<(Vec<u8>, i64)>, Unavailable>
@@ -520,14 +461,8 @@ impl<S: Alter> Book for SqlBook<S> {
         ensures reads { HasReadBook S.Store self.old self.new result }
         ensures plans { LeavesPlans (state S.Store self.old) (state S.Store self.new) }
     {
-        let kept = match read_next_account(&mut self.conn, after) {
-            Ok(kept) => kept,
-            Err(_) => {
-                self.known.forget();
-                return Err(Unavailable);
-            }
-        };
-        Ok(kept)
+        self.known
+            .kept_or_forget(read_next_account(&mut self.conn, after))
     }
 
     fn next_topup(&mut self, after: Option<&str>) -> Result<Option<TopUp>, Unavailable>
@@ -537,14 +472,8 @@ impl<S: Alter> Book for SqlBook<S> {
         ensures reads { HasReadBook S.Store self.old self.new result }
         ensures plans { LeavesPlans (state S.Store self.old) (state S.Store self.new) }
     {
-        let topup = match read_next_topup(self.alloc, &mut self.conn, after) {
-            Ok(topup) => topup,
-            Err(_) => {
-                self.known.forget();
-                return Err(Unavailable);
-            }
-        };
-        Ok(topup)
+        self.known
+            .kept_or_forget(read_next_topup(self.alloc, &mut self.conn, after))
     }
 
     ghost open_sound = { λ book told. told.0.0 };

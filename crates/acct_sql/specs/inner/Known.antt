@@ -1,6 +1,6 @@
 -- What an open book knows of its tables.
 use Rattle.std.specs.Prelude.{◌≡◌, ◌≢◌, ◌^◌, ◌<◌, Bool, List, [], ℕ, ℤ, Option, Some, None, IfSome}
-use Rattle.std.specs.Prelude.{Vec}
+use Rattle.std.specs.Prelude.{Vec, Result, Ok, IsErr, MatchResult}
 use Rattle.std.specs.Prelude.{bytes_eq}
 use Rattle.std.specs.Global.{Global}
 use Rattle.std.specs.Map.{lookup}
@@ -42,12 +42,24 @@ session_among = found_among same_key session_name
 abbrev pub known_session : Known → Key → Option (Option RowFacts)
 known_session known = session_among known.sessions
 
+-- nothing is known of any account or session
+pub record KnowsNothing (known : Known) : Type 0 where
+  pub balances : (name : List ℕ) → known_balance known name ≡ None
+  pub sessions : (key : Key) → known_session known key ≡ None
+
 -- the session of this row is known, with its plan
 pub record KnowsPlan (known : Known) (row : RowFacts) : Type 0 where
   pub was : RowFacts
   pub is : known_session known (key_of row) ≡ Some (Some was)
   pub fits : was.seconds < 2 ^ 64
   pub plan_is : was.plan ≡ row.plan
+
+-- What a call of the store answered is returned, and what is known is as it was. If the call
+-- failed, an error is returned, and nothing is known any more.
+pub record KeepsOrForgets {T E F : Type 0} (answer : Result T E) (old new : Known)
+    (result : Result T F) : Type 0 where
+  pub answers : MatchResult answer (λ value. result ≡ Ok value) (λ _. IsErr result)
+  pub keeps : MatchResult answer (λ _. new ≡ old) (λ _. KnowsNothing new)
 
 -- Of this key this value is known or nothing, and of the others at most what was known before.
 pub record Learns {K V : Type 0} (key : K) (value : V) (old new : K → Option V) : Type 0 where

@@ -7,6 +7,5 @@ pub invariant_of-result : goal.invariant_of-result
 invariant_of-result g c = (
   c.requires,
   remembers_none (state g.S.Store c.args.conn) c.new.result c.new.ensures,
-  knows_nothing (state g.S.Store c.args.conn) c.nothing.result
-      c.nothing.ensures.balances c.nothing.ensures.sessions,
+  knows_nothing c.nothing.ensures,
 )

@@ -1,57 +1,20 @@
-use Rattle.sqlite.specs.Held.{state}
 use Rattle.std.specs.Option.{option_copied}
 use Rattle.acct_book.specs.Walk.{IsNextTopUp}
 use Rattle.acct_sql_tables.specs.Book.{content_at}
-use Rattle.acct_sql_tables.proofs.ReadLemmas.{read_told, read_done, found_told, leaves_told}
-use Rattle.acct_sql.proofs.RememberLemmas.{remembers_read}
-use Rattle.acct_sql.proofs.KnownLemmas.{knows_nothing, knows_read}
+use Rattle.acct_sql.proofs.CallLemmas.{found_in_answer, read_in_answer, read_leaves, still_holds}
 use Rattle.acct_sql.proofs.sql_book.SqlBookBook.next_topup.Goals as goal
 
 pub read_next_topup-requires : goal.read_next_topup-requires
 read_next_topup-requires g c = c.self.invariant.0
 
-pub invariant_of-self-in-Err : goal.invariant_of-self-in-Err
-invariant_of-self-in-Err g c = (
-  c.read_next_topup.ensures.read.resting,
-  remembers_read g.S.Store c.self.inside.conn c.read_next_topup.new.conn c.read_next_topup.result
-      c.self.inside.memory
-      c.read_next_topup.ensures.read c.self.invariant.1,
-  knows_nothing (state g.S.Store c.read_next_topup.new.conn) c.forget.new.self
-      c.forget.ensures.balances c.forget.ensures.sessions,
-)
-
-pub returns-in-Err-clause-found : goal.returns-in-Err-clause-found
-returns-in-Err-clause-found g c = λ _. tt
-
-pub returns-in-Err-clause-reads : goal.returns-in-Err-clause-reads
-returns-in-Err-clause-reads g c = read_told g.S.Store c.args.self.now c.self.inside.conn
-    c.read_next_topup.new.conn c.read_next_topup.result c.self.view_is
-    c.read_next_topup.ensures.read.read
-
-pub returns-in-Err-clause-plans : goal.returns-in-Err-clause-plans
-returns-in-Err-clause-plans g c = leaves_told g.S.Store c.args.self.now c.self.inside.conn
-    c.read_next_topup.new.conn c.self.view_is c.read_next_topup.ensures.read.plans
-
 pub invariant_of-self : goal.invariant_of-self
-invariant_of-self g c = (
-  c.read_next_topup.ensures.read.resting,
-  remembers_read g.S.Store c.self.inside.conn c.read_next_topup.new.conn c.read_next_topup.result
-      c.self.inside.memory
-      c.read_next_topup.ensures.read c.self.invariant.1,
-  knows_read g.S.Store c.self.inside.conn c.read_next_topup.new.conn c.read_next_topup.result c.in-Ok.topup c.in-Ok.is
-      c.self.inside.known c.self.invariant.2 c.read_next_topup.ensures.read,
-)
+invariant_of-self g c = still_holds c.read_next_topup.ensures.read
+    c.kept_or_forget.ensures c.self.invariant
 
-pub returns-clause-found : goal.returns-clause-found
-returns-clause-found g c = found_told (λ conn topup. IsNextTopUp (content_at g.S.Store conn)
-    (option_copied c.args.after) topup) c.args.self.now c.self.inside.conn c.read_next_topup.result
-    c.in-Ok.topup c.self.view_is c.in-Ok.is c.read_next_topup.ensures.found
-
-pub returns-clause-reads : goal.returns-clause-reads
-returns-clause-reads g c = read_done g.S.Store c.args.self.now c.self.inside.conn
-    c.read_next_topup.new.conn c.read_next_topup.result c.in-Ok.topup _ c.self.view_is c.in-Ok.is
-    c.read_next_topup.ensures.read.read
-
-pub returns-clause-plans : goal.returns-clause-plans
-returns-clause-plans g c = leaves_told g.S.Store c.args.self.now c.self.inside.conn
-    c.read_next_topup.new.conn c.self.view_is c.read_next_topup.ensures.read.plans
+pub returns : goal.returns
+returns g c = record {
+  found = found_in_answer (λ conn topup. IsNextTopUp (content_at g.S.Store conn) (option_copied
+      c.args.after) topup) c.self.view_is c.kept_or_forget.ensures c.read_next_topup.ensures.found;
+  reads = read_in_answer c.self.view_is c.read_next_topup.ensures.read c.kept_or_forget.ensures;
+  plans = read_leaves c.self.view_is c.read_next_topup.ensures.read;
+}

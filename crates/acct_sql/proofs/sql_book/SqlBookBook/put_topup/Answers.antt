@@ -1,75 +1,49 @@
-use Rattle.sqlite.specs.Held.{state}
-use Rattle.std.proofs.Common.{refl, ap, subst, ◌∙◌, w64}
+use Rattle.std.proofs.Common.{ap, subst, ◌∙◌, w64}
 use Rattle.std.proofs.lemmas.Int.{to_z-of_z}
 use Rattle.acct_model.specs.Vouchers.{TopUpFacts}
-use Rattle.acct_book.specs.Content.{with_topup}
 use Rattle.acct_sql.specs.inner.Known.{Learns, known_balance}
-use Rattle.acct_sql_tables.specs.Book.{Wrote}
-use Rattle.acct_sql_tables.proofs.CommitLemmas.{wrote_told, wrote_done}
+use Rattle.acct_sql.proofs.CallLemmas.{failed, written_in_answer, write_leaves}
+use Rattle.acct_sql.proofs.KnownLemmas.{knows_no_more, knows_credit}
 use Rattle.acct_sql.proofs.RememberLemmas.{remembers_credit}
-use Rattle.acct_sql_tables.proofs.ReadLemmas.{leaves_told}
-use Rattle.acct_sql.proofs.KnownLemmas.{knows_nothing, knows_credit}
 use Rattle.acct_sql.proofs.sql_book.SqlBookBook.put_topup.Goals as goal
 
-pub returns-in-Err-clause-writes : goal.returns-in-Err-clause-writes
-returns-in-Err-clause-writes g c =
-    let w : Wrote g.S.Store c.self.inside.conn c.write_topup.new.conn
-    (λ content. with_topup content c.args.topup.now c.args.balance) c.write_topup.result = rw
-    (to_z-of_z w64 c.args.balance c.ranges.balance) at c.write_topup.ensures.wrote in
-    wrote_told g.S.Store c.args.self.now c.self.inside.conn c.write_topup.new.conn
-    (λ content. with_topup content c.args.topup.now c.args.balance) c.write_topup.result _
-    c.self.view_is c.in-Err.is w
+pub write_topup-requires : goal.write_topup-requires
+write_topup-requires g c = c.self.invariant.0
 
 pub invariant_of-self : goal.invariant_of-self
 invariant_of-self g c =
-    let w : Wrote g.S.Store c.self.inside.conn c.write_topup.new.conn
-    (λ content. with_topup content c.args.topup.now c.args.balance) c.write_topup.result = rw
-    (to_z-of_z w64 c.args.balance c.ranges.balance) at c.write_topup.ensures.wrote in (
-      c.write_topup.ensures.resting,
-      remembers_credit g.S.Store c.self.inside.conn c.write_topup.new.conn
-          c.self.inside.memory c.self.inside.memory c.write_topup.result
-          c.self.invariant.1 c.args.topup.now c.args.balance refl w,
-      knows_nothing (state g.S.Store c.write_topup.new.conn) c.forget.new.self
-          c.forget.ensures.balances c.forget.ensures.sessions,
+    let w = rw (to_z-of_z w64 c.args.balance c.ranges.balance) at c.write_topup.ensures in (
+      w.resting,
+      remembers_credit c.self.invariant.1 c.args.topup.now c.args.balance w,
+      knows_no_more c.in_err-kept_or_forget.ensures,
     )
+
+pub returns-in_err-kept_or_forget : goal.returns-in_err-kept_or_forget
+returns-in_err-kept_or_forget g c =
+    let w = rw (to_z-of_z w64 c.args.balance c.ranges.balance) at c.write_topup.ensures in record {
+      writes = written_in_answer c.self.view_is w
+          (failed {told = c.from_residual.result} c.in_err-kept_or_forget.ensures
+          c.from_residual.ensures.0);
+      plans = write_leaves c.self.view_is w;
+    }
 
 pub invariant_of-self-2 : goal.invariant_of-self-2
 invariant_of-self-2 g c =
-    let w : Wrote g.S.Store c.self.inside.conn c.write_topup.new.conn
-    (λ content. with_topup content c.args.topup.now c.args.balance) c.write_topup.result = rw
-    (to_z-of_z w64 c.args.balance c.ranges.balance) at c.write_topup.ensures.wrote in (
-      c.write_topup.ensures.resting,
-      remembers_credit g.S.Store c.self.inside.conn c.write_topup.new.conn
-          c.self.inside.memory c.self.inside.memory c.write_topup.result
-          c.self.invariant.1 c.args.topup.now c.args.balance refl w,
-      knows_credit g.S.Store c.self.inside.conn c.write_topup.new.conn c.write_topup.result _
-          c.in-Ok.is c.self.inside.known c.keep_balance.new.self c.self.invariant.2
-          c.args.topup.now c.args.balance w
-          (subst (λ name. Learns name c.args.balance (known_balance c.self.inside.known)
+    let w = rw (to_z-of_z w64 c.args.balance c.ranges.balance) at c.write_topup.ensures in (
+      w.resting,
+      remembers_credit c.self.invariant.1 c.args.topup.now c.args.balance w,
+      knows_credit c.in_ok-kept_or_forget.ensures c.self.invariant.2 c.args.topup.now
+          c.args.balance w
+          (subst (λ name. Learns name c.args.balance (known_balance c.kept_or_forget.new.self)
           (known_balance c.keep_balance.new.self))
           (c.as_slice.ensures ∙ ap (λ (t : TopUpFacts). t.account) c.topup.view_is)
           (rw (to_z-of_z w64 c.args.balance c.ranges.balance) at c.keep_balance.ensures.balances))
           c.keep_balance.ensures.sessions,
     )
 
-pub write_topup-requires : goal.write_topup-requires
-write_topup-requires g c = c.self.invariant.0
-
-pub returns-in-Err-clause-plans : goal.returns-in-Err-clause-plans
-returns-in-Err-clause-plans g c = leaves_told g.S.Store c.args.self.now c.self.inside.conn
-    c.write_topup.new.conn
-    c.self.view_is c.write_topup.ensures.plans
-
-pub returns-clause-writes : goal.returns-clause-writes
-returns-clause-writes g c =
-    let w : Wrote g.S.Store c.self.inside.conn c.write_topup.new.conn
-    (λ content. with_topup content c.args.topup.now c.args.balance) c.write_topup.result = rw
-    (to_z-of_z w64 c.args.balance c.ranges.balance) at c.write_topup.ensures.wrote in
-    wrote_done g.S.Store c.args.self.now c.self.inside.conn c.write_topup.new.conn
-    (λ content. with_topup content c.args.topup.now c.args.balance) c.write_topup.result _
-    c.self.view_is c.in-Ok.is w
-
-pub returns-clause-plans : goal.returns-clause-plans
-returns-clause-plans g c = leaves_told g.S.Store c.args.self.now c.self.inside.conn
-    c.write_topup.new.conn
-    c.self.view_is c.write_topup.ensures.plans
+pub returns : goal.returns
+returns g c =
+    let w = rw (to_z-of_z w64 c.args.balance c.ranges.balance) at c.write_topup.ensures in record {
+      writes = written_in_answer c.self.view_is w c.in_ok-kept_or_forget.ensures;
+      plans = write_leaves c.self.view_is w;
+    }
