@@ -1,7 +1,10 @@
 -- Calls that carry sessions forward, one after another, and what stays as it was.
 use Rattle.std.proofs.Common.{◌≡◌, ◌≢◌, inl, inr, ⊎_elim, Bool, true, false, List, [], ◌∷◌, ◌++◌}
-use Rattle.std.proofs.Common.{map, refl, sym, ap, ◌∙◌, subst, true≢false}
-use Rattle.std.specs.Prelude.{Some, None, Contains, Result, Ok, Err, OnOk}
+use Rattle.std.proofs.Common.{map, refl, sym, ap, ap₂, ◌∙◌, subst, true≢false, ℕ, ◌+◌, ◌-◌, ◌^◌, ◌<◌}
+use Rattle.std.proofs.Common.{length, min, arith}
+use Rattle.std.proofs.lemmas.List.{length-map}
+use Rattle.std.proofs.lemmas.List.Sums.{sum_by-append, sum_by-cons}
+use Rattle.std.specs.Prelude.{Some, None, Contains, Result, Ok, Err, OnOk, IfOk}
 use Rattle.acct_model.specs.declared.plan.Plan.{Plan}
 use Rattle.acct_model.specs.Report.{ReportFacts}
 use Rattle.acct_model.specs.History.{History, SessionName, all_topups, balance_of}
@@ -19,7 +22,9 @@ use Rattle.acct_book.specs.Stands.{Stands}
 use Rattle.acct_book.specs.Step.{Looks}
 use Rattle.acct_book_forward.specs.Carrying.{SelectionFacts, is_line, stay_of, IsChosen}
 use Rattle.acct_book_forward.specs.Carrying.{CarriesChosen, IsCarriedOn}
-use Rattle.acct_book_forward.specs.Carrying.{CarriesOn, CarryingMovesNothing}
+use Rattle.acct_book_forward.specs.Carrying.{CarriesOn, CarryingMovesNothing, CountsOn, CountsUpTo}
+use Rattle.acct_book_forward.specs.Carrying.{carried_in}
+use Rattle.acct_book_forward.specs.declared.forwarding.Tally.{Tally}
 use Rattle.acct_book.specs.Next.{report_key}
 use Rattle.acct_book_forward.specs.inner.Forwarding.{AreTaken, IsAfter, CarriesInto}
 use Rattle.acct_book.proofs.Keys.{key_is}
@@ -149,12 +154,13 @@ chosen_rows selection plans history content rows c stands there taken after = re
       let same_key = name_key one.0 key one.2 in
       let at : key_of row.0 ≡ key = row.2 ∙ same_key in
       let is = sym (stands.rows key) ∙ ap content.rows (sym at) ∙ there row.0 row.1 in
-      let (own, own_is, owned) = after.own key
+      let (own, own_is, owned, classed) = after.own key
       (subst (Contains (map key_of rows)) same_key one.1) in (
         row.0,
         is,
         taken row.0 row.1,
         ap (λ (r : RowFacts). r.account) (same_row row.0 own (sym is ∙ own_is)) ∙ owned,
+        ap (λ (r : RowFacts). r.plan) (same_row row.0 own (sym is ∙ own_is)) ∙ classed,
       );
   line = after.line;
   bare = after.bare;
@@ -177,6 +183,139 @@ after_on selection plans history content rows c stands there taken after =
       ),
       after.stands,
     )
+
+-- ---- how many
+
+-- nothing was written, so none was carried
+pub none_counted : {B T E : Type 0} (b : Ghosts B) (selection : SelectionFacts) (plans : List Plan)
+    (old new : B) (r : Result T E) → Looks b old new r → CountsOn b selection plans old new 0
+none_counted b selection plans old new r looks still history stands =
+    ([], history, refl, subst (λ c. Stands plans c history) (sym (looks.same still)) stands, refl)
+
+-- nothing was done yet
+pub begun_counted : {B : Type 0} (b : Ghosts B) (selection : SelectionFacts) (plans : List Plan)
+    (book : B) → CountsUpTo b selection plans book book 0
+begun_counted b selection plans book still history stands = ([], history, refl, stands, refl)
+
+-- one call and then another
+pub counts_joined : {B : Type 0} (b : Ghosts B) (selection : SelectionFacts) (plans : List Plan)
+    (old mid new : B) (one other : ℕ) → (b.is_open new → b.is_open mid)
+    → CountsOn b selection plans old mid one → CountsOn b selection plans mid new other
+    → CountsOn b selection plans old new (one + other)
+counts_joined b selection plans old mid new one other was first second still history stands =
+    let (these, later, chosen, there, few) = first (was still) history stands in
+    let (those, after, more, end, rest) = second still later there in (
+      these ++ those,
+      after,
+      chosen_append selection plans history later after these those chosen more,
+      end,
+      sum_by-append (λ batch. length (sessions_in batch)) these those
+          ∙ ap₂ (λ n m. n + m) few rest,
+    )
+
+-- a call that carried none, and then another
+pub counts_since : {B : Type 0} (b : Ghosts B) (selection : SelectionFacts) (plans : List Plan)
+    (old mid new : B) (count : ℕ) → (b.is_open new → b.is_open mid)
+    → CountsOn b selection plans old mid 0 → CountsUpTo b selection plans mid new count
+    → CountsUpTo b selection plans old new count
+counts_since b selection plans old mid new count was first second still history stands =
+    let (these, later, chosen, there, few) = first (was still) history stands in
+    let (those, after, more, end, rest) = second still later there in
+    let sum = sum_by-append (λ (batch : Batch). length (sessions_in batch)) these those in (
+      these ++ those,
+      after,
+      chosen_append selection plans history later after these those chosen more,
+      end,
+      omega (arith, few, rest, sum),
+    )
+
+-- a call, and then one that carried none
+pub counts_kept : {B : Type 0} (b : Ghosts B) (selection : SelectionFacts) (plans : List Plan)
+    (old mid new : B) (count : ℕ) → (b.is_open new → b.is_open mid)
+    → CountsUpTo b selection plans old mid count → CountsOn b selection plans mid new 0
+    → CountsUpTo b selection plans old new count
+counts_kept b selection plans old mid new count was first second still history stands =
+    let (these, later, chosen, there, few) = first (was still) history stands in
+    let (those, after, more, end, rest) = second still later there in
+    let sum = sum_by-append (λ (batch : Batch). length (sessions_in batch)) these those in (
+      these ++ those,
+      after,
+      chosen_append selection plans history later after these those chosen more,
+      end,
+      omega (arith, few, rest, sum),
+    )
+
+-- a count that stays at the greatest number, and an exact one
+pub counts_before : {B : Type 0} (b : Ghosts B) (selection : SelectionFacts) (plans : List Plan)
+    (old mid new : B) (one other both : ℕ) → (b.is_open new → b.is_open mid)
+    → both ≡ min (one + other) (2 ^ 64 - 1)
+    → CountsUpTo b selection plans old mid one → CountsOn b selection plans mid new other
+    → CountsUpTo b selection plans old new both
+counts_before b selection plans old mid new one other both was is first second still history stands =
+    let (these, later, chosen, there, few) = first (was still) history stands in
+    let (those, after, more, end, rest) = second still later there in
+    let sum = sum_by-append (λ (batch : Batch). length (sessions_in batch)) these those in (
+      these ++ those,
+      after,
+      chosen_append selection plans history later after these those chosen more,
+      end,
+      omega (arith, is, few, rest, sum),
+    )
+
+-- both stay at the greatest number
+pub counts_up : {B : Type 0} (b : Ghosts B) (selection : SelectionFacts) (plans : List Plan)
+    (old mid new : B) (one other both : ℕ) → (b.is_open new → b.is_open mid)
+    → both ≡ min (one + other) (2 ^ 64 - 1)
+    → CountsUpTo b selection plans old mid one → CountsUpTo b selection plans mid new other
+    → CountsUpTo b selection plans old new both
+counts_up b selection plans old mid new one other both was is first second still history stands =
+    let (these, later, chosen, there, few) = first (was still) history stands in
+    let (those, after, more, end, rest) = second still later there in
+    let sum = sum_by-append (λ (batch : Batch). length (sessions_in batch)) these those in (
+      these ++ those,
+      after,
+      chosen_append selection plans history later after these those chosen more,
+      end,
+      omega (arith, is, few, rest, sum),
+    )
+
+-- what is so for a number is so for a tally that says it
+pub told_counted : {E : Type 0} (P : ℕ → Type 0) (r : Result Tally E) (count : ℕ)
+    → IfOk r (λ tally. tally.carried ≡ count) → P count → IfOk r (λ tally. P tally.carried)
+told_counted P (Ok tally) count is so = subst P (sym is) so
+told_counted P (Err error) count is so = tt
+
+-- a batch of chosen rows was carried, all of them
+pub rows_counted : {B E : Type 0} (b : Ghosts B) (selection : SelectionFacts) (plans : List Plan)
+    (rows : List RowFacts) (old new : B) (r : Result Bool E)
+    → (b.is_open old → AreThere (b.content old) rows) → AreTaken selection rows
+    → CarriesInto b plans (map key_of rows) old new r → r ≡ Ok true
+    → CountsOn b selection plans old new (length rows)
+rows_counted b selection plans rows old new r there taken c is still history stands =
+    let after = c.carried still is history stands in
+    let batch = after.batch in
+    let next = forwarded history (sessions_in batch) batch.report in
+    let few : carried_in (batch ∷ []) ≡ length (sessions_in batch) =
+    omega (arith, sum_by-cons (λ (one : Batch). length (sessions_in one)) batch []) in (
+      batch ∷ [],
+      next,
+      (
+        next,
+        chosen_rows selection plans history (b.content old) rows (b.content new) stands
+            (there (c.was_open still)) taken after,
+        (after.carries, refl),
+        refl,
+      ),
+      after.stands,
+      few ∙ ap length (sym after.are) ∙ length-map (map key_of rows) name_of ∙ length-map rows key_of,
+    )
+
+-- it did not fit, so none was carried
+pub unfit_counted : {B E : Type 0} (b : Ghosts B) (selection : SelectionFacts) (plans : List Plan)
+    (gone : List Key) (old new : B) (r : Result Bool E) → CarriesInto b plans gone old new r
+    → r ≢ Ok true → CountsOn b selection plans old new 0
+unfit_counted b selection plans gone old new r c not still history stands =
+    ([], history, refl, subst (λ x. Stands plans x history) (sym (c.unchanged still not)) stands, refl)
 
 -- whether it was carried
 carried_or_not : {E : Type 0} (r : Result Bool E) (P : Type 0) → (r ≡ Ok true → P)

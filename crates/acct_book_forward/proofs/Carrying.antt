@@ -162,18 +162,18 @@ still_there : (at : Key → Option RowFacts) (key k : Key) (row : RowFacts) (b :
 still_there at key k row true same is = absurd (cc)
 still_there at key k row false same is = is
 
--- each of the keys has a row of the account
+-- each of the keys has a row of the account and the class
 own_row : (owner class : List ℕ) (at : Key → Option RowFacts) (keys : List Key) (k : Key)
     → HaveRows owner class at keys → Contains keys k
-    → (row : RowFacts) × (at k ≡ Some row) × (row.account ≡ owner)
+    → (row : RowFacts) × (at k ≡ Some row) × (row.account ≡ owner) × (row.plan ≡ class)
 own_row owner class at [] k have there = absurd (nowhere k there)
 own_row owner class at (key ∷ keys) k ((row, is, of, planned), have) there =
     elim (front_or_behind key k keys there) [
-      | inl same ↦ (row, ap at (sym same) ∙ is, of)
+      | inl same ↦ (row, ap at (sym same) ∙ is, of, planned)
       | inr behind ↦
-          let (found, kept, owned) =
+          let (found, kept, owned, classed) =
           own_row owner class (update same_key at key None) keys k have behind in
-          (found, still_there at key k found (same_key key k) refl kept, owned)
+          (found, still_there at key k found (same_key key k) refl kept, owned, classed)
     ]
 
 pub after_put : (plans : List Plan) (content : Content) (gone : List Key) (row : RowFacts)
@@ -192,9 +192,9 @@ after_put plans content gone row history (report, by) st = record {
       by.bare;
   are = ap names_of by.are;
   own = λ key there.
-      let (row, is, owned) = own_row report.user report.class content.rows (by.key ∷ by.keys) key
+      let (row, is, owned, classed) = own_row report.user report.class content.rows (by.key ∷ by.keys) key
       by.carries.have (subst (λ ks. Contains ks key) by.are there) in
-      (row, sym (st.rows key) ∙ is, owned);
+      (row, sym (st.rows key) ∙ is, owned, classed);
   carries = carried_all plans content history by.key by.keys report st by.carries;
   stands = subst (λ keys. Stands plans (with_forward content keys row)
       (forwarded history (names_of (by.key ∷ by.keys)) report)) (sym by.are)

@@ -1,8 +1,8 @@
 -- Sessions whose usage is carried forward: which they are, and what a call that carries them does.
 use Rattle.std.specs.Prelude.{◌≡◌, ◌≢◌, ◌⊎◌, ℕ, ◌+◌, ◌<◌, ◌^◌, nat_lt, ◌==◌, Bool, true, false, List, [], ◌∷◌}
 use Rattle.std.specs.Prelude.{Option, Some, None, Contains, length, bytes_eq, if◌then◌else◌}
-use Rattle.std.specs.Prelude.{Result, OnOk}
-use Rattle.std.specs.List.{list_any, filter}
+use Rattle.std.specs.Prelude.{Result, OnOk, min, ◌-◌}
+use Rattle.std.specs.List.{list_any, filter, sum_by}
 use Rattle.acct_model.specs.declared.plan.Plan.{Plan}
 use Rattle.acct_model.specs.declared.report.ReportKind.TheVariants.{Stop}
 use Rattle.acct_model.specs.Report.{ReportFacts}
@@ -83,13 +83,13 @@ pub record IsBare (plan : Plan) (report : ReportFacts) : Type 0 where
   pub calling : report.calling ≡ []
   pub framed : report.framed ≡ None
 
--- The sessions of a batch have rows of its account that the selection takes, and they are carried
--- into a line.
+-- The sessions of a batch have rows of its account and its class that the selection takes, and they
+-- are carried into a line.
 pub record IsChosen (selection : SelectionFacts) (plans : List Plan) (history : History)
     (batch : Batch) : Type 0 where
   pub taken : (key : Key) → Contains (sessions_in batch) (name_of key)
       → (row : RowFacts) × (row_of plans history key ≡ Some row) × (stay_of selection row ≡ None)
-      × (row.account ≡ batch.report.user)
+      × (row.account ≡ batch.report.user) × (row.plan ≡ batch.report.class)
   pub line : is_line batch.report.client ≡ true
   pub bare : (plan : Plan) → plan_for plans batch.report.class ≡ Some plan
       → IsBare plan batch.report
@@ -101,6 +101,10 @@ CarriesChosen selection plans history (batch ∷ batches) after =
     (mid : History) × IsChosen selection plans history batch
     × CarriesBatch plans history batch mid
     × CarriesChosen selection plans mid batches after
+
+-- how many sessions these batches carry
+abbrev pub carried_in : List Batch → ℕ
+carried_in batches = sum_by (λ batch. length (sessions_in batch)) batches
 
 -- the content stands for a history to which the given one was carried
 abbrev pub IsCarriedOn : SelectionFacts → List Plan → History → Content → Type 0
@@ -123,6 +127,22 @@ pub record CarriesOn {B T E : Type 0} (b : Ghosts B) (selection : SelectionFacts
       → b.left old c
       ⊎ (b.is_open old × ((history : History) → Stands plans (b.content old) history
       → IsCarriedOn selection plans history c))
+
+-- A call carried so many sessions, from any history that the content stood for.
+abbrev pub CountsOn : {B : Type 0} → Ghosts B → SelectionFacts → List Plan → B → B → ℕ → Type 0
+CountsOn b selection plans old new count = b.is_open new
+    → (history : History) → Stands plans (b.content old) history
+    → (batches : List Batch) × (after : History)
+    × CarriesChosen selection plans history batches after × Stands plans (b.content new) after
+    × (carried_in batches ≡ count)
+
+-- the same for a count that stays at the greatest number
+abbrev pub CountsUpTo : {B : Type 0} → Ghosts B → SelectionFacts → List Plan → B → B → ℕ → Type 0
+CountsUpTo b selection plans old new count = b.is_open new
+    → (history : History) → Stands plans (b.content old) history
+    → (batches : List Batch) × (after : History)
+    × CarriesChosen selection plans history batches after × Stands plans (b.content new) after
+    × (count ≡ min (carried_in batches) (2 ^ 64 - 1))
 
 -- how many rows stay, by the reason, and how many should go and did not fit
 pub record IsTallyOf (selection : SelectionFacts) (rows : List RowFacts) (tally : Tally) : Type 0 where

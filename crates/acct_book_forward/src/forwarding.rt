@@ -19,9 +19,9 @@ ghost use Rattle.acct_book.specs.Maps.{key_cmp};
 ghost use Rattle.acct_book.specs.Step.{Looks};
 ghost use Rattle.acct_book.specs.Walk.{AreRowsOf};
 ghost use Rattle.acct_book_forward.specs.Carrying.{stay_of, SelectionFacts, CarriesOn, IsTallyOf};
-ghost use Rattle.acct_book_forward.specs.Carrying.{with_stay, HasRoom};
+ghost use Rattle.acct_book_forward.specs.Carrying.{with_stay, HasRoom, CountsOn, CountsUpTo};
 ghost use Rattle.acct_book_forward.specs.inner.Forwarding.{AreAmong, IsUnder, IsCounted, goes};
-ghost use Rattle.acct_book_forward.specs.inner.Forwarding.{with_found};
+ghost use Rattle.acct_book_forward.specs.inner.Forwarding.{with_found, count_of};
 
 use crate::batch::{Batch, carry_rows, fitting};
 use crate::selection::{Selection, Stay};
@@ -100,7 +100,7 @@ enum Turn {
 
 /// Carries the sessions of an account forward that a selection takes, batch after batch. `moment`,
 /// in seconds since 1970, is what the lines say of when. The counts of those that stay are of the
-/// rows as they are at the end.
+/// rows as they are at the end. That of those that were carried is at most 2^64 - 1.
 ///
 /// # Errors
 ///
@@ -115,6 +115,8 @@ pub fn carry_account<B: Book>(
 ) -> Result<Tally, Unavailable>
     requires { moment < 2 ^ 53 }
     ensures carries { CarriesOn B.Book selection.now plans.now book.old book.new result }
+    ensures counts { IfOk result (λ tally. CountsUpTo B.Book selection.now plans.now book.old
+        book.new tally.carried) }
     ensures tally { B.is_open book.new → IfOk result (λ tally. (rows : List RowFacts)
         × AreRowsOf (B.content book.new) account.now rows × IsTallyOf selection.now rows tally) }
 {
@@ -139,6 +141,7 @@ fn tally_of<B: Book>(
     carried: u64,
 ) -> Result<Tally, Unavailable>
     ensures reads { Looks B.Book book.old book.new result }
+    ensures carried { IfOk result (λ tally. tally.carried ≡ carried) }
     ensures tally { B.is_open book.new → IfOk result (λ tally. (rows : List RowFacts)
         × AreRowsOf (B.content book.old) account.now rows × IsTallyOf selection.now rows tally) }
 {
@@ -158,6 +161,7 @@ fn count_under<B: Book>(
     tally: &mut Tally,
 ) -> Result<(), Unavailable>
     ensures reads { Looks B.Book book.old book.new result }
+    ensures carried { tally.new.carried ≡ tally.old.carried }
     ensures counts { B.is_open book.new → OnOk result (IsCounted (B.content book.old) selection.now
         key.now tally.old tally.new) }
 {
@@ -176,7 +180,10 @@ fn carry_keys<B: Book>(book: &mut B, task: &Task<'_>, keys: &[Key]) -> Result<u6
     requires moment { task.now.moment < 2 ^ 53 }
     requires answers { B.is_sound book.old → B.is_open book.old }
     requires in_order { B.is_open book.old → IsStrictlySortedBy key_cmp keys.now }
-    ensures { CarriesOn B.Book task.now.selection.now task.now.plans.now book.old book.new result }
+    ensures carries { CarriesOn B.Book task.now.selection.now task.now.plans.now book.old book.new
+        result }
+    ensures counts { IfOk result (λ count. CountsUpTo B.Book task.now.selection.now
+        task.now.plans.now book.old book.new count) }
 {
     let mut carried: u64 = 0;
     let mut passed = Vec::new(task.alloc);
@@ -200,7 +207,10 @@ fn carry_part<B: Book>(
     requires moment { task.now.moment < 2 ^ 53 }
     requires answers { B.is_sound book.old → B.is_open book.old }
     requires in_order { B.is_open book.old → IsStrictlySortedBy key_cmp keys.now }
-    ensures { CarriesOn B.Book task.now.selection.now task.now.plans.now book.old book.new result }
+    ensures carries { CarriesOn B.Book task.now.selection.now task.now.plans.now book.old book.new
+        result }
+    ensures counts { IfOk result (λ count. CountsUpTo B.Book task.now.selection.now
+        task.now.plans.now book.old book.new count) }
 {
     let mut carried: u64 = 0;
     // A loop over batches has a bound, and no part has so many.
@@ -231,7 +241,10 @@ fn carry_batch<B: Book>(
     requires moment { task.now.moment < 2 ^ 53 }
     requires answers { B.is_sound book.old → B.is_open book.old }
     requires in_order { B.is_open book.old → IsStrictlySortedBy key_cmp keys.now }
-    ensures { CarriesOn B.Book task.now.selection.now task.now.plans.now book.old book.new result }
+    ensures carries { CarriesOn B.Book task.now.selection.now task.now.plans.now book.old book.new
+        result }
+    ensures counts { IfOk result (λ turn. CountsOn B.Book task.now.selection.now
+        task.now.plans.now book.old book.new (count_of turn)) }
 {
     let found = rows_under(book, task, keys, passed)?;
     let Some(first) = found.first() else {

@@ -71,7 +71,8 @@ impl Selection {
         if row.last < limit { None } else { Some(young) }
     }
 
-    fn is_kept(&self, client: &str) -> bool
+    /// Whether this is the client of sessions that stay.
+    pub fn is_kept(&self, client: &str) -> bool
         ensures { result ≡ list_any (bytes_eq client.now) self.now.kept }
     {
         self.kept.iter().any(|name| client == name.as_str())

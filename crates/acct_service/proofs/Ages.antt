@@ -157,7 +157,7 @@ pub carried_stay : CarriedStayCarried
 carried_stay selection plans history batch accepted report moment visit chosen carried there no_later
     later answered taken =
     let key : Key = record { client = report.client; session = report.session } in
-    let (row, is, goes, owned) = chosen.taken key carried in
+    let (row, is, goes, owned, classed) = chosen.taken key carried in
     let last = last_is (plan_of plans history (name_of key)) key (is_restarted history key)
     (reports history (name_of key)) row is in
     let least = largest_when accepted (reports history (name_of key)) there in

@@ -132,7 +132,7 @@ a_carried_session = (
     (
       after,
       record {
-        taken = λ key at. (row, row_is key at, refl, refl);
+        taken = λ key at. (row, row_is key at, refl, refl, refl);
         line = refl;
         bare = λ plan planned. is_bare plan planned;
       },

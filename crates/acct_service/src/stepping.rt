@@ -43,8 +43,8 @@ pub fn step<B: Book>(
     step_within(alloc, &rules, book, event, out)
 }
 
-/// Answers one event as `step` does, but drops a report whose own moment lies more than
-/// `rules.oldest` seconds before the event's (`acct_wire::answer_within`), if that is limited.
+/// Answers one event as `step` does, but drops a report whose Acct-Delay-Time is more than
+/// `rules.oldest` seconds (`acct_wire::answer_within`), if that is limited.
 /// The outbox keeps that a datagram was answered with a reply.
 pub fn step_within<B: Book>(
     alloc: Global,

@@ -20,6 +20,8 @@ use Rattle.acct_book.specs.Stands.{Stands}
 use Rattle.acct_book_forward.specs.Carrying.{SelectionFacts, is_line, stay_of, with_stay, HasRoom}
 use Rattle.acct_book_forward.specs.Carrying.{IsBare}
 use Rattle.acct_book_forward.specs.declared.forwarding.Tally.{Tally}
+use Rattle.acct_book_forward.specs.declared.forwarding.Turn.{Turn}
+use Rattle.acct_book_forward.specs.declared.forwarding.Turn.TheVariants.{Carried, TooLarge}
 use Rattle.acct_book.specs.Next.{report_key, next_row}
 
 -- ---- what a report carries
@@ -140,6 +142,11 @@ goes selection class row = bytes_eq row.plan class && is_none (stay_of selection
 
 -- ---- calls
 
+-- how many rows a batch carried
+abbrev pub count_of : Turn → ℕ
+count_of (Carried count has_more) = count
+count_of (TooLarge class) = 0
+
 -- the content stands for the history in which the sessions of these keys were carried forward
 pub record IsAfter (plans : List Plan) (history : History) (gone : List Key) (content : Content)
     : Type 0 where
@@ -150,6 +157,7 @@ pub record IsAfter (plans : List Plan) (history : History) (gone : List Key) (co
   pub are : names_of gone ≡ sessions_in batch
   pub own : (key : Key) → Contains gone key
       → (row : RowFacts) × (row_of plans history key ≡ Some row) × (row.account ≡ batch.report.user)
+      × (row.plan ≡ batch.report.class)
   pub carries : CarriesForward plans history batch.name batch.names batch.report
   pub stands : Stands plans content (forwarded history (sessions_in batch) batch.report)
 

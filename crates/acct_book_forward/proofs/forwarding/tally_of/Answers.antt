@@ -1,4 +1,4 @@
-use Rattle.std.proofs.Common.{◌<◌, ◌^◌, length, arith, subst, sym}
+use Rattle.std.proofs.Common.{◌<◌, ◌^◌, length, arith, subst, sym, ◌∙◌}
 use Rattle.std.proofs.lemmas.List.{take_all}
 use Rattle.acct_book.specs.Content.{Content, HasOwnKeys}
 use Rattle.acct_book.specs.Walk.{AreKeysOf}
@@ -12,6 +12,7 @@ pub loop-key-init : goal.loop-key-init
 loop-key-init g c = record {
   looks = looks_once g.B.Book c.args.book.now c.keys_of.new.self c.keys_of.result
       c.keys_of.ensures.reads;
+  carried = c.new-tally.ensures.carried;
   answers = c.in_ok-keys.ensures.reads.answers;
   are = λ still. subst (AreKeysOf (g.B.Book.content c.args.book.now) c.args.account.now)
       (sym c.deref-key-items.ensures.value) (c.in_ok-keys.ensures.found still);
@@ -31,6 +32,7 @@ loop-key-preserved g c =
     record {
       looks = looks_then b c.args.book.now c.loop-key.book c.count_under.new.book
           c.count_under.result before.looks reads;
+      carried = c.count_under.ensures.carried ∙ before.carried;
       answers = c.in_ok-count_under.ensures.reads.answers;
       are = λ still. before.are (reads.was_open still);
       counted = λ still.

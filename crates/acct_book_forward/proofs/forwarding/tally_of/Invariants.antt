@@ -1,3 +1,4 @@
+use Rattle.std.specs.Prelude.{◌≡◌}
 use Rattle.std.specs.Prelude.{take}
 use Rattle.acct_book.specs.Step.{OnlyLooks}
 use Rattle.acct_book.specs.Walk.{AreKeysOf}
@@ -8,6 +9,7 @@ use Rattle.acct_book_forward.proofs.forwarding.tally_of.Given as goal
 abbrev pub invariant-loop-key : goal.invariant-loop-key
 invariant-loop-key g l = record {
   looks : OnlyLooks g.B.Book l.fn.book l.book;
+  carried : l.tally.carried ≡ l.carried;
   answers : g.B.Book.is_sound l.book → g.B.Book.is_open l.book;
   are : g.B.Book.is_open l.book
       → AreKeysOf (g.B.Book.content l.fn.book) l.account l.key-items;
