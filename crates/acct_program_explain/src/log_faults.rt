@@ -54,7 +54,7 @@ pub(crate) fn tell_lost<R: ReadsFiles, E: Write>(
     let _ = writeln!(
         errors,
         "explained: {file}: next to it is a log, {log}, of a book that is missing: put the book's \
-         file back; init would delete what the log has"
+         file back; init makes no book next to that log"
     );
     true
 }

@@ -89,13 +89,13 @@ static ROWS: [Row; 18] = [
         Asked::Unmade,
         "acct_explain_test/lost",
         "explained: acct_explain_test/lost: next to it is a log, acct_explain_test/lost-wal, of a book \
-         that is missing: put the book's file back; init would delete what the log has\n",
+         that is missing: put the book's file back; init makes no book next to that log\n",
     ),
     (
         Asked::Unopened,
         "acct_explain_test/lost",
         "explained: acct_explain_test/lost: next to it is a log, acct_explain_test/lost-wal, of a book \
-         that is missing: put the book's file back; init would delete what the log has\n",
+         that is missing: put the book's file back; init makes no book next to that log\n",
     ),
     (
         Asked::Lossy,
