@@ -3,10 +3,10 @@ ghost use Rattle.std.specs.Prelude.{◌<◌, ◌^◌, Some, OnOk};
 ghost use Rattle.std.specs.Io.KnownBytes.{Appends};
 ghost use Rattle.acct_program_commands.specs.BookClock.{late_text, late_line};
 
+use crate::book_names::log_of;
 use acct_model::Text;
 use acct_reads::ReadsFiles;
 use acct_service::moment_of;
-use std::alloc::AllocError;
 use std::io::Write;
 use std::time::{Clock, UNIX_EPOCH};
 use std::{fmt, io};
@@ -42,7 +42,8 @@ impl fmt::Display for LateClock {
     }
 }
 
-/// Reads the clock, and when a book's file or its log, `FILE-wal`, was last written.
+/// Reads the clock, and when a book's file or its log was last written. The log is beside the file
+/// to which the book's name leads.
 pub fn read_clock<R: ReadsFiles + Clock + AllocGlobal>(runtime: &R, file: &Text) -> ClockReading
     ensures { result.moment < 2 ^ 53 }
 {
@@ -52,8 +53,8 @@ pub fn read_clock<R: ReadsFiles + Clock + AllocGlobal>(runtime: &R, file: &Text)
     }
 }
 
-/// Prints a line on `errors` if the clock is before the last write of a book's file or of its log,
-/// `FILE-wal`. Prints nothing if these moments are not known.
+/// Prints a line on `errors` if the clock is before the last write of a book's file or of its log.
+/// Prints nothing if these moments are not known.
 pub fn note_clock<R: ReadsFiles + Clock + AllocGlobal, E: Write>(
     runtime: &R,
     file: &Text,
@@ -80,17 +81,10 @@ fn write_late<E: Write>(errors: &mut E, moment: u64, written_at: u64) -> io::Res
 // known.
 fn written_at<R: ReadsFiles + AllocGlobal>(runtime: &R, file: &Text) -> u64 {
     let written = changed_at(runtime, file);
-    match log_of(runtime, file) {
+    match log_of(runtime, runtime.alloc(), file.as_str()) {
         Ok(log) => written.max(changed_at(runtime, &log)),
         Err(_) => written,
     }
-}
-
-// The log of a book's file.
-fn log_of<R: AllocGlobal>(runtime: &R, file: &Text) -> Result<Text, AllocError> {
-    let name = file.as_str();
-    let text = format!(in runtime.alloc(); "{name}-wal")?;
-    Ok(Text { text })
 }
 
 // When a file was last written, in seconds since 1970: 0 if that is not known.

@@ -96,8 +96,12 @@ impl<'r, R: ReadsFiles> BookNames<'r, R> {
     }
 }
 
-// The log's name: it is beside the file to which the book's name leads.
-fn log_of<R: ReadsFiles>(runtime: &R, alloc: Global, book: &str) -> Result<Text, AllocError> {
+/// The log's name: it is beside the file to which the book's name leads.
+pub(crate) fn log_of<R: ReadsFiles>(
+    runtime: &R,
+    alloc: Global,
+    book: &str,
+) -> Result<Text, AllocError> {
     let text = match runtime.canonicalize(alloc, book) {
         Ok(path) => {
             let path = path.as_str();

@@ -7,10 +7,11 @@ use acct_model::{Octets, Text};
 use acct_program::InputFault;
 use acct_reads::ReadsFiles;
 use std::alloc::Global;
+use std::os::unix::fs::MetadataExt;
 use std::time::SystemTime;
 
-/// The file of a configuration. It counts as changed if its modification time or its length
-/// differs. It is polled at most once in a second.
+/// The file of a configuration. It counts as changed if its modification time, its length, its owner
+/// or its rights differ. It is polled at most once in a second.
 #[derive(Drop)]
 pub struct SiteFile<'a, R> {
     runtime: &'a R,
@@ -24,6 +25,15 @@ pub struct SiteFile<'a, R> {
 struct Seen {
     changed: Option<SystemTime>,
     length: u64,
+    rights: Rights,
+}
+
+// Who may read a file.
+#[derive(Clone, Copy, PartialEq, Eq)]
+struct Rights {
+    user: u32,
+    group: u32,
+    mode: u32,
 }
 
 impl<'a, R: ReadsFiles> SiteFile<'a, R> {
@@ -68,6 +78,11 @@ fn see<R: ReadsFiles>(runtime: &R, name: &Text) -> Option<Seen> {
         Ok(metadata) => Some(Seen {
             changed: metadata.modified().ok(),
             length: metadata.len(),
+            rights: Rights {
+                user: metadata.uid(),
+                group: metadata.gid(),
+                mode: metadata.mode(),
+            },
         }),
         Err(_) => None,
     }

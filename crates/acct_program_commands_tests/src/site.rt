@@ -4,7 +4,8 @@ use acct_program_commands::{SiteFile, SiteSource, config_from, note_clock, take_
 use acct_site::Config;
 use std::alloc::Global;
 use std::fs;
-use std::fs::{File, OpenFile};
+use std::fs::{File, OpenFile, Permissions};
+use std::os::unix::fs::PermissionsExt;
 use std::test::Fail;
 use std::time::{Duration, SystemTime};
 
@@ -139,6 +140,22 @@ fn sees_a_change_of_equal_length(rt: HostRuntime) -> Result<(), Fail> {
     assert!(rt; sees_another_text(&rt, "rotated-site.toml", 1_000_000_001)?);
     assert!(rt; sees_another_text(&rt, "rotated-site.toml", 999_999_999)?);
     fs::remove_file(&rt, "rotated-site.toml")?;
+    Ok(())
+}
+
+// A change of the rights alone is seen, once.
+#[test]
+fn sees_a_change_of_rights(rt: HostRuntime) -> Result<(), Fail> {
+    let name = "shut-site.toml";
+    fs::write(&rt, name, OLD_KEY)?;
+    fs::set_permissions(&rt, name, Permissions::from_mode(0o400))?;
+    let file = Text::from_str(rt.alloc(), name)?;
+    let mut site = SiteFile::new(&rt, &file);
+    assert!(rt; site.look(rt.alloc(), 3000).is_none());
+    fs::set_permissions(&rt, name, Permissions::from_mode(0o440))?;
+    let read = site.look(rt.alloc(), 3001);
+    assert!(rt; matches!(read, Some(Ok(_))) && site.look(rt.alloc(), 3002).is_none());
+    fs::remove_file(&rt, name)?;
     Ok(())
 }
 
