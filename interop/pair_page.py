@@ -345,6 +345,9 @@ def carried(first, second):
     """The steps of FORWARD for two books of the same reports."""
     machines, old = (first, second), [f"Acct-Delay-Time = {100 * 86_400}"]
     check("a report of 100 days ago", report(first, "s8", "fay", 3 << 20, more=old), True)
+    # Without one of the last days the clock is taken for wrong.
+    lately = [f"Acct-Delay-Time = {2 * 86_400}"]
+    check("and one of two days ago", report(first, "s9", "gil", 0, more=lately), True)
     wanted = {**AT_LAST, "gil": -30, "fay": -30}
     both_have(machines, "it", wanted)
     guarded(machines)

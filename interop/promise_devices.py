@@ -361,10 +361,13 @@ class Devices(threading.Thread):
         pause = min(FIRST * 1.6 ** (sending.count - 1), LAST) * self.rng.uniform(0.8, 1.2)
         self.later(pause, lambda: self.send(sending))
 
-    def make_old(self, count, youngest, oldest):
-        """Sessions that were over long before, and are reported at last."""
+    def make_old(self, count, youngest, oldest, is_old=True):
+        """Sessions that were over long before, and are reported at last: too late for the limit, or
+        not.
+        """
         for _ in range(count):
             session = self.new_session(True)
+            session.is_old = is_old
             session.plan = self.rng.choice([b"gold", b"down", b"default", b"hour"])
             octets = self.rng.randrange(9 << 20), self.rng.randrange(9 << 20)
             moment = time.time() - self.rng.randrange(youngest, oldest)

@@ -68,11 +68,12 @@ class Rewriting:
 def old_reports(site, count):
     """Sessions that ended 200 days ago at a station with a name of its own, and some newer ones."""
     delay = attribute(41, (200 * 86_400).to_bytes(4, "big"))
+    two_days = attribute(41, (2 * 86_400).to_bytes(4, "big"))
     for at in range(count):
         account = f"guest {at % 7}"
         site.send(STOP, f"old-{at}", at * MIB // 3, account, more=delay + attribute(31, STATION))
         if at % 5 == 0:
-            site.send(INTERIM, f"new-{at}", at * MIB, account)
+            site.send(INTERIM, f"new-{at}", at * MIB, account, more=two_days)
 
 
 def rewrite_forgets(site, rewrite):

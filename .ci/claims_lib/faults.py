@@ -63,9 +63,9 @@ CURES = {
         NEARER,
         "an [earlier cutoff](FORWARD.md#late-reports)",
     ),
-    "forward: no report for 7 days; give --yes if the clock is right": (
-        "no report is of the last week, by the clock",
-        "the clock, or [`--yes`](FORWARD.md#late-reports)",
+    "forward: no session heard of 1 to 8 days ago; give --yes if the clock is right": (
+        "the clock may be wrong",
+        "the clock, a day later, or [`--yes`](FORWARD.md#late-reports)",
     ),
     "forward: the file is not of the last 7 days; give --yes if the clock is right": (
         "the file's date and the clock differ",

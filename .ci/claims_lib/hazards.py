@@ -45,10 +45,10 @@ KEPT = {
     "docs/FORWARD.md": (
         "A report of a session that was carried forward opens it anew, and charges it again in whole",
         "as long as the clocks of the server and of FreeRADIUS were right all the while",
-        "A clock that was wrong while reports came is not noticed",
+        "It does not notice a clock that is up to 8 days ahead",
         "If an open session that `--silent` took reports again, credit what it was charged before",
         "An old report without it is taken for one of now",
-        "These stay for ever",
+        "and sums by plan stay for ever",
     ),
     "docs/FREERADIUS.md": (
         "it is on the disk, synced: a kill, a power cut or a crash costs none",

@@ -13,8 +13,8 @@ use Rattle.acct_book.specs.Step.{OnlyLooks}
 use Rattle.acct_book_forward.proofs.CarriedOn.{joined_on, told_on}
 use Rattle.acct_program_args.specs.declared.job.Carrying.{Carrying}
 use Rattle.acct_program_commands.specs.Forwarding.{selected, Forwards, LiesFarBack, IsTimely}
-use Rattle.acct_program_commands.specs.Forwarding.{IsHeardOf, IsHeardIn}
-use Rattle.std.proofs.Common.{ℕ, Option, Some, None}
+use Rattle.acct_program_commands.specs.Forwarding.{IsHeardOf, IsHeardIn, MayCarry}
+use Rattle.std.proofs.Common.{ℕ, Option, Some, None, ◌≢◌}
 
 -- calls that only read carry nothing
 only_on : {B T E : Type 0} (b : Ghosts B) (selection : SelectionFacts) (plans : List Plan)
@@ -32,10 +32,10 @@ only_on b selection plans old new result looks answers = record {
 }
 
 -- one more session was looked for
-pub heard_more : (content : Content) (key : Key) (found : Option RowFacts) (moment : ℕ)
-    → HasOwnKeys content → found ≡ content.rows key → IsHeardOf found moment
-    → IsHeardIn content moment
-heard_more content key found moment own is (row, there, at) =
+pub heard_more : (selection : SelectionFacts) (content : Content) (key : Key)
+    (found : Option RowFacts) (moment : ℕ) → HasOwnKeys content → found ≡ content.rows key
+    → IsHeardOf selection found moment → IsHeardIn selection content moment
+heard_more selection content key found moment own is (row, there, at) =
     let kept : content.rows key ≡ Some row = sym is ∙ there in
     (row, ap content.rows (own.rows key row kept) ∙ kept, at)
 
@@ -55,12 +55,22 @@ forwards_looked b plans carrying moment written_at old new ended looks answers =
   timely = inl looks;
 }
 
+-- where some would be carried, the clock was confirmed or is timely
+pub may_timely : {B : Type 0} (b : Ghosts B) (selection : SelectionFacts) (book : B)
+    (is_sure : Bool) (moment written_at carried : ℕ) → carried ≢ 0
+    → MayCarry b selection book is_sure moment written_at carried
+    → (is_sure ≡ true)
+    ⊎ (b.is_sound book → IsTimely selection (b.content book) moment written_at)
+may_timely b selection book is_sure moment written_at carried some (inl none) = absurd (some none)
+may_timely b selection book is_sure moment written_at carried some (inr timely) = timely
+
 -- sessions were carried
 pub forwards_carried : {B T E : Type 0} (b : Ghosts B) (plans : List Plan)
     (carrying : Carrying) (moment written_at : ℕ) (selection : SelectionFacts) (old new : B)
     (ended : Result T E) → carrying.is_dry ≡ false → selection ≡ selected carrying moment
     → LiesFarBack carrying moment
-    → (carrying.is_sure ≡ true) ⊎ (b.is_sound old → IsTimely (b.content old) moment written_at)
+    → (carrying.is_sure ≡ true)
+    ⊎ (b.is_sound old → IsTimely selection (b.content old) moment written_at)
     → CarriesOn b selection plans old new ended
     → Forwards b plans carrying moment written_at old new ended
 forwards_carried b plans carrying moment written_at selection old new ended wet is lies timely carries =
@@ -70,7 +80,8 @@ forwards_carried b plans carrying moment written_at selection old new ended wet 
       far = inr lies;
       timely = inr (elim timely [
         | inl sure ↦ inl sure
-        | inr is_timely ↦ inr (λ sound. is_timely (carries.was_sound sound))
+        | inr is_timely ↦ inr (λ sound. subst (λ s. IsTimely s (b.content old) moment written_at) is
+            (is_timely (carries.was_sound sound)))
       ]);
     }
 
@@ -106,7 +117,8 @@ forwards_then b plans carrying moment written_at old mid new r ended looks still
   timely = elim f.timely [
     | inl more ↦ inl (looks_both b old mid new looks more)
     | inr (inl sure) ↦ inr (inl sure)
-    | inr (inr is_timely) ↦ inr (inr (λ sound. subst (λ c. IsTimely c moment written_at)
+    | inr (inr is_timely) ↦ inr (inr (λ sound.
+        subst (λ c. IsTimely (selected carrying moment) c moment written_at)
         (looks.same (still (f.carries.was_sound sound))) (is_timely sound)))
   ];
 }

@@ -29,7 +29,7 @@ fault_text fault.WouldOverwrite = codes "file: would be overwritten"
 fault_text fault.CutoffTooLate = codes "forward: less than 30 days ago"
 fault_text fault.CutoffInReach = codes "forward: less than --oldest-report ago"
 fault_text fault.ClockAhead =
-    codes "forward: no report for 7 days; give --yes if the clock is right"
+    codes "forward: no session heard of 1 to 8 days ago; give --yes if the clock is right"
 fault_text fault.ClockApart =
     codes "forward: the file is not of the last 7 days; give --yes if the clock is right"
 fault_text fault.Unbalanced = codes "db: Unbalanced"

@@ -1,7 +1,8 @@
 -- What `forward` does.
-use Rattle.std.specs.Prelude.{◌≡◌, ◌⊎◌, ◌≤◌, ℕ, ◌+◌, ◌-◌, ◌*◌, true, false, Option, Some}
-use Rattle.std.specs.Prelude.{None}
+use Rattle.std.specs.Prelude.{◌≡◌, ◌⊎◌, ◌≤◌, ℕ, ◌+◌, ◌-◌, ◌*◌, Bool, true, false, Option, Some}
+use Rattle.std.specs.Prelude.{None, bytes_eq}
 use Rattle.std.specs.Prelude.{IfSome, Result, List}
+use Rattle.std.specs.List.{list_any}
 use Rattle.acct_model.specs.declared.plan.Plan.{Plan}
 use Rattle.acct_book.specs.declared.book.Book.{Ghosts}
 use Rattle.acct_book_forward.specs.Carrying.{SelectionFacts, CarriesOn, is_line}
@@ -44,20 +45,24 @@ LieFarBack selection oldest now =
 abbrev pub LiesFarBack : Carrying → ℕ → Type 0
 LiesFarBack carrying now = LieFarBack (selected carrying now) carrying.oldest_report now
 
--- a session that is no line was last heard of in the 7 days before a moment
-pub record IsHeardAt (row : RowFacts) (moment : ℕ) : Type 0 where
+-- A session was last heard of between 1 and 8 days before a moment. A clock that jumps has none at
+-- first, if no late report comes: what reports after the jump was heard of just now, and all else
+-- long ago. It is no line, and not of a client whose sessions stay: these may be no devices.
+pub record IsHeardAt (selection : SelectionFacts) (row : RowFacts) (moment : ℕ) : Type 0 where
   pub no_line : is_line row.client ≡ false
-  pub past : row.last ≤ moment
-  pub late : moment ≤ row.last + 7 * 86400
+  pub not_kept : list_any (bytes_eq row.client) selection.kept ≡ false
+  pub past : row.last + 86400 ≤ moment
+  pub late : moment ≤ row.last + 8 * 86400
 
 -- such a session was found
-abbrev pub IsHeardOf : Option RowFacts → ℕ → Type 0
-IsHeardOf found moment = (row : RowFacts) × (found ≡ Some row) × IsHeardAt row moment
+abbrev pub IsHeardOf : SelectionFacts → Option RowFacts → ℕ → Type 0
+IsHeardOf selection found moment =
+    (row : RowFacts) × (found ≡ Some row) × IsHeardAt selection row moment
 
 -- such a session is in the book
-abbrev pub IsHeardIn : Content → ℕ → Type 0
-IsHeardIn content moment = (row : RowFacts) × (content.rows (key_of row) ≡ Some row)
-    × IsHeardAt row moment
+abbrev pub IsHeardIn : SelectionFacts → Content → ℕ → Type 0
+IsHeardIn selection content moment = (row : RowFacts) × (content.rows (key_of row) ≡ Some row)
+    × IsHeardAt selection row moment
 
 -- What a clock says, and when it says that files were last changed: at most 7 days before, and at
 -- most a day after.
@@ -66,9 +71,16 @@ pub record Agrees (moment written_at : ℕ) : Type 0 where
   pub new : written_at ≤ moment + 86400
 
 -- the clock agrees with what the book says, and with what its files say
-pub record IsTimely (content : Content) (moment written_at : ℕ) : Type 0 where
-  pub heard : IsHeardIn content moment
+pub record IsTimely (selection : SelectionFacts) (content : Content) (moment written_at : ℕ)
+    : Type 0 where
+  pub heard : IsHeardIn selection content moment
   pub changed : Agrees moment written_at
+
+-- Sessions may be carried: none would be, somebody confirmed the clock, or it is timely.
+abbrev pub MayCarry : {B : Type 0} → Ghosts B → SelectionFacts → B → Bool → ℕ → ℕ → ℕ → Type 0
+MayCarry b selection book is_sure moment written_at carried = (carried ≡ 0)
+    ⊎ ((is_sure ≡ true)
+    ⊎ (b.is_sound book → IsTimely selection (b.content book) moment written_at))
 
 -- A run of `forward` at a moment, over files that were last changed at another one. The requested
 -- sessions were carried, as far as the run got. None were if this was a dry run, if late reports of
@@ -81,4 +93,4 @@ pub record Forwards {B T E : Type 0} (b : Ghosts B) (plans : List Plan) (carryin
   pub far : OnlyLooks b old new ⊎ LiesFarBack carrying moment
   pub timely : OnlyLooks b old new
       ⊎ ((carrying.is_sure ≡ true)
-      ⊎ (b.is_sound new → IsTimely (b.content old) moment written_at))
+      ⊎ (b.is_sound new → IsTimely (selected carrying moment) (b.content old) moment written_at))

@@ -48,7 +48,7 @@ pub enum Fault {
     CutoffTooLate,
     /// Sessions of which the server still accepts late reports were to be carried forward.
     CutoffInReach,
-    /// No report in a book is of the last 7 days, by the clock.
+    /// By the clock, no session of a book was last heard of between 1 and 8 days ago.
     ClockAhead,
     /// The files of a book were last changed more than 7 days before the clock's moment, or more
     /// than a day after it.
@@ -73,9 +73,9 @@ impl fmt::Display for Fault {
             Fault::WouldOverwrite => f.write_str("file: would be overwritten"),
             Fault::CutoffTooLate => f.write_str("forward: less than 30 days ago"),
             Fault::CutoffInReach => f.write_str("forward: less than --oldest-report ago"),
-            Fault::ClockAhead => {
-                f.write_str("forward: no report for 7 days; give --yes if the clock is right")
-            }
+            Fault::ClockAhead => f.write_str(
+                "forward: no session heard of 1 to 8 days ago; give --yes if the clock is right",
+            ),
             Fault::ClockApart => {
                 f.write_str(
                     "forward: the file is not of the last 7 days; give --yes if the clock is right",

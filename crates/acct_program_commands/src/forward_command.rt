@@ -1,7 +1,8 @@
 //! `forward`: carries old sessions forward.
 //!
-//! It goes over the accounts twice. The first pass only reads: it counts what would be carried, and
-//! looks for a session that was heard of lately. The second pass carries.
+//! It goes over the accounts up to three times. The first pass only reads: it counts what would be
+//! carried, and looks for a session that was heard of lately. If open sessions may be carried, the
+//! second one prints these: a clock that may be wrong prints none. The last one carries.
 ghost use Rattle.std.specs.Prelude.{◌≡◌, ◌≢◌, ◌↔◌, ◌⊎◌, ◌≤◌, ◌<◌, ◌+◌, ◌*◌, ◌^◌, true};
 ghost use Rattle.std.specs.Prelude.{IfOk, IfSome, IsTrue, OnOk, false};
 ghost use Rattle.acct_book.specs.Step.{Looks};
@@ -9,7 +10,7 @@ ghost use Rattle.acct_book.specs.Step.{OnlyLooks};
 ghost use Rattle.acct_book_forward.specs.Carrying.{CarriesOn};
 ghost use Rattle.acct_program_commands.specs.Forwarding.{selected, Forwards, LieBack, LieFarBack};
 ghost use Rattle.acct_program_commands.specs.Forwarding.{LiesFarBack, IsHeardAt, IsHeardOf};
-ghost use Rattle.acct_program_commands.specs.Forwarding.{IsHeardIn, Agrees, IsTimely};
+ghost use Rattle.acct_program_commands.specs.Forwarding.{IsHeardIn, Agrees, MayCarry};
 
 use crate::book_clock::ClockReading;
 use crate::fault::Fault;
@@ -25,8 +26,13 @@ use std::io::Write;
 const DAY: u64 = 86_400;
 /// How many days back a moment of `--at` must be at least.
 const FEWEST_DAYS: u64 = 30;
-/// How many seconds the clock may be past the last report, and past the last change of the files.
+/// How many seconds the clock may be past the last change of the files.
 const IDLE: u64 = 7 * DAY;
+/// How many seconds ago a session was heard of at least that tells what the moment is: one of now
+/// may be of a clock that has just jumped.
+const LATEST: u64 = DAY;
+/// How many seconds ago it was heard of at most: the clock may have jumped since.
+const EARLIEST: u64 = 8 * DAY;
 /// After how many accounts a progress line is printed.
 const STEP: u64 = 1_000;
 
@@ -39,7 +45,7 @@ pub struct Totals {
     pub touched: u64,
     /// The sessions, added up.
     pub sessions: Tally,
-    /// Whether some session was heard of in the last 7 days.
+    /// Whether some session was heard of between 1 and 8 days ago.
     pub is_heard: bool,
 }
 
@@ -91,12 +97,14 @@ impl Totals {
 struct Looking<'a> {
     alloc: Global,
     selection: &'a Selection,
-    moment: u64,
+    clock: ClockReading,
+    // Whether somebody confirmed the clock.
+    is_sure: bool,
     // Whether it prints each open session that would be carried.
     lists_open: bool,
 }
 
-// What it saw of an account, and whether some session so far was heard of in the last 7 days.
+// What it saw of an account, and whether some session so far was heard of between 1 and 8 days ago.
 #[derive(Clone, Copy)]
 struct Seen {
     tally: Tally,
@@ -106,24 +114,30 @@ struct Seen {
 impl Seen {
     // Adds a session.
     fn add(&mut self, selection: &Selection, row: &Row, moment: u64)
-        requires { moment < 2 ^ 53 }
-        ensures { IsTrue self.new.is_heard → IsTrue self.old.is_heard ⊎ IsHeardAt row.now moment }
+        ensures { IsTrue self.new.is_heard
+            → IsTrue self.old.is_heard ⊎ IsHeardAt selection.now row.now moment }
     {
         self.tally.add(selection, row);
-        if is_heard_at(row, moment) {
+        if is_heard_at(selection, row, moment) {
             self.is_heard = true;
         }
     }
 }
 
-// Whether a session was last heard of in the 7 days before a moment. A line is none: its moment is
-// that of a run of this command, and not of a report. Nor is a session of a moment to come: that
-// was told by a clock that is wrong.
-fn is_heard_at(row: &Row, moment: u64) -> bool
-    requires { moment < 2 ^ 53 }
-    ensures { IsTrue result → IsHeardAt row.now moment }
+// Whether a session was last heard of between 1 and 8 days before a moment. A line is none: its
+// moment is that of a run of this command, and not of a report. Nor is a session of a client whose
+// sessions stay: these may be no devices.
+fn is_heard_at(selection: &Selection, row: &Row, moment: u64) -> bool
+    ensures { IsTrue result ↔ IsHeardAt selection.now row.now moment }
 {
-    !is_line(row.client.as_str()) && row.last <= moment && moment - row.last <= IDLE
+    let client = row.client.as_str();
+    if is_line(client) || selection.is_kept(client) {
+        return false;
+    }
+    match moment.checked_sub(row.last) {
+        Some(age) => age >= LATEST && age <= EARLIEST,
+        None => false,
+    }
 }
 
 /// Carries the requested sessions of a book forward, at a moment, in seconds since 1970. Prints how
@@ -135,9 +149,9 @@ fn is_heard_at(row: &Row, moment: u64) -> bool
 ///
 /// `Store` if the book fails. `CutoffTooLate` if the cutoff is less than 30 days back.
 /// `CutoffInReach` if it is less than `oldest_report` days back. If the arguments do not confirm the
-/// clock: `ClockAhead` if no report is of the last 7 days, `ClockApart` if the files were not
-/// changed in that time, or later than a day after now. `NoMemory`, `CannotWrite`. What was carried
-/// before stays carried.
+/// clock, and sessions would be carried: `ClockAhead` if no session was last heard of between 1 and 8
+/// days ago, `ClockApart` if the files were not changed in the last 7 days, or later than a day after
+/// now. `NoMemory`, `CannotWrite`. What was carried before stays carried.
 pub fn run_forward<B: Book, W: Write, E: Write>(
     alloc: Global,
     plans: &Plans,
@@ -160,11 +174,11 @@ pub fn run_forward<B: Book, W: Write, E: Write>(
     let task = Looking {
         alloc,
         selection: &selection,
-        moment,
+        clock,
+        is_sure: carrying.is_sure,
         lists_open: carrying.silent.is_some(),
     };
-    let found = survey(book, &task, output)?;
-    check_clock(&found, carrying.is_sure, clock)?;
+    let found = look(book, &task, output)?;
     let totals = carry(
         alloc, plans, book, carrying, &selection, clock, found, progress,
     )?;
@@ -173,7 +187,32 @@ pub fn run_forward<B: Book, W: Write, E: Write>(
     Ok(Status::Done)
 }
 
-// Carries the sessions that were found, unless this is a dry run.
+// Counts what would be carried, and rejects a clock that may be wrong. Then prints each open session
+// among it, if that was requested.
+fn look<B: Book, W: Write>(
+    book: &mut B,
+    task: &Looking<'_>,
+    output: &mut W,
+) -> Result<Totals, Fault>
+    requires { task.now.clock.moment < 2 ^ 53 }
+    ensures looks { OnlyLooks B.Book book.old book.new }
+    ensures answers { B.is_sound book.new → IfOk result (λ totals. B.is_open book.new) }
+    ensures timely { IfOk result (λ found. MayCarry B.Book task.now.selection.now book.new
+        task.now.is_sure task.now.clock.moment task.now.clock.written_at found.sessions.carried) }
+{
+    let counting = Looking {
+        lists_open: false,
+        ..*task
+    };
+    let found = survey(book, &counting, output)?;
+    check_clock(&found, task.is_sure, task.clock)?;
+    if task.lists_open {
+        survey(book, task, output)?;
+    }
+    Ok(found)
+}
+
+// Carries the sessions that were found, unless there is none or this is a dry run.
 fn carry<B: Book, E: Write>(
     alloc: Global,
     plans: &Plans,
@@ -187,13 +226,13 @@ fn carry<B: Book, E: Write>(
     requires moment { clock.moment < 2 ^ 53 }
     requires selected { selection.now ≡ selected carrying.now clock.moment }
     requires far { LiesFarBack carrying.now clock.moment }
-    requires timely { (carrying.now.is_sure ≡ true)
-        ⊎ (B.is_sound book.old → IsTimely (B.content book.old) clock.moment clock.written_at) }
+    requires timely { MayCarry B.Book selection.now book.old carrying.now.is_sure clock.moment
+        clock.written_at found.sessions.carried }
     requires answers { B.is_sound book.old → B.is_open book.old }
     ensures { Forwards B.Book plans.now carrying.now clock.moment clock.written_at book.old book.new
         result }
 {
-    if carrying.is_dry {
+    if carrying.is_dry || found.sessions.carried == 0 {
         return Ok(found);
     }
     carry_all(
@@ -262,14 +301,14 @@ fn lie_back(selection: &Selection, seconds: u64, moment: u64) -> bool
         && selection.silent_before.saturating_add(seconds) <= moment
 }
 
-// Rejects a clock that may be wrong: nothing must be forgotten by it. It must agree with what the
-// book says, and with what its files say.
+// Rejects a clock that may be wrong, if anything would be carried: nothing must be forgotten by it.
+// It must agree with what the book says, and with what its files say.
 fn check_clock(found: &Totals, is_sure: bool, clock: ClockReading) -> Result<(), Fault>
     requires { clock.moment < 2 ^ 53 }
-    ensures { OnOk result ((is_sure ≡ true)
-        ⊎ (IsTrue found.now.is_heard × Agrees clock.moment clock.written_at)) }
+    ensures { OnOk result ((found.now.sessions.carried ≡ 0) ⊎ ((is_sure ≡ true)
+        ⊎ (IsTrue found.now.is_heard × Agrees clock.moment clock.written_at))) }
 {
-    if is_sure {
+    if is_sure || found.sessions.carried == 0 {
         return Ok(());
     }
     if !found.is_heard {
@@ -305,11 +344,11 @@ fn survey<B: Book, W: Write>(
     task: &Looking<'_>,
     output: &mut W,
 ) -> Result<Totals, Fault>
-    requires { task.now.moment < 2 ^ 53 }
     ensures looks { OnlyLooks B.Book book.old book.new }
     ensures answers { B.is_sound book.new → IfOk result (λ totals. B.is_open book.new) }
     ensures heard { B.is_open book.new → IfOk result (λ totals.
-        IsTrue totals.is_heard → IsHeardIn (B.content book.old) task.now.moment) }
+        IsTrue totals.is_heard
+        → IsHeardIn task.now.selection.now (B.content book.old) task.now.clock.moment) }
 {
     let mut totals = Totals::new();
     let mut after: Option<Vec<u8>> = None;
@@ -333,10 +372,10 @@ fn survey_account<B: Book, W: Write>(
     is_heard: bool,
     output: &mut W,
 ) -> Result<Seen, Fault>
-    requires { task.now.moment < 2 ^ 53 }
     ensures reads { Looks B.Book book.old book.new result }
     ensures heard { B.is_open book.new → IfOk result (λ seen. IsTrue seen.is_heard
-        → IsTrue is_heard ⊎ IsHeardIn (B.content book.old) task.now.moment) }
+        → IsTrue is_heard
+        ⊎ IsHeardIn task.now.selection.now (B.content book.old) task.now.clock.moment) }
 {
     let keys = book.keys_of(account)?;
     let mut seen = Seen {
@@ -358,9 +397,9 @@ fn note<W: Write>(
     output: &mut W,
     seen: &mut Seen,
 ) -> Result<(), Fault>
-    requires { task.now.moment < 2 ^ 53 }
     ensures { OnOk result (IsTrue seen.new.is_heard
-        → IsTrue seen.old.is_heard ⊎ IsHeardOf found.now task.now.moment) }
+        → IsTrue seen.old.is_heard
+        ⊎ IsHeardOf task.now.selection.now found.now task.now.clock.moment) }
 {
     let Some(row) = found else {
         return Ok(());
@@ -369,7 +408,7 @@ fn note<W: Write>(
     if task.lists_open && is_open {
         write_session(task.alloc, output, row)?;
     }
-    seen.add(task.selection, row, task.moment);
+    seen.add(task.selection, row, task.clock.moment);
     Ok(())
 }
 

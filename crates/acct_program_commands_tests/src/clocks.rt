@@ -3,8 +3,9 @@
 ghost use Rattle.std.specs.Prelude.{◌≤◌, IfOk, IfSome};
 
 use crate::sessions::{Alike, row_of};
-use acct_book::SessionState::Stopped;
+use acct_book::SessionState::{Live, Stopped};
 use acct_book::{Book, MemBook};
+use acct_model::Text;
 use acct_program::Status;
 use acct_program_args::{Carrying, Cutoff};
 use acct_program_commands::{ClockReading, Fault, run_forward};
@@ -21,9 +22,9 @@ const WEEK: u32 = 7 * DAY;
 
 const YEAR: u32 = 365 * DAY;
 
-// A client and the last moments of two of its sessions, when the files were changed, and how the
-// command ends without `--yes`.
-type Clocked = (&'static str, [u32; 2], u32, Result<Status, Fault>);
+// A session's client and its last moment, when the files were changed, and how the command ends
+// without `--yes`.
+type Clocked = (&'static str, u32, u32, Result<Status, Fault>);
 
 const RIGHT: Result<Status, Fault> = Ok(Status::Done);
 
@@ -31,45 +32,56 @@ const AHEAD: Result<Status, Fault> = Err(Fault::ClockAhead);
 
 const APART: Result<Status, Fault> = Err(Fault::ClockApart);
 
-static CLOCKS: [Clocked; 11] = [
-    // A report a week ago, and one more second.
-    ("ap1", [7, NOW - WEEK], NOW - 3, RIGHT),
-    ("ap1", [7, NOW - WEEK - 1], NOW - 3, AHEAD),
-    ("ap1", [NOW, 7], NOW - 3, RIGHT),
-    // Reports of a clock that was ahead are skipped.
-    ("ap1", [NOW + 1, 7], NOW - 3, AHEAD),
-    ("ap1", [NOW + YEAR, NOW - WEEK - 2], NOW - 3, AHEAD),
-    ("ap1", [NOW + YEAR, NOW - 9], NOW - 3, RIGHT),
-    // A line is no report.
-    ("(gold)", [NOW - 9, NOW - 8], NOW - 3, AHEAD),
+static CLOCKS: [Clocked; 13] = [
+    // A report 8 days ago, and a second more. One a day ago, and a second less.
+    ("ap1", NOW - WEEK - DAY, NOW - 3, RIGHT),
+    ("ap1", NOW - WEEK - DAY - 1, NOW - 3, AHEAD),
+    ("ap1", NOW - DAY, NOW - 3, RIGHT),
+    ("ap1", NOW - DAY + 1, NOW - 3, AHEAD),
+    // Reports of a clock that jumped, and of one that was ahead.
+    ("ap1", NOW, NOW - 3, AHEAD),
+    ("ap1", NOW + YEAR, NOW - 3, AHEAD),
+    // A line is no report, and a client whose sessions stay tells nothing.
+    ("(gold)", NOW - 2 * DAY, NOW - 3, AHEAD),
+    ("books", NOW - 2 * DAY, NOW - 3, AHEAD),
     // The files: a week ago, a day from now, and unknown.
-    ("ap1", [NOW - 9, 7], NOW - WEEK, RIGHT),
-    ("ap1", [NOW - 9, 7], NOW - WEEK - 1, APART),
-    ("ap1", [NOW - 9, 7], NOW + DAY + 1, APART),
-    ("ap1", [NOW - 9, 7], 0, APART),
+    ("ap1", NOW - 3 * DAY, NOW - WEEK, RIGHT),
+    ("ap1", NOW - 3 * DAY, NOW + DAY, RIGHT),
+    ("ap1", NOW - 3 * DAY, NOW - WEEK - 1, APART),
+    ("ap1", NOW - 3 * DAY, NOW + DAY + 1, APART),
+    ("ap1", NOW - 3 * DAY, 0, APART),
 ];
 
-// What is asked for: sessions that ended before 1,000,000.
-fn asked(alloc: Global, is_sure: bool) -> Carrying
-    ensures { IfSome result.oldest_report (λ days. days ≤ 36500) }
+// A session that ended long before, so that it would be carried.
+const OLD: Alike = ("ap2", b"al", b"gold", 5, 1, 9, Stopped, 7);
+
+// What is asked for: sessions that ended before 1,000,000, and open ones that were silent for 60
+// days, except those of a client.
+fn asked(alloc: Global, is_sure: bool, is_dry: bool) -> Result<Carrying, Fail>
+    ensures { IfOk result (λ asked. IfSome asked.oldest_report (λ days. days ≤ 36500)) }
 {
-    Carrying {
+    let mut kept = Vec::new(alloc);
+    kept.push(Text::from_str(alloc, "books")?)?;
+    Ok(Carrying {
         cutoff: Cutoff::At(1_000_000),
-        silent: None,
-        kept: Vec::new(alloc),
-        is_dry: false,
+        silent: Some(60),
+        kept,
+        is_dry,
         is_sure,
         oldest_report: None,
-    }
+    })
 }
 
-// How the command ends.
-fn ended(alloc: Global, clocked: &Clocked, is_sure: bool) -> Result<Result<Status, Fault>, Fail> {
-    let (client, lasts, written_at, _) = *clocked;
+// How the command ends over these sessions, and what it prints.
+fn ended(
+    alloc: Global,
+    sessions: &[Alike],
+    written_at: u32,
+    (is_sure, is_dry): (bool, bool),
+) -> Result<(Result<Status, Fault>, Vec<u8>), Fail> {
     let mut book = MemBook::new(alloc);
-    for (place, last) in lasts.iter().enumerate() {
-        let alike: Alike = (client, b"al", b"gold", 3, 1, 9, Stopped, *last);
-        let row = row_of(alloc, &alike, 5 + place as u32)?;
+    for alike in sessions {
+        let row = row_of(alloc, alike, alike.3)?;
         book.put_session(&row, -20)?;
     }
     let clock = ClockReading {
@@ -77,9 +89,9 @@ fn ended(alloc: Global, clocked: &Clocked, is_sure: bool) -> Result<Result<Statu
         written_at: u64::from(written_at),
     };
     let plans = sample_plans(alloc)?;
-    let asked = asked(alloc, is_sure);
+    let asked = asked(alloc, is_sure, is_dry)?;
     let (mut output, mut progress) = (Vec::new(alloc), Vec::new(alloc));
-    Ok(run_forward(
+    let ended = run_forward(
         alloc,
         &plans,
         &mut book,
@@ -87,14 +99,57 @@ fn ended(alloc: Global, clocked: &Clocked, is_sure: bool) -> Result<Result<Statu
         clock,
         &mut output,
         &mut progress,
-    ))
+    );
+    Ok((ended, output))
 }
 
 #[test]
 fn a_clock_that_differs_is_refused(rt: HostRuntime) -> Result<(), Fail> {
-    for (place, clocked) in CLOCKS.iter().enumerate() {
-        assert!(rt; ended(rt.alloc(), clocked, false)? == clocked.3, "{place}");
-        assert!(rt; ended(rt.alloc(), clocked, true)? == RIGHT, "{place}");
+    for (place, &(client, last, written_at, wanted)) in CLOCKS.iter().enumerate() {
+        let sessions = [OLD, (client, b"bo", b"gold", 7, 1, 21, Stopped, last)];
+        for is_dry in [true, false] {
+            let (end, _) = ended(rt.alloc(), &sessions, written_at, (false, is_dry))?;
+            assert!(rt; end == wanted, "{place} {is_dry}");
+            let (end, _) = ended(rt.alloc(), &sessions, written_at, (true, is_dry))?;
+            assert!(rt; end == RIGHT, "{place} {is_dry}");
+        }
     }
+    Ok(())
+}
+
+#[test]
+fn where_none_is_carried_no_clock_is_refused(rt: HostRuntime) -> Result<(), Fail> {
+    let lately = (
+        "ap1",
+        b"bo".as_slice(),
+        b"gold".as_slice(),
+        7,
+        1,
+        21,
+        Stopped,
+        NOW,
+    );
+    let (end, _) = ended(rt.alloc(), &[lately], 0, (false, false))?;
+    assert!(rt; end == RIGHT);
+    Ok(())
+}
+
+#[test]
+fn a_refused_run_prints_no_session(rt: HostRuntime) -> Result<(), Fail> {
+    let silent = (
+        "ap1",
+        b"bo".as_slice(),
+        b"gold".as_slice(),
+        7,
+        1,
+        21,
+        Live,
+        900_000,
+    );
+    let (end, output) = ended(rt.alloc(), &[silent], NOW - 3, (false, false))?;
+    assert!(rt; end == AHEAD && output.is_empty());
+    let (end, output) = ended(rt.alloc(), &[silent], NOW - 3, (true, false))?;
+    let printed = b"open: ap1 s7 of bo, silent since 900000\n";
+    assert!(rt; end == RIGHT && output.starts_with(printed));
     Ok(())
 }

@@ -9,6 +9,7 @@ use acct_program::Status;
 use acct_program_args::{Carrying, Cutoff, Export};
 use acct_program_commands::{ClockReading, run_export, run_forward};
 use acct_site::sample_plans;
+use chosen_sizes::chosen_size;
 use std::alloc::Global;
 use std::test::Fail;
 
@@ -174,11 +175,21 @@ fn many(alloc: Global, count: u32) -> Result<MemBook, Fail> {
     // The last report, which stays.
     let last = row_of(
         alloc,
-        &("ap1", b"zed", b"gold", 0, 0, 9, Stopped, 9_999_999),
+        &("ap1", b"zed", b"gold", 0, 0, 9, Stopped, 9_900_001),
         7,
     )?;
     book.put_session(&last, -10)?;
     Ok(book)
+}
+
+// A line for each thousand of so many accounts.
+fn progress_of(alloc: Global, accounts: u32) -> Result<String, Fail> {
+    let mut text = String::new(alloc);
+    for thousands in 1..=accounts / 1_000 {
+        let line = format!(in alloc; "{thousands}000 of {accounts} accounts\n")?;
+        text.push_str(line.as_str())?;
+    }
+    Ok(text)
 }
 
 // Whether a session of each of so many accounts is carried, with a line for each thousand of them.
@@ -189,14 +200,14 @@ fn carries_many(alloc: Global, count: u32) -> Result<bool, Fail> {
         "carried {count} sessions of {count} accounts\n\
         stay: 0 open, 1 recent, 0 kept, 0 too large\n"
     )?;
-    let all = count.saturating_add(1);
-    let told = format!(in alloc; "1000 of {all} accounts\n")?;
+    let told = progress_of(alloc, count.saturating_add(1))?;
     Ok(output.as_slice() == text.as_bytes() && progress.as_slice() == told.as_bytes())
 }
 
 #[test]
 fn many_accounts_are_carried(rt: HostRuntime) -> Result<(), Fail> {
-    assert!(rt; carries_many(rt.alloc(), 1_500)?);
+    let count = chosen_size(&rt, 2_000, 3_000)?;
+    assert!(rt; carries_many(rt.alloc(), count)?);
     Ok(())
 }
 
@@ -230,7 +241,7 @@ fn lists_many(alloc: Global, count: u32) -> Result<bool, Fail> {
         1,
         9,
         Stopped,
-        9_999_999,
+        9_900_001,
     );
     put(alloc, &mut book, &last)?;
     let totals = format!(in alloc;
@@ -244,6 +255,7 @@ fn lists_many(alloc: Global, count: u32) -> Result<bool, Fail> {
 
 #[test]
 fn each_open_session_is_listed(rt: HostRuntime) -> Result<(), Fail> {
-    assert!(rt; lists_many(rt.alloc(), 300)?);
+    let count = chosen_size(&rt, 2_000, 3_000)?;
+    assert!(rt; lists_many(rt.alloc(), count)?);
     Ok(())
 }

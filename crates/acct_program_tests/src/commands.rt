@@ -184,7 +184,7 @@ const FIRST_ROWS: &str = "\
     1700000007, 2, 1, x'62', x'0a000008');";
 
 // An older book, before and after it is made one of today's.
-static OLDER: [Row; 17] = [
+static OLDER: [Row; 16] = [
     (
         ("check --config older.toml --db older-book", ""),
         (Status::Unavailable, "", "db: WrongSchema\n"),
@@ -223,7 +223,7 @@ static OLDER: [Row; 17] = [
         (
             Status::Refused,
             "",
-            "forward: no report for 7 days; give --yes if the clock is right\n",
+            "forward: no session heard of 1 to 8 days ago; give --yes if the clock is right\n",
         ),
     ),
     (
@@ -311,17 +311,9 @@ static OLDER: [Row; 17] = [
             "",
         ),
     ),
-    // A line is no report, though its moment is the clock's.
+    // Where nothing would be carried, the clock may be wrong.
     (
         ("forward --config older.toml --db older-book", ""),
-        (
-            Status::Refused,
-            "",
-            "forward: no report for 7 days; give --yes if the clock is right\n",
-        ),
-    ),
-    (
-        ("forward --config older.toml --db older-book --yes", ""),
         (
             Status::Done,
             "carried 0 sessions of 0 accounts\nstay: 0 open, 0 recent, 0 kept, 0 too large\n",

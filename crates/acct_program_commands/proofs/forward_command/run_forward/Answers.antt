@@ -7,7 +7,7 @@ returns-in_err-totals-clause-forwards g c =
     let b = g.B.Book in
     forwards_then b c.args.plans.now c.args.carrying.now c.args.clock.moment
     c.args.clock.written_at c.args.book.now
-    c.survey.new.book c.carry.new.book c.carry.result _ c.survey.ensures.looks
+    c.look.new.book c.carry.new.book c.carry.result _ c.look.ensures.looks
     c.in_ok-found.ensures.answers c.carry.ensures
     (λ sound. not_ok _ _ (b.is_open c.carry.new.book) c.from_residual-in_err-totals.ensures.1)
 
@@ -16,7 +16,7 @@ returns-in_err-write_totals-clause-forwards g c =
     let b = g.B.Book in
     forwards_then b c.args.plans.now c.args.carrying.now c.args.clock.moment
     c.args.clock.written_at c.args.book.now
-    c.survey.new.book c.carry.new.book c.carry.result _ c.survey.ensures.looks
+    c.look.new.book c.carry.new.book c.carry.result _ c.look.ensures.looks
     c.in_ok-found.ensures.answers c.carry.ensures
     (λ sound. not_ok _ _ (b.is_open c.carry.new.book) c.from_residual-in_err-write_totals.ensures.1)
 
@@ -25,7 +25,7 @@ returns-in_err-flush-clause-forwards g c =
     let b = g.B.Book in
     forwards_then b c.args.plans.now c.args.carrying.now c.args.clock.moment
     c.args.clock.written_at c.args.book.now
-    c.survey.new.book c.carry.new.book c.carry.result _ c.survey.ensures.looks
+    c.look.new.book c.carry.new.book c.carry.result _ c.look.ensures.looks
     c.in_ok-found.ensures.answers c.carry.ensures
     (λ sound. not_ok _ _ (b.is_open c.carry.new.book) c.from_residual-in_err-flush.ensures.1)
 
@@ -34,6 +34,6 @@ returns-clause-forwards g c =
     let b = g.B.Book in
     forwards_then b c.args.plans.now c.args.carrying.now c.args.clock.moment
     c.args.clock.written_at c.args.book.now
-    c.survey.new.book c.carry.new.book c.carry.result _ c.survey.ensures.looks
+    c.look.new.book c.carry.new.book c.carry.result _ c.look.ensures.looks
     c.in_ok-found.ensures.answers c.carry.ensures
     c.in_ok-totals.ensures.carries.answers

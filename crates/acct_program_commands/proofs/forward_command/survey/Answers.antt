@@ -23,7 +23,8 @@ loop-preserved g c =
           let open_mid = reads.was_open still in
           elim (c.in_ok-seen.ensures.heard still (subst IsTrue c.add_seen.ensures heard)) [
             | inl was ↦ before.1 (asked.was_open open_mid) was
-            | inr now ↦ subst (λ content. IsHeardIn content c.args.task.now.moment)
+            | inr now ↦ subst (λ content. IsHeardIn c.args.task.now.selection.now content
+                c.args.task.now.clock.moment)
                 (looks.same open_mid) now
           ],
     )

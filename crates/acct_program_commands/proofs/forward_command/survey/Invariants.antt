@@ -7,4 +7,4 @@ use Rattle.acct_program_commands.proofs.forward_command.survey.Given as goal
 abbrev pub invariant-loop : goal.invariant-loop
 invariant-loop g l = OnlyLooks g.B.Book l.fn.book l.book
     × (g.B.Book.is_open l.book → IsTrue l.totals.is_heard
-    → IsHeardIn (g.B.Book.content l.fn.book) l.fn.task.moment)
+    → IsHeardIn l.fn.task.selection.now (g.B.Book.content l.fn.book) l.fn.task.clock.moment)

@@ -25,10 +25,11 @@ loop-key-preserved g c =
           let then = reads.was_open still in
           elim (c.in_ok-note.ensures is) [
             | inl was ↦ before.heard then was
-            | inr now ↦ inr (subst (λ content. IsHeardIn content c.args.task.now.moment)
+            | inr now ↦ inr (subst (λ content. IsHeardIn c.args.task.now.selection.now content
+                c.args.task.now.clock.moment)
                 (before.looks.same then)
-                (heard_more (b.content c.loop-key.book) c.key-item.result c.in_ok-row.row
-                c.args.task.now.moment (g.met.B.Book.own_keys c.loop-key.book then)
+                (heard_more c.args.task.now.selection.now (b.content c.loop-key.book) c.key-item.result c.in_ok-row.row
+                c.args.task.now.clock.moment (g.met.B.Book.own_keys c.loop-key.book then)
                 (c.in_ok-row.ensures.found still) now))
           ];
     }

@@ -9,5 +9,5 @@ invariant-loop-key g l = record {
   looks : OnlyLooks g.B.Book l.fn.book l.book;
   answers : g.B.Book.is_sound l.book → g.B.Book.is_open l.book;
   heard : g.B.Book.is_open l.book → IsTrue l.seen.is_heard
-      → IsTrue l.fn.is_heard ⊎ IsHeardIn (g.B.Book.content l.fn.book) l.fn.task.moment;
+      → IsTrue l.fn.is_heard ⊎ IsHeardIn l.fn.task.selection.now (g.B.Book.content l.fn.book) l.fn.task.clock.moment;
 }
