@@ -11,7 +11,7 @@ import re
 ROOT = os.path.dirname(os.path.dirname(os.path.dirname(os.path.abspath(__file__))))
 # Folders that are made by a build, and no part of the repository.
 MADE = {".git", "out", "target", "__pycache__", "try"}
-FOR_TESTS = re.compile(r"_tests$|^acct_book_fakes$|^foreign_packets$")
+FOR_TESTS = re.compile(r"_tests$|^acct_book_fakes$|^foreign_packets$|^chosen_sizes$")
 # The folders of what is no crate and prints texts or has names of its own.
 SCRIPTS = (".ci/", "bench/", "bin/", "etc/", "interop/")
 

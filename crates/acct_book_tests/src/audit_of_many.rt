@@ -1,57 +1,66 @@
-//! Accounts of many sessions, and many accounts.
+//! Accounts of many sessions, and many accounts: another number of them in each run.
 use crate::audit_lines::Lines;
 use crate::audited_books::{row_of, some_plans};
 use acct_book::{Book, MemBook};
 use acct_book_audit::audit;
 use acct_model::{Octets, Plans};
+use chosen_sizes::chosen_size;
 use std::alloc::Global;
 use std::test::Fail;
 
-/// How many are put.
-const MANY: u16 = 1_500;
+// Sessions of one account that cost 10 each, and a balance that is one too high.
+fn put_sessions(alloc: Global, book: &mut MemBook, count: u32) -> Result<(), Fail> {
+    let balance = 1 - 10 * i64::from(count);
+    for number in 0..count {
+        let mut row = row_of(alloc, ("ap1", b"", b"al", b"down", 0, 1))?;
+        row.session = Octets::from_slice(alloc, &number.to_be_bytes())?;
+        book.put_session(&row, balance)?;
+    }
+    Ok(())
+}
+
+// The line of this account.
+fn line_of_sessions(alloc: Global, count: u32) -> Result<String, Fail> {
+    let charged = 10 * i64::from(count);
+    let balance = 1 - charged;
+    Ok(format!(in alloc; "al {balance}: 0+0 {count}-{charged} 0\n")?)
+}
 
 #[test]
 fn an_account_may_have_many_sessions(rt: HostRuntime) -> Result<(), Fail> {
+    let count = chosen_size(&rt, 2_000, 5_000)?;
     let plans = some_plans(rt.alloc())?;
     let mut book = MemBook::new(rt.alloc());
-    put_sessions(rt.alloc(), &mut book)?;
+    put_sessions(rt.alloc(), &mut book, count)?;
     assert_eq!(rt;
         found(rt.alloc(), &plans, &mut book)?.as_str(),
-        "al -14999: 0+0 1500-15000 0\n"
+        line_of_sessions(rt.alloc(), count)?.as_str()
     );
     Ok(())
 }
 
-// Sessions of one account that cost 10 each, and a balance that is one too high.
-fn put_sessions(alloc: Global, book: &mut MemBook) -> Result<(), Fail> {
-    for number in 0..MANY {
-        let mut row = row_of(alloc, ("ap1", b"", b"al", b"down", 0, 1))?;
+// Accounts of one session that costs 10, with the right balance but for the last.
+fn put_accounts(alloc: Global, book: &mut MemBook, count: u32) -> Result<(), Fail> {
+    for number in 1..=count {
+        let mut row = row_of(alloc, ("ap1", b"", b"", b"down", 0, 1))?;
         row.session = Octets::from_slice(alloc, &number.to_be_bytes())?;
-        book.put_session(&row, -14_999)?;
+        let account = format!(in alloc; "{number}")?;
+        row.account = Octets::from_slice(alloc, account.as_bytes())?;
+        book.put_session(&row, if number == count { -9 } else { -10 })?;
     }
     Ok(())
 }
 
 #[test]
 fn a_book_may_have_many_accounts(rt: HostRuntime) -> Result<(), Fail> {
+    let count = chosen_size(&rt, 2_000, 3_000)?;
     let plans = some_plans(rt.alloc())?;
     let mut book = MemBook::new(rt.alloc());
-    put_accounts(rt.alloc(), &mut book)?;
+    put_accounts(rt.alloc(), &mut book, count)?;
     assert_eq!(rt;
         found(rt.alloc(), &plans, &mut book)?.as_str(),
-        "%05%DB -9: 0+0 1-10 0\n"
+        format!(in rt.alloc(); "{count} -9: 0+0 1-10 0\n")?.as_str()
     );
-    Ok(())
-}
-
-// Accounts of one session that costs 10, with the right balance but for the last.
-fn put_accounts(alloc: Global, book: &mut MemBook) -> Result<(), Fail> {
-    for number in 0..MANY {
-        let mut row = row_of(alloc, ("ap1", b"", b"", b"down", 0, 1))?;
-        row.session = Octets::from_slice(alloc, &number.to_be_bytes())?;
-        row.account = Octets::from_slice(alloc, &number.to_be_bytes())?;
-        book.put_session(&row, if number == MANY - 1 { -9 } else { -10 })?;
-    }
     Ok(())
 }
 

@@ -1,9 +1,11 @@
-//! Pages of a book with many accounts, of which one has many sessions and vouchers.
+//! Pages of a book with many accounts, of which one has many sessions and vouchers: another number
+//! of them in each run.
 use crate::pages::row_of_gold;
 use crate::sample_desk::Desk;
 use crate::texts::{MY_SESSIONS, MY_VOUCHERS, WHO_IS_OVER};
 use acct_book::{Book, MemBook};
 use acct_model::{Octets, TopUp};
+use chosen_sizes::chosen_size;
 use std::alloc::Global;
 use std::test::Fail;
 
@@ -15,27 +17,24 @@ enum Listed {
     Vouchers,
 }
 
-// A request, the front of its response's body, and what is listed: numbers from 100,000 up to this
-// one.
-type Page = (&'static [u8], &'static str, Listed, u32);
+// A request, the front of its response's body, and what is listed.
+type Page = (&'static [u8], &'static str, Listed);
 
 static PAGES: [Page; 3] = [
-    (WHO_IS_OVER, "{\"overruns\":[", Listed::Overruns, 102_500),
+    (WHO_IS_OVER, "{\"overruns\":[", Listed::Overruns),
     (
         MY_SESSIONS,
         "{\"account\":\"al\",\"sessions\":[",
         Listed::Sessions,
-        102_100,
     ),
     (
         MY_VOUCHERS,
         "{\"account\":\"al\",\"topups\":[",
         Listed::Vouchers,
-        102_100,
     ),
 ];
 
-// What is listed of a number. The overdrawn accounts are those whose numbers 5 divides.
+// What is listed of a number.
 fn item_of(alloc: Global, listed: Listed, number: u32) -> Result<String, Fail> {
     Ok(match listed {
         Listed::Overruns => format!(in alloc;
@@ -53,17 +52,22 @@ fn item_of(alloc: Global, listed: Listed, number: u32) -> Result<String, Fail> {
     })
 }
 
-// The whole response with a page.
-fn response_of(alloc: Global, page: &Page) -> Result<String, Fail> {
-    let (_, front, listed, end) = *page;
+// The number of what is at a place of a page. Each second account is overdrawn.
+fn number_at(listed: Listed, place: u32) -> u32 {
+    let step = if listed == Listed::Overruns { 2 } else { 1 };
+    place.saturating_mul(step).saturating_add(100_000)
+}
+
+// The whole response with a page that lists so many.
+fn response_of(alloc: Global, page: &Page, count: u32) -> Result<String, Fail> {
+    let (_, front, listed) = *page;
     let mut body = String::from_str(alloc, front)?;
-    for number in 100_000..end {
-        if number % 5 == 0 || listed != Listed::Overruns {
-            if number > 100_000 {
-                body.push_str(",")?;
-            }
-            body.push_str(item_of(alloc, listed, number)?.as_str())?;
+    for place in 0..count {
+        if place > 0 {
+            body.push_str(",")?;
         }
+        let number = number_at(listed, place);
+        body.push_str(item_of(alloc, listed, number)?.as_str())?;
     }
     let length = body.len().saturating_add(2);
     let body = body.as_str();
@@ -73,13 +77,13 @@ fn response_of(alloc: Global, page: &Page) -> Result<String, Fail> {
     )?)
 }
 
-// Puts an account with this number, which is overdrawn by it if 5 divides it.
+// Puts an account with this number, which is overdrawn by it if 2 divides it.
 fn put_account(alloc: Global, book: &mut MemBook, number: u32) -> Result<(), Fail> {
     let account = format!(in alloc; "a{number}")?;
     let voucher = format!(in alloc; "W-{number}")?;
     let balance = i64::from(number);
     let topup = TopUp::new(alloc, voucher.as_str(), account.as_bytes(), 7, 999)?;
-    book.put_topup(&topup, if number % 5 == 0 { -balance } else { balance })?;
+    book.put_topup(&topup, if number % 2 == 0 { -balance } else { balance })?;
     Ok(())
 }
 
@@ -95,12 +99,13 @@ fn put_both(alloc: Global, book: &mut MemBook, number: u32) -> Result<(), Fail> 
     Ok(())
 }
 
-fn filled(alloc: Global) -> Result<Desk<MemBook>, Fail> {
+// A desk whose pages list so many.
+fn filled(alloc: Global, count: u32) -> Result<Desk<MemBook>, Fail> {
     let mut desk = Desk::new(alloc)?;
-    for number in 100_000..102_500 {
+    for number in 100_000..number_at(Listed::Overruns, count) {
         put_account(alloc, &mut desk.book, number)?;
     }
-    for number in 100_000..102_100 {
+    for number in 100_000..number_at(Listed::Sessions, count) {
         put_both(alloc, &mut desk.book, number)?;
     }
     Ok(desk)
@@ -108,9 +113,10 @@ fn filled(alloc: Global) -> Result<Desk<MemBook>, Fail> {
 
 #[test]
 fn long_pages_are_whole(rt: HostRuntime) -> Result<(), Fail> {
-    let mut desk = filled(rt.alloc())?;
+    let count = chosen_size(&rt, 2_000, 5_000)?;
+    let mut desk = filled(rt.alloc(), count)?;
     for page in &PAGES {
-        let response = response_of(rt.alloc(), page)?;
+        let response = response_of(rt.alloc(), page, count)?;
         assert!(rt; desk.answers(rt.alloc(), page.0, response.as_bytes())?);
     }
     Ok(())

@@ -35,7 +35,7 @@ const EACH: &[u8] = &[
 
 // What is spelled: its name, the attribute octets, the moment at which they come, and what they
 // spell. Of several faults it is the first in the order of `EntryError`.
-static SPELLED: [(&str, &[u8], u32, Wanted); 14] = [
+static SPELLED: [(&str, &[u8], u32, Wanted); 19] = [
     (
         "a Start",
         START,
@@ -137,6 +137,86 @@ static SPELLED: [(&str, &[u8], u32, Wanted); 14] = [
         ],
         1000,
         Wanted::Fault(EntryError::TotalTooLarge),
+    ),
+    (
+        "an input above 2^35, an output above 2^36",
+        &[
+            0x28, 6, 0, 0, 0, 2, 0x2c, 2, 0x2a, 6, 0, 0, 0, 5, 0x34, 6, 0, 0, 0, 8, 0x2b, 6, 0, 0,
+            0, 7, 0x35, 6, 0, 0, 0, 16, 0x2e, 6, 0, 0, 0, 61,
+        ],
+        1000,
+        Wanted::Report(Facts {
+            octets: (b"", b"", b"", b""),
+            kind: ReportKind::Stop,
+            numbers: (34_359_738_373, 68_719_476_743, 61, 1000),
+            cause: 0,
+            framed: None,
+        }),
+    ),
+    (
+        "an input above 2^41, an output above 2^44",
+        &[
+            0x28, 6, 0, 0, 0, 2, 0x2c, 2, 0x2a, 6, 0, 0, 0, 11, 0x34, 6, 0, 0, 2, 0, 0x2b, 6, 0, 0,
+            0, 13, 0x35, 6, 0, 0, 16, 0, 0x2e, 6, 0, 0, 0, 62,
+        ],
+        1000,
+        Wanted::Report(Facts {
+            octets: (b"", b"", b"", b""),
+            kind: ReportKind::Stop,
+            numbers: (2_199_023_255_563, 17_592_186_044_429, 62, 1000),
+            cause: 0,
+            framed: None,
+        }),
+    ),
+    (
+        "an input above 2^50, an output above 2^53",
+        &[
+            0x28, 6, 0, 0, 0, 2, 0x2c, 2, 0x2a, 6, 0, 0, 0, 17, 0x34, 6, 0, 4, 0, 0, 0x2b, 6, 0, 0,
+            0, 19, 0x35, 6, 0, 32, 0, 0, 0x2e, 6, 0, 0, 0, 63,
+        ],
+        1000,
+        Wanted::Report(Facts {
+            octets: (b"", b"", b"", b""),
+            kind: ReportKind::Stop,
+            numbers: (1_125_899_906_842_641, 9_007_199_254_741_011, 63, 1000),
+            cause: 0,
+            framed: None,
+        }),
+    ),
+    (
+        "an input above 2^59, an output above 2^61",
+        &[
+            0x28, 6, 0, 0, 0, 2, 0x2c, 2, 0x2a, 6, 0, 0, 0, 23, 0x34, 6, 8, 0, 0, 0, 0x2b, 6, 0, 0,
+            0, 29, 0x35, 6, 32, 0, 0, 0, 0x2e, 6, 0, 0, 0, 64,
+        ],
+        1000,
+        Wanted::Report(Facts {
+            octets: (b"", b"", b"", b""),
+            kind: ReportKind::Stop,
+            numbers: (576_460_752_303_423_511, 2_305_843_009_213_693_981, 64, 1000),
+            cause: 0,
+            framed: None,
+        }),
+    ),
+    (
+        "an input above 2^62, an output above 2^60",
+        &[
+            0x28, 6, 0, 0, 0, 2, 0x2c, 2, 0x2a, 6, 0, 0, 0, 31, 0x34, 6, 64, 0, 0, 0, 0x2b, 6, 0,
+            0, 0, 37, 0x35, 6, 16, 0, 0, 0, 0x2e, 6, 0, 0, 0, 65,
+        ],
+        1000,
+        Wanted::Report(Facts {
+            octets: (b"", b"", b"", b""),
+            kind: ReportKind::Stop,
+            numbers: (
+                4_611_686_018_427_387_935,
+                1_152_921_504_606_847_013,
+                65,
+                1000,
+            ),
+            cause: 0,
+            framed: None,
+        }),
     ),
 ];
 

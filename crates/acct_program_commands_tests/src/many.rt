@@ -1,4 +1,5 @@
-//! Long texts: a file of many balances, and a configuration as long as one may be.
+//! Long texts: a file of many balances, and a configuration as long as one may be. How many balances
+//! and keys there are is another number in each run.
 use crate::sessions::{Alike, row_of};
 use acct_book::SessionState::Stopped;
 use acct_book::{Book, MemBook};
@@ -9,21 +10,10 @@ use acct_program_commands::{
     BalancesWritten, Gauges, KeptBalances, SiteFile, SiteSource, config_from, run_audit, take_site,
 };
 use acct_site::{Config, sample_config};
+use chosen_sizes::chosen_size;
 use std::alloc::Global;
 use std::fs;
 use std::test::Fail;
-use std::time::{SystemTime, UNIX_EPOCH};
-
-// A number below another one, which each run chooses anew.
-fn chosen(rt: &HostRuntime, below: u32) -> u32 {
-    let Ok(now) = SystemTime::now(rt) else {
-        return 0;
-    };
-    match now.duration_since(UNIX_EPOCH) {
-        Ok(since) => since.subsec_nanos() / 1000 % below.max(1),
-        Err(_) => 0,
-    }
-}
 
 // The balance of an account by its number. Each third account is overdrawn.
 fn balance_of(number: u32, more: u32) -> i64 {
@@ -98,9 +88,8 @@ fn are_written(rt: &HostRuntime, count: u32) -> Result<bool, Fail> {
 
 #[test]
 fn many_balances_are_written(rt: HostRuntime) -> Result<(), Fail> {
-    let count = chosen(&rt, 2_000).saturating_add(1_001);
-    assert!(rt; are_written(&rt, count)?, "{count} accounts");
-    assert!(rt; are_written(&rt, 5_000)?);
+    let count = chosen_size(&rt, 2_000, 5_000)?;
+    assert!(rt; are_written(&rt, count)?);
     fs::remove_file(&rt, "many-balances")?;
     Ok(())
 }
@@ -183,8 +172,8 @@ fn is_taken(rt: &HostRuntime, (clients, others, keys): (u32, u32, u32)) -> Resul
 
 #[test]
 fn long_configurations_are_taken(rt: HostRuntime) -> Result<(), Fail> {
-    let keys = chosen(&rt, 3_096).saturating_add(1_000);
-    assert!(rt; is_taken(&rt, (1, 1, keys))?, "{keys} keys");
+    let keys = chosen_size(&rt, 2_000, 4_095)?;
+    assert!(rt; is_taken(&rt, (1, 1, keys))?);
     assert!(rt; is_taken(&rt, (1_024, 255, 4_096))?);
     Ok(())
 }

@@ -149,7 +149,8 @@ static CASES: [Case; 22] = [
             Step::Book(Ask::Balance(-20)),
         ],
     ),
-    // The book reads the session, which has no row, and so inserts one: that is refused.
+    // The book reads the session, which has no row, and so inserts one: that is refused. Then all is
+    // written that is asked for.
     (
         "a plan has no session",
         Start::Made,
@@ -160,6 +161,8 @@ static CASES: [Case; 22] = [
             ),
             ADOPTED,
             Step::Book(Ask::PutOnce),
+            Step::Book(Ask::TopUp),
+            Step::Book(Ask::Balance(500)),
         ],
     ),
     // The row of the table that a session's plan is in gets another class. The book returns the

@@ -12,6 +12,8 @@ mod databases;
 #[cfg(test)]
 mod forwarding;
 #[cfg(test)]
+mod many_plans;
+#[cfg(test)]
 mod migrations;
 #[cfg(test)]
 mod older_books;

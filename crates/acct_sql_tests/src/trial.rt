@@ -9,10 +9,10 @@ use sqlite::{Connection, MemStore, Row};
 use std::alloc::Global;
 use std::test::Fail;
 
-type Database = Connection<MemStore>;
+pub(crate) type Database = Connection<MemStore>;
 
 // A book and how many plans it got, or the error and the database that it was to be in.
-type Opened = Result<(SqlBook<MemStore>, u64), (SqlBookError, Database)>;
+pub(crate) type Opened = Result<(SqlBook<MemStore>, u64), (SqlBookError, Database)>;
 
 // How many plans were added, or why there is no book.
 pub(crate) type Told = Result<u64, SqlBookError>;
@@ -80,7 +80,7 @@ impl Drop for Trial {
 
 // What a call makes of a database. It also returns `Unavailable` of one in a transaction: no step
 // of a test ends so.
-fn opened(alloc: Global, conn: Database, call: Call, plans: &Plans) -> Opened {
+pub(crate) fn opened(alloc: Global, conn: Database, call: Call, plans: &Plans) -> Opened {
     if !conn.is_autocommit() {
         return Err((SqlBookError::Unavailable, conn));
     }
@@ -96,7 +96,7 @@ fn opened(alloc: Global, conn: Database, call: Call, plans: &Plans) -> Opened {
     }
 }
 
-fn run_all(conn: &mut Database, statements: &[&str]) -> Result<(), Fail> {
+pub(crate) fn run_all(conn: &mut Database, statements: &[&str]) -> Result<(), Fail> {
     for sql in statements {
         conn.execute(sql, &[])?;
     }

@@ -64,6 +64,80 @@ const GIGAWORD: &[Line] = &[(
     LIVE,
 )];
 
+// Totals of one session, from 2^35 to 2^62 octets.
+const LARGE_TOTALS: &[Line] = &[
+    (
+        Gold(b"s", 34_359_738_369),
+        SHORT_REPLY,
+        -327_690,
+        34_359_738_369,
+        LIVE,
+    ),
+    (
+        Gold(b"s", 274_877_906_947),
+        SHORT_REPLY,
+        -2_621_450,
+        274_877_906_947,
+        LIVE,
+    ),
+    (
+        Gold(b"s", 2_199_023_255_557),
+        SHORT_REPLY,
+        -20_971_530,
+        2_199_023_255_557,
+        LIVE,
+    ),
+    (
+        Gold(b"s", 17_592_186_044_423),
+        SHORT_REPLY,
+        -167_772_170,
+        17_592_186_044_423,
+        LIVE,
+    ),
+    (
+        Gold(b"s", 140_737_488_355_337),
+        SHORT_REPLY,
+        -1_342_177_290,
+        140_737_488_355_337,
+        LIVE,
+    ),
+    (
+        Gold(b"s", 1_125_899_906_842_635),
+        SHORT_REPLY,
+        -10_737_418_250,
+        1_125_899_906_842_635,
+        LIVE,
+    ),
+    (
+        Gold(b"s", 9_007_199_254_741_005),
+        SHORT_REPLY,
+        -85_899_345_930,
+        9_007_199_254_741_005,
+        LIVE,
+    ),
+    (
+        Gold(b"s", 72_057_594_037_927_951),
+        SHORT_REPLY,
+        -687_194_767_370,
+        72_057_594_037_927_951,
+        LIVE,
+    ),
+    (
+        Gold(b"s", 576_460_752_303_423_505),
+        SHORT_REPLY,
+        -5_497_558_138_890,
+        576_460_752_303_423_505,
+        LIVE,
+    ),
+    (
+        Gold(b"s", 4_611_686_018_427_387_923),
+        SHORT_REPLY,
+        -43_980_465_111_050,
+        4_611_686_018_427_387_923,
+        LIVE,
+    ),
+];
+
 // A lower total gives nothing back.
 const LOWER_TOTAL: &[Line] = &[
     (Gold(b"s", 3_145_728), SHORT_REPLY, -30, 3_145_728, LIVE),
@@ -180,9 +254,10 @@ const RESTART: &[Line] = &[
     ),
 ];
 
-static SCRIPTS: [(&str, &[Line]); 11] = [
+static SCRIPTS: [(&str, &[Line]); 12] = [
     ("started blocks", STARTED_BLOCKS),
     ("a gigaword", GIGAWORD),
+    ("large totals", LARGE_TOTALS),
     ("a lower total", LOWER_TOTAL),
     ("a higher total", HIGHER_TOTAL),
     ("a lost report", LOST_REPORT),

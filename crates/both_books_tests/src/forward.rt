@@ -5,6 +5,7 @@ use acct_book::{Book, MemBook, record};
 use acct_book_forward::{Selection, carry_account, is_line};
 use acct_files::{export_balances, export_sessions};
 use acct_model::{Count, Entry, Octets, Plan, Plans, Report, ReportKind, Restart, Text, TopUp};
+use chosen_sizes::chosen_size;
 use std::alloc::Global;
 use std::io::Write;
 use std::test::Fail;
@@ -391,25 +392,54 @@ fn lines_of<B: Book>(alloc: Global, book: &mut B) -> Result<(Vec<u8>, u64), Fail
     Ok((lines, others))
 }
 
-// Of 1,100 sessions of two plans, more than two batches have, 11 are recent and stay: 4 of `down`
-// and 7 of `up`. Two lines are left, which cost the same: 363 times 2 blocks and 726 times 3.
-fn carries_many<B: Book>(alloc: Global, plans: &Plans, book: &mut B) -> Result<bool, Fail> {
-    let before = fill_many(alloc, plans, book, 1_100)?;
+// How many sessions of `down` and of `up` are carried of so many, and how many are recent and stay:
+// each hundredth of all, of which each third is of `down`.
+fn shares(count: u32) -> (u64, u64, u64) {
+    let count = u64::from(count);
+    let recent = count / 100;
+    let down = count.div_ceil(3).saturating_sub((count + 200) / 300);
+    let up = count.saturating_sub(recent).saturating_sub(down);
+    (down, up, recent)
+}
+
+fn lines_of_blocks(alloc: Global, down: u64, up: u64) -> Result<String, Fail> {
+    let (down, up) = (down.saturating_mul(2_000), up.saturating_mul(3_000));
+    Ok(format!(in alloc; "(down) {down}\n(up) {up}\n")?)
+}
+
+// Of sessions of two plans, more than one batch has, two lines are left, which cost the same: of 2
+// blocks for each of `down`, and of 3 for each of `up`.
+fn carries_many<B: Book>(
+    alloc: Global,
+    plans: &Plans,
+    book: &mut B,
+    count: u32,
+) -> Result<bool, Fail> {
+    let (down, up, recent) = shares(count);
+    let before = fill_many(alloc, plans, book, count)?;
     let tally = carry_account(alloc, book, plans, b"al", &selection(alloc)?, 6000)?;
     let (lines, others) = lines_of(alloc, book)?;
+    let carried = down.saturating_add(up);
     Ok(
-        (tally.carried, tally.recent, others) == (1_089, 11, 11)
-            && lines.as_slice() == b"(down) 726000\n(up) 2178000\n".as_slice()
-            && book.keys_of(b"al")?.len() == 13
+        (tally.carried, tally.recent, others) == (carried, recent, recent)
+            && lines.as_slice() == lines_of_blocks(alloc, down, up)?.as_bytes()
+            && book.keys_of(b"al")?.len() as u64 == recent.saturating_add(2)
             && book.balance(b"al")? == before,
     )
 }
 
 #[test]
-fn many_are_carried_in_batches(rt: HostRuntime) -> Result<(), Fail> {
+fn memory_carries_many_in_batches(rt: HostRuntime) -> Result<(), Fail> {
     let alloc = rt.alloc();
-    let plans = plans(alloc)?;
-    assert!(rt; carries_many(alloc, &plans, &mut MemBook::new(alloc))?);
-    assert!(rt; carries_many(alloc, &plans, &mut made(alloc, &plans)?)?);
+    let (plans, count) = (plans(alloc)?, chosen_size(&rt, 4_500, 5_000)?);
+    assert!(rt; carries_many(alloc, &plans, &mut MemBook::new(alloc), count)?);
+    Ok(())
+}
+
+#[test]
+fn tables_carry_many_in_batches(rt: HostRuntime) -> Result<(), Fail> {
+    let alloc = rt.alloc();
+    let (plans, count) = (plans(alloc)?, chosen_size(&rt, 2_000, 2_500)?);
+    assert!(rt; carries_many(alloc, &plans, &mut made(alloc, &plans)?, count)?);
     Ok(())
 }

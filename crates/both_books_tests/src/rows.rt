@@ -67,7 +67,7 @@ const PROXIED: &[u8] = b"\x28\x06\0\0\0\x01\x2c\x04s1\x01\x04al\x21\x03p\x21\xff
 // What is done with an empty book, and how its output ends.
 type Row = (&'static str, &'static [Step], &'static [u8]);
 
-static ROWS: [Row; 24] = [
+static ROWS: [Row; 25] = [
     (
         "a Start",
         &[Datagram(AP1, 1000, START), Balance(b"al"), Export(Sessions)],
@@ -371,6 +371,60 @@ static ROWS: [Row; 24] = [
             Balance(b"al"),
         ],
         b"drop 11\nbalance -87960930222080\n",
+    ),
+    (
+        "totals from 2^35 to 2^62 octets",
+        &[
+            Signed(
+                2000,
+                20,
+                b"\x28\x06\0\0\0\x03\x2c\x03a\x01\x04al\x19\x06gold\x2e\x06\0\0\0\x3d\
+                \x2a\x06\0\0\0\x05\x34\x06\0\0\0\x08\
+                \x2b\x06\0\0\0\x07\x35\x06\0\0\0\x10",
+            ),
+            Signed(
+                2000,
+                21,
+                b"\x28\x06\0\0\0\x03\x2c\x03b\x01\x04al\x19\x06gold\x2e\x06\0\0\0\x3e\
+                \x2a\x06\0\0\0\x0b\x34\x06\0\0\x02\0\
+                \x2b\x06\0\0\0\x0d\x35\x06\0\0\x10\0",
+            ),
+            Signed(
+                2000,
+                22,
+                b"\x28\x06\0\0\0\x03\x2c\x03c\x01\x04al\x19\x06gold\x2e\x06\0\0\0\x3f\
+                \x2a\x06\0\0\0\x11\x34\x06\0\x04\0\0\
+                \x2b\x06\0\0\0\x13\x35\x06\0\x20\0\0",
+            ),
+            Signed(
+                2000,
+                23,
+                b"\x28\x06\0\0\0\x03\x2c\x03d\x01\x04al\x19\x06gold\x2e\x06\0\0\0\x40\
+                \x2a\x06\0\0\0\x17\x34\x06\x08\0\0\0\
+                \x2b\x06\0\0\0\x1d\x35\x06\x20\0\0\0",
+            ),
+            Signed(
+                2000,
+                24,
+                b"\x28\x06\0\0\0\x03\x2c\x03e\x01\x04al\x19\x06gold\x2e\x06\0\0\0\x41\
+                \x2a\x06\0\0\0\x1f\x34\x06\x40\0\0\0\
+                \x2b\x06\0\0\0\x25\x35\x06\x10\0\0\0",
+            ),
+            Request(MY_SESSIONS),
+            Balance(b"al"),
+            Export(Sessions),
+        ],
+        b"balance -82560198574130\nclient,session,account,class,input,output,total,charged,\
+          seconds,first,last,state,cause,calling,framed\n\
+          ap1,a,al,gold,34359738373,68719476743,103079215116,983050,61,2000,2000,open,0,,\n\
+          ap1,b,al,gold,2199023255563,17592186044429,19791209299992,\
+          188743690,62,2000,2000,open,0,,\n\
+          ap1,c,al,gold,1125899906842641,9007199254741011,10133099161583652,\
+          96636764170,63,2000,2000,open,0,,\n\
+          ap1,d,al,gold,576460752303423511,2305843009213693981,2882303761517117492,\
+          27487790694410,64,2000,2000,open,0,,\n\
+          ap1,e,al,gold,4611686018427387935,1152921504606847013,5764607523034234948,\
+          54975581388810,65,2000,2000,open,0,,\n",
     ),
     (
         "the least balances",

@@ -4,8 +4,10 @@ use foreign_packets::SECRET;
 use radius_codec::{CodecError, Front, read, sign_request, word_of};
 
 // RFC 2865, section 5: a number has four octets, the high one first.
-static NUMBERS: [(&[u8], Option<u32>); 4] = [
+static NUMBERS: [(&[u8], Option<u32>); 6] = [
     (&[1, 2, 3, 4], Some(0x0102_0304)),
+    (&[0, 0, 0, 8], Some(8)),
+    (&[64, 0, 0, 0], Some(0x4000_0000)),
     (&[255; 4], Some(u32::MAX)),
     (&[0; 3], None),
     (&[0; 5], None),
