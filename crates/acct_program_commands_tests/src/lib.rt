@@ -5,6 +5,8 @@
 #[cfg(test)]
 mod auditing;
 #[cfg(test)]
+mod away;
+#[cfg(test)]
 mod balances;
 #[cfg(test)]
 mod book_names;
@@ -15,9 +17,19 @@ mod clocks;
 #[cfg(test)]
 mod counts;
 #[cfg(test)]
+mod cut_balances;
+#[cfg(test)]
 mod forwarding;
 #[cfg(test)]
+mod full_outputs;
+#[cfg(test)]
+mod heard;
+#[cfg(test)]
+mod long_names;
+#[cfg(test)]
 mod many;
+#[cfg(test)]
+mod polls;
 #[cfg(test)]
 mod rounds;
 #[cfg(test)]

@@ -7,6 +7,8 @@ mod rounds;
 #[cfg(test)]
 mod serving;
 #[cfg(test)]
+mod silenced;
+#[cfg(test)]
 mod site_texts;
 #[cfg(test)]
 mod slices;

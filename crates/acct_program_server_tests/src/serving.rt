@@ -8,7 +8,7 @@ use acct_service::{Event, Exchange, NoRounds, Rules, Served, Until, What};
 use acct_site::sample_config;
 use std::alloc::Global;
 use std::io;
-use std::io::{ErrorKind, Write};
+use std::io::{BufWriter, ErrorKind, Write};
 use std::test::Fail;
 
 // A page that any caller may ask for, a datagram that is too short, and nothing.
@@ -104,12 +104,18 @@ impl Write for Short {
     }
 }
 
-// It serves nobody where it can't say so, and everybody where only its counts find no room.
+// It serves nobody where it can't say so, and everybody where only its counts find no room; and so it
+// does if its output is buffered.
 #[test]
 fn serves_whom_it_told(rt: HostRuntime) -> Result<(), Fail> {
     for room in 0..=TEXT.len() {
         assert!(rt;
             ended(rt.alloc(), &mut Short { room })? == end_with(room),
+            "{room}"
+        );
+        let mut buffered = BufWriter::new(rt.alloc(), Short { room })?;
+        assert!(rt;
+            ended(rt.alloc(), &mut buffered)? == end_with(room),
             "{room}"
         );
     }

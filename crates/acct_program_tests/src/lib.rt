@@ -23,11 +23,15 @@ mod feeds;
 #[cfg(test)]
 mod files;
 #[cfg(test)]
+mod full_outputs;
+#[cfg(test)]
 mod log_damage;
 #[cfg(test)]
 mod looking;
 #[cfg(test)]
 mod lost_books;
+#[cfg(test)]
+mod many_plans;
 #[cfg(test)]
 mod sample_values;
 #[cfg(test)]
@@ -36,3 +40,5 @@ mod served;
 mod servers;
 #[cfg(test)]
 mod trial;
+#[cfg(test)]
+mod unread_logs;

@@ -4,6 +4,7 @@ use crate::trial::{Wanted, comes, write_sites};
 use acct_program::Status;
 use sqlite::{Connection, Start, Unknown, Wary};
 use std::fs;
+use std::os::unix::fs::symlink;
 use std::test::Fail;
 
 const CHECK: &str = "check --config each.toml --db each-book";
@@ -186,5 +187,22 @@ fn a_torn_commit_is_no_log_cut_short(rt: HostRuntime) -> Result<(), Fail> {
     assert!(rt; cut_comes(&rt, &[(1, 1_000), (1, 0), (0, 24)], REFUSED)?);
     assert!(rt; cut_comes(&rt, &[(7, 1_000), (7, 0), (5, 24), (3, 0), (2, 0)], SOUND)?);
     assert!(rt; comes(&rt, (CHECK, ""), SOUND)?);
+    Ok(())
+}
+
+// The log of a book lies beside its file. So damage of it is noticed through a link in another
+// folder, too.
+#[test]
+fn damage_behind_a_link_is_noticed(rt: HostRuntime) -> Result<(), Fail> {
+    assert!(rt; make(&rt)?);
+    commit(&rt, 10, Wary)?;
+    let _ = fs::remove_dir_all(&rt, "linked");
+    fs::create_dir(&rt, "linked")?;
+    symlink(&rt, "../each-book", "linked/book")?;
+    let linked = ("check --config each.toml --db linked/book", "");
+    assert!(rt; comes(&rt, linked, SOUND)?);
+    let log = fs::read(&rt, "each-book-wal")?;
+    hurt(&rt, log.as_slice(), page_of(4))?;
+    assert!(rt; comes(&rt, linked, REFUSED)? && comes(&rt, (CHECK, ""), REFUSED)?);
     Ok(())
 }

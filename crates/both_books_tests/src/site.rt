@@ -157,7 +157,7 @@ impl Site {
         self.hear(book, source, 1000, bytes, told)
     }
 
-    fn hear_signed<B: Book>(
+    pub(crate) fn hear_signed<B: Book>(
         &mut self,
         book: &mut B,
         moment: u32,
@@ -170,7 +170,7 @@ impl Site {
         self.hear(book, AP1, moment, &request[..size], told)
     }
 
-    fn respond<B: Book>(
+    pub(crate) fn respond<B: Book>(
         &self,
         book: &mut B,
         request: &[u8],

@@ -1,0 +1,138 @@
+//! The file of all balances, if there is room for a part of it: the old file stays.
+use acct_book::{Book, MemBook};
+use acct_model::{Text, TopUp};
+use acct_program_args::BalancesFile;
+use acct_program_commands::{Gauges, KeptBalances, ReplacesFiles};
+use acct_reads::ReadsFiles;
+use acct_site::sample_config;
+use std::alloc::Global;
+use std::cell::Cell;
+use std::fs::Metadata;
+use std::io;
+use std::io::{ErrorKind, Write};
+use std::path::PathBuf;
+use std::test::Fail;
+
+// A disk with room for so many octets of each new file. It counts the files that were replaced.
+struct Disk {
+    room: usize,
+    replaced: Cell<u32>,
+}
+
+impl Drop for Disk {
+    fn drop(self) {
+        let Disk {
+            room: _,
+            replaced: _,
+        } = self;
+    }
+}
+
+// A new file on it.
+#[derive(Drop)]
+struct NewFile {
+    room: usize,
+}
+
+impl Write for NewFile {
+    fn write(&mut self, octets: &[u8]) -> io::Result<usize> {
+        if self.room == 0 {
+            return Err(io::Error::from(ErrorKind::StorageFull));
+        }
+        let count = octets.len().min(self.room);
+        self.room -= count;
+        Ok(count)
+    }
+
+    fn flush(&mut self) -> io::Result<()> {
+        Ok(())
+    }
+}
+
+// The file that a look opens: an empty one.
+type Found = io::Empty;
+
+fn missing<T>() -> io::Result<T> {
+    Err(io::Error::from(ErrorKind::NotFound))
+}
+
+impl ReadsFiles for Disk {
+    type Reader = Found;
+
+    fn metadata(&self, _path: &str) -> io::Result<Metadata> {
+        missing()
+    }
+
+    fn symlink_metadata(&self, _path: &str) -> io::Result<Metadata> {
+        missing()
+    }
+
+    fn canonicalize(&self, _alloc: Global, _path: &str) -> io::Result<PathBuf> {
+        missing()
+    }
+
+    fn open(&self, _path: &str) -> io::Result<Found> {
+        missing()
+    }
+
+    fn open_writable(&self, _path: &str) -> io::Result<Found> {
+        missing()
+    }
+}
+
+impl ReplacesFiles for Disk {
+    type Writer = NewFile;
+
+    fn open_empty(&self, _name: &str, _mode: u32) -> io::Result<NewFile> {
+        Ok(NewFile { room: self.room })
+    }
+
+    fn put_in_place(&self, _new_name: &str, _name: &str) -> io::Result<()> {
+        self.replaced.set(self.replaced.get().saturating_add(1));
+        Ok(())
+    }
+
+    fn make_private(&self, _name: &str) {}
+}
+
+const BALANCES: &str = "account,balance,overrun\nal,500,0\nbo,300,0\n";
+
+const TOLD: &str = "balances: cannot write\n";
+
+fn filled(alloc: Global) -> Result<MemBook, Fail> {
+    let mut book = MemBook::new(alloc);
+    for (number, account, balance) in [("V-1", "al", 500), ("V-2", "bo", 300)] {
+        let topup = TopUp::new(alloc, number, account.as_bytes(), 1, 1000)?;
+        book.put_topup(&topup, balance)?;
+    }
+    Ok(book)
+}
+
+// How many files are replaced if there is room for so many octets, and what is printed then.
+fn replaced(alloc: Global, room: usize) -> Result<(u32, Vec<u8>), Fail> {
+    let disk = Disk {
+        room,
+        replaced: Cell::new(0),
+    };
+    let asked = BalancesFile {
+        file: Text::from_str(alloc, "cut-balances")?,
+        seconds: 5,
+    };
+    let (config, mut book) = (sample_config(alloc)?, filled(alloc)?);
+    let (gauges, mut told) = (Gauges::new(), Vec::new(alloc));
+    let mut kept = KeptBalances::new(&disk, alloc, &asked)?;
+    kept.keep(alloc, &config.plans, &mut book, 3000, &gauges, &mut told);
+    drop(kept);
+    Ok((disk.replaced.get(), told))
+}
+
+#[test]
+fn a_cut_file_replaces_none(rt: HostRuntime) -> Result<(), Fail> {
+    for room in 0..BALANCES.len() {
+        let (count, told) = replaced(rt.alloc(), room)?;
+        assert!(rt; count == 0 && told.as_slice() == TOLD.as_bytes(), "{room}");
+    }
+    let (count, told) = replaced(rt.alloc(), BALANCES.len())?;
+    assert!(rt; count == 1 && told.is_empty());
+    Ok(())
+}
