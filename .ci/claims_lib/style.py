@@ -27,7 +27,7 @@ MOST = {
     "docs/DOCTOR.md": 200,
     "docs/FEED.md": 300,
     "docs/FILES.md": 600,
-    "docs/FORWARD.md": 1020,
+    "docs/FORWARD.md": 1033,
     "docs/FREERADIUS.md": 2555,
     "docs/FRONTDESK.md": 660,
     "docs/GATE.md": 965,
