@@ -1,8 +1,10 @@
 """FreeRADIUS' folder: which of its files are radacctd's, and what is written in the others."""
 
+import contextlib
 import ipaddress
 import os
 import re
+import tempfile
 
 from radacctl import files, site
 
@@ -191,6 +193,17 @@ def postgres(block):
         return None
     password = re.sub(r"([:\\])", r"\\\1", value(block, "password"))
     return [it for pair in found.items() if pair[1] for it in pair], f"*:*:*:*:{password}\n"
+
+
+@contextlib.contextmanager
+def password_file(password):
+    """The name of a file from which PostgreSQL's tools read a password. It is in memory: a run that
+    is killed leaves no password on the disk.
+    """
+    with tempfile.TemporaryDirectory(dir="/run") as folder:
+        path = os.path.join(folder, "pgpass")
+        files.make(path, password.encode())
+        yield path
 
 
 def blocks(pattern, *names):

@@ -32,7 +32,6 @@ import os
 import pwd
 import re
 import subprocess
-import tempfile
 import time
 import tomllib
 
@@ -178,10 +177,7 @@ def dump_sql():
         return
     words, password = found
     os.makedirs(os.path.dirname(site.DUMP), mode=0o700, exist_ok=True)
-    # In memory: a run that is killed leaves no password on the disk.
-    with tempfile.TemporaryDirectory(dir="/run") as folder:
-        path = os.path.join(folder, "pgpass")
-        files.make(path, password.encode())
+    with freeradius.password_file(password) as path:
         files.remove(site.DUMP + ".new")
         environment = {"PATH": "/usr/bin:/bin", "PGPASSFILE": path, "PGCONNECT_TIMEOUT": "20"}
         try:

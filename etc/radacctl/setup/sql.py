@@ -2,7 +2,6 @@
 
 import os
 import re
-import tempfile
 
 from radacctl import files, freeradius, site
 from radacctl.setup import steps
@@ -106,9 +105,7 @@ class Ended:
                   "the name of a database alone, with the password on a line of its own")
             return
         words, password = found
-        with tempfile.TemporaryDirectory(dir="/run") as folder:
-            path = os.path.join(folder, "pgpass")
-            files.make(path, password.encode())
+        with freeradius.password_file(password) as path:
             command = ["env", f"PGPASSFILE={path}", "PGCONNECT_TIMEOUT=20", "psql", "-wqX", *words]
             try:
                 steps.given(command, text=END)
