@@ -218,6 +218,18 @@ class Guests(unittest.TestCase):
         self.assertGreater(at, 12)
         self.assertEqual(found, {0, 1})
 
+    def test_a_damaged_draft_waits_alone(self):
+        for number, text in enumerate(("", "{", "[1]", '{"step": "asked"}', "\x00" * 90)):
+            with self.subTest(text=text), mock.patch.object(drafts, "say") as said:
+                self.site = Site(self)
+                self.site.killed_at(9, self.new)
+                [(whole, _)] = drafts.all_of_them()
+                self.site.write(f"drafts/aa-000{number}-a.json", text)
+                self.assertEqual([it for it, _ in drafts.all_of_them()], [whole])
+                guest.mend(words_of(self.site, "mend"))
+                self.assertEqual([*drafts.all_of_them()], [])
+                self.assertIn(f"aa-000{number}-a.json is damaged", said.call_args[0][0])
+
     def test_each_step_fails(self):
         """A full disk, say: nothing is left, at once."""
         for where, name, at in ((configuration, "change", 1), (files, "make", 1), (files, "make", 2),
