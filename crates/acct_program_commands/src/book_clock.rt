@@ -11,6 +11,10 @@ use std::io::Write;
 use std::time::{Clock, UNIX_EPOCH};
 use std::{fmt, io};
 
+// The octets of a log that has a frame, but for its page: of its header and of the frame's, as
+// SQLite's file format has them. Whoever closes a book leaves a shorter log, which has no commit.
+const LEAST_LOG: u64 = 32 + 24;
+
 /// What the clock says, and when it says that a book was last changed.
 #[derive(Clone, Copy, PartialEq, Eq, Debug)]
 pub struct ClockReading {
@@ -43,7 +47,8 @@ impl fmt::Display for LateClock {
 }
 
 /// Reads the clock, and when a book's file or its log was last written. The log is beside the file
-/// to which the book's name leads.
+/// to which the book's name leads. One that has no commit counts for nothing: a run that only opens
+/// and closes the book leaves it.
 pub fn read_clock<R: ReadsFiles + Clock + AllocGlobal>(runtime: &R, file: &Text) -> ClockReading
     ensures { result.moment < 2 ^ 53 }
 {
@@ -80,18 +85,22 @@ fn write_late<E: Write>(errors: &mut E, moment: u64, written_at: u64) -> io::Res
 // When the file of a book or its log was last written, in seconds since 1970: 0 if that is not
 // known.
 fn written_at<R: ReadsFiles + AllocGlobal>(runtime: &R, file: &Text) -> u64 {
-    let written = changed_at(runtime, file);
+    let written = changed_at(runtime, file, 0);
     match log_of(runtime, runtime.alloc(), file.as_str()) {
-        Ok(log) => written.max(changed_at(runtime, &log)),
+        Ok(log) => written.max(changed_at(runtime, &log, LEAST_LOG)),
         Err(_) => written,
     }
 }
 
-// When a file was last written, in seconds since 1970: 0 if that is not known.
-fn changed_at<R: ReadsFiles>(runtime: &R, file: &Text) -> u64 {
+// When a file was last written, in seconds since 1970: 0 if that is not known, or if the file has
+// fewer octets than these.
+fn changed_at<R: ReadsFiles>(runtime: &R, file: &Text, least: u64) -> u64 {
     let Ok(metadata) = runtime.metadata(file.as_str()) else {
         return 0;
     };
+    if metadata.len() < least {
+        return 0;
+    }
     let Ok(changed) = metadata.modified() else {
         return 0;
     };

@@ -5,6 +5,7 @@ use acct_site::Config;
 use std::alloc::Global;
 use std::fs;
 use std::fs::{File, OpenFile, Permissions};
+use std::io::Write;
 use std::os::unix::fs::PermissionsExt;
 use std::test::Fail;
 use std::time::{Duration, SystemTime};
@@ -168,8 +169,9 @@ const TOLD: &str = "config: read again: 2 clients, 1 plans, 1 keys\n\
     file: cannot read; the old one stays\n";
 
 // Writes a file as if that was so many seconds ago, or in so many.
-fn write_at(rt: &HostRuntime, name: &str, moment: u64) -> Result<(), Fail> {
-    let file = File::create(rt, name)?;
+fn write_at(rt: &HostRuntime, name: &str, octets: &[u8], moment: u64) -> Result<(), Fail> {
+    let mut file = File::create(rt, name)?;
+    file.write_all(octets)?;
     let Some(time) = SystemTime::UNIX_EPOCH.checked_add(Duration::from_secs(moment)) else {
         return Err("no moment".into());
     };
@@ -233,27 +235,32 @@ fn names_the_plan_that_differs(rt: HostRuntime) -> Result<(), Fail> {
     Ok(())
 }
 
-// Prints a line on the clock, for a book and a log that were written at these moments.
+// The least log that has a frame, but for the frame's page.
+static LOG: [u8; 56] = [7; 56];
+
+// Prints a line on the clock, for a book that was written at this moment, and a log of so many octets
+// at that one.
 fn note_beside(
     rt: &HostRuntime,
     file: &Text,
-    (book, log): (u64, u64),
+    (book, octets, log): (u64, usize, u64),
     told: &mut Vec<u8>,
 ) -> Result<(), Fail> {
-    write_at(rt, "late-book", book)?;
-    write_at(rt, "late-book-wal", log)?;
+    write_at(rt, "late-book", b"", book)?;
+    write_at(rt, "late-book-wal", &LOG[..octets], log)?;
     note_clock(rt, file, told);
     Ok(())
 }
 
 // Whether it prints a line if and only if the clock is before the last change of the book or of its
-// log.
+// log. A log with no frame, which whoever closes a book leaves, says nothing.
 fn tells_late(rt: &HostRuntime, file: &Text, told: &mut Vec<u8>) -> Result<bool, Fail> {
     note_clock(rt, file, told);
-    note_beside(rt, file, (1_000_000_000, 1_000_000_001), told)?;
+    note_beside(rt, file, (1_000_000_000, 56, 1_000_000_001), told)?;
+    note_beside(rt, file, (1_000_000_000, 55, 9_000_000_003), told)?;
     let is_silent = told.is_empty();
-    note_beside(rt, file, (1_000_000_000, 9_000_000_001), told)?;
-    note_beside(rt, file, (9_000_000_002, 9_000_000_001), told)?;
+    note_beside(rt, file, (1_000_000_000, 56, 9_000_000_001), told)?;
+    note_beside(rt, file, (9_000_000_002, 56, 9_000_000_001), told)?;
     let text = str::from_utf8(told).unwrap_or("");
     let (first, second) = text.split_once('\n').unwrap_or(("", ""));
     Ok(
