@@ -1,6 +1,6 @@
 -- Lists of members in order are fixed by their members.
 use Rattle.std.proofs.Common.{◌≡◌, inl, inr, List, [], ◌∷◌, map, refl, sym, ap, ◌∙◌, subst}
-use Rattle.std.specs.Prelude.{Bool, Option, Contains, bytes_eq}
+use Rattle.std.specs.Prelude.{◌↔◌, Bool, Option, Contains, bytes_eq}
 use Rattle.std.specs.List.{AllByRecursion}
 use Rattle.std.specs.List.Sorted.{IsStrictlySortedBy}
 use Rattle.std.specs.Cmp.{IsTotalOrder}
@@ -9,6 +9,7 @@ use Rattle.std.specs.declared.cmp.Ordering.{Ordering}
 use Rattle.std.specs.declared.cmp.Ordering.TheVariants.{Less, Greater}
 use Rattle.std.specs.Cmp.Lexicographic.{nat_list_cmp_total}
 use Rattle.acct_model.proofs.Lists.{here, deeper, nowhere, front_or_behind}
+use Rattle.acct_book.specs.declared.key.Key.{Key}
 use Rattle.acct_book.specs.Content.{Content, key_of}
 use Rattle.acct_book.specs.Maps.{octets_cmp, key_cmp}
 use Rattle.acct_book.specs.Walk.{AreMembers, ListsAreFixed}
@@ -75,10 +76,28 @@ module _ {K X : Type 0} (cmp : K → K → Ordering) (total : IsTotalOrder cmp) 
   members-fixed at test these those a b = one_list these those a.in_order b.in_order
       (λ z h. (b.each z).1 ((a.each z).0 h)) (λ z h. (a.each z).1 ((b.each z).0 h))
 
+same_keys : (keys : List Key) → keys ≡ map (λ key. key) keys
+same_keys [] = refl
+same_keys (key ∷ keys) = ap (λ rest. key ∷ rest) (same_keys keys)
+
+-- keys in order are fixed by their members
+keys_fixed : (these those : List Key) → IsStrictlySortedBy key_cmp these
+    → IsStrictlySortedBy key_cmp those
+    → ((key : Key) → Contains these key ↔ Contains those key) → these ≡ those
+keys_fixed these those a b same = one_list key_cmp key_total (λ key. key) these those
+    (subst (IsStrictlySortedBy key_cmp) (same_keys these) a)
+    (subst (IsStrictlySortedBy key_cmp) (same_keys those) b)
+    (λ key. (same key).0) (λ key. (same key).1)
+
 pub lists-fixed : (content : Content) → ListsAreFixed content
 lists-fixed content = record {
   rows = λ account. members-fixed key_cmp key_total key_of content.rows
       (λ row. bytes_eq account row.account);
+  keys = λ account these those a b. keys_fixed these those a.in_order b.in_order
+      (λ key. (
+        λ there. (b.each key).1 ((a.each key).0 there),
+        λ there. (a.each key).1 ((b.each key).0 there),
+      ));
   topups = λ account. members-fixed octets_cmp nat_list_cmp_total (λ topup. topup.voucher)
       content.topups (λ topup. bytes_eq account topup.account);
 }

@@ -90,5 +90,7 @@ pub record WalksMeetAll (content : Content) : Type 0 where
 pub record ListsAreFixed (content : Content) : Type 0 where
   pub rows : (account : List ℕ) (these those : List RowFacts)
       → AreRowsOf content account these → AreRowsOf content account those → these ≡ those
+  pub keys : (account : List ℕ) (these those : List Key)
+      → AreKeysOf content account these → AreKeysOf content account those → these ≡ those
   pub topups : (account : List ℕ) (these those : List TopUpFacts)
       → AreTopUpsOf content account these → AreTopUpsOf content account those → these ≡ those

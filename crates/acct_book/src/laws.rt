@@ -73,7 +73,7 @@ pub fn walks_meet_all()
     ensures { (content : Content) → WalksMeetAll content }
 {}
 
-/// What `sessions_of` and `topups_of` list is fixed by the content, in its order too.
+/// What `sessions_of`, `keys_of` and `topups_of` list is fixed by the content, in its order too.
 pub fn lists_are_fixed()
     ensures { (content : Content) → ListsAreFixed content }
 {}

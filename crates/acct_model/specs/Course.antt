@@ -68,7 +68,8 @@ begun plans = record { plans = plans; whole = []; kept = []; aside = [] }
 
 -- What was sent counts in the end as if nothing had been lost, repeated or reordered, and as if
 -- nothing had been carried forward. The sent entries must be consistent, and nothing else accepted.
--- Each top-up must be accepted, and each report covered by an accepted one of its session.
+-- Each top-up must be accepted, and each report covered by an accepted one of its session. Plans are
+-- added only for classes that no report accepted before has.
 abbrev pub ForwardSettles : Type 0
 ForwardSettles = (plans : List Plan) (sent : History) (moves : List Move) (last : Course)
     → Goes (begun plans) moves last

@@ -94,9 +94,9 @@ pub record RaisesBy (plans : List Plan) (history : History) (report : ReportFact
       ≡ blocks * plan.block
   pub raised : counted_of (Some plan) report ≡ (blocks + more) * plan.block
 
--- The report carries these sessions forward, of which there is at least one. It is of another
--- session of their account and plan. It counts the blocks that they had started more than that
--- session had counted.
+-- The report carries these sessions forward, of which there is at least one. It is of a session of
+-- their account and plan. It counts the blocks that they had started more than that session counts
+-- once they are gone.
 pub record CarriesForward (plans : List Plan) (history : History) (name : SessionName)
     (names : List SessionName) (report : ReportFacts) : Type 0 where
   pub plan : Plan

@@ -105,7 +105,8 @@ opened_by plans name report =
     if same_session name (session_of report)
     then Some (record { first = report; plans = plans }) else None
 
--- how a session was opened, under the plans in force at the end of the history
+-- how a session was opened: the plans given are those in force at the end of the history, and older
+-- ones are found from them
 abbrev pub opening_of : List Plan → History → SessionName → Option Opening
 opening_of plans [] name = None
 opening_of plans (Accepted (entry.Report report) ∷ older) name =

@@ -322,12 +322,6 @@ read_done {T = T} {E = E} g old inside new r x told same is w =
       adds_none = h.adds_none;
     }
 
--- what a read found holds of the book that the connection is
-pub found_told : {S T E Q : Type 0} (P : S → T → Type 0) (old inside : S) (r : Result T E) (x : T)
-    → inside ≡ old → r ≡ Ok x → (Q → IfOk r (P inside)) → Q → P old x
-found_told P old inside r x same is found q =
-    subst (λ k. P k x) same (subst (λ k. IfOk k (P inside)) is (found q))
-
 pub leaves_told : {S : Type 0} (g : Ghosts S) (old inside new : Held S) → inside ≡ old
     → LeavesPlans (state g inside) (state g new) → LeavesPlans (state g old) (state g new)
 leaves_told g old inside new same leaves =
