@@ -4,6 +4,7 @@ import json
 import os
 import re
 import shutil
+import subprocess
 
 from served import CASHIER, Server, check, report, told
 from service import until
@@ -60,6 +61,49 @@ def removed(server, lines):
     for more in ("", "-wal"):
         number = leads[f"{server.book}{more} (deleted)"]
         shutil.copyfile(os.path.join(place, number), server.book + ".saved" + more)
+
+
+def hidden(folder):
+    """A disk that is mounted over a book, with files of the same numbers: nothing is answered."""
+    if os.geteuid() != 0:
+        print("left out: only root may mount a disk over a book")
+        return
+    disk = os.path.join(folder, "disk")
+    os.makedirs(disk)
+    server = Server(folder)
+    server.book = os.path.join(disk, "book")
+    mount(disk)
+    try:
+        server.init()
+        server.start(1 << 62)
+        check("a report is answered", server.radclient(report("Start", "seen-0", 1)), True)
+        numbers = sorted((os.stat(server.book + it).st_ino, it) for it in ("", "-wal"))
+        mount(disk)
+        for number, more in numbers:
+            check("a file has the same number", numbered(server.book + more, number), number)
+        lines = said(server, "", LOST, "a disk is mounted over both")
+        silent(server, 0)
+        subprocess.run(["umount", disk], check=True)
+        said(server, lines, BACK, "it is taken away")
+        check("reports are answered again", server.radclient(report("Stop", "seen-0", 1)), True)
+    finally:
+        server.kill()
+        while os.path.ismount(disk):
+            subprocess.run(["umount", disk], check=True)
+
+
+def mount(place):
+    subprocess.run(["mount", "-t", "tmpfs", "none", place], check=True)
+
+
+def numbered(name, number):
+    """Makes a file, and others before it until its number is this one, or a greater one."""
+    while True:
+        with open(name, "w"):
+            found = os.stat(name).st_ino
+        if found >= number:
+            return found
+        os.remove(name)
 
 
 def said(server, before, what, name):
