@@ -9,6 +9,7 @@ use acct_program_commands::{BalancesWritten, Gauges, KeptBalances, run_export, r
 use acct_site::{Config, sample_config};
 use std::alloc::Global;
 use std::fs;
+use std::fs::Permissions;
 use std::os::unix::fs::PermissionsExt;
 use std::test::Fail;
 
@@ -96,8 +97,16 @@ fn is_kept_up(
     Ok(begins && stays && goes_on && is_renamed)
 }
 
+// What a write that was cut short left, which others could read.
+fn leave_open(rt: &HostRuntime, name: &str) -> Result<(), Fail> {
+    fs::write(rt, name, "account,bal")?;
+    fs::set_permissions(rt, name, Permissions::from_mode(0o666))?;
+    Ok(())
+}
+
 #[test]
 fn keeps_up_with_the_book(rt: HostRuntime) -> Result<(), Fail> {
+    leave_open(&rt, "kept-balances.new")?;
     let config = sample_config(rt.alloc())?;
     let mut book = MemBook::new(rt.alloc());
     let mut told = Vec::new(rt.alloc());

@@ -2,7 +2,7 @@
 use acct_model::Text;
 use acct_program_commands::{BookNames, Gauges};
 use std::fs;
-use std::os::unix::fs::symlink;
+use std::os::unix::fs::{MetadataExt, symlink};
 use std::test::Fail;
 
 const BOOK: &str = "names-book";
@@ -141,5 +141,37 @@ fn looks_where_a_link_leads(rt: HostRuntime) -> Result<(), Fail> {
     fs::rename(&rt, "names-away", "names-home")?;
     names.look(25, &gauges, &mut told);
     assert!(rt; !gauges.is_away());
+    Ok(())
+}
+
+const ONE: &str = "/proc";
+
+const TWIN: &str = "/sys";
+
+// Whether these are files of one number, each on a device of its own, as Linux makes them.
+fn are_twins(rt: &HostRuntime) -> Result<bool, Fail> {
+    let (one, twin) = (fs::metadata(rt, ONE)?, fs::metadata(rt, TWIN)?);
+    Ok(one.ino() == twin.ino() && one.dev() != twin.dev())
+}
+
+// Whether a name that led to the first of them is away once it leads to this file.
+fn is_away_at(rt: &HostRuntime, file: &str) -> Result<bool, Fail> {
+    let _ = fs::remove_file(rt, "names-twin");
+    symlink(rt, ONE, "names-twin")?;
+    let (gauges, mut told) = (Gauges::new(), Vec::new(rt.alloc()));
+    let name = Text::from_str(rt.alloc(), "names-twin")?;
+    let mut names = BookNames::new(rt, rt.alloc(), &name)?;
+    fs::remove_file(rt, "names-twin")?;
+    symlink(rt, file, "names-twin")?;
+    names.look(30, &gauges, &mut told);
+    Ok(gauges.is_away())
+}
+
+#[test]
+fn a_file_of_the_same_number_is_another(rt: HostRuntime) -> Result<(), Fail> {
+    let are_twins = are_twins(&rt)?;
+    assert!(rt; !is_away_at(&rt, ONE)?);
+    assert!(rt; is_away_at(&rt, TWIN)? || !are_twins);
+    fs::remove_file(&rt, "names-twin")?;
     Ok(())
 }

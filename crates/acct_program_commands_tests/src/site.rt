@@ -6,7 +6,7 @@ use std::alloc::Global;
 use std::fs;
 use std::fs::{File, OpenFile, Permissions};
 use std::io::Write;
-use std::os::unix::fs::PermissionsExt;
+use std::os::unix::fs::{PermissionsExt, chown};
 use std::test::Fail;
 use std::time::{Duration, SystemTime};
 
@@ -160,6 +160,28 @@ fn sees_a_change_of_rights(rt: HostRuntime) -> Result<(), Fail> {
     Ok(())
 }
 
+// Whether another owner or group of a file is seen. One who may give it none sees none.
+fn sees_another_owner(
+    rt: &HostRuntime,
+    (user, group): (Option<u32>, Option<u32>),
+) -> Result<bool, Fail> {
+    let name = "given-site.toml";
+    fs::write(rt, name, OLD_KEY)?;
+    let file = Text::from_str(rt.alloc(), name)?;
+    let mut site = SiteFile::new(rt, &file);
+    let is_given = chown(rt, name, user, group).is_ok();
+    let is_seen = site.look(rt.alloc(), 3000).is_some();
+    fs::remove_file(rt, name)?;
+    Ok(is_seen == is_given)
+}
+
+#[test]
+fn sees_a_change_of_the_owner(rt: HostRuntime) -> Result<(), Fail> {
+    assert!(rt; sees_another_owner(&rt, (Some(1001), None))?);
+    assert!(rt; sees_another_owner(&rt, (None, Some(1002)))?);
+    Ok(())
+}
+
 const TOLD: &str = "config: read again: 2 clients, 1 plans, 1 keys\n\
     config: BadKey in Key 0; the old one stays\n\
     config: read again: 1 clients, 1 plans, 0 keys\n\
@@ -247,7 +269,8 @@ fn note_beside(
     told: &mut Vec<u8>,
 ) -> Result<(), Fail> {
     write_at(rt, "late-book", b"", book)?;
-    write_at(rt, "late-book-wal", &LOG[..octets], log)?;
+    let octets = LOG.get(..octets).unwrap_or(&LOG);
+    write_at(rt, "late-book-wal", octets, log)?;
     note_clock(rt, file, told);
     Ok(())
 }
