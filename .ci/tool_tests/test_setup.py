@@ -103,6 +103,15 @@ class Site(Folder):
         other = self.wanted(access_server=[{**one, "address": "10.0.0.2"}])
         self.assertRaisesRegex(steps.Failed, "10.0.0.1, not 10.0.0.2", front.clients, text, other)
 
+    def test_the_other_machine_of_a_pair_takes_a_secret_of_the_sites_own(self):
+        for secret in ("of wlc1", 'of "wlc1"', "it's # wlc1"):
+            wanted = self.wanted(access_server=[{"name": "wlc", "address": "10.0.0.1"}],
+                                 secrets={"client-wlc": secret})
+            found = freeradius.CLIENT.findall(front.clients(None, wanted))
+            self.assertEqual(freeradius.value(dict(found)["wlc"], "secret"), secret)
+        for secret in ("", "two\nlines", "a\\b", "it's \"wlc1\""):
+            self.assertRaises(answers.Wrong, self.wanted, secrets={"client-wlc": secret})
+
     def test_another_usual_class_is_written(self):
         plans = [PLAN, {**PLAN, "class": "gold"}]
         text = front.settings(None, self.wanted(plan=plans), "x" * 16)
@@ -314,6 +323,19 @@ class Existing(Folder):
         self.assertEqual(found, CLIENTS.replace("16\n\t}\n}\n", "16\n\t}\n" + lines))
         self.put("clients.conf", found)
         self.assertEqual(front.with_lines(found, "clients.conf", wanted), found)
+
+    def test_a_secret_is_read_as_freeradius_does(self):
+        """In marks of either kind, in which nothing is a comment, or in none."""
+        one = {"name": "wlc", "address": "10.0.0.1", "vendor": "aruba"}
+        for written, secret in (("'of $wlc1'", "of $wlc1"), ("'of \"wlc1\"'", 'of "wlc1"'),
+                                ('"it\'s # wlc1"', "it's # wlc1"), ("of#wlc1 # its", "of#wlc1")):
+            self.put("clients.conf", CLIENTS.replace('"of wlc1"', written))
+            text = front.clients(None, self.wanted(one))
+            [(_, block)] = freeradius.HOME_SERVER.findall(text)
+            self.assertEqual(freeradius.value(block, "secret"), secret)
+            self.assertEqual(front.secret_of("wlc", "10.0.0.1"), secret)
+        _, line = freeradius.postgres("\tpassword = 'of \"sql\"'\n")
+        self.assertEqual(line, '*:*:*:*:of "sql"\n')
 
     def test_a_part_of_a_network_keeps_its_secret(self):
         text = front.clients(None, self.wanted({"name": "b", "address": "10.1.2.3"}))

@@ -30,6 +30,9 @@ CLIENT = re.compile(r"(?m)^\s*client\s+(\S+)\s*\{((?:[^{}]|\{[^{}]*\})*)\}")
 LISTEN = re.compile(r"(?m)^\s*listen\s*\{((?:[^{}]|\{[^{}]*\})*)\}")
 SERVER = re.compile(r"(?m)^\s*server\s+([\w.-]+)\s*\{")
 HOME_SERVER = re.compile(r"(?m)^\s*home_server\s+(\S+)\s*\{((?:[^{}]|\{[^{}]*\})*)\}")
+# A text in quotation marks of either kind, and a comment. A mark within a word begins no text.
+QUOTED = r"""(?<!\w)(?:"(?:[^"\\\n]|\\.)*"|'(?:[^'\\\n]|\\.)*')"""
+COMMENT = r"(?<!\S)#[^\n]*"
 
 
 def path(*names):
@@ -37,7 +40,8 @@ def path(*names):
 
 
 def without_comments(text):
-    return re.sub(r"(?m)(^|\s)#.*$", "", text)
+    # What looks like a comment in a secret, say, is none.
+    return re.sub(f"({QUOTED})|{COMMENT}", lambda it: it[1] or "", text)
 
 
 def text(*names):
@@ -47,8 +51,9 @@ def text(*names):
 
 def value(block, name):
     """The value of a line `name = value` of a text, or ""."""
-    found = re.search(rf'(?m)^[ \t]*{name}[ \t]*=[ \t]*(?:"([^"\n]*)"|(\S+))', block)
-    return (found[1] if found[1] is not None else found[2]) if found else ""
+    kinds = r"""(?:"([^"\n]*)"|'([^'\n]*)'|(\S+))"""
+    found = re.search(rf"(?m)^[ \t]*{name}[ \t]*=[ \t]*{kinds}", block)
+    return next(it for it in found.groups() if it is not None) if found else ""
 
 
 def first_word(block):
@@ -163,7 +168,7 @@ def cuts(text_of_clients):
 def end_of_block(text_of_file, begin):
     """Where a block ends whose brace is before `begin`. Those of comments and texts do not count."""
     depth = 1
-    for found in re.finditer(r'(?<!\S)#[^\n]*|"(?:[^"\\\n]|\\.)*"|[{}]', text_of_file[begin:]):
+    for found in re.finditer(f"{COMMENT}|{QUOTED}|[{{}}]", text_of_file[begin:]):
         depth += {"{": 1, "}": -1}.get(found[0], 0)
         if depth == 0:
             return begin + found.start()

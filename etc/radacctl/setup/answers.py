@@ -14,6 +14,7 @@ from radacctl.money import MOST_DECIMALS
 VENDORS = ("mikrotik", "unifi", "pfsense", "openwrt", "aruba", "cisco", "other")
 HOST = re.compile(r"(?=.{1,253}$)[a-z0-9]([a-z0-9-]*[a-z0-9])?(\.[a-z0-9]([a-z0-9-]*[a-z0-9])?)+")
 NAME = re.compile(r"[A-Za-z0-9_][A-Za-z0-9._-]{0,31}")
+OTHERS_SECRET = re.compile(r"""(?=[^']*\Z|[^"]*\Z)[^\\\x00-\x1f]{1,128}""")
 LARGEST_BLOCK, LARGEST_UNIT = 9_007_199_254_740_992, 1_000_000_000
 # The members of a file, with what each is if it is left out. None: it must be there.
 TOP = {
@@ -172,8 +173,8 @@ class Answers:
             self.test_once(self.access_servers, "access_server", "access servers", key)
         need(0 <= self.decimals <= MOST_DECIMALS, f"decimals is 0 to {MOST_DECIMALS}", "decimals")
         for name, value in self.secrets.items():
-            # A client that a site had before may have any.
-            form = r'[^"\\\s]{1,128}' if name.startswith("client-") else "[A-Za-z0-9-]{16,128}"
+            # A client that a site had before may have any that stands between marks of one kind.
+            form = OTHERS_SECRET if name.startswith("client-") else "[A-Za-z0-9-]{16,128}"
             need(isinstance(value, str) and re.fullmatch(form, value),
                  f"secrets: {name} is no secret of a set-up", "secrets", 0, name)
         need(self.has_front or not self.has_packages, "packages need FreeRADIUS in front",

@@ -244,7 +244,9 @@ def lines_of(it, test=None):
 
 
 def quoted(own):
-    return own if re.fullmatch(r"[A-Za-z0-9._-]+", own) else f'"{own}"'
+    """A secret as FreeRADIUS reads it. One that was in single marks may have a double one."""
+    mark = "'" if '"' in own else '"'
+    return own if re.fullmatch(r"[A-Za-z0-9._-]+", own) else f"{mark}{own}{mark}"
 
 
 def is_cut(address, text):
