@@ -8,6 +8,7 @@ RADDB = "/etc/freeradius/3.0"
 QUEUE = "/var/log/freeradius/radacct/radacctd"
 UNSENT = "/var/log/freeradius/radacct/radacctd-unsent"
 SQL = f"{RADDB}/mods-enabled/sql"
+EAP = f"{RADDB}/mods-available/eap"
 DEVICES = f"{RADDB}/policy.d/radacctd-devices"
 CONFIG, COPIES = "/etc/radacctd.toml", "/var/backups/radacctd"
 MIRROR = "/run/radacctd-mirror/balances.db"
@@ -71,8 +72,9 @@ COMPARE = "/run/systemd/system/radacctd-compare.service"
 KEYS = "for it in $(seq 4060); do printf '[[key]]\\ntoken = \"guest-key-%09d\"\\n' $it; "
 KEYS += f"echo 'account = \"g\"'; done >> {CONFIG}"
 FULL = f"mount -t tmpfs -o size=20m tmpfs {COPIES} && head -c 20800000 /dev/zero > {COPIES}/x"
-CERTIFICATE = "openssl req -x509 -key /etc/ssl/private/radacctd.key -days {} -subj /CN=x -out "
-CERTIFICATE += "/root/new.pem 2>/dev/null; cat /root/new.pem > /etc/ssl/radacctd.pem"
+CERTIFICATE = "openssl req -x509 -key /etc/ssl/private/radacctd.key -days 5 -subj /CN=x -out "
+CERTIFICATE += f"{RADDB}/certs/new.pem 2>/dev/null; sed -i 's|certificate_file = /.*|"
+CERTIFICATE += f"certificate_file = ${{certdir}}/new.pem|' {EAP}"
 
 BOOK = "/var/lib/radacctd/book"
 
@@ -123,7 +125,7 @@ BREAKS = {
     "key-unknown": kept("/etc/radacctd-redeem.key", "echo other-key-00000001 > "
                         "/etc/radacctd-redeem.key"),
     "certificate-ended": kept("/etc/ssl/radacctd.pem", "rm /etc/ssl/radacctd.pem"),
-    "certificate-ends": kept("/etc/ssl/radacctd.pem", CERTIFICATE.format(5)),
+    "certificate-ends": kept(EAP, CERTIFICATE),
     "pair-alarm": (f"{PAIR}; systemd-run --unit=feigned {OUTBOX}; sleep 2",
                    f"systemctl stop feigned; {UNPAIR}"),
     "pair-differs": (f"{PAIR}; printf '[Service]\\nType=oneshot\\nExecStart=/bin/false\\n' > "

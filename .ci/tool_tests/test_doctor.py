@@ -12,7 +12,7 @@ import tomllib
 import unittest
 import unittest.mock
 
-from radacctl import files, freeradius
+from radacctl import files, freeradius, site as places
 from radacctl.commands import doctor
 from radacctl.doctor import book, copies, faults, front as fronts, kind, look, machine
 from radacctl.doctor import pair as pairs, web as pages
@@ -340,7 +340,8 @@ post-auth {
         self.assertIn("-sql", freeradius.section(bare, "authorize"))
 
     def test_values(self):
-        for text, wanted in (('x = "a b"', "a b"), ("x = a", "a"), ('x = ""', ""), ("y = a", "")):
+        for text, wanted in (('x = "a b"', "a b"), ("x = a", "a"), ('x = ""', ""), ("y = a", ""),
+                             ("x = 'a \"b'", 'a "b')):
             self.assertEqual(freeradius.value(text, "x"), wanted)
 
 
@@ -496,6 +497,20 @@ class Unseen(unittest.TestCase):
             self.unseen(pairs.compared, status=status)
             with unittest.mock.patch.object(look, "status_of", lambda _: True):
                 self.unseen(pages.certificates, "ssl_certificate /etc/x.pem;", status=status)
+
+    def test_the_certificate_of_logins_is_looked_at_wherever_it_is(self):
+        """By a name of a folder and in marks, too, and on a machine without pages."""
+        with tempfile.TemporaryDirectory() as folder:
+            os.mkdir(os.path.join(folder, "mods-enabled"))
+            for name, text in (("radiusd.conf", "confdir = /x\ncertdir = ${confdir}/certs\n"),
+                               ("mods-enabled/eap", '\tcertificate_file = "${certdir}/a.pem"\n')):
+                with open(os.path.join(folder, name), "w", encoding="utf-8") as file:
+                    file.write(text)
+            with unittest.mock.patch.object(places, "RADDB", folder):
+                [fault] = fronts.certificates()
+        self.assertEqual(fault.name, "certificate-ended")
+        self.assertEqual(fault.text, "/x/certs/a.pem is missing")
+        self.assertIn("restart freeradius", fault.cure)
 
     def test_counts_that_are_missing(self):
         """Without them nobody knows how old the balances are."""

@@ -56,6 +56,14 @@ def value(block, name):
     return next(it for it in found.groups() if it is not None) if found else ""
 
 
+def file_at(name):
+    """The path of a file that may begin with a folder of radiusd.conf, as ${certdir}; else ""."""
+    main, found = text("radiusd.conf"), name
+    for _ in range(9):
+        found = re.sub(r"\$\{(\w+)\}", lambda it: value(main, it[1]), found)
+    return found if found.startswith("/") else ""
+
+
 def first_word(block):
     """The first module or policy that a section calls, whatever condition it is in."""
     bare = re.sub(r"\b(?:if|elsif)\s*\(.*\)\s*\{|\belse\s*\{", " ", block)

@@ -55,6 +55,7 @@ def look_at(kind):
     yield from queue()
     yield from counts()
     yield from mirror(kind)
+    yield from certificates()
 
 
 def linked(place, own):
@@ -171,6 +172,14 @@ def cut_off():
             yield Fault("raddb-steps", f"client {name} has {wants[-1]} = yes, and no home_server of "
                         "the type coa has its address: nobody is cut off there",
                         f"write one as in access-servers.conf, and restart freeradius: {PAGE}")
+
+
+def certificates():
+    """The certificate of PEAP, TTLS and TLS: without it nobody logs in by these."""
+    eap = freeradius.text("mods-enabled", "eap")
+    named = re.findall(r"""(?m)^\s*certificate_file\s*=\s*["']?([^"'\s]+)""", eap)
+    for path in sorted({freeradius.file_at(it) for it in named} - {""}):
+        yield from look.certificate(path, "renew it, then: systemctl restart freeradius")
 
 
 def proxies(kind):

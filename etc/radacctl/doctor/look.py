@@ -12,6 +12,8 @@ from radacctl.doctor.faults import Fault
 
 PATH = "/usr/sbin:/usr/bin:/sbin:/bin"
 LONGEST = 60
+# How long a certificate is to last, in seconds.
+SOON = 21 * 86400
 SAMPLE = re.compile(r'^(\w+)(?:\{(.*)\})? (\S+)$', re.M)
 LABEL = re.compile(r'(\w+)="([^"]*)"')
 
@@ -92,6 +94,20 @@ def open_to_others(path, most=None):
     if status and mode_of(status) & (0o007 if most is None else ~most & 0o077):
         yield Fault("mode-open", f"others may read {path}: it has {mode_of(status):o}",
                     f"chmod {'o=' if most is None else f'{most:o}'} {path}")
+
+
+def certificate(path, cure):
+    """The fault of a certificate that is missing, is over, or will be within three weeks."""
+    if status_of(path) is None:
+        yield Fault("certificate-ended", f"{path} is missing", cure)
+        return
+    words = ("openssl", "x509", "-in", path, "-noout")
+    when = must(*words, "-enddate").strip().removeprefix("notAfter=")
+    lasts = lambda seconds: run(*words, "-checkend", str(seconds))[0] == 0
+    if not lasts(0):
+        yield Fault("certificate-ended", f"{path} is over, since {when}", cure)
+    elif not lasts(SOON):
+        yield Fault("certificate-ends", f"{path} is over at {when}", cure)
 
 
 def values_in(path):

@@ -16,7 +16,6 @@ FOLDER, WEB = "/etc/nginx/radacctd", "/etc/radacctd-web"
 # Of the file for nginx what a site changes: these directives, and where pages and tools are.
 CHANGED = re.compile(r"^(?:server_name|ssl_|listen|include radacctd/desks|root|limit_req_zone|"
                      r"fastcgi_param SCRIPT_FILENAME|access_log|error_log)")
-SOON = 21 * 86400
 # It keeps what was changed by hand, as NAME.~1~, which neither nginx nor fail2ban reads.
 COPY = "cp --backup=numbered"
 JAIL, FILTER = "/etc/fail2ban/jail.d/radacctd.conf", "/etc/fail2ban/filter.d/radacctd.conf"
@@ -64,24 +63,9 @@ def configuration(text):
 
 
 def certificates(text):
-    """Each certificate of nginx, and of FreeRADIUS' EAP, is there and lasts three weeks."""
-    found = set(re.findall(r"(?m)^\s*ssl_certificate\s+(\S+?);", text))
-    eap = files.text(f"{site.RADDB}/mods-enabled/eap")
-    found |= {it for it in re.findall(r"(?m)^\s*certificate_file\s*=\s*(\S+)", eap) if it[0] == "/"}
-    for path in sorted(found):
-        renew = "renew it, then: systemctl reload nginx"
-        if path not in text:
-            renew = "renew it, then: systemctl restart freeradius"
-        if look.status_of(path) is None:
-            yield Fault("certificate-ended", f"{path} is missing", renew)
-            continue
-        words = ("openssl", "x509", "-in", path, "-noout")
-        checked = lambda seconds, it=words: look.run(*it, "-checkend", str(seconds))[0]
-        when = look.must(*words, "-enddate").strip().removeprefix("notAfter=")
-        if checked(0):
-            yield Fault("certificate-ended", f"{path} is over, since {when}", renew)
-        elif checked(SOON):
-            yield Fault("certificate-ends", f"{path} is over at {when}", renew)
+    """Each certificate of nginx is there and lasts three weeks."""
+    for path in sorted(set(re.findall(r"(?m)^\s*ssl_certificate\s+(\S+?);", text))):
+        yield from look.certificate(path, "renew it, then: systemctl reload nginx")
 
 
 def modes():
