@@ -9,6 +9,7 @@ import shutil
 import stat
 import subprocess
 import tempfile
+import tomllib
 import unittest
 from unittest import mock
 
@@ -336,6 +337,22 @@ class Existing(Folder):
             self.assertEqual(front.secret_of("wlc", "10.0.0.1"), secret)
         _, line = freeradius.postgres("\tpassword = 'of \"sql\"'\n")
         self.assertEqual(line, '*:*:*:*:of "sql"\n')
+
+    def test_the_other_machine_of_a_pair_reads_its_file(self):
+        """Also that of a site with users in a database: that answer is a table."""
+        wanted = self.wanted({"name": "lobby", "address": "10.0.9.9"}, left_out=["switches"],
+                             pair={"own": "10.9.0.5", "other": "10.9.0.6"},
+                             sql={"server": "db.campus.example", "password_file": "/root/p"})
+        os.mkdir(os.path.join(self.folder, "radacctd"))
+        self.put("radacctd/access-servers.conf", front.clients(None, wanted))
+        clients = {it: {"secret": f"{it}-{it}-{it}"} for it in ("freeradius", "books")}
+        config = mock.Mock(clients=clients, keys={"cashier": "c" * 32}, pair_secret="e" * 32)
+        text = pair.Text(wanted, config)(None)
+        found = answers.Answers(tomllib.loads(text))
+        self.assertEqual((found.sql, found.left_out), (wanted.sql, ["switches"]))
+        self.assertEqual((found.pair["own"], found.pair["second"]), ("10.9.0.6", True))
+        self.assertEqual(found.secrets["client-lobby"], front.secret_of("lobby"))
+        self.assertIn("copy /root/p, too", text)
 
     def test_a_part_of_a_network_keeps_its_secret(self):
         text = front.clients(None, self.wanted({"name": "b", "address": "10.1.2.3"}))

@@ -116,14 +116,17 @@ class Text:
         # Printed codes are redeemed on one machine.
         found |= {"codes": False, "certificate": "", "certificate_key": ""}
         pair = self.answers.pair
+        sql = found.pop("sql", None)
         tables = {"pair": {"own": pair["other"], "other": pair["own"], "second": True},
-                  "secrets": self.secrets()}
+                  **({"sql": sql} if sql else {}), "secrets": self.secrets()}
         lists = {"plan": found.pop("plan"), "access_server": found.pop("access_server")}
         found.pop("pair", None)
         found.pop("secrets", None)
         lines = ["# The other machine of the pair: radacctl setup --yes with this file. It has",
                  "# all secrets: once that is done, remove the first machine's, and the table",
                  "# [secrets] of the other one's, which is for upgrades."]
+        if sql:
+            lines.append(f"# The password of [sql] is not in it: copy {sql['password_file']}, too.")
         lines += [f"{name} = {shown(value)}" for name, value in found.items()]
         for name, rows in lists.items():
             lines += [line for row in rows for line in ("", f"[[{name}]]", *members(row))]
