@@ -113,6 +113,22 @@ class Site(Folder):
         for secret in ("", "two\nlines", "a\\b", "it's \"wlc1\""):
             self.assertRaises(answers.Wrong, self.wanted, secrets={"client-wlc": secret})
 
+    def test_radacctd_listens_where_access_servers_report_to(self):
+        """Without FreeRADIUS it is radacctd itself that they reach, also where a site has chosen."""
+        one = {"name": "lobby", "address": "10.0.0.1"}
+        alone_with = lambda **more: self.wanted(freeradius=False, access_server=[one], **more)
+        self.assertRaisesRegex(answers.Wrong, "give `server`", alone_with)
+        self.assertRaisesRegex(answers.Wrong, "IPv4", alone_with, server="fd00::5")
+        wanted = alone_with(server="10.0.0.5")
+        text = alone.defaults(None, wanted)
+        self.assertEqual(text, 'RADACCTD_BIND="--bind 127.0.0.1 --bind 10.0.0.5"\n')
+        self.assertEqual(alone.defaults(text, wanted), text)
+        self.assertEqual(alone.defaults('RADACCTD_BIND="--bind 10.1.0.5"\n#\n', wanted),
+                         'RADACCTD_BIND="--bind 10.1.0.5 --bind 10.0.0.5"\n#\n')
+        self.assertEqual(alone.defaults("RADACCTD_BIND=--bind=0.0.0.0\n", wanted),
+                         "RADACCTD_BIND=--bind=0.0.0.0\n")
+        self.assertNotIn("BIND", alone.defaults(None, self.wanted(server="10.0.0.5")))
+
     def test_another_usual_class_is_written(self):
         plans = [PLAN, {**PLAN, "class": "gold"}]
         text = front.settings(None, self.wanted(plan=plans), "x" * 16)

@@ -133,8 +133,23 @@ def with_value(text, name, value):
     return (text.rstrip("\n") + "\n" if text else "") + line + "\n"
 
 
+def with_bind(text, address):
+    """The settings of a server to which access servers report: it also listens where they send to.
+    What a site has chosen stays.
+    """
+    found = re.search(r"(?m)^RADACCTD_BIND=(.*)$", text)
+    known = re.findall(r"--bind[ =]([\d.]+)", found[1]) if found else ["127.0.0.1"]
+    if not known or {address, "0.0.0.0"} & set(known):
+        return text
+    binds = " ".join(f"--bind {it}" for it in [*known, address])
+    return with_value(text, "RADACCTD_BIND", f'"{binds}"')
+
+
 def defaults(text, answers):
-    text = with_value(text, "RADACCTD_RADIUS_PORT", FRONT_PORT)
+    if answers.has_front:
+        text = with_value(text, "RADACCTD_RADIUS_PORT", FRONT_PORT)
+    else:
+        text = with_bind(text or "", answers.server)
     # The other machine of a pair sells at this desk, too.
     return with_value(text, "RADACCTD_DESK_BIND", answers.pair["own"]) if answers.pair else text
 
@@ -230,7 +245,7 @@ def of(answers, config):
     yield from user_steps()
     yield Folder(NOTES, 0o700)
     yield ConfigFile(site.CONFIG, config.wanted, 0o640, of_group=site.USER)
-    if answers.has_front:
+    if answers.has_front or answers.server:
         yield File(site.DEFAULTS, lambda old: defaults(old, answers), 0o644)
     yield File(site.BOOKS_SECRET, config.clients["books"]["secret"] + "\n", 0o600)
     # The outbox of a pair takes both; the first is that of the tools.

@@ -257,6 +257,10 @@ class Answers:
         if self.server:
             it = network_of(self.server, "server", "server")
             need(it.num_addresses == 1, "server is one address of this machine", "server")
+            need(self.has_front or it.version == 4, "without FreeRADIUS server is an address of "
+                 "IPv4", "server")
+        need(self.has_front or self.server or not self.access_servers,
+             "without FreeRADIUS access servers report to radacctd itself: give `server`", "server")
 
 
 def read(path):
