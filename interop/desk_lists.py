@@ -486,13 +486,74 @@ def operator_is_told(browser, desk):
     check("nor asked a second time", len(desk.acts) - before, 1)
 
 
+# The words of lists that are broken in the middle, but for those that are longer than any of ours.
+BROKEN = r"""
+const found = [];
+for (const it of document.querySelectorAll(".scroll td")) {
+  const walk = document.createTreeWalker(it, NodeFilter.SHOW_TEXT), range = document.createRange();
+  while (walk.nextNode()) for (const word of walk.currentNode.data.matchAll(/[^\s\u00ad-]+/g)) {
+    if (word[0].length > 24) continue;
+    range.setStart(walk.currentNode, word.index);
+    range.setEnd(walk.currentNode, word.index + word[0].length);
+    if (new Set([...range.getClientRects()].map((box) => box.top)).size > 1) found.push(word[0]);
+  }
+}
+return found;
+"""
+TOTALS = "const it = document.getElementById('totals').closest('.scroll');"
+TOTALS += "return it.scrollWidth <= it.clientWidth"
+WIDTHS = ((390, 800), (1280, 900))
+
+
+def words(browser, desk):
+    """No serial number, moment or state is broken in the middle, and a phone shows the total."""
+    desk.answers = {"may": [(200, {"guests": True, "corrections": True})],
+                    "back": [(200, {"result": "new"})]}
+    opened(browser, desk)
+    has_form(browser)
+    for account in ("t-0123456789ab", "d" * 200, "room 12"):
+        browser.submit({"account": account, "sum": "5.00"})
+        browser.click("#yes")
+        browser.shows(account, "#sales")
+    browser.js("window.confirm = () => true;"
+               "document.querySelector('#sales button:last-child').click();"
+               "document.getElementById('took').click()")
+    browser.shows("taken back", "#sales")
+    in_languages(browser, "the desk's page", lambda size: size != WIDTHS[0] or browser.js(TOTALS))
+    moment = 1_795_872_600
+    desk.answers = {
+        "on": [(200, {"sessions": [on(1, account="d" * 200, heard=moment)]})],
+        "sales": [(200, {"sales": [], "corrections": [
+            {"moment": moment, "cashier": "anna", "number": "D1-261128-ACDEFHJKMNPQ",
+             "account": "t-0123456789ab", "sum": "500"}]})],
+        "codes": [(200, {"codes": [{"moment": moment, "account": "t-0123456789ab",
+                                    "sheet": "week-20261128-acdef", "count": 24}]})],
+        "doctor": [(200, {"looks": False, "moment": moment, "lines": []})]}
+    browser.go(f"http://localhost:{desk.port}/operator/")
+    browser.shows("Read.", "#message")
+    in_languages(browser, "the operator's page", lambda size: True)
+
+
+def in_languages(browser, name, shows_all):
+    for language in ("en", "de", "fr"):
+        browser.js("const it = document.getElementById('language'); it.value = arguments[0];"
+                   "it.dispatchEvent(new Event('change'))", language)
+        for size in WIDTHS:
+            browser.size(*size)
+            got = (browser.js(BROKEN), max(browser.overflow(), 0), shows_all(size))
+            check(f"{name} in {language}, {size[0]} pixels: whole words", got, ([], 0, True))
+    browser.size(1000, 800)
+    browser.js("const it = document.getElementById('language'); it.value = 'en';"
+               "it.dispatchEvent(new Event('change'))")
+
+
 def forgets(browser, desk):
     browser.go(f"http://localhost:{desk.port}/settings.json")
     browser.js("return new Promise((go) => { indexedDB.deleteDatabase('desk').onsuccess = go; })")
 
 
 PARTS = (finds, sells_packages, long_lists, guest, makes_guests, finds_guests, corrects,
-         operator)
+         operator, words)
 
 
 def run(folder, names=()):
