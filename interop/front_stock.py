@@ -98,6 +98,8 @@ METHODS = [
 ]
 SPACED = "room 12"
 ATTRIBUTE = re.compile(r"Attribute \d+ \((User-Name|Class|Vendor-Specific)\).*\n +Value: (.*)")
+# How EAP ends: 3 is success, 4 failure.
+ENDS = re.compile(r"Attribute 79 \(EAP-Message\).*\n +Value: 0(\d)")
 # Mikrotik-Total-Limit, by its number.
 TOTAL = "00003a8c1106"
 
@@ -131,6 +133,8 @@ class Stock:
         self.folder, self.raddb = folder, raddb
         self.port = front.KILL.free_port(front.KILL.socket.SOCK_DGRAM)
         self.log, self.process = os.path.join(folder, "out"), None
+        # What the last login's last answer has of EAP.
+        self.ends = []
         for name in ("log", "run", "log/radacct"):
             os.makedirs(os.path.join(folder, name))
         moved(self)
@@ -205,6 +209,7 @@ class Stock:
         words += ["-t", str(PATIENCE), "-A", source, "-s", SECRET]
         done = subprocess.run(words, capture_output=True, text=True)
         text = done.stdout[done.stdout.rfind("RADIUS message: code=") :]
+        self.ends = ENDS.findall(text)
         if done.returncode or not text.startswith("RADIUS message: code=2"):
             return None
         found = ATTRIBUTE.findall(text.split("\nSTA ")[0])
@@ -251,7 +256,8 @@ def by_steps(radius):
         name = " ".join(method)
         wanted = (["al"], [stamped("al")], [10 * MEBIBYTE])
         check(f"{name}: name, Class and quota", radius.login("al", *method), wanted)
-        check(f"{name}: without money", radius.login("poor", *method), None)
+        got = (radius.login("poor", *method), radius.ends)
+        check(f"{name}: without money, and EAP says so", got, (None, ["4"]))
         check(f"{name}: with the outer name", radius.login("al", *method, "al"), wanted)
     check("a name with a space", radius.login(SPACED, *METHODS[0]), None)
     radius.says("is refused by filter_username", "contains whitespace")

@@ -48,7 +48,9 @@ def tunnels(folder):
         check("each login noted its device", bool(site.uses.read(
             "SELECT 1 FROM use WHERE account = ?", guest.encode())), True)
         site.change(account, state="withdrawn")
-        check("withdrawn", tried(radius, METHODS[0], CODE, CODE), None)
+        for method in METHODS:
+            got = (tried(radius, method, CODE, CODE), radius.ends)
+            check(f"{' '.join(method)}: withdrawn, and EAP says so", got, (None, ["4"]))
         said = subprocess.run(["grep", "-rlia", CODE, f"{folder}/log", f"{folder}/radacct"],
                               capture_output=True, text=True).stdout
         check("no log has the code", said, "")
