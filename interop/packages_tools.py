@@ -7,12 +7,14 @@ import io
 import os
 import random
 import re
+import shutil
 import subprocess
 import time
 import urllib.parse
 import zlib
 
 import front
+import stepped
 from front import MEBIBYTE, check, waits_for
 from packages_logins import OVER, SPENT, fate, part
 from packages_site import FILE, Site, report, station
@@ -139,7 +141,8 @@ class Whole(Site):
 
     def tool(self, command, *more, clock=0):
         """The status and the text of a command."""
-        environment = {**front.with_clock(clock), "RADACCTD_DEFAULTS": "/nonexistent"}
+        environment = stepped.environment(self.folder, clock) if clock else dict(os.environ)
+        environment["RADACCTD_DEFAULTS"] = "/nonexistent"
         done = subprocess.run(self.words(command, *more), capture_output=True, text=True,
                               env=environment)
         return done.returncode, done.stdout + done.stderr
@@ -334,11 +337,13 @@ def lapses(folder):
 
 def steps_of_clocks(site):
     """A clock that is set lapses nobody, whatever it shows."""
-    if front.with_clock(1) is None:
-        raise Missing("faketime: the package faketime has it")
+    if shutil.which("cc") is None:
+        raise Missing("cc: the package gcc has it")
     for days in (0, 30, -30, 400):
-        site.tool("packages tick", clock=days * 86_400)
-        check(f"the clock is set by {days} days: nothing is taken", site.box.debits(), {})
+        status, said = site.tool("packages tick", clock=days * 86_400)
+        name = f"the clock is set by {days} days: the tool looks"
+        check(name, (status, said if status else ""), (0, ""))
+        check("and nothing is taken", site.box.debits(), {})
 
 
 def snapshot(site):

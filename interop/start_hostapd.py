@@ -66,7 +66,9 @@ class Wire:
             if status:
                 raise SystemExit(f"{line}: {said}")
         inside = ["nsenter", "-t", str(self.box.leader()), "-n"]
-        self.start("hostapd.log", [*inside, "hostapd", "-d", f"{self.folder.name}/hostapd"])
+        # Line by line: else its log lags behind by some minutes.
+        hostapd = ["stdbuf", "-oL", "hostapd", "-d", f"{self.folder.name}/hostapd"]
+        self.start("hostapd.log", [*inside, *hostapd])
         time.sleep(2)
         words = ["ip", "netns", "exec", STATION, "wpa_supplicant", "-D", "wired", "-i", STATION]
         self.start("supplicant.log", [*words, "-c", f"{self.folder.name}/supplicant"])
