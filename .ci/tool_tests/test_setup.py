@@ -464,6 +464,22 @@ class Existing(Folder):
         path = os.path.join(self.folder, "sites-available/own")
         self.assertEqual(front.outer(self.wanted()), [path])
 
+    def test_the_proof_asks_where_freeradius_listens(self):
+        heard = lambda: [freeradius.heard_at(kind, front.selling(self.wanted()), port)
+                         for kind, port in (("auth", 1812), ("acct", 1813))]
+        self.assertEqual(heard(), [("127.0.0.1", "1812"), ("127.0.0.1", "1813")])
+        one = SERVER.replace("type = auth\n", "type = auth\n\tipaddr = 10.0.0.5\n")
+        one = one.replace("port = 1812", "port = 11812")
+        self.put("sites-enabled/eduroam", one)
+        self.assertEqual(heard(), [("10.0.0.5", "11812"), ("127.0.0.1", "1813")])
+        for more in ("listen {\n\ttype = auth\n\tipv6addr = ::\n\tport = 0\n}\n",
+                     "listen {\n\ttype = auth\n\tipaddr = *\n\tproto = tcp\n}\n"):
+            self.put("sites-enabled/eduroam", one.replace("listen {", f"{more}listen {{", 1))
+            self.assertEqual(heard()[0], ("10.0.0.5", "11812"))
+        self.put("sites-enabled/eduroam", one.replace("listen {", "listen {\n\ttype = auth+acct\n"
+                                                      "\tipaddr = *\n\tport = 0\n}\nlisten {", 1))
+        self.assertEqual(heard(), [("127.0.0.1", "1812"), ("127.0.0.1", "1813")])
+
     def test_several_are_told(self):
         self.put("sites-enabled/more", SERVER.replace("eduroam", "more"))
         self.assertRaisesRegex(steps.Failed, "eduroam, more", front.outer, self.wanted())

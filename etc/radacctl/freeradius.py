@@ -124,6 +124,23 @@ def selling():
                                             text("sites-enabled", it))] or found
 
 
+def heard_at(kind, names, port):
+    """Where files of virtual servers take logins or reports by UDP: address and port. One of all
+    addresses, or one that cannot be told, is this machine's loopback.
+    """
+    found = []
+    for block in (it for name in names for it in LISTEN.findall(text("sites-enabled", name))):
+        if value(block, "type") in (kind, "auth+acct") and value(block, "proto") != "tcp":
+            address = value(block, "ip(?:v4)?addr")
+            is_one = re.fullmatch(r"[0-9]+(?:\.[0-9]+){3}", address) and address != "0.0.0.0"
+            number = value(block, "port")
+            number = number if number.isdecimal() and number != "0" else str(port)
+            if not value(block, "ipv6addr"):
+                found.append((address if is_one else "127.0.0.1", number))
+    return next((it for it in found if it[0] == "127.0.0.1"), None) or next(
+        iter(found), ("127.0.0.1", str(port)))
+
+
 def included(name="radiusd.conf"):
     """The files that radiusd.conf includes one by one, and those that they include: clients.conf."""
     found = []

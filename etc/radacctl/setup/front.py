@@ -131,11 +131,16 @@ def parts(answers, config):
 
 def outer(answers):
     """The files of the virtual servers that the site sells by."""
-    found = answers.virtual_servers or freeradius.serving("auth", "acct") or ["default"]
+    found = selling(answers)
     if len(found) > 1 and not answers.virtual_servers:
         raise steps.Failed(f"several virtual servers take logins or reports: {', '.join(found)}. "
                            "Name those that you sell by: virtual_servers = [..]")
     return [place_of(it) for it in found]
+
+
+def selling(answers):
+    """The names of these files."""
+    return answers.virtual_servers or freeradius.serving("auth", "acct") or ["default"]
 
 
 def tunnels():

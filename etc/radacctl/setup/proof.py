@@ -10,7 +10,7 @@ import os
 import secrets
 import time
 
-from radacctl import desk, files, names, site
+from radacctl import desk, files, freeradius, names, site
 from radacctl.doctor import kind, look
 from radacctl.setup import alone, front, steps
 
@@ -125,7 +125,9 @@ class Proof:
     def client(self, port, act, lines):
         address, secret = front.TEST_ADDRESS, front.secret_of(front.TEST_USER)
         lines = [*lines, f"Packet-Src-IP-Address = {address}", f"NAS-IP-Address = {address}"]
-        return look.radclient(f"127.0.0.1:{port}", act, secret, lines, 3)
+        # A FreeRADIUS that serves may listen at one address of the machine alone.
+        where = freeradius.heard_at(act, front.selling(self.answers), port)
+        return look.radclient(":".join(where), act, secret, lines, 3)
 
     def wait_for_login(self, wanted):
         said, end = "", time.monotonic() + PATIENCE
