@@ -11,6 +11,7 @@ ghost use Rattle.acct_program_commands.specs.Tally.{is_event, with_drop_for, las
 ghost use Rattle.acct_program_commands.specs.Tally.{with_arrival};
 ghost use Rattle.acct_program_commands.specs.Tally.{has_datagram, is_request, with_report};
 
+use crate::book_names::log_of;
 use crate::fault::Fault as Trouble;
 use crate::figures::{Figures, State, write_figures};
 use crate::file_changes::ReplacesFiles;
@@ -84,20 +85,19 @@ impl<'r, R> Drop for StateSource<'r, R> {
 }
 
 impl<'r, R: ReadsFiles> StateSource<'r, R> {
-    /// The state of a server that has these gauges and the book in this file.
+    /// The state of a server that has these gauges and the book in this file. The log is beside the
+    /// file to which the book's name leads.
     pub fn new(
         runtime: &'r R,
         alloc: Global,
         gauges: &'r Gauges,
         book: &Text,
     ) -> Result<StateSource<'r, R>, AllocError> {
-        let name = book.as_str();
-        let log = format!(in alloc; "{name}-wal")?;
         Ok(StateSource {
             runtime,
             gauges,
             book: book.copy(alloc)?,
-            log: Text { text: log },
+            log: log_of(runtime, alloc, book.as_str())?,
         })
     }
 

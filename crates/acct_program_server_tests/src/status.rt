@@ -13,7 +13,7 @@ use acct_wire::Reason;
 use std::alloc::Global;
 use std::fs::{File, OpenFile};
 use std::io::{Read, Write};
-use std::os::unix::fs::PermissionsExt;
+use std::os::unix::fs::{PermissionsExt, symlink};
 use std::test::Fail;
 use std::{fs, io};
 
@@ -137,8 +137,11 @@ fn arrivals(count: u64, last_at: u64) -> Arrivals {
 // The octets of a book of more than four gibibytes, of which none are written.
 const BOOK_OCTETS: u64 = 4_294_967_301;
 
+// The octets of its log.
+const LOG_OCTETS: u64 = 8_291;
+
 // What a server counted that started at 990, received only datagrams, dropped nothing but those that
-// were too short, and has no file of balances, and a long book without a log.
+// were too short, and has no file of balances, and a long book with a log.
 fn figures(tally: Tally, last_event_at: u64) -> Figures {
     let mut dropped = [0; Reason::COUNT];
     dropped[1] = tally.drops;
@@ -155,7 +158,7 @@ fn figures(tally: Tally, last_event_at: u64) -> Figures {
             has_book: true,
             balances: None,
             book_octets: Some(BOOK_OCTETS),
-            log_octets: None,
+            log_octets: Some(LOG_OCTETS),
         },
     }
 }
@@ -242,11 +245,20 @@ fn is_kept<X: Exchange>(rt: &HostRuntime, exchange: &mut X) -> Result<bool, Fail
     Ok(begins && stays && goes_on && idles && is_old)
 }
 
+// Makes a book in another folder, which a name here leads to.
+fn link_book(rt: &HostRuntime) -> Result<(), Fail> {
+    fs::create_dir(rt, "status-folder")?;
+    File::create(rt, "status-folder/book")?.set_len(BOOK_OCTETS)?;
+    File::create(rt, "status-folder/book-wal")?.set_len(LOG_OCTETS)?;
+    symlink(rt, "status-folder/book", "status-book")?;
+    Ok(())
+}
+
 // The file is written at the first turn, when ten seconds have gone by, and at the end, by an
 // exchange that counts its calls: a drop, a reply, and an event without an answer.
 #[test]
 fn keeps_a_file(rt: HostRuntime) -> Result<(), Fail> {
-    File::create(&rt, "status-book")?.set_len(BOOK_OCTETS)?;
+    link_book(&rt)?;
     let told = Vec::new(rt.alloc());
     let gauges = Gauges::new();
     let mut watched = watched(&rt, &gauges, "kept-status", [1000, 1009, 1010], told)?;
@@ -266,6 +278,7 @@ fn keeps_a_file(rt: HostRuntime) -> Result<(), Fail> {
     );
     fs::remove_file(&rt, "kept-status")?;
     fs::remove_file(&rt, "status-book")?;
+    fs::remove_dir_all(&rt, "status-folder")?;
     Ok(())
 }
 
