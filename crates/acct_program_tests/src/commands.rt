@@ -9,10 +9,15 @@ const UPLOAD: &str = "voucher,account,sum\nV-1,al,500\nV-2,bo,300\nV-1,al,501\n"
 const BALANCES: &str = "account,balance,overrun\nal,500,0\nbo,300,0\n";
 
 // A site with its book, from its first command to the last.
-static LIFE: [Row; 19] = [
+static LIFE: [Row; 20] = [
     (
         ("check --config life.toml", ""),
         (Status::Done, "ok: 1 clients, 2 plans, 2 keys\n", ""),
+    ),
+    // What is no file is not opened: a pipe would keep it waiting.
+    (
+        ("check --config /dev/null", ""),
+        (Status::Refused, "", "file: cannot read\n"),
     ),
     (
         ("check --config life.toml --db life-book", ""),

@@ -344,10 +344,12 @@ static OVERWRITING: [&str; 14] = [
 ];
 
 // Commands whose files are free, or were written by the program.
-static KEEPING: [&str; 3] = [
+static KEEPING: [&str; 4] = [
     "check --config safe.toml --status safe-status --balances safe-balances",
     "check --config safe.toml --status safe-empty --balances safe-new",
     "check --config safe.toml --db safe-book --status no-folder/status --balances safe-new",
+    // Two folders of one number, each on a device of its own.
+    "check --config safe.toml --status /proc/safe-out --balances /sys/safe-out",
 ];
 
 // Whether each of these commands ends so.

@@ -1,7 +1,7 @@
 //! Logs that cannot be read to their end. That is no damage, and the book is refused all the same.
 use crate::trial::{Wanted, alter_log, comes, write_sites};
 use acct_program::Status;
-use acct_sql_log::{Unread, damage_in};
+use acct_sql_log::{Unread, damage_beside, damage_in};
 use std::alloc::Global;
 use std::io::{ErrorKind, Read};
 use std::os::unix::fs::symlink;
@@ -88,5 +88,16 @@ fn a_read_that_fails_is_told(rt: HostRuntime) -> Result<(), Fail> {
     for count in [0, 31, 32, 33, 4_152, 5_000, log.len()] {
         assert!(rt; is_told(rt.alloc(), log.as_slice(), count), "{count}");
     }
+    Ok(())
+}
+
+// The log of a book may be opened, and each read of it fails.
+#[test]
+fn a_log_whose_reads_fail_is_told(rt: HostRuntime) -> Result<(), Fail> {
+    let _ = fs::remove_file(&rt, "failing-book-wal");
+    symlink(&rt, "/proc/self/mem", "failing-book-wal")?;
+    let found = damage_beside(&rt, rt.alloc(), "failing-book");
+    assert!(rt; matches!(found, Err(Unread::CannotRead)));
+    fs::remove_file(&rt, "failing-book-wal")?;
     Ok(())
 }
