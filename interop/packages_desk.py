@@ -232,9 +232,7 @@ def buttons(folder):
     with tempfile.TemporaryDirectory() as staged:
         start_site.staged(staged)
         with Machine(start_site.PACKAGES, states=STATES) as box:
-            start_site.prepare(box, staged)
-            box.must("sed -i 's/^# packages = true/packages = true/; s/^# desk_/desk_/; "
-                     f"s/^# operators/operators/' {ANSWERS}")
+            start_site.prepare_packages(box, staged)
             box.write(ANSWERS, box.must(f"cat {ANSWERS}") + FREE, 0o600)
             start_site.set_up(box)
             box.write("/etc/radacctd-packages/packages.toml", FILE, 0o644)

@@ -84,9 +84,7 @@ def systemd(folder):
     with tempfile.TemporaryDirectory() as staged:
         start_site.staged(staged)
         with Machine(start_site.PACKAGES, states=STATES) as box:
-            start_site.prepare(box, staged)
-            box.must("sed -i 's/^# packages = true/packages = true/; s/^# desk_/desk_/; "
-                     f"s/^# operators/operators/' {start_site.ANSWERS}")
+            start_site.prepare_packages(box, staged)
             start_site.set_up(box)
             check("the doctor finds nothing", start_site.is_sound(box, 240), [])
             said = box.run(f"radacctl setup --yes {start_site.ANSWERS}")

@@ -41,6 +41,13 @@ def prepare(box, folder):
     box.write(ANSWERS, answers(box), 0o600)
 
 
+def prepare_packages(box, folder):
+    """The same for a site that sells packages at desks, and has operators."""
+    prepare(box, folder)
+    box.must("sed -i 's/^# packages = true/packages = true/; s/^# desk_/desk_/; "
+             f"s/^# operators/operators/' {ANSWERS}")
+
+
 ROLE = """CREATE ROLE radius LOGIN PASSWORD '{}';
 CREATE DATABASE radius OWNER radius;
 """

@@ -41,7 +41,8 @@ def number(text):
 
 
 def numbers(text):
-    return re.sub(r"\d{4,}(?:\.\d+)?", lambda it: number(it[0]), text)
+    # A seed is typed as it stands.
+    return re.sub(r"(?<!seed )\b\d{4,}(?:\.\d+)?", lambda it: number(it[0]), text)
 
 
 def shown(row):
