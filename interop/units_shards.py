@@ -215,6 +215,9 @@ def copied(site):
     check("they come", until(there, 30), True)
     modes = box.must(f"stat -c '%A %U %G' {folder}/sf.csv").strip()
     check("with their rights", modes, "-rw-r----- radacctd radacctd-balances")
+    copies = f"/run/radacctd-balances-from-127.0.0.1/sf.csv {folder}/sf.csv"
+    box.must(f"touch -d '+1 hour' {copies}; echo later,1,0 >> {OTHER}/sf.csv")
+    check("one that a clock left which was ahead is replaced", until(there, 30), True)
     status = box.run("ssh -o BatchMode=yes radacctd-copy@127.0.0.1 cat /etc/passwd")[0]
     check("nothing else can be asked for", status != 0, True)
 

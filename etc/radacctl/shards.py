@@ -9,7 +9,7 @@ import os
 import re
 import time
 
-from radacctl import names, plans
+from radacctl import files, names, plans
 from radacctl.names import octets_of, shown
 
 SHARDS = [f"s{digit}" for digit in "0123456789abcdef"]
@@ -18,6 +18,8 @@ PLANS = list(plans.HEADER)
 PROBE = b"radacctd-probe"
 HEADER = ["shard", "address", "radius", "desk"]
 TABLE = "/etc/radacctd-shards.csv"
+# In seconds: what was written later than this from now was written by a clock that was ahead.
+AHEAD = 60
 
 
 class Wrong(Exception):
@@ -77,30 +79,47 @@ def balances_in(folder, shard):
     return names.balances_in(path), written
 
 
-def written(path, text, moment=None):
-    """Writes a file whole or not at all, for those who may read its folder's files."""
-    with open(path + ".new", "w", encoding="ascii", newline="") as file:
+def written(path, text, moment, mode=0o640):
+    """Writes a file whole or not at all, and follows no link. The moment becomes its time of change."""
+    files.remove(path + ".new")
+    flags = os.O_CREAT | os.O_EXCL | os.O_WRONLY | os.O_NOFOLLOW
+    handle = os.open(path + ".new", flags, 0o600)
+    with os.fdopen(handle, "w", encoding="ascii", newline="") as file:
         file.write(text)
-        os.fchmod(file.fileno(), 0o640 if moment else 0o644)
-    if moment:
-        os.utime(path + ".new", (moment, moment))
+        file.flush()
+        os.fchmod(handle, mode)
+        os.utime(handle, (moment, moment))
     os.rename(path + ".new", path)
+
+
+def as_old_as(moments):
+    """The moment of what is joined: that of its oldest part. One of a time to come says nothing of
+    how old its part is, which counts as older than all.
+    """
+    now = time.time()
+    return min([now, *(0 if it > now + AHEAD else it for it in moments)])
+
+
+def is_written(path, text, moment):
+    """Whether a file has this text and this time of change already."""
+    return os.path.exists(path) and os.stat(path).st_mtime == moment and text_of(path) == text
 
 
 def join_balances(folder):
     """One file of all balances, as old as the oldest part."""
-    made, oldest = io.StringIO(newline=""), time.time()
+    made, moments = io.StringIO(newline=""), []
     writer = csv.writer(made, lineterminator="\n")
     writer.writerow(names.BALANCES)
     for shard in SHARDS:
         found, moment = balances_in(folder, shard)
-        oldest = min(oldest, moment)
+        moments.append(moment)
         for account, balance in found.items():
             if account != PROBE:
                 writer.writerow((shown(account), balance, max(-balance, 0)))
-    path = os.path.join(folder, "balances.csv")
-    if not os.path.exists(path) or os.stat(path).st_mtime != oldest:
-        written(path, made.getvalue(), oldest)
+    path, moment = os.path.join(folder, "balances.csv"), as_old_as(moments)
+    # While one book is down, and the moment stays, those of the others go on.
+    if not is_written(path, made.getvalue(), moment):
+        written(path, made.getvalue(), moment)
 
 
 def plans_in(folder, shard):
@@ -135,18 +154,21 @@ def join_plans(folder):
 
 
 def text_of(path):
-    with open(path, encoding="utf-8") as file:
+    with open(path, encoding="utf-8", newline="") as file:
         return file.read()
 
 
 def join_counts(folder):
-    """One file of the counts of the books that are here; a label names the book of each."""
-    heads, samples = {}, {}
+    """One file of the counts of the books that are here, as old as the oldest part: so an alert sees
+    that one server has stopped. A label names the book of each.
+    """
+    heads, samples, moments = {}, {}, []
     for shard in SHARDS:
         path = os.path.join(folder, f"{shard}.counts")
         if not os.path.exists(path):
             continue
         with open(path, encoding="ascii") as file:
+            moments.append(os.fstat(file.fileno()).st_mtime)
             for line in file:
                 if found := re.fullmatch(r"# (?:HELP|TYPE) (\w+) .*\n", line):
                     heads.setdefault(found[1], {})[line] = None
@@ -155,4 +177,4 @@ def join_counts(folder):
                     samples.setdefault(found[1], []).append(f"{found[1]}{{{labels}}} {found[3]}\n")
     text = "".join("".join([*heads.get(name, ()), *lines]) for name, lines in samples.items())
     if text:
-        written(os.path.join(folder, "radacctd.prom"), text)
+        written(os.path.join(folder, "radacctd.prom"), text, as_old_as(moments), 0o644)

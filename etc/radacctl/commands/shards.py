@@ -67,10 +67,13 @@ home_server_pool radacctd-{shard} {{
 	type = fail-over
 	home_server = radacctd-{shard}
 }}
+"""
+# The queue of a book, and the folder above it: for filed reports that are sent again.
+READER = """\
 listen {{
 	type = detail
 	virtual_server = radacctd
-	filename = ${{radacctdir}}/radacctd/{shard}/detail-*
+	filename = ${{radacctdir}}/radacctd/{0}detail-*
 	track = yes
 	load_factor = 100
 	poll_interval = 1
@@ -154,7 +157,8 @@ def show_settings(words, table):
     if words.act == "defaults":
         print(MADE + DEFAULTS.format(**table[words.book]), end="")
     elif words.act == "freeradius":
-        print(MADE + "".join(FREERADIUS.format(**it) for it in table.values()), end="")
+        parts = [FREERADIUS.format(**it) + READER.format(f"{it['shard']}/") for it in table.values()]
+        print(MADE + "".join(parts) + READER.format(""), end="")
     else:
         print(MADE + nginx_of(table), end="")
     return 0
@@ -206,9 +210,9 @@ def sell_part(place, octets, options):
     words = [f"{site.SBIN}/radacctl", "sell", "--host", place["address"]]
     words += ["--port", str(place["desk"]), *options]
     done = subprocess.run(words, input=octets, capture_output=True)
-    for line in done.stderr.decode().splitlines():
+    for line in done.stderr.decode(errors="replace").splitlines():
         print(f"{place['shard']}: {line}", file=sys.stderr)
-    return done.stdout.decode(), done.returncode
+    return done.stdout.decode(errors="replace"), done.returncode
 
 
 def sell(words, table):
@@ -231,7 +235,7 @@ def tell_sale(parts, answers):
     """Prints the report of all books as radacctd-sell prints that of one."""
     names, sums = ("added", "repeated"), [0, 0, len(parts.refused)]
     causes, stops = dict(parts.refused), []
-    for shard, (said, _) in answers.items():
+    for shard, (said, status) in answers.items():
         for line in said.splitlines():
             if found := SUMMARY.fullmatch(line):
                 names = (found[1], found[3].strip(", "))
@@ -240,12 +244,16 @@ def tell_sale(parts, answers):
                 causes[parts.numbers[shard, int(found[1])]] = found[2]
             else:
                 stops.append(f"{shard}: {line}")
+        if status < 0:
+            stops.append(f"{shard}: stopped by signal {-status}; give the same file again")
     end = " together" if names[0] == "vouchers" else ""
     print(f"{names[0]} {sums[0]}, {names[1]} {sums[1]}{end}, refused {sums[2]}")
     for number in sorted(causes):
         print(f"{number}: {causes[number]}")
     print("".join(it + "\n" for it in stops), end="")
-    statuses = {status for _, status in answers.values()} | ({1} if parts.refused else set())
+    # A tool that was killed has a status below 0.
+    statuses = {1 if it < 0 else it for _, it in answers.values()}
+    statuses |= {1} if parts.refused else set()
     return max(statuses, default=0)
 
 
@@ -255,6 +263,8 @@ def faults_of(shard, rows, oldest):
     age = time.time() - written
     if age > oldest:
         yield f"{shard}: the balances are {age:.0f} seconds old"
+    if -age > books.AHEAD:
+        yield f"{shard}: the balances are of {-age:.0f} seconds from now: look at the clocks"
     for account, balance in found.items():
         if books.shard_of(account) != shard and (account != books.PROBE or balance != 0):
             yield f"{shard}: {shown(account)} belongs into {books.shard_of(account)}: {balance}"
@@ -267,7 +277,7 @@ def check(words, _table):
     for shard in books.SHARDS:
         try:
             rows = books.balances_in(words.balances, shard)
-        except (OSError, ValueError) as fault:
+        except (OSError, ValueError, csv.Error) as fault:
             faults.append(f"{shard}: {fault}")
             continue
         faults += faults_of(shard, rows, words.oldest)
@@ -307,7 +317,7 @@ def join(words, _table):
             try:
                 act(folder)
                 said = None
-            except (OSError, ValueError) as fault:
+            except (OSError, ValueError, csv.Error) as fault:
                 said = str(fault)
             if said and said != told.get(act):
                 program.say(said)
@@ -367,6 +377,6 @@ def main(words):
     try:
         table = None if words.act in WITHOUT_TABLE else books.table_of(words.table)
         return ACTS[words.act](words, table)
-    except (books.Wrong, OSError, ValueError, KeyError) as fault:
+    except (books.Wrong, OSError, EOFError, ValueError, KeyError, csv.Error) as fault:
         program.say(fault)
         return 1

@@ -1,0 +1,132 @@
+"""What is joined of 16 books, and how old it counts; and a sale of which a part was killed."""
+
+import contextlib
+import io
+import os
+import tempfile
+import time
+import unittest
+
+from radacctl import shards as books
+from radacctl.commands import shards
+
+HOUR = 3600
+COUNTS = "# HELP radacctd_up Up.\n# TYPE radacctd_up gauge\nradacctd_up 1\n"
+TABLE = "shard,address,radius,desk\n" + "".join(
+    f"{it},127.0.0.1,{18130 + at},{8100 + at}\n" for at, it in enumerate(books.SHARDS))
+
+
+class Joined(unittest.TestCase):
+    def setUp(self):
+        folder = tempfile.TemporaryDirectory()
+        self.addCleanup(folder.cleanup)
+        self.folder, self.now = folder.name, int(time.time())
+        for it in books.SHARDS:
+            self.write(it, 5)
+
+    def path(self, name):
+        return os.path.join(self.folder, name)
+
+    def write(self, shard, balance, age=0):
+        """A book's files, of so many seconds ago."""
+        texts = {f"{shard}.csv": f"account,balance,overrun\nof-{shard},{balance},0\n",
+                 f"{shard}.counts": COUNTS}
+        for name, text in texts.items():
+            with open(self.path(name), "w", encoding="ascii") as file:
+                file.write(text)
+            os.utime(self.path(name), (self.now - age, self.now - age))
+
+    def joined(self):
+        """The balance of each account of the joined file, and how old it is."""
+        books.join_balances(self.folder)
+        with open(self.path("balances.csv"), encoding="ascii") as file:
+            rows = [line.split(",") for line in file.read().splitlines()[1:]]
+        found = {name: int(balance) for name, balance, _ in rows}
+        return found, self.now - os.stat(self.path("balances.csv")).st_mtime
+
+    def test_while_one_book_is_down_the_others_go_on(self):
+        self.write("s5", 5, HOUR)
+        self.assertEqual(self.joined()[1], HOUR)
+        self.write("s3", 77)
+        found, age = self.joined()
+        self.assertEqual((found["of-s3"], age), (77, HOUR))
+
+    def test_what_is_of_a_time_to_come_counts_as_old(self):
+        self.write("s5", 5, -HOUR)
+        self.assertGreater(self.joined()[1], 10 * 365 * 86_400)
+        self.write("s5", 5, -books.AHEAD + 10)
+        self.assertLess(abs(self.joined()[1]), 10)
+
+    def checked(self):
+        words = shards.parsed(["--balances", self.folder, "check"])
+        said = io.StringIO()
+        with contextlib.redirect_stderr(said), contextlib.redirect_stdout(io.StringIO()):
+            status = shards.check(words, None)
+        return status, said.getvalue()
+
+    def test_the_check_finds_what_is_of_a_time_to_come(self):
+        for it in books.SHARDS:
+            with open(self.path(f"{it}.csv"), "w", encoding="ascii") as file:
+                file.write("account,balance,overrun\n")
+        self.assertEqual(self.checked(), (0, ""))
+        os.utime(self.path("sc.csv"), (self.now + HOUR, self.now + HOUR))
+        status, said = self.checked()
+        self.assertEqual(status, 1)
+        self.assertRegex(said, r"^sc: the balances are of 3[56]\d\d seconds from now: look at the")
+
+    def test_a_damaged_file_is_a_fault_and_no_end(self):
+        with open(self.path("s7.csv"), "wb") as file:
+            file.write(bytes(200_000))
+        status, said = self.checked()
+        self.assertEqual(status, 1)
+        self.assertIn("\ns7: ", "\n" + said)
+        self.assertIn("\ns8: ", "\n" + said)
+        words = shards.parsed(["--balances", self.folder, "--counts", self.folder, "join"])
+        with contextlib.redirect_stderr(io.StringIO()):
+            self.assertEqual(shards.join(words, None), 1)
+        self.assertTrue(os.path.exists(self.path("radacctd.prom")))
+
+    def test_counts_are_as_old_as_those_of_the_server_that_stopped(self):
+        self.write("s9", 5, HOUR)
+        books.join_counts(self.folder)
+        found = os.stat(self.path("radacctd.prom"))
+        self.assertEqual((self.now - found.st_mtime, found.st_mode & 0o777), (HOUR, 0o644))
+
+    def test_a_link_in_the_folder_is_not_followed(self):
+        """The server's user owns the folder, and root may give the command by hand."""
+        with open(self.path("other"), "w", encoding="ascii") as file:
+            file.write("another's")
+        for name in ("balances.csv", "radacctd.prom"):
+            os.symlink(self.path("other"), self.path(f"{name}.new"))
+        self.joined()
+        books.join_counts(self.folder)
+        with open(self.path("other"), encoding="ascii") as file:
+            self.assertEqual(file.read(), "another's")
+        self.assertFalse(os.path.islink(self.path("balances.csv")))
+
+
+class Told(unittest.TestCase):
+    def test_a_part_that_was_killed_is_no_success(self):
+        parts = shards.Parts([["V-1", "al", "5"], ["V-2", "bo", "5"]])
+        answers = {"s1": ("added 1, repeated 0, refused 0\n", 0), "s2": ("", -9)}
+        said = io.StringIO()
+        with contextlib.redirect_stdout(said):
+            status = shards.tell_sale(parts, answers)
+        self.assertEqual(status, 1)
+        self.assertEqual(said.getvalue(), "added 1, repeated 0, refused 0\n"
+                         "s2: stopped by signal 9; give the same file again\n")
+
+    def test_freeradius_reads_each_queue_and_what_is_moved_back(self):
+        with tempfile.NamedTemporaryFile("w", encoding="ascii") as file:
+            file.write(TABLE)
+            file.flush()
+            said = io.StringIO()
+            with contextlib.redirect_stdout(said):
+                self.assertEqual(shards.main(["--table", file.name, "freeradius"]), 0)
+        for name in ("", *(f"{it}/" for it in books.SHARDS)):
+            line = f"\tfilename = ${{radacctdir}}/radacctd/{name}detail-*\n"
+            self.assertEqual(said.getvalue().count(line), 1, name)
+
+
+if __name__ == "__main__":
+    unittest.main()
