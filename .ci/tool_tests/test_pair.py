@@ -13,6 +13,7 @@ import time
 import unittest
 from unittest import mock
 
+from radacctl import outbox
 from tool_tests import ROOT
 
 
@@ -85,20 +86,73 @@ class Pair(unittest.TestCase):
             self.assertAlmostEqual(self.asked(ahead), ahead, delta=5)
         self.assertEqual(self.asked(0), 0)
 
+    def test_a_clock_that_was_ahead_leaves_no_moment_to_come(self):
+        """Else what moves would be a fault, and --settle would end, until that time has come."""
+        now = time.time()
+        at = lambda moment: mock.patch.object(COMPARE.time, "time", lambda: moment)
+        for moment in (now + 24 * HOUR, now + 24 * HOUR + 20, now + 24 * HOUR + 40):
+            with at(moment):
+                it = self.turn(state(moment, {"al": 5, "bo": 1}),
+                               state(moment, {"al": 5, "bo": 2}, apart=0))
+        self.assertEqual(it.faults, ["account bo: 1 here, 2 there"])
+        said = []
+        for moment in range(20, 100, 20):
+            with at(now + moment):
+                it = self.turn(state(now + moment, {"al": 3, "bo": 1}),
+                               state(now + moment, {"al": 5 if moment < 60 else 3, "bo": 2}, apart=0))
+            said.append((it.faults, it.seen["settled"] >= now + 20))
+        differs = ["account bo: 1 here, 2 there"]
+        self.assertEqual(said[0], ([], False))
+        self.assertEqual(said[-1], (differs, True))
+        self.assertNotIn("al", str([faults for faults, _ in said]).replace("balance", ""))
+
+    def test_what_was_seen_may_be_damaged(self):
+        for text in ("[]", "0", "null", '{"settled": "x"}', "\0" * 50):
+            with open(os.path.join(self.folder, "seen.json"), "w", encoding="ascii") as file:
+                file.write(text)
+            now = time.time()
+            self.assertEqual(self.turn(state(now, {}), state(now, {}, apart=0)).faults, [])
+
+    def test_no_link_of_the_folder_is_followed(self):
+        """Another user than root owns it, and root gives the command by hand."""
+        other = os.path.join(self.folder, "other")
+        with open(other, "w", encoding="ascii") as file:
+            file.write("another's")
+        names = ("seen.json", "balances.csv", "plans.csv")
+        for name in names:
+            path = os.path.join(self.folder, name)
+            os.symlink(other, path)
+            os.symlink(other, f"{path}.{os.getpid()}")
+        now = time.time()
+        self.turn(state(now, {"al": 5}), state(now, {"al": 5}, apart=0))
+        with open(other, encoding="ascii") as file:
+            self.assertEqual(file.read(), "another's")
+        self.assertEqual(self.copied(), ["al,5,0"])
+
+    def test_the_outbox_is_no_link_to_another_database(self):
+        other, path = (os.path.join(self.folder, it) for it in ("book", "outbox.db"))
+        outbox.Store(other, True)
+        os.symlink(other, path)
+        with self.assertRaisesRegex(OSError, "outbox.db is a link"):
+            outbox.Store(path)
+
     def settle(self, *pairs):
         """What --settle prints and returns if both machines have these balances, turn by turn."""
         moments = iter(range(0, 10_000, 20))
         left, now = list(pairs), time.time()
+        clock = [now]
 
         def state_of(_):
             one, other = left.pop(0) if len(left) > 1 else left[0]
-            moment = now + next(moments)
+            clock[0] = moment = now + next(moments)
             return {**state(moment, one), "there": state(moment, other, apart=0)}
 
         words = ["x", "--other", "127.0.0.1:1", "--settle", "--state", self.folder]
         said = io.StringIO()
         with mock.patch.object(COMPARE, "state_of", state_of), mock.patch("sys.argv", words):
-            with mock.patch.object(COMPARE.time, "sleep"), contextlib.redirect_stdout(said):
+            slept = mock.patch.object(COMPARE.time, "sleep")
+            at = mock.patch.object(COMPARE.time, "time", lambda: clock[0])
+            with slept, at, contextlib.redirect_stdout(said):
                 status = COMPARE.main()
         return status, said.getvalue()
 

@@ -56,6 +56,9 @@ class Store:
     def __init__(self, path, may_make=False):
         if not may_make and not os.path.exists(path):
             raise OSError(f"there is no {path}")
+        # Root may give the command, and another user owns the folder.
+        if os.path.islink(path):
+            raise OSError(f"{path} is a link")
         self.opened = sqlite3.connect(
             path, timeout=30, isolation_level=None, check_same_thread=False
         )
