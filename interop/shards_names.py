@@ -1,4 +1,4 @@
-"""The part of interop/shards about who pays: a report goes to the book of that name, and no other."""
+"""The part of interop/shards about who pays: a report goes to the book of that name."""
 
 import os
 import re

@@ -219,6 +219,8 @@ def moved(site):
     lines = {at: text.replace("10.0.0.7", ADDRESSES[1]) for at, text in
              commands("## Move a book").items()}
     one, two, account = site.one, site.two, site.guest_of("s7")
+    run(one, "a debit before", f"radacctd-shards debit {account} 20 VOID-V-9")
+    site.balances[account] -= 20
     run(one, "move, step 1", lines[1])
     check("a report while it is away", pair_page.report(one, "m1", account, 1), True)
     run(one, "move, step 2", lines[2])
@@ -242,6 +244,10 @@ def moved(site):
     run(one, "a sale", f"{sale} | radacctd-shards sell --key-file /root/cashier.key")
     site.balances[account] += 3
     written(site)
+    two.must("umask 077; echo books-secret > /etc/radacctd-books.secret")
+    status, said = two.run(f"radacctd-shards debit {account} 20 V-9")
+    check("the journal of its debits came along",
+          (status, "VOID-V-9 was given before" in said), (1, True))
     state = one.run("systemctl is-enabled radacctd@s7; ls /var/lib/radacctd")[1].split()
     check("the old place has no server", ("s7.moved" in state, "s7" in state, state[0]),
           (True, False, "disabled"))

@@ -250,6 +250,28 @@ def others(site, one, model):
     check("nginx finds its book", (got[0], got[1]["account"]), (200, account.decode()))
 
 
+def filed(site, one, model):
+    """A report that radacctd would never answer is charged in its book once it is mended: the page
+    has it moved to the folder above the queues.
+    """
+    number = model.accounts.index(b"guest-102")
+    session, account, octets, _ = again = model.report(number, 3 * MEBIBYTE, "F", status=2)
+    sent(one.radius, [again])
+    wrong, right = (f"Acct-Input-Gigawords = {it}" for it in (1 << 30, 0))
+    lines = front.report("Stop", session, account.decode(), octets)
+    check("a report of octets that no session has is answered",
+          site.radius.reports("127.0.4.7", [wrong if it == right else it for it in lines]), True)
+    paths = front.files_in(site.radius.unsent)
+    check("and filed", len(paths), 1)
+    for path in paths:
+        with open(path, encoding="latin-1") as file:
+            text = file.read()
+        check("as it came", text.count(wrong), 1)
+        front.written(path, text.replace(wrong, right))
+        os.rename(path, os.path.join(site.radius.queue, os.path.basename(path)))
+    drained(site.radius, "it is mended, and moved back", 1)
+
+
 def logins(site, model):
     """FreeRADIUS finds each account's balance in the joined file."""
     status, _, errors = tool("--balances", site.balances, "--counts", site.counts, "join")

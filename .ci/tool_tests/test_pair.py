@@ -97,9 +97,10 @@ class Pair(unittest.TestCase):
         self.assertEqual(it.faults, ["account bo: 1 here, 2 there"])
         said = []
         for moment in range(20, 100, 20):
+            there = {"al": 5 if moment < 60 else 3, "bo": 2}
             with at(now + moment):
                 it = self.turn(state(now + moment, {"al": 3, "bo": 1}),
-                               state(now + moment, {"al": 5 if moment < 60 else 3, "bo": 2}, apart=0))
+                               state(now + moment, there, apart=0))
             said.append((it.faults, it.seen["settled"] >= now + 20))
         differs = ["account bo: 1 here, 2 there"]
         self.assertEqual(said[0], ([], False))

@@ -80,7 +80,7 @@ def balances_in(folder, shard):
 
 
 def written(path, text, moment, mode=0o640):
-    """Writes a file whole or not at all, and follows no link. The moment becomes its time of change."""
+    """Writes a file whole or not at all, and follows no link; a moment is its time of change."""
     files.remove(path + ".new")
     flags = os.O_CREAT | os.O_EXCL | os.O_WRONLY | os.O_NOFOLLOW
     handle = os.open(path + ".new", flags, 0o600)
@@ -159,8 +159,8 @@ def text_of(path):
 
 
 def join_counts(folder):
-    """One file of the counts of the books that are here, as old as the oldest part: so an alert sees
-    that one server has stopped. A label names the book of each.
+    """One file of the counts of the books that are here; a label names the book of each. It is as
+    old as the oldest part: so an alert sees that one server has stopped.
     """
     heads, samples, moments = {}, {}, []
     for shard in SHARDS:

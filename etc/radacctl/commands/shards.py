@@ -157,7 +157,7 @@ def show_settings(words, table):
     if words.act == "defaults":
         print(MADE + DEFAULTS.format(**table[words.book]), end="")
     elif words.act == "freeradius":
-        parts = [FREERADIUS.format(**it) + READER.format(f"{it['shard']}/") for it in table.values()]
+        parts = [FREERADIUS.format(**it) + READER.format(name + "/") for name, it in table.items()]
         print(MADE + "".join(parts) + READER.format(""), end="")
     else:
         print(MADE + nginx_of(table), end="")
