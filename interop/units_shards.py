@@ -61,6 +61,22 @@ def make_books(site):
     check("exposed no more than one book", found and float(found[1]) <= 1.1, True)
 
 
+def does_not_start(site):
+    """Why one of the books does not start, in words that are right for its unit."""
+    box, defaults = site.box, "/etc/default/radacctd-s3"
+    box.must(f"cp {defaults} /root/; systemctl stop radacctd@s3")
+    box.must(f"sed -i 's/--bind [0-9.]*/--bind 192.0.2.1/' {defaults}")
+    mark = site.mark()
+    got = site.systemctl("start radacctd@s3")[0]
+    check("a book at another machine's address does not start", got, 1)
+    told = site.journal(mark, "radacctd@s3")
+    says = ("journalctl -u radacctd@s3" in told, "SocketBindAllow" in told)
+    check("it names its own journal, and no port that its unit allows", says, (True, False))
+    box.must(f"mv /root/radacctd-s3 {defaults}")
+    state = lambda: site.systemctl("is-active radacctd@s3")[1].strip()
+    check("mended, it starts by itself", until(lambda: state() == "active", 60), True)
+
+
 def sell(site):
     """Sales, a key and a debit reach the account's book."""
     box = site.box
@@ -226,6 +242,7 @@ def shards(site, verified):
     """The units of 16 books."""
     is_alike(site, verified)
     make_books(site)
+    does_not_start(site)
     sell(site)
     join(site)
     freeradius(site)
