@@ -16,7 +16,7 @@ SHUT_IN = """NoNewPrivileges SystemCallArchitectures SystemCallErrorNumber Memor
 # Root's: it works in folders of other users, as these, and looks at their processes.
 ROOTS = {"PrivateUsers", "ProcSubset", "RemoveIPC", "CapabilityBoundingSet", "SystemCallFilter"}
 EXCEPTIONS = {
-    "radacctd-balances-from@.service": ROOTS | {"ProtectProc", "ProtectHome", "UMask"},
+    "radacctd-balances-from@.service": ROOTS | {"ProtectHome", "UMask"},
     "radacctd-clerk-work@.service": ROOTS | {"ProtectProc"},
     # It gives systemd an order, reads /proc/stat, and has no right and no network.
     "radacctd-clock.service": {"PrivateUsers", "ProcSubset", "RemoveIPC", "ProtectProc"},
