@@ -56,7 +56,11 @@ def balances_in(path):
 
 def balances_of(text, path):
     """The same of the text of such a file."""
-    header, *rows = list(csv.reader(io.StringIO(text, newline=""))) or [[]]
+    try:
+        header, *rows = list(csv.reader(io.StringIO(text, newline=""))) or [[]]
+    except csv.Error:
+        # As after a power cut, which may leave octets of 0.
+        header, rows = None, []
     if header != BALANCES or any(len(row) != 3 for row in rows):
         raise ValueError(f"{path} has no balances")
     return {octets_of(row[0]): int(row[1]) for row in rows}

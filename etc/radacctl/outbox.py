@@ -284,7 +284,7 @@ def voucher_of(body):
     """Number, account and sum of a request's body; None if a member is out of its bounds."""
     try:
         said = json.loads(body)
-    except ValueError:
+    except (ValueError, RecursionError):
         return 400, {"error": "bad request"}
     try:
         account = urllib.parse.unquote_to_bytes(said["account"].encode())
