@@ -57,6 +57,18 @@ class Joined(unittest.TestCase):
         self.write("s5", 5, -books.AHEAD + 10)
         self.assertLess(abs(self.joined()[1]), 10)
 
+    def test_money_in_a_wrong_book_lets_nobody_in_for_ever(self):
+        """A sale to another book than the account's: sessions are charged in their own one."""
+        right = books.shard_of(b"al")
+        for wrong in books.SHARDS:
+            if wrong == right:
+                continue
+            for shard, balance in ((right, -50), (wrong, 5)):
+                with open(self.path(f"{shard}.csv"), "w", encoding="ascii") as file:
+                    file.write(f"account,balance,overrun\nal,{balance},{max(-balance, 0)}\n")
+            self.assertEqual(self.joined()[0]["al"], -50, wrong)
+            self.write(wrong, 5)
+
     def checked(self):
         words = shards.parsed(["--balances", self.folder, "check"])
         said = io.StringIO()

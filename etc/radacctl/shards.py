@@ -105,17 +105,30 @@ def is_written(path, text, moment):
     return os.path.exists(path) and os.stat(path).st_mtime == moment and text_of(path) == text
 
 
+def balances_of_all(folder):
+    """The balance of each account in its own book, and when each book wrote. Money that was sold to
+    another book is never used up: nobody is to log in by it once there is a session.
+    """
+    found, moments = {}, []
+    for shard in SHARDS:
+        rows, moment = balances_in(folder, shard)
+        rows.pop(PROBE, None)
+        moments.append(moment)
+        for account in rows.keys() & found.keys():
+            if shard_of(account) != shard:
+                del rows[account]
+        found.update(rows)
+    return found, moments
+
+
 def join_balances(folder):
     """One file of all balances, as old as the oldest part."""
-    made, moments = io.StringIO(newline=""), []
+    found, moments = balances_of_all(folder)
+    made = io.StringIO(newline="")
     writer = csv.writer(made, lineterminator="\n")
     writer.writerow(names.BALANCES)
-    for shard in SHARDS:
-        found, moment = balances_in(folder, shard)
-        moments.append(moment)
-        for account, balance in found.items():
-            if account != PROBE:
-                writer.writerow((shown(account), balance, max(-balance, 0)))
+    for account, balance in found.items():
+        writer.writerow((shown(account), balance, max(-balance, 0)))
     path, moment = os.path.join(folder, "balances.csv"), as_old_as(moments)
     # While one book is down, and the moment stays, those of the others go on.
     if not is_written(path, made.getvalue(), moment):
