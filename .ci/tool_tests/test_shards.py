@@ -1,4 +1,4 @@
-"""What is joined of 16 books, and how old it counts; and a sale of which a part was killed."""
+"""What is joined of 16 books, and how old it counts; a sale of which a part was killed; the doctor."""
 
 import contextlib
 import io
@@ -6,9 +6,11 @@ import os
 import tempfile
 import time
 import unittest
+from unittest import mock
 
-from radacctl import shards as books
+from radacctl import freeradius, shards as books, site
 from radacctl.commands import shards
+from radacctl.doctor import copies, front, kind
 
 HOUR = 3600
 COUNTS = "# HELP radacctd_up Up.\n# TYPE radacctd_up gauge\nradacctd_up 1\n"
@@ -115,6 +117,55 @@ class Joined(unittest.TestCase):
         with open(self.path("other"), encoding="ascii") as file:
             self.assertEqual(file.read(), "another's")
         self.assertFalse(os.path.islink(self.path("balances.csv")))
+
+
+class Doctor(unittest.TestCase):
+    """A sound site of 16 books has no fault."""
+
+    def kind(self, *names, **more):
+        found = [kind.Book(it) for it in names]
+        return mock.Mock(has_shards=True, books=found, has_pair=False, **more)
+
+    def told(self, accounting):
+        text = f"server default {{\n\taccounting {{\n{accounting}\t}}\n" \
+               "\tpost-auth {\n\t\tradacctd_login\n\t}\n}\n"
+        with mock.patch.object(freeradius, "serving", lambda *_: ["default"]), \
+                mock.patch.object(freeradius, "text", lambda *_: text):
+            return [it.text for it in front.lines(self.kind())]
+
+    def test_the_book_is_picked_before_the_report_is_queued(self):
+        """Else no report has a book: so no cure may ask for it in another order."""
+        one, other = "\t\tradacctd_shard\n", "\t\tradacctd_accounting\n"
+        self.assertEqual(self.told(one + other), [])
+        wanted = "accounting does not begin with radacctd_shard and radacctd_accounting"
+        for text in (other, other + one, one, "\t\tdetail\n" + one + other):
+            self.assertEqual(self.told(text), [wanted])
+
+    def test_each_book_has_its_copies(self):
+        with tempfile.TemporaryDirectory() as folder, contextlib.ExitStack() as stack:
+            for place, name, value in ((site, "BACKUPS", folder), (copies, "database", list),
+                                       (copies.look, "values_in", lambda _: {}),
+                                       (copies.look, "run", lambda *_, **__: (0, ""))):
+                stack.enter_context(mock.patch.object(place, name, value))
+            day = time.strftime("%F")
+            for path in (f"s0/{day}/book", f"s0/{day}/radacctd.toml", f"s0/{day}/site.tar.gz",
+                         f"s0/exports/{day}/sessions.csv.gz"):
+                os.makedirs(os.path.dirname(f"{folder}/{path}"), exist_ok=True)
+                with open(f"{folder}/{path}", "w", encoding="ascii"):
+                    pass
+            self.assertEqual(list(copies.look_at(self.kind("s0"))), [])
+            self.assertEqual(copies.last_good(kind.Book("s0")), f"{folder}/s0/{day}")
+            [fault] = copies.look_at(self.kind("s0", "s1"))
+            self.assertEqual((fault.name, fault.text),
+                             ("copy-old", f"there is no copy in {folder}/s1"))
+
+    def test_the_check_runs_where_all_balances_are(self):
+        for has_front in (True, False):
+            it = mock.Mock(spec=kind.Kind, books=[], has_shards=True, has_front=has_front)
+            it.has_pages = it.has_codes = it.has_clerk = it.has_packages = it.has_pair = False
+            found = kind.Kind.units(it)
+            self.assertIn("radacctd-shards.service", found)
+            self.assertEqual("radacctd-shards-check.timer" in found, has_front)
 
 
 class Told(unittest.TestCase):

@@ -64,10 +64,12 @@ def file_at(name):
     return found if found.startswith("/") else ""
 
 
-def first_word(block):
-    """The first module or policy that a section calls, whatever condition it is in."""
+def begins_with(block, names):
+    """Whether these are the first modules or policies that a section calls, whatever condition they
+    are in.
+    """
     bare = re.sub(r"\b(?:if|elsif)\s*\(.*\)\s*\{|\belse\s*\{", " ", block)
-    return next(iter(bare.split()), "")
+    return bare.split()[: len(names)] == names
 
 
 def section(text_of_site, name):

@@ -133,7 +133,7 @@ def away(book):
     lines = re.findall(r"^db: the name of .*$", journal_of(book), re.M)
     page = 'DAMAGE.md, "The book is missing"'
     if look.status_of(book.file) is None and not look.is_active(book.unit):
-        last = None if book.name else copies.last_good()
+        last = copies.last_good(book)
         copy = f"restore the last copy, {last}" if last else "restore the last copy"
         yield Fault("book-away", f"there is no {book.file}, and {book.unit} cannot run",
                     f"look for it; if it is gone, {copy}, and make no new one by init: {page}")

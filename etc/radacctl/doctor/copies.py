@@ -13,10 +13,12 @@ NAME = re.compile(r"\d{4}-\d{2}-\d{2}(?:\.\d{6})?")
 NOW = "systemctl start radacctd-nightly; journalctl -u radacctd-nightly -n 20"
 
 
-def place():
-    """The folder of the copies, and the names in it."""
+def place(book=None):
+    """The folder of the copies, and the names in it. Each of 16 books has a folder of its own."""
     values = look.values_in("/etc/default/radacctd-nightly")
     folder = values.get("RADACCTD_BACKUPS") or site.BACKUPS
+    if book and book.name:
+        folder = f"{site.BACKUPS}/{book.name}"
     return folder, os.listdir(folder) if os.path.isdir(folder) else []
 
 
@@ -25,16 +27,22 @@ def is_to_come(name):
     return name[:10] > time.strftime("%F", time.localtime(time.time() + 86400))
 
 
-def last_good():
+def last_good(book=None):
     """The path of the newest copy that was not refused and has a book, or None."""
-    folder, names = place()
+    folder, names = place(book)
     found = [it for it in names if NAME.fullmatch(it) and not is_to_come(it)
              and os.path.exists(f"{folder}/{it}/book")]
     return f"{folder}/{max(found)}" if found else None
 
 
 def look_at(kind):
-    folder, names = place()
+    for book in kind.books:
+        yield from copies_in(*place(book))
+    if kind.books:
+        yield from database()
+
+
+def copies_in(folder, names):
     good = sorted(it for it in names if NAME.fullmatch(it))
     while good and is_to_come(good[-1]):
         yield Fault("clock-wrong", f"{folder}/{good[-1]} is of a day to come",
@@ -63,7 +71,6 @@ def newest(folder, name):
         status, said = look.run(tool, "site", "test", f"{path}/site.tar.gz", seconds=1800)
         if status:
             yield Fault("copy-bad", f"{path}: {look.last_line(said)}", NOW)
-    yield from database()
     if not os.path.exists(f"{folder}/exports/{name}/sessions.csv.gz"):
         text = f"{folder}/exports/{name} is missing: no report of that day"
         yield Fault("copy-exports", text, NOW)

@@ -78,7 +78,7 @@ def steps(kind):
         if not os.path.exists(path):
             yield Fault("raddb-steps", f"{path} is missing",
                         f"radacctl setup, or {linked(path, site.shared('freeradius', own))}")
-    yield from lines()
+    yield from lines(kind)
     yield from tunnel()
     status, said = look.run("freeradius", "-C", "-l", "stdout")
     if status:
@@ -87,16 +87,18 @@ def steps(kind):
         yield Fault("raddb-wrong", f"FreeRADIUS says: {line}", "freeradius -CX | tail")
 
 
-def lines():
+def lines(kind):
     """Those of the virtual servers that the site sells by: others may be next to them."""
+    first = [*(["radacctd_shard"] if kind.has_shards else []), "radacctd_accounting"]
     servers = {it: freeradius.text("sites-enabled", it)
                for it in freeradius.serving("auth", "acct") or ["default"]}
     sold = {name: freeradius.section(text, "accounting") for name, text in servers.items()
             if "radacctd_accounting" in freeradius.section(text, "accounting").split()}
-    if not any(freeradius.first_word(it) == "radacctd_accounting" for it in sold.values()):
+    if not any(freeradius.begins_with(it, first) for it in sold.values()):
         name = next(iter(sold or servers))
-        yield Fault("raddb-steps", "radacctd_accounting is not the first line of accounting",
-                    f"write it there in sites-enabled/{name}: step 6 of {PAGE}")
+        cure = "step 4 of SHARDS.md" if kind.has_shards else f"step 6 of {PAGE}"
+        yield Fault("raddb-steps", f"accounting does not begin with {' and '.join(first)}",
+                    f"write it there in sites-enabled/{name}: {cure}")
     if not any("radacctd_login" in freeradius.section(it, "post-auth").split()
                for it in servers.values()):
         yield Fault("raddb-steps", "post-auth has no radacctd_login: everybody gets in",

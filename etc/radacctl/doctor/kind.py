@@ -83,7 +83,10 @@ class Kind:
         if self.has_pair:
             found += ["radacctd-outbox.service", "radacctd-state.socket", "radacctd-compare.timer"]
         if self.has_shards:
-            found += ["radacctd-shards.service", "radacctd-shards-check.timer"]
+            found.append("radacctd-shards.service")
+            # Only where the balances of all books are.
+            if self.has_front or self.has_pages:
+                found.append("radacctd-shards-check.timer")
         return [*found, "radacctd-nightly.timer", "radacctd-key.timer"]
 
     def words(self):
