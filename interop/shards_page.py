@@ -22,6 +22,9 @@ PAGE = os.path.join(ROOT, "docs", "SHARDS.md")
 SHARDS = [f"s{digit:x}" for digit in range(16)]
 GUESTS = [f"guest-{number}" for number in range(60)]
 QUEUES = "/var/log/freeradius/radacct/radacctd"
+# What the doctor finds in these containers, and not in a site: short secrets, a clock that nobody
+# keeps.
+LEFT_OUT = (" secret-short: ", " clock-unset: ")
 SITE = (
     f'[[client]]\nname = "freeradius"\naddress = "{ADDRESSES[0]}"\nsecret = "book-secret"\n'
     '[[client]]\nname = "books"\naddress = "127.0.0.9"\nsecret = "books-secret"\n'
@@ -60,6 +63,8 @@ class Site:
 
 def make_books(it, address):
     """"The books, on each machine"."""
+    # The page makes it.
+    it.must("rmdir /var/lib/radacctd")
     lines = {at: text.replace("10.0.0.5", address) for at, text in
              commands("### The books, on each machine").items()}
     run(it, "the table", lines[2])
@@ -253,6 +258,15 @@ def moved(site):
           (True, False, "disabled"))
 
 
+def doctored(site):
+    """A site by the page is sound: the doctor finds what this test does otherwise, and no more."""
+    for it in site.machines:
+        it.must("systemctl enable --now radacctd-key.timer radacctd-nightly.timer")
+        said = it.run("radacctl doctor --quiet")[1]
+        found = [line for line in said.splitlines() if not any(name in line for name in LEFT_OUT)]
+        check(f"{it.title}: the doctor finds nothing", found, [])
+
+
 def follow():
     """Two machines from the top of the page."""
     with tempfile.TemporaryDirectory() as staged, contextlib.ExitStack() as opened:
@@ -271,5 +285,5 @@ def follow():
         freeradius(one)
         nginx(one)
         site = Site(machines)
-        for step in (sells, reports, checked, nightly, moved):
+        for step in (sells, reports, checked, nightly, moved, doctored):
             step(site)
