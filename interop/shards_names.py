@@ -6,7 +6,7 @@ import types
 
 import front
 from front import check
-from shards_site import TOOL, tool
+from shards_site import POLICY, tool
 
 # A realm of the site, and one whose logins go to another server.
 REALMS = """
@@ -39,8 +39,7 @@ class Radius(front.FreeRadius):
         queue = ("queue", '"${radacctdir}/radacctd/%{Tmp-String-8}"')
         book = types.SimpleNamespace(radius=9)
         super().__init__(folder, book, settings=[queue, *settings], sites=REALMS)
-        with open(os.path.join(os.path.dirname(TOOL), "..", "shards", "policy"),
-                  encoding="utf-8") as file:
+        with open(POLICY, encoding="utf-8") as file:
             front.written(f"{self.raddb}/policy.d/radacctd-shards", file.read())
         path = f"{self.raddb}/sites-enabled/default"
         with open(path, encoding="utf-8") as file:

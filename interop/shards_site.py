@@ -20,6 +20,7 @@ from front_sender import Sender, packet_of
 
 TOOL = os.path.join(front.ROOT, "etc", "tools", "radacctd-shards")
 TOOLS = os.path.join(front.ROOT, "etc", "tools")
+POLICY = os.path.join(front.ROOT, "etc", "shards", "policy")
 SHARDS = [f"s{digit:x}" for digit in range(16)]
 # The machines, four books each, and the one that is added.
 MACHINES = [f"127.0.5.{number}" for number in range(1, 5)]
@@ -173,7 +174,7 @@ class Site:
         self.radius = front.FreeRadius(
             folder, self.books["s0"], settings=[queue], sites=self.printed("freeradius")
         )
-        with open(os.path.join(os.path.dirname(TOOL), "policy"), encoding="utf-8") as file:
+        with open(POLICY, encoding="utf-8") as file:
             front.written(f"{self.radius.raddb}/policy.d/radacctd-shards", file.read())
         path = f"{self.radius.raddb}/sites-enabled/default"
         with open(path, encoding="utf-8") as file:
