@@ -144,7 +144,7 @@ class Doctor(unittest.TestCase):
             for target, name, value in (
                 (look, "run", run), (look, "samples", lambda _: counts),
                 (look, "status_of", lambda _: is_there or None),
-                (copies, "last_good", lambda: "/var/backups/radacctd/2026-11-28"),
+                (copies, "last_good", lambda _: "/var/backups/radacctd/2026-11-28"),
             ):
                 stack.enter_context(unittest.mock.patch.object(target, name, value))
             return [(it.text, it.cure) for it in book.away(self.book)]

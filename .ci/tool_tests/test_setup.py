@@ -11,6 +11,7 @@ import subprocess
 import tempfile
 import tomllib
 import unittest
+import unittest.mock
 from unittest import mock
 
 from radacctl import debits, files, freeradius, lapses, site as places
@@ -491,13 +492,14 @@ class Existing(Folder):
         lines = SERVER.replace("accounting {\n", lines)
         right = front.default(SERVER, self.wanted(), "x")
         late = SERVER.replace("detail", "detail\n\tradacctd_accounting")
+        one = unittest.mock.Mock(has_shards=False)
         for text, count in ((SERVER, 2), (lines, 1), (right, 0), (late, 2)):
             self.put("sites-enabled/eduroam", text)
-            self.assertEqual(len(list(doctor_front.lines())), count)
+            self.assertEqual(len(list(doctor_front.lines(one))), count)
         # Another virtual server, for others, is no fault.
         self.put("sites-enabled/more", SERVER.replace("eduroam", "more"))
         self.put("sites-enabled/eduroam", right)
-        self.assertEqual(list(doctor_front.lines()), [])
+        self.assertEqual(list(doctor_front.lines(one)), [])
         self.assertEqual(freeradius.selling(), ["eduroam"])
 
     def test_both_lines_of_the_database_are_taken_out(self):
