@@ -11,7 +11,6 @@ import subprocess
 import tempfile
 import tomllib
 import unittest
-import unittest.mock
 from unittest import mock
 
 from radacctl import debits, files, freeradius, lapses, site as places
@@ -492,7 +491,7 @@ class Existing(Folder):
         lines = SERVER.replace("accounting {\n", lines)
         right = front.default(SERVER, self.wanted(), "x")
         late = SERVER.replace("detail", "detail\n\tradacctd_accounting")
-        one = unittest.mock.Mock(has_shards=False)
+        one = mock.Mock(has_shards=False)
         for text, count in ((SERVER, 2), (lines, 1), (right, 0), (late, 2)):
             self.put("sites-enabled/eduroam", text)
             self.assertEqual(len(list(doctor_front.lines(one))), count)
