@@ -144,7 +144,7 @@ class Answers(unittest.TestCase):
                 ('"mikrotik" ', '"juniper" ', "vendor is one of mikrotik"),
                 ('"10.0.0.1"', '5', "no address"), ('"10.0.0.1"', '"10.0.0.1/24"', "host bits"),
                 ('"10.0.0.1"', '"127.0.0.8"', "this machine's own"),
-                ('"10.0.0.5" ', '"10.0.0.0/24" ', "one address of this machine"),
+                ('"10.0.0.5" ', '"10.0.0.0/24" ', "no address of one machine"),
                 ('["10.0.1.0/24"]', "[1]", "no address"), ('"ben"', '"-c"', "- is not first"),
                 ('"ben"', "7", "a list of names"), ('"EUR"', '["EUR"]', "a text in quotation"),
                 ('name = "lobby"', 'name = "../x"', "1 to 32 of"),
@@ -181,7 +181,7 @@ class Answers(unittest.TestCase):
         self.assertEqual((found.host, found.cashiers), ("wifi.example.org", ["anna", "ben"]))
         self.assertEqual([it["vendor"] for it in found.access_servers], ["mikrotik", "other"])
         [plan] = found.plans
-        self.assertEqual((plan["block"], plan["unit"]), (100_000_000, 25))
+        self.assertEqual((plan["block"], plan["unit"]), (4_000_000, 1))
 
     def test_empty_lines_are_the_usual_answers(self):
         found = self.asked([""] * 8)
@@ -191,10 +191,12 @@ class Answers(unittest.TestCase):
         self.assertRaises(answers.Wrong, self.asked, ["Hotel"])
 
     def test_prices(self):
-        for text, block, unit in (("1.00", 10**7, 1), ("10.00", 10**6, 1), ("3.33", 10**9, 333)):
+        for text, block, unit in (("1.00", 10**7, 1), ("10.00", 10**6, 1), ("3.33", 10**9, 333),
+                                  ("12.34", 5 * 10**8, 617), ("1.05", 2 * 10**8, 21),
+                                  ("0", 10**6, 0)):
             plan = answers.price_of(text, 2)
             self.assertEqual((plan["block"], plan["unit"]), (block, unit))
-            self.assertEqual(plan["unit"] * 10**9, int(text.replace(".", "")) * plan["block"])
+            self.assertEqual(plan["unit"] * 10**9, round(float(text) * 100) * plan["block"])
 
 
 class Steps(unittest.TestCase):

@@ -2,6 +2,7 @@
 
 import collections
 import ipaddress
+import math
 import os
 import re
 import stat
@@ -15,6 +16,7 @@ VENDORS = ("mikrotik", "unifi", "pfsense", "openwrt", "aruba", "cisco", "other")
 HOST = re.compile(r"(?=.{1,253}$)[a-z0-9]([a-z0-9-]*[a-z0-9])?(\.[a-z0-9]([a-z0-9-]*[a-z0-9])?)+")
 NAME = re.compile(r"[A-Za-z0-9_][A-Za-z0-9._-]{0,31}")
 OTHERS_SECRET = re.compile(r"""(?=[^']*\Z|[^"]*\Z)[^\\\x00-\x1f]{1,128}""")
+BROADCAST = ipaddress.ip_address("255.255.255.255")
 LARGEST_BLOCK, LARGEST_UNIT = 9_007_199_254_740_992, 1_000_000_000
 # The members of a file, with what each is if it is left out. None: it must be there.
 TOP = {
@@ -29,6 +31,7 @@ PLAN = {"class": None, "block": None, "unit": None, "count": "both"}
 PAIR = {"own": None, "other": None, "second": False}
 SQL = {"server": "localhost", "port": 5432, "database": "radius", "login": "radius",
        "accounting": False, "password_file": None}
+SECRETS = ("freeradius", "books", "cashier", "redeem", "pair")
 ACCESS_SERVER = {"name": None, "address": None, "vendor": "other", "coa": False}
 # Plans, names and addresses that setup or Debian's FreeRADIUS has itself.
 TAKEN = ("debit",)
@@ -106,11 +109,22 @@ def plan_of(found, number):
 def network_of(text, what, *place):
     """An address or a network, as a text has it."""
     try:
-        # A number is an address to this module, and no operator's.
-        return ipaddress.ip_network(text if isinstance(text, str) else "")
+        # A number is an address to this module, and no operator's; nor has a file a zone's name.
+        return ipaddress.ip_network(text if isinstance(text, str) and "%" not in text else "")
     except ValueError as why:
         hint = f": {why}" if "host bits" in str(why) else ""
         raise Wrong(f"{what}: {text!r} is no address, and no network{hint}", *place) from None
+
+
+def one_address(text, what, *place):
+    """An address of one machine, as all files spell it: without the /32 that a network has."""
+    found = network_of(text, what, *place)
+    it = found.network_address
+    is_one = not (it.is_unspecified or it.is_multicast or it == BROADCAST
+                  or found.version == 6 and it.ipv4_mapped)
+    need(found.num_addresses == 1 and is_one, f"{what}: {text!r} is no address of one machine",
+         *place)
+    return it
 
 
 def access_server_of(found, number, has_front):
@@ -122,12 +136,13 @@ def access_server_of(found, number, has_front):
     where = f"access server {it['name']}"
     need(it["name"] not in TAKEN_NAMES, f"{where}: that name is taken", *place("name"))
     network = network_of(it["address"], where, *place("address"))
-    need(has_front or (network.version == 4 and network.num_addresses == 1),
+    is_one = network.num_addresses == 1
+    it["address"] = str(one_address(it["address"], where, *place("address")) if is_one else network)
+    need(has_front or (network.version == 4 and is_one),
          f"{where}: without FreeRADIUS it is one address of IPv4", *place("address"))
     need(it["vendor"] in VENDORS, f"{where}: vendor is one of {', '.join(VENDORS)}",
          *place("vendor"))
-    it["address"] = str(network) if network.num_addresses > 1 else str(network.network_address)
-    need(not it["coa"] or (it["vendor"] == "mikrotik" and network.num_addresses == 1),
+    need(not it["coa"] or (it["vendor"] == "mikrotik" and is_one),
          f"{where}: coa is for a mikrotik of one address", *place("coa"))
     need(it["address"] not in TAKEN_ADDRESSES, f"{where}: {it['address']} is this machine's own",
          *place("address"))
@@ -156,8 +171,9 @@ class Answers:
         self.plans = tables(it["plan"], plan_of)
         self.access_servers = tables(it["access_server"], lambda each, number: access_server_of(
             each, number, self.has_front))
-        self.pair = table(it["pair"], PAIR, "pair") if it["pair"] else None
-        self.sql = table(it["sql"], SQL, "sql") if it["sql"] else None
+        # One without a member is no site without it: what it lacks is said.
+        self.pair = table(it["pair"], PAIR, "pair") if "pair" in found else None
+        self.sql = table(it["sql"], SQL, "sql") if "sql" in found else None
         # Those of the other machine of a pair, which has made a file of them.
         self.secrets = it["secrets"]
         self.found = it
@@ -173,6 +189,8 @@ class Answers:
             self.test_once(self.access_servers, "access_server", "access servers", key)
         need(0 <= self.decimals <= MOST_DECIMALS, f"decimals is 0 to {MOST_DECIMALS}", "decimals")
         for name, value in self.secrets.items():
+            need(self.is_secret(name), f"[secrets] has no member `{name}`: nothing has that secret",
+                 "secrets", 0, name)
             # A client that a site had before may have any that stands between marks of one kind.
             form = OTHERS_SECRET if name.startswith("client-") else "[A-Za-z0-9-]{16,128}"
             need(isinstance(value, str) and re.fullmatch(form, value),
@@ -197,6 +215,11 @@ class Answers:
         self.test_pages()
         self.test_clerks()
 
+    def is_secret(self, name):
+        """Whether something of the site has a secret of this name."""
+        own = [it["name"] for it in self.access_servers if not self.has_front]
+        return name in (*SECRETS, *own) or name.startswith("client-")
+
     def test_once(self, found, name, many, key):
         for number, it in enumerate(found):
             is_new = it[key] not in [before[key] for before in found[:number]]
@@ -205,9 +228,9 @@ class Answers:
     def test_pair(self):
         need(self.has_front, "a pair has FreeRADIUS in front", "freeradius")
         for name in ("own", "other"):
-            it = network_of(self.pair[name], f"[pair]: {name}", "pair", 0, name)
-            need(it.version == 4 and it.num_addresses == 1, f"[pair]: {name} is an address of IPv4",
-                 "pair", 0, name)
+            it = one_address(self.pair[name], f"[pair]: {name}", "pair", 0, name)
+            need(it.version == 4, f"[pair]: {name} is an address of IPv4", "pair", 0, name)
+            self.pair[name] = str(it)
         need(self.pair["own"] != self.pair["other"], "[pair]: both machines have one address",
              "pair", 0, "other")
 
@@ -255,8 +278,8 @@ class Answers:
         for it in self.front_desk:
             network_of(it, "front_desk", "front_desk")
         if self.server:
-            it = network_of(self.server, "server", "server")
-            need(it.num_addresses == 1, "server is one address of this machine", "server")
+            it = one_address(self.server, "server", "server")
+            self.server = str(it)
             need(self.has_front or it.version == 4, "without FreeRADIUS server is an address of "
                  "IPv4", "server")
         need(self.has_front or self.server or not self.access_servers,
@@ -304,15 +327,13 @@ def line(question, usual):
 
 
 def price_of(text, decimals):
-    """The plan `default` of a price for a gigabyte: a block of a megabyte, or of a gigabyte if a
-    megabyte would cost a part of a unit.
+    """The plan `default` of a price for a gigabyte: the smallest block of at least a megabyte that
+    costs whole units.
     """
     found = re.fullmatch(r"([0-9]{1,7})(?:[.,]([0-9]{1,6}))?", text)
     need(found and len(found[2] or "") <= decimals, f"{text!r} is no price")
     units = int(found[1] + (found[2] or "").ljust(decimals, "0"))
-    if units % 1000 == 0:
-        return {"class": "default", "block": 10**6, "unit": units // 1000}
-    blocks = next((it for it in (100, 10) if units % it == 0), 1)
+    blocks = math.gcd(units, 1000)
     return {"class": "default", "block": 10**9 // blocks, "unit": units // blocks}
 
 

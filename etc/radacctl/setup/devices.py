@@ -1,5 +1,7 @@
 """What to type or to click at an access server. The text has its secret: only root reads it."""
 
+import re
+
 from radacctl.setup import front
 from radacctl.setup.alone import NOTES, File, Folder
 
@@ -8,7 +10,7 @@ FOLDER = f"{NOTES}/access-servers"
 INTERVAL = 5
 MIKROTIK = """\
 # RouterOS 7: paste this into a terminal of {name}. Hotspot; for PPP write `ppp` in its place.
-/radius add service=hotspot address={server} secret="{secret}" timeout=3s comment=radacctd
+/radius add service=hotspot address={server} secret="{routeros}" timeout=3s comment=radacctd
 /radius incoming set accept=yes port=3799
 /ip hotspot profile set [find] use-radius=yes radius-accounting=yes \\
     radius-interim-update={interval}m login-by=http-pap,https
@@ -46,13 +48,13 @@ OPENWRT = """\
 # OpenWrt with wpad of WPA Enterprise: paste this into a shell of {name}, for its first network.
 uci set wireless.@wifi-iface[0].encryption=wpa2
 uci set wireless.@wifi-iface[0].auth_server={server}
-uci set wireless.@wifi-iface[0].auth_secret='{secret}'
+uci set wireless.@wifi-iface[0].auth_secret={quoted}
 uci set wireless.@wifi-iface[0].acct_server={server}
-uci set wireless.@wifi-iface[0].acct_secret='{secret}'
+uci set wireless.@wifi-iface[0].acct_secret={quoted}
 uci set wireless.@wifi-iface[0].acct_interval={seconds}
 uci set wireless.@wifi-iface[0].dae_client={server}
 uci set wireless.@wifi-iface[0].dae_port=3799
-uci set wireless.@wifi-iface[0].dae_secret='{secret}'
+uci set wireless.@wifi-iface[0].dae_secret={quoted}
 uci commit wireless; wifi reload
 """
 ARUBA = """\
@@ -77,7 +79,7 @@ CISCO = """\
 ! Cisco IOS XE, for {name}: these lines of its configuration, as its manual names them. Not tried
 ! here. It takes no quota: who overdraws is disconnected at port 1700.
 radius server radacctd
- address ipv4 {server} auth-port 1812 acct-port 1813
+ address {family} {server} auth-port 1812 acct-port 1813
  key {secret}
 aaa group server radius radacctd
  server name radacctd
@@ -108,10 +110,33 @@ TEXTS = {
 }  # fmt: skip
 
 
+# What a comment begins with, where the text is typed; and the first line without FreeRADIUS.
+MARKS = {"mikrotik": "# ", "openwrt": "# ", "aruba": "# ", "cisco": "! "}
+ALONE = """\
+{mark}Only reports go to this machine, at port 1813: without FreeRADIUS it answers no login. Leave the
+{mark}server of logins as it is, whatever the lines below say of one.
+"""
+
+
+def routeros(text):
+    """A text between double marks as RouterOS reads it: what could mean more is in digits."""
+    return re.sub(r"[^A-Za-z0-9._-]", lambda it: "".join(f"\\{at:02X}" for at in it[0].encode()),
+                  text)
+
+
+def quoted(text):
+    """A text as the shell of OpenWrt reads it."""
+    return "'" + text.replace("'", "'\\''") + "'"
+
+
 def text_of(device, answers, secret):
     text, garden = TEXTS[device["vendor"]]
     values = {**device, "secret": secret, "server": answers.server or "ADDRESS-OF-THIS-MACHINE",
-              "host": answers.host, "interval": INTERVAL, "seconds": 60 * INTERVAL}
+              "host": answers.host, "interval": INTERVAL, "seconds": 60 * INTERVAL,
+              "routeros": routeros(secret), "quoted": quoted(secret),
+              "family": "ipv6" if ":" in answers.server else "ipv4"}
+    if not answers.has_front:
+        text = ALONE.format(mark=MARKS.get(device["vendor"], "")) + text
     return text.format(garden=garden.format(**values) if answers.host else "", **values)
 
 

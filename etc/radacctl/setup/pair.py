@@ -113,8 +113,9 @@ class Text:
 
     def __call__(self, _):
         found = {name: value for name, value in self.answers.found.items() if value != {}}
-        # Printed codes are redeemed on one machine.
-        found |= {"codes": False, "certificate": "", "certificate_key": ""}
+        # Printed codes are redeemed on one machine; and only a person knows where access servers
+        # reach the other one.
+        found |= {"codes": False, "certificate": "", "certificate_key": "", "server": ""}
         pair = self.answers.pair
         sql = found.pop("sql", None)
         tables = {"pair": {"own": pair["other"], "other": pair["own"], "second": True},
