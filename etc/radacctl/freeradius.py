@@ -72,17 +72,23 @@ def begins_with(block, names):
     return bare.split()[: len(names)] == names
 
 
+def place_of_section(text_of_site, name):
+    """Where a section of a virtual server is between its braces: begin and end, or None."""
+    found = re.search(rf"(?m)^[ \t]*{name}[ \t]*\{{", text_of_site)
+    end = end_of_block(text_of_site, found.end()) if found else len(text_of_site)
+    return (found.end(), end) if end < len(text_of_site) else None
+
+
 def section(text_of_site, name):
     """What a section of a virtual server has between its braces, or ""."""
-    found = re.search(rf"(?m)^[ \t]*{name}[ \t]*\{{", text_of_site)
-    if not found:
-        return ""
-    depth, begin = 1, found.end()
-    for at in range(begin, len(text_of_site)):
-        depth += {"{": 1, "}": -1}.get(text_of_site[at], 0)
-        if depth == 0:
-            return text_of_site[begin:at]
-    return ""
+    begin, end = place_of_section(text_of_site, name) or (0, 0)
+    return text_of_site[begin:end]
+
+
+def with_section(text_of_site, name, change):
+    """A virtual server in which a section is changed: another one may have the same lines."""
+    begin, end = place_of_section(text_of_site, name) or (0, 0)
+    return text_of_site[:begin] + change(text_of_site[begin:end]) + text_of_site[end:]
 
 
 def enabled():

@@ -31,6 +31,8 @@ ODD = {
 }
 SECRETS = {
     "/etc/radacctd*.toml": (0o640, ("root",), (site.USER,)),
+    # What a set-up kept: its secrets are still in force.
+    "/etc/radacctd*.toml~*": (0o640, ("root",), None),
     "/etc/radacctd-cashier.key": (0o600, ("root",), None),
     site.BOOKS_SECRET: (0o600, ("root",), None),
     site.REDEEM_KEY: (0o640, ("root",), (site.REDEEM_USER,)),

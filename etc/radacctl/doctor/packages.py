@@ -5,6 +5,7 @@ import shlex
 import time
 
 from radacctl import files, freeradius, logins, names, packages, plans, site
+from radacctl.doctor import look
 from radacctl.doctor.faults import Fault
 from radacctl.setup import packages as wanted
 from radacctl.setup.steps import Failed
@@ -31,7 +32,8 @@ def look_at(kind):
 
 
 def lines():
-    """What the set-up writes into FreeRADIUS' files."""
+    """What the set-up writes into FreeRADIUS' files, and who may read the key of codes."""
+    yield from look.open_to_others(freeradius.path("radacctd", logins.CONF))
     for place, own in wanted.OURS.items():
         if files.text(freeradius.path(place)) != files.sample("packages", own):
             yield Fault("packages-steps", f"{freeradius.path(place)} is not that of this version",
@@ -53,11 +55,11 @@ def lines():
 def databases():
     """Both can be read, the key is that of the codes, and nothing is left unfinished."""
     found, late = logins.settings(), time.time() - UNFINISHED
-    for name, look in (("uses", "SELECT count(*) FROM use, try"), ("logins", "SELECT 1 FROM key")):
+    for name, query in (("uses", "SELECT count(*) FROM use, try"), ("logins", "SELECT 1 FROM key")):
         path = None
         try:
             path = logins.path_of(name)
-            logins.Store(path).read(look)
+            logins.Store(path).read(query)
         except (logins.Fault, site.Missing, OSError) as why:
             yield refused(name, path, why)
             return

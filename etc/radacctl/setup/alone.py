@@ -6,10 +6,10 @@ import re
 import secrets
 import tomllib
 
-from radacctl import configuration, desk, files, names, plans, site
+from radacctl import configuration, desk, files, freeradius, names, plans, site
 from radacctl.doctor import copies
 from radacctl.setup import steps
-from radacctl.setup.steps import Command, File, Folder, Fresh
+from radacctl.setup.steps import Command, File, Folder, Fresh, Install
 
 FRONT_PORT = "11813"
 NOTES = "/root/radacctd-setup"
@@ -106,16 +106,17 @@ class ConfigFile(File):
 
     def do(self):
         with configuration.locked(self.path):
-            old, _ = self.found()
+            old, status = self.found()
             if old is None or old == self.wanted(old):
                 super().do()
                 return
             above, name = os.path.split(self.path)
             with files.opened_folder(above) as folder:
                 steps.keep(folder, name)
+                # The new file gets owner and mode of this one: right ones, before its new secrets.
+                if not self.has_rights(status):
+                    self.write(folder, name, old, self.rights(status))
             configuration.put_in_place(self.path, self.wanted(old).decode(), is_needed=True)
-            # Owner and mode, if they were wrong.
-            super().do()
 
 
 def block(name, members):
@@ -124,10 +125,10 @@ def block(name, members):
 
 
 def with_value(text, name, value):
-    """A file of settings for systemd in which one has this value."""
+    """A file of settings for systemd, which reads the last line of a name, with this value."""
     line = f"{name}={value}"
     text = text or ""
-    found = re.search(rf"(?m)^{name}=.*$", text)
+    *_, found = [None, *re.finditer(rf"(?m)^[ \t]*{name}=.*$", text)]
     if found:
         return text[: found.start()] + line + text[found.end() :]
     return (text.rstrip("\n") + "\n" if text else "") + line + "\n"
@@ -137,8 +138,8 @@ def with_bind(text, address):
     """The settings of a server to which access servers report: it also listens where they send to.
     What a site has chosen stays.
     """
-    found = re.search(r"(?m)^RADACCTD_BIND=(.*)$", text)
-    known = re.findall(r"--bind[ =]([\d.]+)", found[1]) if found else ["127.0.0.1"]
+    *_, found = [None, *re.findall(r"(?m)^[ \t]*RADACCTD_BIND=(.*)$", text)]
+    known = re.findall(r"--bind[ =]([\d.]+)", found) if found is not None else ["127.0.0.1"]
     if not known or {address, "0.0.0.0"} & set(known):
         return text
     binds = " ".join(f"--bind {it}" for it in [*known, address])
@@ -150,6 +151,8 @@ def defaults(text, answers):
         text = with_value(text, "RADACCTD_RADIUS_PORT", FRONT_PORT)
     else:
         text = with_bind(text or "", answers.server)
+        # FreeRADIUS, which had the usual port, was taken out.
+        text = re.sub(rf"(?m)^(RADACCTD_RADIUS_PORT=){FRONT_PORT}$", r"\g<1>1813", text)
     # The other machine of a pair sells at this desk, too.
     return with_value(text, "RADACCTD_DESK_BIND", answers.pair["own"]) if answers.pair else text
 
@@ -202,7 +205,7 @@ def packages(wanted):
     holds = lambda: all(map(is_installed, wanted))
     # Another run of apt is waited for, as that of a machine's first hour. A site's files stay.
     how = ("-o", "DPkg::Lock::Timeout=600", "-o", "Dpkg::Options::=--force-confold")
-    return Command(f"install {' '.join(lacking)}", holds, "apt-get", "install", "--yes",
+    return Install(f"install {' '.join(lacking)}", holds, "apt-get", "install", "--yes",
                    "--no-install-recommends", *how, *lacking)
 
 
@@ -242,6 +245,9 @@ def is_known_group(name):
 
 def of(answers, config):
     """The steps, in their order."""
+    if not answers.has_front and os.path.lexists(freeradius.path("radacctd", "settings.conf")):
+        raise steps.Failed("FreeRADIUS is in front, and the answers have freeradius = false: first "
+                           "radacctl setup --remove")
     yield from user_steps()
     yield Folder(NOTES, 0o700)
     yield ConfigFile(site.CONFIG, config.wanted, 0o640, of_group=site.USER)
@@ -254,8 +260,8 @@ def of(answers, config):
     yield Folder(site.STATE, 0o700, site.USER, site.USER)
     book = ("--config", site.CONFIG, "--db", site.BOOK)
     yield Command(f"make the book {site.BOOK}", has_book, site.program(), "init", *book)
-    # Before a restart, which fails as long as a plan waits.
-    if plans.in_force() is not None:
+    # Before a restart, which fails as long as a plan waits. A server that never ran says nothing.
+    if plans.in_force() is not None or has_book():
         yield Plans(answers, book)
     yield Fresh("restart radacctd", ("radacctd.service",), [site.DEFAULTS])
     yield unit("radacctd.service")

@@ -10,13 +10,16 @@ import time
 
 from radacctl import files, freeradius, site
 from radacctl.doctor import front as counts
-from radacctl.setup import front, packages, steps
-from radacctl.setup.steps import File, Trial
+from radacctl.setup import front, packages, sql, steps
+from radacctl.setup.steps import File, Fresh, Trial
 
 # How long the queue may take until it is empty, in seconds.
 PATIENCE = 600
 LEFT = (f"{site.RADACCT}/radacctd*", "/var/lib/radacctd-front", "/var/lib/radacctd-sql",
         f"{site.RADDB}/*~before-*")
+# What starts the minute's work of packages; and what goes last.
+TIMER = f"/etc/systemd/system/timers.target.wants/{packages.UNIT}"
+LAST = (TIMER, packages.DROP_IN)
 # The site's access servers, in FreeRADIUS' folder itself.
 CLIENTS = "access-servers.conf"
 
@@ -61,8 +64,8 @@ def lines_out(text):
     text = front.WITH_CLASS.sub("", text)
     text = re.sub(r"(?m)^[ \t]*radacctd_(?:accounting|login|packages\w*)[ \t]*\n", "", text)
     text = re.sub(r"(?m)^(\s*)radacctd_filter\b", r"\1filter_username", text)
-    inside = freeradius.section(text, "accounting")
-    return text.replace(inside, re.sub(r"(?m)^([ \t]*)# (-?sql)$", r"\1\2", inside), 1)
+    again = lambda inside: re.sub(r"(?m)^([ \t]*)# (-?sql)$", r"\1\2", inside)
+    return freeradius.with_section(text, "accounting", again)
 
 
 def includes_out(text):
@@ -119,15 +122,16 @@ def units():
 
 
 def is_there():
+    """Whether anything is left, as after a run that was killed."""
     found = any(not it.is_done() for it in (*servers(), *rest()))
-    return found or any(map(os.path.lexists, units()))
+    return found or any(map(os.path.lexists, [*units(), *LAST]))
 
 
 def listed():
     """What is to be done, a line each."""
     found = [it.text() for it in (*servers(), *rest()) if not it.is_done()]
     return [*found, "wait until radacctd has all queued reports", "restart FreeRADIUS twice",
-            *(f"stop and remove {it}" for it in units() if os.path.lexists(it))]
+            *(f"stop and remove {it}" for it in [*units(), *LAST] if os.path.lexists(it))]
 
 
 def waiting():
@@ -147,22 +151,39 @@ def drain():
 
 
 def do_all(found):
-    """Does steps to FreeRADIUS' folder, once FreeRADIUS has tested them in a copy of it."""
-    found = [it for it in found if not it.is_done()]
-    if not found:
-        return
-    Trial(found).do()
-    for it in found:
+    """Does steps to FreeRADIUS' folder, once FreeRADIUS has tested them in a copy of it, and
+    restarts it. An earlier run may have been killed before it did that.
+    """
+    lacking = [it for it in found if not it.is_done()]
+    if lacking:
+        Trial(lacking).do()
+    for it in lacking:
         it.do()
-    steps.given(["freeradius", "-C", "-l", "stdout"], seconds=60)
-    steps.given(["systemctl", "restart", "freeradius"])
+    fresh = Fresh("restart FreeRADIUS", ("freeradius.service",), [it.path for it in found],
+                  ("freeradius", "-C", "-l", "stdout"))
+    if lacking or not fresh.is_done():
+        fresh.do()
 
 
 def remove():
+    # FreeRADIUS writes sessions into its database again: a later set-up ends those that are open.
+    files.remove(sql.ENDED)
     do_all(servers())
     if os.path.lexists(freeradius.path("sites-enabled/radacctd")):
         drain()
+    if site.READERS in steps.given(["id", "-Gn", site.RADIUS_USER]).split():
+        steps.given(["gpasswd", "-d", site.RADIUS_USER, site.READERS])
     do_all(list(rest()))
+    stop_units()
+    print("FreeRADIUS serves on without radacctd: everybody who can log in gets in, and nothing is "
+          f"charged. Its clients are in {freeradius.path(CLIENTS)}.\nLeft: "
+          + " ".join(LEFT))
+
+
+def stop_units():
+    if os.path.lexists(TIMER):
+        # It reads the mirror, which goes now.
+        steps.given(["systemctl", "disable", "--now", packages.UNIT])
     # systemd has no such service but while its timer starts it.
     names = [os.path.basename(it) for it in units()
              if os.path.lexists(it) and not it.endswith("radacctd-clock.service")]
@@ -172,9 +193,3 @@ def remove():
         if os.path.lexists(it):
             Gone(it).do()
     steps.given(["systemctl", "daemon-reload"])
-    if site.READERS in steps.given(["id", "-Gn", site.RADIUS_USER]).split():
-        steps.given(["gpasswd", "-d", site.RADIUS_USER, site.READERS])
-        steps.given(["systemctl", "restart", "freeradius"])
-    print("FreeRADIUS serves on without radacctd: everybody who can log in gets in, and nothing is "
-          f"charged. Its clients are in {freeradius.path(CLIENTS)}.\nLeft: "
-          + " ".join(LEFT))

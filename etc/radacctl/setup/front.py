@@ -10,6 +10,7 @@ import secrets
 from radacctl import files, freeradius, site
 from radacctl.setup import packages, pair, sql, steps
 from radacctl.setup.alone import Command, File, Folder, secret, unit
+from radacctl.setup.answers import OTHERS_SECRET
 from radacctl.setup.steps import Fresh, Link, Trial
 
 PACKAGES = ["freeradius", "freeradius-utils"]
@@ -107,7 +108,7 @@ def parts(answers, config):
                    lambda old: settings(old, answers, book_secret))
     books = config.clients["books"] if answers.pair else None
     yield of_group(raddb("radacctd", "access-servers.conf"),
-                   lambda old: clients(old, answers, books))
+                   lambda old: clients(old, answers, books, config.clients))
     placed = (freeradius.client_at(it["address"]) for it in answers.access_servers)
     for name in sorted({it[0] for it in placed if it}):
         yield File(raddb(name), lambda old, name=name: with_lines(old, name, answers))
@@ -195,8 +196,10 @@ def with_value(text, name, value):
     return text[:end] + line + text[end:]
 
 
-def clients(old, answers, books=None):
-    """access-servers.conf with those that it lacks. In a pair debits come by FreeRADIUS, too."""
+def clients(old, answers, books=None, reporting=()):
+    """access-servers.conf with those that it lacks. In a pair debits come by FreeRADIUS, too.
+    `reporting` are the clients of radacctd itself, which access servers may have been until now.
+    """
     text = old if old is not None else HEAD
     if books and not re.search(r"(?m)^client books ", text):
         text = text.rstrip("\n") + "\n\n" + BOOKS.format(**books)
@@ -213,7 +216,8 @@ def clients(old, answers, books=None):
             values["secret"] = quoted(freeradius.value(there[2], "secret"))
         else:
             test_name(it)
-            own = covering(it) or secret(answers, f"client-{it['name']}")
+            own = covering(it) or reported(it, reporting)
+            own = own or secret(answers, f"client-{it['name']}")
             kind = "ipaddr" if it["version"] == 4 else "ipv6addr"
             values |= {"secret": quoted(own), "kind": kind}
             text = text.rstrip("\n") + "\n\n" + CLIENT.format(**values)
@@ -268,6 +272,17 @@ def covering(wanted):
     return max(found)[1] if found else None
 
 
+def reported(wanted, reporting):
+    """The secret of an access server that reported to radacctd itself: it stays, too."""
+    known = dict(reporting).get(wanted["name"], {})
+    if known.get("address") != wanted["address"]:
+        return None
+    if not OTHERS_SECRET.fullmatch(known["secret"]):
+        raise steps.Failed(f"the secret of {wanted['name']} in {site.CONFIG} has marks that "
+                           "FreeRADIUS' files cannot have: write another one there")
+    return known["secret"]
+
+
 def test_name(wanted):
     for file, name, found, _ in freeradius.other_clients():
         if name == wanted["name"]:
@@ -315,7 +330,8 @@ def main(old, answers):
     """radiusd.conf with the files of the site, before its modules."""
     wanted = INCLUDES + ("$INCLUDE radacctd/pair.conf\n" if answers.pair else "")
     wanted += packages.INCLUDE if answers.has_packages else ""
-    lacks = [it for it in wanted.splitlines(True) if it.strip() not in there(old, "radiusd.conf")]
+    bare = freeradius.without_comments(there(old, "radiusd.conf"))
+    lacks = [it for it in wanted.splitlines(True) if it.strip() not in bare]
     if not lacks:
         return old
     if "\nmodules {" not in old:
@@ -358,10 +374,10 @@ def inner(old, answers, path=None):
     return packages.inner(text) if answers.has_packages else text
 
 
-def is_debians(path, text):
-    """Whether a file is as Debian's package made it: then the filter of names is not the site's."""
+def is_debians(path, text, package="freeradius-config"):
+    """Whether a file is as Debian's package made it: then nothing in it is the site's."""
     found = hashlib.md5(text.encode("utf-8", "surrogateescape")).hexdigest()
-    words = ["dpkg-query", "-W", "-f", "${Conffiles}\n", "freeradius-config"]
+    words = ["dpkg-query", "-W", "-f", "${Conffiles}\n", package]
     with contextlib.suppress(steps.Failed):
         return f" {path} {found}" in steps.given(words)
     return False

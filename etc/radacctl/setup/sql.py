@@ -77,8 +77,8 @@ def without_sql(text):
 
     Usage is radacctd's. And if the database is down, reports are to be answered all the same.
     """
-    inside = freeradius.section(text, "accounting")
-    return text.replace(inside, re.sub(r"(?m)^(\s*)(-?sql)[ \t]*$", r"\1# \2", inside), 1)
+    commented = lambda inside: re.sub(r"(?m)^(\s*)(-?sql)[ \t]*$", r"\1# \2", inside)
+    return freeradius.with_section(text, "accounting", commented)
 
 
 def after(answers):

@@ -109,12 +109,13 @@ class File:
     def is_done(self):
         try:
             old, status = self.found()
-            rights = self.rights(status)
+            return old is not None and old == self.wanted(old) and self.has_rights(status)
         except Failed:
             return False
-        if old is None or old != self.wanted(old):
-            return False
-        return rights == (status.st_uid, status.st_gid, stat.S_IMODE(status.st_mode))
+
+    def has_rights(self, status):
+        found = status.st_uid, status.st_gid, stat.S_IMODE(status.st_mode)
+        return self.rights(status) == found
 
     def text(self):
         old, _ = self.found()
@@ -231,6 +232,19 @@ class Command:
             raise Failed(f"{' '.join(self.words)}: it did not help: {said[-300:]}")
 
 
+class Install(Command):
+    """Installs packages, also after a power cut in the middle of an earlier installation."""
+
+    def do(self):
+        try:
+            super().do()
+        except Failed as why:
+            if "dpkg --configure -a" not in str(why):
+                raise
+            given(["dpkg", "--force-confold", "--configure", "-a"])
+            super().do()
+
+
 class Trial:
     """Does the steps to FreeRADIUS' folder in a copy of it, which FreeRADIUS tests: if that finds a
     fault, nothing was changed.
@@ -251,6 +265,8 @@ class Trial:
         try:
             raddb = os.path.join(TRIAL, "raddb")
             given(["cp", "-a", site.RADDB, raddb])
+            # While nobody else may enter the folder: what is done here goes by names.
+            lead_inside(raddb)
             os.chown(TRIAL, 0, group(site.RADIUS_USER))
             os.chmod(TRIAL, 0o750)
             moved = lambda old: re.sub(r"(?m)^(\s*raddbdir\s*=\s*).*$", rf"\g<1>{raddb}", old)
@@ -266,6 +282,18 @@ class Trial:
                              f"{why}") from None
         finally:
             shutil.rmtree(TRIAL, ignore_errors=True)
+
+
+def lead_inside(raddb):
+    """Lets links of a copy that name a file of FreeRADIUS' folder from the root lead to its copy: a
+    test would else read the file that is not changed yet.
+    """
+    for above, folders, names in os.walk(raddb):
+        for path in (os.path.join(above, it) for it in (*folders, *names)):
+            target = os.readlink(path) if os.path.islink(path) else ""
+            if target.startswith(site.RADDB + "/"):
+                os.remove(path)
+                os.symlink(raddb + target.removeprefix(site.RADDB), path)
 
 
 class Fresh:

@@ -10,7 +10,7 @@ import time
 from radacctl import files, freeradius, money, site, stock
 from radacctl.setup import clerk, pair, steps
 from radacctl.setup.alone import NOTES, Command, File, Folder, is_known_group, unit
-from radacctl.setup.front import member
+from radacctl.setup.front import is_debians, member
 from radacctl.setup.steps import Fresh, Link
 
 PACKAGES = ["nginx", "apache2-utils", "openssl", "fail2ban", "nftables", "python3-systemd"]
@@ -46,14 +46,20 @@ def of(answers, config):
     if answers.has_codes:
         yield from codes(config)
     yield from clerk.of(answers)
-    yield Command("take Debian's own page of nginx away", lambda: not os.path.lexists(DEFAULT),
-                  "rm", "-f", DEFAULT)
+    yield Command("take Debian's own page of nginx away", lambda: not has_debians_page(), "rm",
+                  "-f", DEFAULT)
     yield running()
     yield unit("nginx.service")
     yield from fail2ban(answers, own)
 
 
-DEFAULT = "/etc/nginx/sites-enabled/default"
+DEFAULT, OF_PACKAGE = (f"/etc/nginx/sites-{it}/default" for it in ("enabled", "available"))
+
+
+def has_debians_page():
+    """Whether nginx has Debian's own page. One that somebody has written stays: it is a site's."""
+    return os.path.lexists(DEFAULT) and (
+        not os.path.exists(DEFAULT) or is_debians(OF_PACKAGE, files.text(DEFAULT), "nginx-common"))
 
 
 def certificate(answers):

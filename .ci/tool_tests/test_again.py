@@ -1,0 +1,261 @@
+"""What a set-up that is given again finds, finishes and leaves alone; and a removal."""
+
+import contextlib
+import io
+import os
+import stat
+import subprocess
+import tempfile
+import unittest
+from unittest import mock
+
+from radacctl import configuration, freeradius, site as places
+from radacctl.doctor import book, packages as of_packages
+from radacctl.setup import alone, answers, away, front, sql, steps, web
+
+PLAN = {"class": "default", "block": 1000, "unit": 5}
+NEEDS_ROOT = unittest.skipUnless(os.geteuid() == 0, "only root gives files away")
+# A short virtual server, two sections of which have the same lines.
+SERVER = """server x {
+authorize {
+	filter_username
+	sql
+	pap
+}
+accounting {
+	sql
+}
+post-auth {
+	sql
+}
+}
+"""
+
+
+def wanted(**more):
+    return answers.Answers({"plan": [PLAN], **more})
+
+
+class Folder(unittest.TestCase):
+    def setUp(self):
+        folder = tempfile.TemporaryDirectory()
+        self.addCleanup(folder.cleanup)
+        self.folder = os.path.realpath(folder.name)
+        self.path = os.path.join(self.folder, "file")
+
+    def put(self, text, *names, mode=0o640):
+        path = os.path.join(self.folder, *names) if names else self.path
+        os.makedirs(os.path.dirname(path), exist_ok=True)
+        with open(path, "w", encoding="utf-8") as file:
+            file.write(text)
+        os.chmod(path, mode)
+        return path
+
+    def patched(self, target, name, value):
+        patch = mock.patch.object(target, name, value)
+        patch.start()
+        self.addCleanup(patch.stop)
+
+
+class Sections(unittest.TestCase):
+    """A section is changed where it is, and not where the same lines stand before it."""
+
+    def test_logins_still_ask_the_database(self):
+        text = front.default(SERVER, wanted(sql={"password_file": "/root/x"}), "x")
+        words = {it: freeradius.section(freeradius.without_comments(text), it).split()
+                 for it in ("authorize", "accounting", "post-auth")}
+        self.assertEqual(words["authorize"], ["filter_username", "sql", "pap"])
+        self.assertEqual(words["accounting"], ["radacctd_accounting"])
+        self.assertEqual(words["post-auth"], ["radacctd_login", "sql"])
+        self.assertEqual(away.lines_out(text), SERVER)
+
+    def test_a_brace_of_a_comment_ends_no_section(self):
+        text = SERVER.replace("accounting {", "accounting {\n\t# to here: }")
+        found = sql.without_sql(text)
+        self.assertEqual(found, text.replace("here: }\n\tsql\n", "here: }\n\t# sql\n"))
+        self.assertEqual(away.lines_out(found), text)
+
+    def test_a_server_without_the_section_stays(self):
+        text = SERVER.replace("accounting", "preacct")
+        self.assertEqual((sql.without_sql(text), away.lines_out(text)), (text, text))
+        self.assertEqual(freeradius.section("server x {\naccounting {\n\tsql\n", "accounting"), "")
+
+    def test_a_line_in_a_comment_is_not_there(self):
+        text = f"modules before\n# {front.INCLUDES.splitlines()[0]}\nmodules {{\n}}\n"
+        self.assertEqual(front.main(text, wanted()).count("\n$INCLUDE radacctd/settings.conf\n"), 1)
+
+
+class Again(Folder):
+    def test_a_book_whose_server_never_ran_gets_new_plans(self):
+        """A run that was killed before the server's first start, and a plan more in the file."""
+        for is_there, in_force, found in ((True, None, True), (False, None, False),
+                                          (True, {"default": ()}, True)):
+            self.patched(alone, "has_book", lambda it=is_there: it)
+            self.patched(alone.plans, "in_force", lambda it=in_force: it)
+            config = mock.Mock(keys={"cashier": "c" * 32})
+            config.clients = {"books": {"secret": "b" * 32}}
+            made = [it for it in alone.of(wanted(), config) if isinstance(it, alone.Plans)]
+            self.assertEqual(bool(made), found)
+            self.assertEqual([it.is_done() for it in made], [False] * found)
+
+    def test_settings_of_systemd_count_by_their_last_line(self):
+        text = "RADACCTD_RADIUS_PORT=1\n RADACCTD_RADIUS_PORT=2\n"
+        self.assertEqual(alone.defaults(text, wanted()),
+                         "RADACCTD_RADIUS_PORT=1\nRADACCTD_RADIUS_PORT=11813\n")
+        one = [{"name": "a", "address": "10.0.0.1"}]
+        text = "RADACCTD_BIND=--bind 10.0.0.5\nRADACCTD_BIND=--bind 127.0.0.1\n"
+        found = alone.defaults(text, wanted(freeradius=False, server="10.0.0.5", access_server=one))
+        self.assertTrue(found.endswith('\nRADACCTD_BIND="--bind 127.0.0.1 --bind 10.0.0.5"\n'))
+
+    def test_a_site_without_freeradius_has_its_port_again(self):
+        """And it is no such site as long as FreeRADIUS is in front."""
+        one = wanted(freeradius=False, server="10.0.0.5")
+        for port, new in (("11813", "1813"), ("20113", "20113")):
+            found = alone.defaults(f"RADACCTD_RADIUS_PORT={port}\n", one)
+            self.assertIn(f"RADACCTD_RADIUS_PORT={new}\n", found)
+        self.patched(places, "RADDB", self.folder)
+        self.put("radacctd {\n}\n", "radacctd", "settings.conf")
+        with self.assertRaisesRegex(steps.Failed, "setup --remove"):
+            list(alone.of(one, mock.Mock()))
+
+    def test_who_reported_to_radacctd_keeps_its_secret(self):
+        """FreeRADIUS comes in front: nobody has to type a secret at the access server again."""
+        self.patched(freeradius, "text", lambda *_: "")
+        one = wanted(access_server=[{"name": "lobby", "address": "10.0.0.1"}])
+        secret = lambda **client: freeradius.value(dict(freeradius.CLIENT.findall(
+            front.clients(None, one, None, {"lobby": client})))["lobby"], "secret")
+        self.assertEqual(secret(address="10.0.0.1", secret="it's # of 2019"), "it's # of 2019")
+        self.assertEqual(len(secret(address="10.0.0.2", secret="of another one")), 32)
+        with self.assertRaisesRegex(steps.Failed, "the secret of lobby"):
+            secret(address="10.0.0.1", secret="a\\b")
+
+    @NEEDS_ROOT
+    def test_no_secret_is_added_to_a_file_that_others_may_read(self):
+        """Not even for a moment: the file of the check has the rights of the one in place."""
+        self.put("# mine\n", mode=0o644)
+        seen = []
+        self.patched(configuration, "fault_of", lambda new, _: seen.append(
+            stat.S_IMODE(os.stat(new).st_mode)) or "")
+        alone.ConfigFile(self.path, lambda old: '# mine\nsecret = "x"\n', 0o640).do()
+        self.assertEqual((seen, stat.S_IMODE(os.stat(self.path).st_mode)), ([0o640], 0o640))
+        [kept] = [it for it in os.listdir(self.folder) if "~before-" in it]
+        self.assertEqual(stat.S_IMODE(os.stat(os.path.join(self.folder, kept)).st_mode), 0o644)
+
+    def test_a_kept_file_that_others_may_read_is_told(self):
+        self.put("secret\n", "radacctd.toml~before-20261128-120000", mode=0o644)
+        pattern = next(it for it in book.SECRETS if it.endswith("~*"))
+        place = pattern.replace("/etc/", f"{self.folder}/")
+        found = list(book.modes({place: book.SECRETS[pattern]}))
+        self.assertEqual([it.name for it in found][:1], ["mode-open"])
+        self.assertIn("chmod 640", found[0].cure)
+
+    def test_a_key_of_codes_that_others_may_read_is_told(self):
+        self.patched(places, "RADDB", self.folder)
+        path = self.put("", "radacctd", "packages.conf", mode=0o644)
+        self.patched(of_packages.files, "text", lambda _: "")
+        self.patched(of_packages.files, "sample", lambda *_: "")
+        found = [it.text for it in of_packages.lines() if it.name == "mode-open"]
+        self.assertEqual(found, [f"others may read {path}: it has 644"])
+        os.chmod(path, 0o640)
+        self.assertNotIn("mode-open", [it.name for it in of_packages.lines()])
+
+    def test_a_page_of_nginx_that_is_not_debians_stays(self):
+        self.patched(web, "DEFAULT", os.path.join(self.folder, "enabled"))
+        self.patched(web, "OF_PACKAGE", self.path)
+        self.put("server { listen 80; }\n")
+        known = "fc4c5ae1ccf2e8b1a8e6d0b0e4a9f0b2"
+        self.patched(steps, "given", lambda _: f" {self.path} {known}\n")
+        self.assertFalse(web.has_debians_page(), "there is none")
+        os.symlink("file", web.DEFAULT)
+        self.assertFalse(web.has_debians_page(), "it was edited")
+        md5 = subprocess.run(["md5sum", self.path], capture_output=True, text=True, check=True)
+        known = md5.stdout.split()[0]
+        self.assertTrue(web.has_debians_page())
+        os.remove(self.path)
+        self.assertTrue(web.has_debians_page(), "nginx does not start with a link to nothing")
+
+    def test_a_copy_is_tried_and_not_what_it_is_of(self):
+        """A link that an administrator made by a whole path leads to the copy, too."""
+        raddb = os.path.join(self.folder, "raddb")
+        self.patched(places, "RADDB", raddb)
+        self.put("old\n", "copy", "sites-available", "own")
+        os.makedirs(os.path.join(self.folder, "copy", "sites-enabled"))
+        link = lambda name: os.path.join(self.folder, "copy", "sites-enabled", name)
+        os.symlink(f"{raddb}/sites-available/own", link("own"))
+        os.symlink("../sites-available/own", link("near"))
+        os.symlink(f"{raddb}-of-others/x", link("far"))
+        os.symlink(f"{raddb}/sites-available", link("folder"))
+        steps.lead_inside(os.path.join(self.folder, "copy"))
+        self.assertEqual([os.readlink(link(it)) for it in ("own", "near", "far", "folder")], [
+            f"{self.folder}/copy/sites-available/own", "../sites-available/own",
+            f"{raddb}-of-others/x", f"{self.folder}/copy/sites-available"])
+
+    def test_an_installation_that_was_cut_off_is_finished(self):
+        said = "E: dpkg was interrupted, you must manually run 'dpkg --configure -a' to correct"
+        for why, words in ((said, ["apt-get", "dpkg", "apt-get"]), ("no such package", ["apt-get"])):
+            given = mock.Mock(side_effect=[steps.Failed(why), "", ""])
+            self.patched(steps, "given", given)
+            step = alone.packages(["x"])
+            step.holds, step.words = lambda: True, ("apt-get", "install", "x")
+            given.reset_mock(side_effect=True)
+            given.side_effect = [steps.Failed(why), "", ""]
+            with contextlib.suppress(steps.Failed):
+                step.do()
+            self.assertEqual([it[0][0][0] for it in given.call_args_list], words)
+
+
+class TakenOut(Folder):
+    """`setup --remove` that is given again finishes what was begun."""
+
+    def setUp(self):
+        super().setUp()
+        self.given = []
+        self.patched(places, "RADDB", self.folder)
+        self.patched(steps, "given", lambda words, **_: self.given.append(" ".join(words)) or "")
+        self.patched(sql, "ENDED", self.put("", "ended"))
+        self.patched(away, "drain", lambda: self.given.append("drain"))
+        for name in ("servers", "rest"):
+            self.patched(away, name, lambda: [])
+        self.patched(away, "TIMER", os.path.join(self.folder, "timer"))
+        self.patched(away, "LAST", (away.TIMER, os.path.join(self.folder, "drop-in")))
+        self.patched(away, "units", lambda: [os.path.join(self.folder, "radacctd-mirror.service")])
+
+    def removed(self):
+        with contextlib.redirect_stdout(io.StringIO()):
+            away.remove()
+
+    def test_freeradius_is_restarted_before_the_queue_is_looked_at(self):
+        """Else it would go on to queue reports, and nobody would read them once it is gone."""
+        self.put("", "sites-enabled", "radacctd")
+        for is_fresh in (False, True):
+            self.given.clear()
+            with mock.patch.object(steps.Fresh, "is_done", lambda _, it=is_fresh: it):
+                self.removed()
+            before = self.given[: self.given.index("drain")]
+            self.assertEqual("systemctl restart freeradius.service" in before, not is_fresh)
+
+    def test_the_last_file_is_a_trace_of_it(self):
+        self.assertFalse(away.is_there())
+        for path in (*away.LAST, *away.units()):
+            self.put("", path)
+            self.assertTrue(away.is_there(), path)
+            self.assertTrue(any(path in it for it in away.listed()))
+            os.remove(path)
+
+    def test_what_reads_the_mirror_is_stopped_before_it(self):
+        for path in (away.TIMER, *away.units()):
+            self.put("", path)
+        with mock.patch.object(steps.Fresh, "is_done", lambda _: True):
+            self.removed()
+        found = [it for it in self.given if "disable --now" in it]
+        self.assertEqual(found, ["systemctl disable --now radacctd-packages.timer",
+                                 "systemctl disable --now radacctd-mirror.service"])
+
+    def test_sessions_that_freeradius_opens_now_are_ended_by_a_later_set_up(self):
+        with mock.patch.object(steps.Fresh, "is_done", lambda _: True):
+            self.removed()
+        self.assertFalse(os.path.exists(sql.ENDED))
+
+
+if __name__ == "__main__":
+    unittest.main()
