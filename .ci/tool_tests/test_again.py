@@ -3,6 +3,7 @@
 import contextlib
 import io
 import os
+import shutil
 import stat
 import subprocess
 import tempfile
@@ -10,8 +11,10 @@ import unittest
 from unittest import mock
 
 from radacctl import configuration, freeradius, site as places
+from radacctl.commands import setup
 from radacctl.doctor import book, packages as of_packages
 from radacctl.setup import alone, answers, away, front, sql, steps, web
+from tool_tests import ROOT
 
 PLAN = {"class": "default", "block": 1000, "unit": 5}
 NEEDS_ROOT = unittest.skipUnless(os.geteuid() == 0, "only root gives files away")
@@ -202,6 +205,54 @@ class Again(Folder):
             with contextlib.suppress(steps.Failed):
                 step.do()
             self.assertEqual([it[0][0][0] for it in given.call_args_list], words)
+
+
+@NEEDS_ROOT
+@unittest.skipUnless(shutil.which("freeradius") and os.path.isdir("/etc/freeradius/3.0"),
+                     "freeradius is missing")
+class Tested(Folder):
+    def test_a_test_of_freeradius_runs_its_code_as_its_user(self):
+        """Its user may write the files, and so what root would run."""
+        raddb, out = (os.path.join(self.folder, it) for it in ("raddb", "out"))
+        steps.given(["cp", "-a", "/etc/freeradius/3.0", raddb])
+        self.put(f"perl zz {{\n\tfilename = {self.path}\n}}\n", raddb, "mods-enabled", "zz",
+                 mode=0o644)
+        self.put(f'open F, ">", "{out}/uid"; print F $<; close F; sub authorize {{ 0 }} 1;\n',
+                 mode=0o644)
+        os.mkdir(out)
+        os.chmod(out, 0o777)
+        os.chmod(self.folder, 0o711)
+        self.patched(places, "RADDB", raddb)
+        steps.Trial([]).do()
+        with open(os.path.join(out, "uid"), encoding="ascii") as file:
+            self.assertEqual(int(file.read()), steps.user(places.RADIUS_USER))
+
+    def test_all_of_them_do(self):
+        folder = os.path.join(ROOT, "etc", "radacctl")
+        found = subprocess.run(["grep", "-rlE", "--include=*.py", 'freeradius", "-C', folder],
+                               capture_output=True, text=True).stdout.split()
+        self.assertEqual(found, [os.path.join(folder, "freeradius.py")])
+        self.assertEqual(freeradius.test()[1:3], ("--as", places.RADIUS_USER))
+
+
+class Ends(unittest.TestCase):
+    def test_a_run_that_was_killed_before_its_copy_makes_it(self):
+        one = wanted()
+        for changes, is_tried, is_copied, names in (
+            (True, True, True, ["Proof"]), (True, False, False, ["Proof", "Copy"]),
+            (False, True, False, ["Copy"]), (False, False, True, ["Proof"]),
+            (False, True, True, []),
+        ):
+            with mock.patch.object(setup.proof.Proof, "is_done", lambda _, it=is_tried: it), \
+                    mock.patch.object(setup.Copy, "is_done", lambda _, it=is_copied: it):
+                found = setup.ends(["a step"] * changes, one, None)
+            self.assertEqual([type(it).__name__ for it in found], names)
+
+    def test_a_copy_is_looked_for_where_nights_make_it(self):
+        for names, is_done in (([], False), (["exports", "2026-11-28.bad"], False),
+                               (["2026-11-28"], True)):
+            with mock.patch.object(setup.copies, "place", lambda it=names: ("/mnt", it)):
+                self.assertEqual(setup.Copy().is_done(), is_done)
 
 
 class TakenOut(Folder):

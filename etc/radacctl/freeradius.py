@@ -39,6 +39,14 @@ def path(*names):
     return os.path.join(site.RADDB, *names)
 
 
+def test(*more):
+    """What lets FreeRADIUS test its files, as its own user, who may write them: a test runs the code
+    of modules that they name, in Perl say. The service does the same before it starts.
+    """
+    return (site.part("as-owner"), "--as", site.RADIUS_USER, "freeradius", "-C", "-l", "stdout",
+            *more)
+
+
 def without_comments(text):
     # What looks like a comment in a secret, say, is none.
     return re.sub(f"({QUOTED})|{COMMENT}", lambda it: it[1] or "", text)

@@ -144,26 +144,27 @@ def do(words, wanted):
     packages = alone.packages(packages_of(wanted))
     config = alone.Config(wanted)
     found = [it for it in [packages, *steps_of(wanted, config)] if not is_done(it)]
-    last = proof.Proof(wanted, config)
+    last = ends(found, wanted, config)
     for line in web.others(wanted):
         print(line)
-    if not found and last.is_done():
+    if not found and not last:
         print("nothing is to be done")
         return 0
     print("This is to be done:")
-    show([*found, last])
+    show([*found, *last])
     if words.dry_run:
         return 0
     if not confirmed(words):
         program.fail("nothing was done")
-    files.remove(proof.DONE)
+    if any(isinstance(it, proof.Proof) for it in last):
+        files.remove(proof.DONE)
     # What one step makes may be what a later one looks for: so each is asked again.
     for it in [packages, *steps_of(wanted, config)]:
         if not is_done(it):
             print(f"{it.text().splitlines()[0]} ..", flush=True)
             it.do()
-    last.do()
-    first_copy()
+    for it in last:
+        it.do()
     print(f"What to type at access servers is in {devices.FOLDER}.")
     return doctor.main([])
 
@@ -183,15 +184,24 @@ def remove(words):
     away.remove()
 
 
-def first_copy():
+def ends(found, wanted, config):
+    """What is done at the end: whatever changes is tried anew, and there is a copy."""
+    tried, copy = proof.Proof(wanted, config), Copy()
+    return [it for it in (tried, copy) if not it.is_done() or it is tried and found]
+
+
+class Copy:
     """The copy of the first night, now: until there is one, a lost disk loses all."""
-    if not any(copies.NAME.fullmatch(it) for it in names_in(site.BACKUPS)):
-        print("copy the site ..", flush=True)
+
+    def text(self):
+        return "copy the site"
+
+    def is_done(self):
+        return any(copies.NAME.fullmatch(it) for it in copies.place()[1])
+
+    def do(self):
+        print(f"{self.text()} ..", flush=True)
         steps.given(["systemctl", "start", "radacctd-nightly.service"])
-
-
-def names_in(folder):
-    return os.listdir(folder) if os.path.isdir(folder) else []
 
 
 def locked():

@@ -80,7 +80,7 @@ def steps(kind):
                         f"radacctl setup, or {linked(path, site.shared('freeradius', own))}")
     yield from lines(kind)
     yield from tunnel()
-    status, said = look.run("freeradius", "-C", "-l", "stdout")
+    status, said = look.run(*freeradius.test())
     if status:
         errors = [it for it in said.splitlines() if "rror" in it or "ailed" in it]
         line = look.last_line("\n".join(errors) or said)

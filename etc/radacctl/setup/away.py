@@ -160,7 +160,7 @@ def do_all(found):
     for it in lacking:
         it.do()
     fresh = Fresh("restart FreeRADIUS", ("freeradius.service",), [it.path for it in found],
-                  ("freeradius", "-C", "-l", "stdout"))
+                  freeradius.test())
     if lacking or not fresh.is_done():
         fresh.do()
 

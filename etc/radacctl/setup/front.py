@@ -413,9 +413,8 @@ def running(inside):
     paths += [freeradius.path(it) for it in packages.OURS]
     paths += [freeradius.path(it) for it in ("sites-enabled/radacctd-pair", "mods-enabled/sql")]
     paths += [it.path for it in inside if isinstance(it, File)]
-    test = ("freeradius", "-C", "-l", "stdout")
     return Fresh("test FreeRADIUS' configuration, and restart it", ("freeradius.service",), paths,
-                 test)
+                 freeradius.test())
 
 
 def parts_running():

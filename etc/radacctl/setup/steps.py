@@ -276,7 +276,7 @@ class Trial:
                 one.do()
             File(os.path.join(raddb, "radiusd.conf"), moved).do()
             try:
-                given(["freeradius", "-C", "-l", "stdout", "-d", raddb], seconds=60)
+                given(freeradius.test("-d", raddb), seconds=60)
             except Failed as why:
                 raise Failed(f"FreeRADIUS would not start with its new files, so none was changed. "
                              f"{why}") from None
