@@ -78,6 +78,16 @@ class Sections(unittest.TestCase):
         self.assertEqual(found, text.replace("here: }\n\tsql\n", "here: }\n\t# sql\n"))
         self.assertEqual(away.lines_out(found), text)
 
+    def test_debians_own_server_writes_no_report_a_second_time(self):
+        text = SERVER.replace("accounting {", "accounting {\n\tdetail\n#\tdaily")
+        for is_debians, words in ((True, ["radacctd_accounting", "sql"]),
+                                  (False, ["radacctd_accounting", "detail", "sql"])):
+            with mock.patch.object(front, "is_debians", lambda *_, it=is_debians: it):
+                found = front.default(text, wanted(), "x")
+            bare = freeradius.without_comments(found)
+            self.assertEqual(freeradius.section(bare, "accounting").split(), words)
+            self.assertEqual(away.lines_out(found), text)
+
     def test_a_server_without_the_section_stays(self):
         text = SERVER.replace("accounting", "preacct")
         self.assertEqual((sql.without_sql(text), away.lines_out(text)), (text, text))

@@ -99,6 +99,12 @@ def with_section(text_of_site, name, change):
     return text_of_site[:begin] + change(text_of_site[begin:end]) + text_of_site[end:]
 
 
+def without_line(text_of_site, name, word):
+    """A virtual server in a section of which the line of a word is a comment."""
+    commented = lambda inside: re.sub(rf"(?m)^([ \t]*)({word})[ \t]*$", r"\1# \2", inside)
+    return with_section(text_of_site, name, commented)
+
+
 def enabled():
     """The site's own files of sites-enabled, as FreeRADIUS reads them."""
     folder = path("sites-enabled")

@@ -355,10 +355,13 @@ WITH_CLASS = re.compile(
 
 def default(old, answers, path=None):
     """The server default: reports are queued, logins are asked for their balance. A file that is
-    as Debian made it takes names with a space, too.
+    as Debian made it takes names with a space, too, and writes no report a second time.
     """
     text = there(old, path or "sites-available/default")
     is_new = is_debians(path, text)
+    if is_new:
+        # A file a day for each access server, which nobody removes, would fill the queue's disk.
+        text = freeradius.without_line(text, "accounting", "detail")
     if answers.sql and not answers.sql["accounting"]:
         text = sql.without_sql(text)
     text = with_login(steps.begun(text, "accounting", "radacctd_accounting"), is_new)

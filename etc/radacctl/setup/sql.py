@@ -77,8 +77,7 @@ def without_sql(text):
 
     Usage is radacctd's. And if the database is down, reports are to be answered all the same.
     """
-    commented = lambda inside: re.sub(r"(?m)^(\s*)(-?sql)[ \t]*$", r"\1# \2", inside)
-    return freeradius.with_section(text, "accounting", commented)
+    return freeradius.without_line(text, "accounting", "-?sql")
 
 
 def after(answers):
