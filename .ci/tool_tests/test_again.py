@@ -12,7 +12,7 @@ from unittest import mock
 
 from radacctl import configuration, freeradius, site as places
 from radacctl.commands import setup
-from radacctl.doctor import book, packages as of_packages
+from radacctl.doctor import book, machine, packages as of_packages
 from radacctl.setup import alone, answers, away, front, sql, steps, web
 from tool_tests import ROOT
 
@@ -202,6 +202,32 @@ class Again(Folder):
         self.assertEqual([os.readlink(link(it)) for it in ("own", "near", "far", "folder")], [
             f"{self.folder}/copy/sites-available/own", "../sites-available/own",
             f"{raddb}-of-others/x", f"{self.folder}/copy/sites-available"])
+
+    def test_a_clock_that_is_set_hides_no_change(self):
+        """A file of this run seems older than the server, since the clock went on by an hour."""
+        self.patched(steps, "CHANGED", set())
+        self.patched(steps.look, "properties", lambda *_: {"MainPID": "1"})
+        self.patched(steps, "given", lambda *_, **__: "")
+        link = os.path.join(self.folder, "link")
+        for step in (steps.File(self.path, lambda _: "new\n"), steps.Link(link, self.path)):
+            later = os.lstat(self.folder).st_ctime + 3600
+            self.patched(steps.machine, "begin_of", lambda _, it=later: it)
+            fresh, other = (steps.Fresh("x", ("x.service",), [it]) for it in (step.path, "/x"))
+            self.assertTrue(fresh.is_done())
+            step.do()
+            self.assertEqual((fresh.is_done(), other.is_done()), (False, True))
+            fresh.do()
+            self.assertTrue(fresh.is_done())
+
+    def test_a_clock_that_was_ahead_makes_no_program_an_older_one(self):
+        now = steps.time.time()
+        self.patched(machine, "SCRIPTS", {self.put("x"): "x.service"})
+        self.patched(machine.look, "properties", lambda *_: {"MainPID": "1"})
+        for begun, changed, found in ((now - 60, now - 30, 1), (now - 60, now + 600, 0),
+                                      (now - 60, now - 90, 0)):
+            self.patched(machine, "begin_of", lambda _, it=begun: it)
+            self.patched(machine.look, "status_of", lambda _, it=changed: mock.Mock(st_ctime=it))
+            self.assertEqual(len(list(machine.old_scripts())), found, changed - now)
 
     def test_an_installation_that_was_cut_off_is_finished(self):
         said = "E: dpkg was interrupted, you must manually run 'dpkg --configure -a' to correct"

@@ -24,6 +24,8 @@ from radacctl.doctor import look, machine
 SECRET = re.compile(r"secret|token|password|Desk-Key|^[+-][A-Za-z0-9-]{16,}$", re.I)
 MOST_LINES = 12
 TRIAL = "/run/radacctd-trial"
+# What this run has changed: by a clock that was set meanwhile it may seem older than who reads it.
+CHANGED = set()
 
 
 class Failed(Exception):
@@ -148,6 +150,7 @@ class File:
             new = self.wanted(old)
             is_kept = old is not None and old != new
             self.write(folder, name, new, self.rights(status), is_kept)
+        CHANGED.add(self.path)
 
     def write(self, folder, name, octets, rights, is_kept=False):
         """Puts a new file into place. What was there is kept once the new one is whole."""
@@ -207,6 +210,7 @@ class Link:
             os.symlink(self.target, part, dir_fd=folder)
             os.rename(part, name, src_dir_fd=folder, dst_dir_fd=folder)
             os.fsync(folder)
+        CHANGED.add(self.path)
 
 
 class Command:
@@ -301,11 +305,14 @@ class Fresh:
 
     def __init__(self, what, units, paths, test=()):
         self.what, self.units, self.paths, self.test = what, units, paths, test
+        self.is_restarted = False
 
     def text(self):
         return self.what
 
     def is_done(self):
+        if not self.is_restarted and CHANGED.intersection(self.paths):
+            return False
         # A link that changed is as new as what it leads to.
         moments = [max(os.stat(it).st_ctime, os.lstat(it).st_ctime) for it in self.paths
                    if os.path.exists(it)]
@@ -319,6 +326,7 @@ class Fresh:
         if "radacctd.service" in self.units:
             refuse_if_away()
         given(["systemctl", "restart", *self.units])
+        self.is_restarted = True
 
 
 def refuse_if_away():
