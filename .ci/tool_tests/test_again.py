@@ -10,9 +10,9 @@ import tempfile
 import unittest
 from unittest import mock
 
-from radacctl import configuration, freeradius, site as places
+from radacctl import configuration, files, freeradius, site as places
 from radacctl.commands import setup
-from radacctl.doctor import book, machine, packages as of_packages
+from radacctl.doctor import book, machine, packages as of_packages, web as of_web
 from radacctl.setup import alone, answers, away, front, sql, steps, web
 from tool_tests import ROOT
 
@@ -186,6 +186,36 @@ class Again(Folder):
         self.assertTrue(web.has_debians_page())
         os.remove(self.path)
         self.assertTrue(web.has_debians_page(), "nginx does not start with a link to nothing")
+
+    def test_fail2ban_goes_by_the_networks_that_were_given_last(self):
+        """It runs, and its jail is there: so is the file that it has not read yet."""
+        self.patched(web, "JAIL", self.put("[radacctd]\n"))
+        self.patched(steps, "CHANGED", set())
+        self.patched(steps, "given", lambda *_, **__: "")
+        self.patched(steps.look, "properties", lambda *_: {"MainPID": "1"})
+        for later, is_done in ((-60, False), (60, True)):
+            begun = os.stat(self.path).st_ctime + later
+            self.patched(steps.machine, "begin_of", lambda _, it=begun: it)
+            self.assertEqual(web.Jail().is_done(), is_done)
+
+    def test_a_front_desk_that_nobody_named_is_told(self):
+        self.patched(of_web, "JAIL", self.put("", "jail.d", "radacctd.conf"))
+        self.patched(of_web, "JAILS", os.path.join(self.folder, "jail.d", "*.conf"))
+        self.patched(of_web, "JAIL_LOCAL", os.path.join(self.folder, "jail.local"))
+        self.patched(of_web, "FOLDER", self.folder)
+        self.patched(of_web.look, "run", lambda *_: (0, ""))
+        self.patched(of_web.files, "sample", lambda *_: files.text(of_web.FILTER))
+        for jail, more, cashiers, count in (
+            ("", "", "anna:x\n", 1), ("ignoreip = 127.0.0.1/8 ::1\n", "", "anna:x\n", 1),
+            ("ignoreip = 127.0.0.1/8 ::1\n", "", "", 0),
+            ("ignoreip = 127.0.0.1/8 10.0.1.0/24\n", "", "anna:x\n", 0),
+            ("ignoreip = ::1\n", "[DEFAULT]\nignoreip = ::1\n  desk.example.org\n", "a:x\n", 0),
+        ):
+            self.put(jail, "jail.d", "radacctd.conf")
+            self.put(more, "jail.local")
+            self.put(cashiers, "cashiers")
+            found = [it.name for it in of_web.fail2ban()]
+            self.assertEqual(found, ["fail2ban-desk"] * count, (jail, more, cashiers))
 
     def test_a_copy_is_tried_and_not_what_it_is_of(self):
         """A link that an administrator made by a whole path leads to the copy, too."""

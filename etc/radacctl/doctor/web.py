@@ -18,6 +18,8 @@ CHANGED = re.compile(r"^(?:server_name|ssl_|listen|include radacctd/desks|root|l
                      r"fastcgi_param SCRIPT_FILENAME|access_log|error_log)")
 # It keeps what was changed by hand, as NAME.~1~, which neither nginx nor fail2ban reads.
 COPY = "cp --backup=numbered"
+JAILS, JAIL_LOCAL = "/etc/fail2ban/jail.d/*.conf", "/etc/fail2ban/jail.local"
+OWN = {"127.0.0.1", "127.0.0.1/8", "127.0.0.0/8", "::1", "::1/128"}
 JAIL, FILTER = "/etc/fail2ban/jail.d/radacctd.conf", "/etc/fail2ban/filter.d/radacctd.conf"
 SECRETS = {
     f"{FOLDER}/cashier.conf": 0o600,
@@ -166,7 +168,12 @@ def fail2ban():
     if look.run("fail2ban-client", "status", "radacctd")[0]:
         yield Fault("fail2ban-down", "fail2ban has no jail radacctd",
                     "systemctl restart fail2ban; tail /var/log/fail2ban.log")
-    text = "".join(files.text(it) for it in sorted(glob.glob("/etc/fail2ban/jail.d/*.conf")))
-    if not re.search(r"(?m)^ignoreip\s*=", text + files.text("/etc/fail2ban/jail.local")):
-        yield Fault("fail2ban-desk", f"{JAIL} has no ignoreip: a mistyped password closes sales",
-                    "write the front desk's network there, and restart fail2ban")
+    text = "\n".join(files.text(it) for it in [*sorted(glob.glob(JAILS)), JAIL_LOCAL])
+    lines = re.findall(r"(?m)^ignoreip\s*=(.*(?:\n[ \t].*)*)", text)
+    known = {word for it in lines for word in re.split(r"[\s,]+", it) if word}
+    has_cashiers = ":" in files.text(f"{FOLDER}/cashiers")
+    if not lines or has_cashiers and not known - OWN:
+        only = " but this machine's own" if lines else ""
+        yield Fault("fail2ban-desk", f"{JAIL} has no ignoreip{only}: a mistyped password closes "
+                    "sales", "write the front desk's network there, and into front_desk of the "
+                    "answers to radacctl setup; then systemctl restart fail2ban")

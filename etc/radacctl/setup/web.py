@@ -53,6 +53,8 @@ def of(answers, config):
     yield from fail2ban(answers, own)
 
 
+FILTER = "/etc/fail2ban/filter.d/radacctd.conf"
+JAIL, SSHD = (f"/etc/fail2ban/jail.d/{it}.conf" for it in ("radacctd", "sshd"))
 DEFAULT, OF_PACKAGE = (f"/etc/nginx/sites-{it}/default" for it in ("enabled", "available"))
 
 
@@ -211,25 +213,26 @@ def running():
 
 def fail2ban(answers, own):
     """Shuts out who guesses keys, logins or codes, and never the front desk."""
-    place = "/etc/fail2ban/jail.d"
     networks = " ".join(["127.0.0.1/8", "::1", *answers.front_desk])
     sample = files.sample("nginx", "fail2ban", "radacctd.jail.conf")
     jail = re.sub(r"(?m)^# ignoreip = .*$", f"ignoreip = {networks}", sample)
-    yield Link("/etc/fail2ban/filter.d/radacctd.conf", own("fail2ban", "radacctd.filter.conf"))
-    yield File(f"{place}/radacctd.conf", lambda old: jail, 0o644)
+    yield Link(FILTER, own("fail2ban", "radacctd.filter.conf"))
+    yield File(JAIL, lambda old: jail, 0o644)
     sshd = "[sshd]\nbackend = systemd\n"
-    yield File(f"{place}/sshd.conf", lambda old: old or sshd, 0o644)
+    yield File(SSHD, lambda old: old or sshd, 0o644)
     yield unit("fail2ban.service")
     yield Jail()
 
 
-class Jail:
+class Jail(Fresh):
     """fail2ban watches the pages, by the files as they are."""
 
-    def text(self):
-        return "let fail2ban watch the pages"
+    def __init__(self):
+        super().__init__("let fail2ban watch the pages", ("fail2ban.service",), [FILTER, JAIL, SSHD])
 
     def is_done(self):
+        if not super().is_done():
+            return False
         try:
             steps.given(["fail2ban-client", "status", "radacctd"], seconds=30)
         except steps.Failed:
@@ -237,7 +240,7 @@ class Jail:
         return True
 
     def do(self):
-        steps.given(["systemctl", "restart", "fail2ban.service"])
+        super().do()
         end = time.monotonic() + 60
         while not self.is_done():
             if time.monotonic() > end:
