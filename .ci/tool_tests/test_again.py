@@ -217,6 +217,32 @@ class Again(Folder):
             found = [it.name for it in of_web.fail2ban()]
             self.assertEqual(found, ["fail2ban-desk"] * count, (jail, more, cashiers))
 
+    def test_a_book_that_has_sold_keeps_its_decimals(self):
+        """One more, and each sum of it would be a tenth."""
+        one = wanted(name="x", currency="EUR", decimals=0)
+        for accounts, is_told in (({b"anna": 5}, True), ({web.pair.TEST: 0}, False), ({}, False)):
+            self.patched(web.names, "balances", lambda it=accounts: it)
+            for old, is_other in (('{"decimals": 2}', True), ('{"decimals": 0}', False), ("", False)):
+                if is_told and is_other:
+                    self.assertRaisesRegex(steps.Failed, "has 2 decimals", web.settings, old, one)
+                else:
+                    self.assertIn('"decimals": 0', web.settings(old, one))
+
+    def test_the_pages_are_asked_where_nginx_listens(self):
+        for lines, place in (
+            ("listen 80;\n listen 443 ssl http2;", ("127.0.0.1", 443)), ("", ("127.0.0.1", 443)),
+            (" listen 10.0.0.5:443 ssl;", ("10.0.0.5", 443)), ("listen [::]:443 ssl;", ("::1", 443)),
+            ("listen 10.0.0.5:443 ssl;\nlisten *:8443 default ssl;", ("127.0.0.1", 8443)),
+            ("listen unix:/run/x ssl;\nlisten [fd00::5]:443 ssl;", ("fd00::5", 443)),
+        ):
+            self.assertEqual(of_web.heard_at(lines), place, lines)
+        text = "server_name a.example.org;\nlisten 10.0.0.5:443 ssl;\n"
+        self.patched(of_web.look, "is_active", lambda _: True)
+        seen = []
+        self.patched(of_web, "asked", lambda where, *_: seen.append(where) or 429)
+        self.assertEqual(list(of_web.answers(mock.Mock(has_codes=False), text)), [])
+        self.assertEqual(set(seen), {("10.0.0.5", 443)})
+
     def test_a_copy_is_tried_and_not_what_it_is_of(self):
         """A link that an administrator made by a whole path leads to the copy, too."""
         raddb = os.path.join(self.folder, "raddb")

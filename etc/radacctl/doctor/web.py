@@ -126,8 +126,9 @@ def answers(kind, text):
     wanted = {"/": 200, "/desk/": 401, "/settings.json": 200}
     if kind.has_codes:
         wanted["/redeem/"] = 200
+    where = heard_at(text)
     for path, status in wanted.items():
-        found = asked(name[1] if name else "localhost", path)
+        found = asked(where, name[1] if name else "localhost", path)
         if found not in (status, 429):
             is_file = path.endswith(".json")
             fault = "pages-settings" if is_file else "pages-silent"
@@ -135,12 +136,30 @@ def answers(kind, text):
                         "tail -n 5 /var/log/nginx/radacctd-error.log")
 
 
-def asked(name, path):
+def heard_at(text):
+    """Where nginx answers by TLS: address and port. Of all addresses it is this machine's loopback."""
+    own = {"*": "127.0.0.1", "0.0.0.0": "127.0.0.1", "::": "::1"}
+    words = re.findall(r"(?m)^[ \t]*listen[ \t]+([^\s;]+)[ \t][^;\n]*\bssl\b", text)
+    found = [place_of(it) for it in words if not it.startswith("unix:")] or [("*", 443)]
+    host, port = next((it for it in found if it[0] in own), found[0])
+    return own.get(host, host), port
+
+
+def place_of(word):
+    """Address and port of a word behind `listen`."""
+    if word.isdecimal():
+        return "*", int(word)
+    host, mark, port = word.rpartition(":")
+    is_whole = mark and port.isdecimal()
+    return (host if is_whole else word).strip("[]"), int(port) if is_whole else 80
+
+
+def asked(where, name, path):
     """The status that nginx gives on this machine for a page of a name."""
     context = ssl.create_default_context()
     # It is this machine: whether browsers trust its certificate is another question.
     context.check_hostname, context.verify_mode = False, ssl.CERT_NONE
-    caller = http.client.HTTPSConnection("127.0.0.1", 443, timeout=10, context=context)
+    caller = http.client.HTTPSConnection(*where, timeout=10, context=context)
     try:
         caller.request("GET", path, headers={"Host": name})
         return caller.getresponse().status

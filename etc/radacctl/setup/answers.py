@@ -116,6 +116,11 @@ def network_of(text, what, *place):
         raise Wrong(f"{what}: {text!r} is no address, and no network{hint}", *place) from None
 
 
+def spelled(network):
+    """A network as all files spell it, or the address that is all of it."""
+    return str(network if network.num_addresses > 1 else network.network_address)
+
+
 def one_address(text, what, *place):
     """An address of one machine, as all files spell it: without the /32 that a network has."""
     found = network_of(text, what, *place)
@@ -275,8 +280,9 @@ class Answers:
                  "cashiers is a list of names, each 1 to 32 letters, digits or . _ - @, and - is "
                  "not first", "cashiers")
         need(self.host or not self.cashiers, "cashiers need pages: give `host`", "cashiers")
-        for it in self.front_desk:
-            network_of(it, "front_desk", "front_desk")
+        # fail2ban reads some ways to write a network otherwise.
+        self.front_desk = [spelled(network_of(it, "front_desk", "front_desk"))
+                           for it in self.front_desk]
         if self.server:
             it = one_address(self.server, "server", "server")
             self.server = str(it)

@@ -7,7 +7,7 @@ import shlex
 import tempfile
 import time
 
-from radacctl import files, freeradius, money, site, stock
+from radacctl import files, freeradius, money, names, site, stock
 from radacctl.setup import clerk, pair, steps
 from radacctl.setup.alone import NOTES, Command, File, Folder, is_known_group, unit
 from radacctl.setup.front import is_debians, member
@@ -121,10 +121,22 @@ def settings(old, answers):
         found = {**(json.loads(old) if old else {})}
     except (ValueError, TypeError):
         raise steps.Failed(f"{money.SETTINGS} is no object of settings: mend it, or move it away")
+    known = found.get("decimals", answers.decimals)
+    if known != answers.decimals and has_sold():
+        raise steps.Failed(f"{money.SETTINGS} has {known} decimals, and the answers have "
+                           f"{answers.decimals}: each sum of the book would be another one")
     found |= {"name": answers.name, "url": f"https://{answers.host}",
               "currency": answers.currency, "decimals": answers.decimals,
               "time_classes": freeradius.time_classes(), "clerk": answers.has_clerk}
     return json.dumps(found, indent=2, ensure_ascii=False) + "\n"
+
+
+def has_sold():
+    """Whether the book has an account besides that of the proof."""
+    try:
+        return bool(set(names.balances()) - {pair.TEST})
+    except ValueError:
+        return False
 
 
 class Cashier:
