@@ -11,7 +11,7 @@ import unittest
 from unittest import mock
 
 from radacctl import configuration, files, freeradius, site as places
-from radacctl.commands import setup
+from radacctl.commands import setup, site as copying
 from radacctl.doctor import book, machine, packages as of_packages, web as of_web
 from radacctl.setup import alone, answers, away, front, sql, steps, web
 from tool_tests import ROOT
@@ -325,6 +325,14 @@ class Tested(Folder):
                                capture_output=True, text=True).stdout.split()
         self.assertEqual(found, [os.path.join(folder, "freeradius.py")])
         self.assertEqual(freeradius.test()[1:3], ("--as", places.RADIUS_USER))
+
+
+class Copied(Folder):
+    def test_no_name_in_freeradius_files_leads_out_of_the_folders_of_certificates(self):
+        self.put("certificate_file = /etc/ssl/certs/a.pem\nca_file = /etc/ssl/../shadow\n"
+                 "x = /etc/letsencrypt/live/../../passwd\ny = /etc/ssl/private/a..b.key\n", "eap")
+        self.assertEqual(copying.named_in(self.folder),
+                         {"/etc/ssl/certs/a.pem", "/etc/ssl/private/a..b.key"})
 
 
 class Ends(unittest.TestCase):

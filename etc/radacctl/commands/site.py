@@ -124,14 +124,16 @@ def read_text(path):
 
 
 def named_in(path):
-    """The certificates and keys that the files of a folder name."""
+    """The certificates and keys that the files of a folder name. FreeRADIUS' user may write some of
+    these files: no name leads out of the folders of certificates, as /etc/ssl/../shadow does.
+    """
     found = set()
     with contextlib.suppress(FileNotFoundError), opened(path) as top:
         for _, _, names, folder in os.fwalk(".", dir_fd=top, follow_symlinks=False):
             for name in names:
                 with contextlib.suppress(OSError), regular(folder, name) as (file, _):
                     text = file.read(LARGEST_NAMING).decode("utf-8", "replace")
-                    found |= set(NAMED.findall(text))
+                    found |= {it for it in NAMED.findall(text) if ".." not in it.split("/")}
     return found
 
 
