@@ -13,7 +13,7 @@ from unittest import mock
 from radacctl import configuration, files, freeradius, site as places
 from radacctl.commands import setup, site as copying
 from radacctl.doctor import book, machine, packages as of_packages, web as of_web
-from radacctl.setup import alone, answers, away, front, sql, steps, web
+from radacctl.setup import alone, answers, away, front, packages as of_setup, sql, steps, web
 from tool_tests import ROOT
 
 PLAN = {"class": "default", "block": 1000, "unit": 5}
@@ -242,6 +242,17 @@ class Again(Folder):
         self.patched(of_web, "asked", lambda where, *_: seen.append(where) or 429)
         self.assertEqual(list(of_web.answers(mock.Mock(has_codes=False), text)), [])
         self.assertEqual(set(seen), {("10.0.0.5", 443)})
+
+    def test_a_site_of_16_books_gets_no_other_one(self):
+        self.patched(setup.kind, "TABLE", self.put("shard,address,radius,desk\n"))
+        with self.assertRaisesRegex(steps.Failed, "SHARDS.md"):
+            setup.do(setup.parser().parse_args(["--dry-run", "x"]), wanted())
+
+    def test_a_key_of_codes_is_not_shown(self):
+        self.put("packages {\n\tkey = change-me-0123456789\n}\n")
+        said = steps.File(self.path, of_setup.settings, 0o640).text()
+        self.assertIn("(a line with a secret)", said)
+        self.assertNotIn("key =", said)
 
     def test_a_copy_is_tried_and_not_what_it_is_of(self):
         """A link that an administrator made by a whole path leads to the copy, too."""

@@ -33,7 +33,7 @@ import sys
 
 from radacctl import files, program, site
 from radacctl.commands import doctor
-from radacctl.doctor import copies
+from radacctl.doctor import copies, kind
 from radacctl.setup import alone, answers, away, clerk, devices, front, pair, proof, sql, steps, web
 
 SAMPLE = """\
@@ -140,6 +140,8 @@ def show(found):
 
 def do(words, wanted):
     """Installs what is missing, does each step that is not done, and shows that the site works."""
+    if os.path.exists(kind.TABLE):
+        raise steps.Failed(f"{kind.TABLE} is there: 16 books are set up by hand, as SHARDS.md says")
     alone.refuse_if_lost(words.new_book)
     packages = alone.packages(packages_of(wanted))
     config = alone.Config(wanted)

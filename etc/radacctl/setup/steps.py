@@ -21,7 +21,7 @@ from radacctl import files, freeradius, site
 from radacctl.doctor import look, machine
 
 # Lines that have a secret are not printed: one that is named so, or a line that is nothing else.
-SECRET = re.compile(r"secret|token|password|Desk-Key|^[+-][A-Za-z0-9-]{16,}$", re.I)
+SECRET = re.compile(r"secret|token|password|Desk-Key|^[+-]\s*key\s*=|^[+-][A-Za-z0-9-]{16,}$", re.I)
 MOST_LINES = 12
 TRIAL = "/run/radacctd-trial"
 # What this run has changed: by a clock that was set meanwhile it may seem older than who reads it.
