@@ -97,6 +97,15 @@ class Sections(unittest.TestCase):
         text = f"modules before\n# {front.INCLUDES.splitlines()[0]}\nmodules {{\n}}\n"
         self.assertEqual(front.main(text, wanted()).count("\n$INCLUDE radacctd/settings.conf\n"), 1)
 
+    def test_a_file_that_is_named_by_its_whole_path_is_there(self):
+        for folder in ("/etc/freeradius/3.0/", "${confdir}/", ""):
+            text = "".join(f"$INCLUDE {folder}{it.split()[1]}\n"
+                           for it in front.INCLUDES.splitlines()) + "modules {\n}\n"
+            self.assertEqual(front.main(text, wanted()), text)
+        text = "raddbdir = /etc/freeradius/3.0\n$INCLUDE /etc/freeradius/3.0/own.conf\n$INCLUDE x\n"
+        self.assertEqual(steps.moved(text, "/run/raddb"),
+                         "raddbdir = /run/raddb\n$INCLUDE /run/raddb/own.conf\n$INCLUDE x\n")
+
 
 class Again(Folder):
     def test_a_book_whose_server_never_ran_gets_new_plans(self):
@@ -130,6 +139,12 @@ class Again(Folder):
         self.put("radacctd {\n}\n", "radacctd", "settings.conf")
         with self.assertRaisesRegex(steps.Failed, "setup --remove"):
             list(alone.of(one, mock.Mock()))
+
+    def test_clients_of_a_file_that_is_named_by_its_whole_path_are_the_sites_own(self):
+        self.patched(places, "RADDB", self.folder)
+        self.put(f"$INCLUDE {self.folder}/own.conf\n$INCLUDE /etc/hosts\n", "radiusd.conf")
+        self.put("client wlc {\n\tipaddr = 10.0.0.1\n\tsecret = of-the-wlc\n}\n", "own.conf")
+        self.assertEqual(freeradius.client_at("10.0.0.1")[:2], ("own.conf", "wlc"))
 
     def test_who_reported_to_radacctd_keeps_its_secret(self):
         """FreeRADIUS comes in front: nobody has to type a secret at the access server again."""

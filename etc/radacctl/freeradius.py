@@ -168,6 +168,7 @@ def included(name="radiusd.conf"):
     found = []
     for line in re.findall(r"(?m)^\s*-?\$INCLUDE\s+(\S+)", text(name)):
         inner = line.replace("${confdir}/", "").replace("${raddbdir}/", "")
+        inner = inner.removeprefix(f"{site.RADDB}/")
         is_own = not inner.startswith(("/", "radacctd/")) and not inner.endswith("/")
         if is_own and "$" not in inner and os.path.isfile(path(inner)):
             found += [inner, *included(inner)]

@@ -273,12 +273,11 @@ class Trial:
             lead_inside(raddb)
             os.chown(TRIAL, 0, group(site.RADIUS_USER))
             os.chmod(TRIAL, 0o750)
-            moved = lambda old: re.sub(r"(?m)^(\s*raddbdir\s*=\s*).*$", rf"\g<1>{raddb}", old)
             for it in self.steps:
                 one = copy.copy(it)
                 one.path = raddb + it.path.removeprefix(site.RADDB)
                 one.do()
-            File(os.path.join(raddb, "radiusd.conf"), moved).do()
+            File(os.path.join(raddb, "radiusd.conf"), lambda old: moved(old, raddb)).do()
             try:
                 given(freeradius.test("-d", raddb), seconds=60)
             except Failed as why:
@@ -286,6 +285,13 @@ class Trial:
                              f"{why}") from None
         finally:
             shutil.rmtree(TRIAL, ignore_errors=True)
+
+
+def moved(text, raddb):
+    """radiusd.conf of a copy: what it names in FreeRADIUS' folder is in the copy."""
+    text = re.sub(r"(?m)^(\s*raddbdir\s*=\s*).*$", rf"\g<1>{raddb}", text)
+    whole = rf"(?m)^(\s*-?\$INCLUDE\s+){re.escape(site.RADDB)}/"
+    return re.sub(whole, rf"\g<1>{raddb}/", text)
 
 
 def lead_inside(raddb):
