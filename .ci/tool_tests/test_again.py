@@ -3,6 +3,7 @@
 import contextlib
 import io
 import os
+import re
 import shutil
 import stat
 import subprocess
@@ -78,6 +79,20 @@ class Sections(unittest.TestCase):
         self.assertEqual(found, text.replace("here: }\n\tsql\n", "here: }\n\t# sql\n"))
         self.assertEqual(away.lines_out(found), text)
 
+    def test_a_database_that_is_written_again_is(self):
+        other = {"password_file": "/root/x"}
+        for more in ("", "\t-sql\n"):
+            begun = SERVER.replace("accounting {\n\tsql\n", f"accounting {{\n\tsql\n{more}")
+            text = front.default(begun, wanted(sql=other), "x")
+            again = front.default(text, wanted(sql={**other, "accounting": True}), "x")
+            self.assertEqual(freeradius.section(again, "accounting").split(),
+                             ["radacctd_accounting", "sql", *more.split()])
+            self.assertEqual(front.default(again, wanted(sql={**other, "accounting": True}), "x"),
+                             again)
+        own = SERVER.replace("accounting {", "accounting {\n\t# -sql")
+        found = front.default(own, wanted(sql={**other, "accounting": True}), "x")
+        self.assertIn("\t# -sql\n\tsql\n", found)
+
     def test_debians_own_server_writes_no_report_a_second_time(self):
         text = SERVER.replace("accounting {", "accounting {\n\tdetail\n#\tdaily")
         for is_debians, words in ((True, ["radacctd_accounting", "sql"]),
@@ -145,6 +160,18 @@ class Again(Folder):
         self.put(f"$INCLUDE {self.folder}/own.conf\n$INCLUDE /etc/hosts\n", "radiusd.conf")
         self.put("client wlc {\n\tipaddr = 10.0.0.1\n\tsecret = of-the-wlc\n}\n", "own.conf")
         self.assertEqual(freeradius.client_at("10.0.0.1")[:2], ("own.conf", "wlc"))
+
+    def test_an_access_server_of_another_vendor_is_told(self):
+        """What its client has stays: it was changed by hand, or the answer is new."""
+        self.patched(places, "RADDB", self.folder)
+        one = {"name": "lobby", "address": "10.0.0.1", "vendor": "other"}
+        self.put(front.clients(None, wanted(access_server=[one])), "radacctd/access-servers.conf")
+        self.assertEqual(list(front.others(wanted(access_server=[one]))), [])
+        found = list(front.others(wanted(access_server=[{**one, "vendor": "mikrotik"}])))
+        self.assertEqual([re.search(r"radacctd_\w+ = \w+", it)[0] for it in found],
+                         ["radacctd_quota = none", "radacctd_cut = no", "radacctd_stamp = name"])
+        self.assertIn("(mikrotik) it is mikrotik", found[0])
+        self.assertEqual(list(front.others(wanted(access_server=[{**one, "name": "new"}]))), [])
 
     def test_who_reported_to_radacctd_keeps_its_secret(self):
         """FreeRADIUS comes in front: nobody has to type a secret at the access server again."""

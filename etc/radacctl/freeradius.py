@@ -105,6 +105,12 @@ def without_line(text_of_site, name, word):
     return with_section(text_of_site, name, commented)
 
 
+def with_line(text_of_site, name, word):
+    """The same server, in which the line is one again."""
+    again = lambda inside: re.sub(rf"(?m)^([ \t]*)# ({word})$", r"\1\2", inside)
+    return with_section(text_of_site, name, again)
+
+
 def enabled():
     """The site's own files of sites-enabled, as FreeRADIUS reads them."""
     folder = path("sites-enabled")

@@ -147,7 +147,7 @@ def do(words, wanted):
     config = alone.Config(wanted)
     found = [it for it in [packages, *steps_of(wanted, config)] if not is_done(it)]
     last = ends(found, wanted, config)
-    for line in web.others(wanted):
+    for line in [*web.others(wanted), *front.others(wanted)]:
         print(line)
     if not found and not last:
         print("nothing is to be done")

@@ -64,8 +64,7 @@ def lines_out(text):
     text = front.WITH_CLASS.sub("", text)
     text = re.sub(r"(?m)^[ \t]*radacctd_(?:accounting|login|packages\w*)[ \t]*\n", "", text)
     text = re.sub(r"(?m)^(\s*)radacctd_filter\b", r"\1filter_username", text)
-    again = lambda inside: re.sub(r"(?m)^([ \t]*)# (-?sql|detail)$", r"\1\2", inside)
-    return freeradius.with_section(text, "accounting", again)
+    return freeradius.with_line(text, "accounting", "-?sql|detail")
 
 
 def includes_out(text):

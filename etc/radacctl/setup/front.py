@@ -306,6 +306,19 @@ def with_lines(old, file, answers):
     return text
 
 
+def others(answers):
+    """What to say of access servers that are there with other settings than their vendor has."""
+    found = dict(freeradius.blocks(freeradius.CLIENT, "radacctd", "access-servers.conf"))
+    for it in answers.access_servers if answers.has_front else []:
+        there = freeradius.client_at(it["address"])
+        block, usual = found.get(it["name"]) or (there[2] if there else ""), lines_of(it)
+        for name in ("quota", "cut", "stamp"):
+            has = freeradius.value(block, f"radacctd_{name}")
+            if has not in ("", usual[name]):
+                yield (f"{it['name']} has radacctd_{name} = {has}, which stays. For its vendor "
+                       f"({it['vendor']}) it is {usual[name]}: ACCESS-SERVERS.md")
+
+
 def test_address(wanted, block):
     """Of a client that is there nothing is changed: another address is for a person to decide."""
     found = freeradius.value(block, "ip(?:v4|v6)?addr")
@@ -364,8 +377,8 @@ def default(old, answers, path=None):
     if is_new:
         # A file a day for each access server, which nobody removes, would fill the queue's disk.
         text = freeradius.without_line(text, "accounting", "detail")
-    if answers.sql and not answers.sql["accounting"]:
-        text = sql.without_sql(text)
+    if answers.sql:
+        text = sql.with_sql(text) if answers.sql["accounting"] else sql.without_sql(text)
     text = with_login(steps.begun(text, "accounting", "radacctd_accounting"), is_new)
     return packages.default(text) if answers.has_packages else text
 

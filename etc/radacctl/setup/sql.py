@@ -80,6 +80,13 @@ def without_sql(text):
     return freeradius.without_line(text, "accounting", "-?sql")
 
 
+def with_sql(text):
+    """The same server, which writes into the database again, if an earlier set-up ended that."""
+    inside = freeradius.section(text, "accounting")
+    has_line = re.search(r"(?m)^[ \t]*-?sql[ \t]*$", inside)
+    return text if has_line else freeradius.with_line(text, "accounting", "-?sql")
+
+
 def after(answers):
     """Once FreeRADIUS no longer writes sessions into the database, those that are open stay so."""
     if not answers.sql["accounting"]:
