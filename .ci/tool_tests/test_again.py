@@ -401,6 +401,16 @@ class Ends(unittest.TestCase):
                 found = setup.ends(["a step"] * changes, one, None)
             self.assertEqual([type(it).__name__ for it in found], names)
 
+    @NEEDS_ROOT
+    def test_a_copy_of_secrets_that_a_killed_run_left_goes(self):
+        with tempfile.TemporaryDirectory() as folder:
+            trial, lock = os.path.join(folder, "trial"), os.path.join(folder, "lock")
+            os.makedirs(os.path.join(trial, "raddb"))
+            with mock.patch.object(steps, "TRIAL", trial), mock.patch.object(setup, "LOCK", lock), \
+                    mock.patch.object(setup, "remove"), mock.patch.object(os, "umask"):
+                self.assertEqual(setup.main(["--remove", "--dry-run"]), 0)
+            self.assertFalse(os.path.exists(trial))
+
     def test_a_copy_is_looked_for_where_nights_make_it(self):
         for names, is_done in (([], False), (["exports", "2026-11-28.bad"], False),
                                (["2026-11-28"], True)):

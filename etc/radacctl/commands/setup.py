@@ -29,6 +29,7 @@ wrong answer.
 """
 
 import os
+import shutil
 import sys
 
 from radacctl import files, program, site
@@ -230,6 +231,8 @@ def main(words):
     except answers.Wrong as why:
         program.fail(why, 2)
     lock = locked()
+    # A copy of FreeRADIUS' folder, secrets and all, that a killed run left.
+    shutil.rmtree(steps.TRIAL, ignore_errors=True)
     try:
         remove(words) if words.remove else do(words, wanted)
     except (steps.Failed, site.Missing, OSError) as why:
