@@ -157,7 +157,7 @@ def put_in_place(path, text, is_needed):
     try:
         fault = fault_of(new, path)
         if fault and is_needed:
-            fail(f"{path} is wrong, so it gets no key:\n{fault}")
+            fail(f"{path} stays as it is, since it would be wrong:\n{fault}")
         os.rename(new, path)
         new = None
         files.sync_folder(os.path.dirname(path))
