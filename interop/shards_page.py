@@ -88,6 +88,8 @@ def join(one, two):
     two.write(f"{home}/authorized_keys", allowed, 0o600)
     two.must(f"chown radacctd-copy {home}/authorized_keys")
     run(one, "the copies", lines[3].split("\n")[1])
+    there = lambda: one.run("cd /var/lib/radacctd-balances; test -s balances.csv -a -s plans.json")[0]
+    waits_for("balances and plans of all books are there", there, 0, 120)
 
 
 def freeradius(one):
