@@ -141,6 +141,15 @@ class Doctor(unittest.TestCase):
         for text in (other, other + one, one, "\t\tdetail\n" + one + other):
             self.assertEqual(self.told(text), [wanted])
 
+    def test_each_book_has_its_queue(self):
+        for value in ("${radacctdir}/radacctd/%{Tmp-String-8}", ""):
+            with mock.patch.object(freeradius, "settings", lambda it=value: {"queue": it}):
+                found = front.queue_folders(self.kind())
+                one = front.queue_folders(mock.Mock(has_shards=False))
+            wanted = [f"{site.RADACCT}/radacctd/{it}" for it in books.SHARDS]
+            self.assertEqual(found, [site.RADACCT, f"{site.RADACCT}/radacctd", *wanted])
+        self.assertEqual(one, [site.RADACCT, f"{site.RADACCT}/radacctd"])
+
     def test_each_book_has_its_copies(self):
         with tempfile.TemporaryDirectory() as folder, contextlib.ExitStack() as stack:
             for place, name, value in ((site, "BACKUPS", folder), (copies, "database", list),

@@ -6,7 +6,7 @@ import re
 import tempfile
 import time
 
-from radacctl import files, freeradius, names, plans, site
+from radacctl import files, freeradius, names, plans, shards, site
 from radacctl.doctor import book as books
 from radacctl.doctor import look, machine
 from radacctl.doctor.faults import Fault
@@ -52,7 +52,7 @@ def look_at(kind):
     yield from proxies(kind)
     yield from names_refused()
     yield from ignored()
-    yield from queue()
+    yield from queue(kind)
     yield from counts()
     yield from mirror(kind)
     yield from certificates()
@@ -241,9 +241,18 @@ def found_in(pattern, lines):
     return {it[1] for it in map(pattern.search, lines) if it}
 
 
-def queue():
+def queue_folders(kind):
+    """Where reports are queued: each of 16 books has a folder of its own."""
     folder = freeradius.settings()["queue"].replace("${radacctdir}", site.RADACCT)
-    for path in (site.RADACCT, folder or f"{site.RADACCT}/radacctd"):
+    folder = folder or f"{site.RADACCT}/radacctd"
+    if not kind.has_shards:
+        return [site.RADACCT, folder]
+    above = folder.removesuffix("/%{Tmp-String-8}")
+    return [site.RADACCT, above, *(f"{above}/{it}" for it in shards.SHARDS)]
+
+
+def queue(kind):
+    for path in queue_folders(kind):
         status = look.status_of(path)
         owner = look.must("stat", "-c", "%U", path).strip() if status else "nobody"
         if owner != site.RADIUS_USER:
