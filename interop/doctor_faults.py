@@ -76,7 +76,7 @@ CERTIFICATE = "openssl req -x509 -key /etc/ssl/private/radacctd.key -days 5 -sub
 CERTIFICATE += f"{RADDB}/certs/new.pem 2>/dev/null; sed -i 's|certificate_file = /.*|"
 CERTIFICATE += f"certificate_file = ${{certdir}}/new.pem|' {EAP}"
 
-BOOK = "/var/lib/radacctd/book"
+BOOK, SERVER = "/var/lib/radacctd/book", "$(systemctl show -P MainPID radacctd)"
 
 BREAKS = {
     # The server writes each ten seconds what it saw, and its line once it has seen it twice.
@@ -90,7 +90,9 @@ BREAKS = {
     "plan-lost": edited("s/^unit = 1$/unit = 2/", CONFIG),
     "book-shut": printed("db: Unavailable"),
     "disk-full": (FULL, f"umount {COPIES}"),
-    "clock-wrong": ("touch -d tomorrow /var/lib/radacctd-balances/balances.csv", "sleep 11"),
+    # A server that goes on would write the file anew before the doctor looks.
+    "clock-wrong": (f"kill -STOP {SERVER}; touch -d tomorrow "
+                    "/var/lib/radacctd-balances/balances.csv", f"kill -CONT {SERVER}; sleep 11"),
     "drop-secret": (f"{WRONG}' | {SENT}", FORGET),
     "device-secret": (f"{WRONG}' | {TO_FRONT}", FORGET_FRONT),
     "raddb-wrong": (f"echo 'server x {{' > {RADDB}/sites-enabled/zz",
@@ -189,5 +191,4 @@ UNSEEN = {
     "the pages": ("mv /usr/bin/openssl /root/", "mv /root/openssl /usr/bin/"),
 }
 # The server stops for so long that balances grow old, at radacctd and at logins.
-STOPPED = (("balances-old", "mirror-old"), "kill -STOP $(systemctl show -P MainPID radacctd)",
-           "kill -CONT $(systemctl show -P MainPID radacctd)", 130)
+STOPPED = (("balances-old", "mirror-old"), f"kill -STOP {SERVER}", f"kill -CONT {SERVER}", 130)
