@@ -11,6 +11,8 @@ SQL = f"{RADDB}/mods-enabled/sql"
 EAP = f"{RADDB}/mods-available/eap"
 DEVICES = f"{RADDB}/policy.d/radacctd-devices"
 CONFIG, COPIES = "/etc/radacctd.toml", "/var/backups/radacctd"
+# A test that goes on over midnight has a copy of both days.
+LAST = f"$(ls -d {COPIES}/20* | tail -1)"
 MIRROR = "/run/radacctd-mirror/balances.db"
 LOGINS = "/var/lib/radacctd-logins/logins.db"
 AS_FREERAD = "setpriv --reuid freerad --regid freerad --clear-groups"
@@ -176,8 +178,8 @@ BREAKS = {
     "log-open": ("chmod 644 /var/log/nginx/radacctd-sales.log",
                  "chmod 640 /var/log/nginx/radacctd-sales.log"),
     "copy-old": (f"touch -d '2 days ago' {COPIES}/20*", f"touch {COPIES}/20*"),
-    "copy-bad": (f"cp -a {COPIES}/20*/site.tar.gz /root/kept; truncate -s 1000 "
-                 f"{COPIES}/20*/site.tar.gz", f"cp -a /root/kept {COPIES}/20*/site.tar.gz"),
+    "copy-bad": (f"cp -a {LAST}/site.tar.gz /root/kept; truncate -s 1000 {LAST}/site.tar.gz",
+                 f"cp -a /root/kept {LAST}/site.tar.gz"),
     # It is no right file for FreeRADIUS, either: another line says so.
     "copy-sql": (f"(echo 'sql {{'; echo 'dialect = \"postgresql\"'; echo '}}') > {SQL}",
                  f"rm {SQL}"),
