@@ -26,6 +26,11 @@ enum Done {
     // A file is made, or written over.
     Written(&'static str),
     Removed(&'static str),
+    // A name becomes a link to this.
+    Linked(&'static str, &'static str),
+    // A file gets the place of another one, which is kept under the second name, and gives it back.
+    Replaced(&'static str, &'static str),
+    Restored(&'static str, &'static str),
 }
 
 static ROWS: [Row; 20] = [
@@ -62,25 +67,22 @@ static ROWS: [Row; 20] = [
 fn tells_where_the_names_lead(rt: HostRuntime) -> Result<(), Fail> {
     let _ = fs::remove_file(&rt, LOG);
     fs::write(&rt, BOOK, "book")?;
-    assert_eq!(rt; first_wrong(&rt)?, None);
+    assert_eq!(rt; first_wrong(&rt, BOOK, &ROWS)?, None);
     Ok(())
 }
 
-// The place of the first row that does not hold.
-fn first_wrong(rt: &HostRuntime) -> Result<Option<usize>, Fail> {
+// The moment of the first row that does not hold.
+fn first_wrong(rt: &HostRuntime, book: &str, rows: &[Row]) -> Result<Option<u64>, Fail> {
     let (gauges, mut told) = (Gauges::new(), Vec::new(rt.alloc()));
-    let name = Text::from_str(rt.alloc(), BOOK)?;
+    let name = Text::from_str(rt.alloc(), book)?;
     let mut names = BookNames::new(rt, rt.alloc(), &name)?;
-    for place in 0..ROWS.len() {
-        let Some((done, moment, is_away, wanted)) = ROWS.get(place) else {
-            return Ok(Some(place));
-        };
+    for (done, moment, is_away, wanted) in rows {
         make(rt, *done)?;
         told.truncate(0);
         names.look(*moment, &gauges, &mut told);
         let is_noted = gauges.is_away() == *is_away && gauges.away().get() == *is_away;
         if !is_noted || told.as_slice() != wanted.as_bytes() {
-            return Ok(Some(place));
+            return Ok(Some(*moment));
         }
     }
     Ok(None)
@@ -93,6 +95,18 @@ fn make(rt: &HostRuntime, done: Done) -> Result<(), Fail> {
         Done::Moved(from, to) => fs::rename(rt, from, to)?,
         Done::Written(name) => fs::write(rt, name, "other")?,
         Done::Removed(name) => fs::remove_file(rt, name)?,
+        Done::Linked(target, name) => {
+            let _ = fs::remove_file(rt, name);
+            symlink(rt, target, name)?;
+        }
+        Done::Replaced(name, kept) => {
+            fs::rename(rt, name, kept)?;
+            fs::write(rt, name, "no folder")?;
+        }
+        Done::Restored(name, kept) => {
+            fs::remove_file(rt, name)?;
+            fs::rename(rt, kept, name)?;
+        }
     }
     Ok(())
 }
@@ -104,43 +118,32 @@ const AT_HOME: &str = "names-home/book";
 
 const LOG_AT_HOME: &str = "names-home/book-wal";
 
+static LINKS: [Row; 7] = [
+    (Done::Nothing, 20, false, ""),
+    // The log is beside the file, not beside the link.
+    (Done::Moved(LOG_AT_HOME, "names-home/moved"), 21, true, ""),
+    (Done::Moved("names-home/moved", LOG_AT_HOME), 22, false, ""),
+    // A link to itself: where it leads cannot be told, and it stays as it was.
+    (Done::Linked(LINKED, LINKED), 23, false, ""),
+    (Done::Linked(AT_HOME, LINKED), 24, false, ""),
+    // A file is in the place of the folder: the names lead nowhere.
+    (Done::Replaced("names-home", "names-away"), 25, true, ""),
+    (Done::Restored("names-home", "names-away"), 26, false, ""),
+];
+
+// Makes the folder, the book and its log, and the link.
+fn make_home(rt: &HostRuntime) -> Result<(), Fail> {
+    let _ = fs::remove_dir_all(rt, "names-home");
+    fs::create_dir(rt, "names-home")?;
+    make(rt, Done::Written(AT_HOME))?;
+    make(rt, Done::Written(LOG_AT_HOME))?;
+    make(rt, Done::Linked(AT_HOME, LINKED))
+}
+
 #[test]
 fn looks_where_a_link_leads(rt: HostRuntime) -> Result<(), Fail> {
-    let _ = fs::remove_dir_all(&rt, "names-home");
-    let _ = fs::remove_file(&rt, LINKED);
-    fs::create_dir(&rt, "names-home")?;
-    fs::write(&rt, AT_HOME, "book")?;
-    fs::write(&rt, LOG_AT_HOME, "log")?;
-    symlink(&rt, AT_HOME, LINKED)?;
-    let gauges = Gauges::new();
-    let mut told = Vec::new(rt.alloc());
-    let name = Text::from_str(rt.alloc(), LINKED)?;
-    let mut names = BookNames::new(&rt, rt.alloc(), &name)?;
-    names.look(20, &gauges, &mut told);
-    assert!(rt; !gauges.is_away());
-    // The log is beside the file, not beside the link.
-    fs::rename(&rt, LOG_AT_HOME, "names-home/moved")?;
-    names.look(21, &gauges, &mut told);
-    assert!(rt; gauges.is_away());
-    fs::rename(&rt, "names-home/moved", LOG_AT_HOME)?;
-    names.look(22, &gauges, &mut told);
-    assert!(rt; !gauges.is_away());
-    // A link to itself: where it leads cannot be told, and it stays as it was.
-    fs::remove_file(&rt, LINKED)?;
-    symlink(&rt, LINKED, LINKED)?;
-    names.look(23, &gauges, &mut told);
-    assert!(rt; !gauges.is_away());
-    fs::remove_file(&rt, LINKED)?;
-    symlink(&rt, AT_HOME, LINKED)?;
-    // A file is in the place of the folder: the names lead nowhere.
-    fs::rename(&rt, "names-home", "names-away")?;
-    fs::write(&rt, "names-home", "no folder")?;
-    names.look(24, &gauges, &mut told);
-    assert!(rt; gauges.is_away());
-    fs::remove_file(&rt, "names-home")?;
-    fs::rename(&rt, "names-away", "names-home")?;
-    names.look(25, &gauges, &mut told);
-    assert!(rt; !gauges.is_away());
+    make_home(&rt)?;
+    assert_eq!(rt; first_wrong(&rt, LINKED, &LINKS)?, None);
     Ok(())
 }
 
@@ -155,14 +158,12 @@ fn are_twins(rt: &HostRuntime) -> Result<bool, Fail> {
 }
 
 // Whether a name that led to the first of them is away once it leads to this file.
-fn is_away_at(rt: &HostRuntime, file: &str) -> Result<bool, Fail> {
-    let _ = fs::remove_file(rt, "names-twin");
-    symlink(rt, ONE, "names-twin")?;
+fn is_away_at(rt: &HostRuntime, file: &'static str) -> Result<bool, Fail> {
+    make(rt, Done::Linked(ONE, "names-twin"))?;
     let (gauges, mut told) = (Gauges::new(), Vec::new(rt.alloc()));
     let name = Text::from_str(rt.alloc(), "names-twin")?;
     let mut names = BookNames::new(rt, rt.alloc(), &name)?;
-    fs::remove_file(rt, "names-twin")?;
-    symlink(rt, file, "names-twin")?;
+    make(rt, Done::Linked(file, "names-twin"))?;
     names.look(30, &gauges, &mut told);
     Ok(gauges.is_away())
 }
