@@ -15,6 +15,7 @@ from radacctl import configuration, files, freeradius, site as places
 from radacctl.commands import setup, site as copying
 from radacctl.doctor import book, machine, packages as of_packages, web as of_web
 from radacctl.setup import alone, answers, away, front, packages as of_setup, sql, steps, web
+import tool_tests
 from tool_tests import ROOT
 
 PLAN = {"class": "default", "block": 1000, "unit": 5}
@@ -40,13 +41,7 @@ def wanted(**more):
     return answers.Answers({"plan": [PLAN], **more})
 
 
-class Folder(unittest.TestCase):
-    def setUp(self):
-        folder = tempfile.TemporaryDirectory()
-        self.addCleanup(folder.cleanup)
-        self.folder = os.path.realpath(folder.name)
-        self.path = os.path.join(self.folder, "file")
-
+class Folder(tool_tests.Folder):
     def put(self, text, *names, mode=0o640):
         path = os.path.join(self.folder, *names) if names else self.path
         os.makedirs(os.path.dirname(path), exist_ok=True)

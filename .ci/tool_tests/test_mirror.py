@@ -1,28 +1,15 @@
 """What the mirror does with files that a power cut left."""
 
-import importlib.machinery
-import importlib.util
 import os
 import tempfile
 import unittest
 
 from radacctl import names, outbox
-from tool_tests import ROOT
+from tool_tests import script
 
 BALANCES = "account,balance,overrun\nal,5,0\n"
 PLANS = "class,block,unit,count\ndefault,1000,5,both\n"
-
-
-def load():
-    path = os.path.join(ROOT, "etc", "freeradius", "balances-mirror")
-    loader = importlib.machinery.SourceFileLoader("mirror", path)
-    spec = importlib.util.spec_from_loader("mirror", loader)
-    module = importlib.util.module_from_spec(spec)
-    loader.exec_module(module)
-    return module
-
-
-MIRROR = load()
+MIRROR = script("etc", "freeradius", "balances-mirror")
 
 
 class Files(unittest.TestCase):

@@ -1,8 +1,6 @@
 """What a comparison of a pair's books says of two clocks, and when it is over."""
 
 import contextlib
-import importlib.machinery
-import importlib.util
 import io
 import json
 import os
@@ -14,19 +12,9 @@ import unittest
 from unittest import mock
 
 from radacctl import outbox
-from tool_tests import ROOT
+from tool_tests import script
 
-
-def load():
-    path = os.path.join(ROOT, "etc", "pair", "radacctd-compare")
-    loader = importlib.machinery.SourceFileLoader("compare", path)
-    spec = importlib.util.spec_from_loader("compare", loader)
-    module = importlib.util.module_from_spec(spec)
-    loader.exec_module(module)
-    return module
-
-
-COMPARE = load()
+COMPARE = script("etc", "pair", "radacctd-compare")
 HOUR = 3600
 
 

@@ -8,7 +8,6 @@ import os
 import shutil
 import stat
 import subprocess
-import tempfile
 import tomllib
 import unittest
 from unittest import mock
@@ -17,21 +16,14 @@ from radacctl import debits, files, freeradius, lapses, site as places
 from radacctl.commands import debit, pages, setup, site
 from radacctl.doctor import front as doctor_front
 from radacctl.setup import alone, answers, away, front, pair, proof, sql, steps, web
+import tool_tests
 
 PLAN = {"class": "default", "block": 1000, "unit": 5}
 FULL = OSError(errno.ENOSPC, os.strerror(errno.ENOSPC))
 NEEDS_ROOT = unittest.skipUnless(os.geteuid() == 0, "only root gives files away")
 
 
-class Folder(unittest.TestCase):
-    """Each test has a folder of its own."""
-
-    def setUp(self):
-        folder = tempfile.TemporaryDirectory()
-        self.addCleanup(folder.cleanup)
-        self.folder = os.path.realpath(folder.name)
-        self.path = os.path.join(self.folder, "file")
-
+class Folder(tool_tests.Folder):
     def write(self, octets, mode=0o640, path=None):
         with open(path or self.path, "wb") as file:
             file.write(octets)
