@@ -1,5 +1,6 @@
 //! `check --audit` and `forward` over a book of several accounts and plans.
-use crate::trial::{OLD_TABLES, Row, alter, first_wrong, write_sites};
+use crate::steps::{Deed, Step, first_failing};
+use crate::trial::OLD_TABLES;
 use acct_program::Status;
 use std::test::Fail;
 
@@ -19,13 +20,18 @@ const BALANCED: &str = "\
     ('nas-9', x'7336', x'616c', x'676f6c64', 5, 1, 66, 1600000015, 1600000081, 2, 2, x'66', \
     x'0a00000c');";
 
-static SOUND: [Row; 4] = [
-    (
-        ("migrate --config audit.toml --db audit-book", ""),
+static SOUND: [Step; 7] = [
+    Step::Sites("audit"),
+    Step::Does("audit-book", Deed::Alter(OLD_TABLES)),
+    Step::Does("audit-book", Deed::Alter(BALANCED)),
+    Step::Comes(
+        "migrate --config audit.toml --db audit-book",
+        "",
         (Status::Done, "schema 3\n", ""),
     ),
-    (
-        ("check --config audit.toml --db audit-book --audit", ""),
+    Step::Comes(
+        "check --config audit.toml --db audit-book --audit",
+        "",
         (
             Status::Done,
             "ok: 1 clients, 2 plans, 2 keys\n\
@@ -33,8 +39,9 @@ static SOUND: [Row; 4] = [
             "",
         ),
     ),
-    (
-        ("export --config audit.toml --db audit-book topups", ""),
+    Step::Comes(
+        "export --config audit.toml --db audit-book topups",
+        "",
         (
             Status::Done,
             "voucher,account,sum,when\nV-1,al,300,1600000001\nV-2,al,44,1600000002\n\
@@ -43,8 +50,9 @@ static SOUND: [Row; 4] = [
             "",
         ),
     ),
-    (
-        ("export --config audit.toml --db audit-book overruns", ""),
+    Step::Comes(
+        "export --config audit.toml --db audit-book overruns",
+        "",
         (Status::Done, "account,overrun\ncy,1\n", ""),
     ),
 ];
@@ -55,38 +63,42 @@ const UNBALANCED: &str = "\
     UPDATE account SET balance = 313 WHERE name = x'616c'; UPDATE session_plan SET plan_class = \
     x'74696e' WHERE id = x'7333'; DELETE FROM account WHERE name = x'6379';";
 
-static WRONG: [Row; 1] = [(
-    ("check --config audit.toml --db audit-book --audit", ""),
-    (
-        Status::Unavailable,
-        "ok: 1 clients, 2 plans, 2 keys\n\
+static WRONG: [Step; 2] = [
+    Step::Does("audit-book", Deed::Alter(UNBALANCED)),
+    Step::Comes(
+        "check --config audit.toml --db audit-book --audit",
+        "",
+        (
+            Status::Unavailable,
+            "ok: 1 clients, 2 plans, 2 keys\n\
          al: balance 313, vouchers 352, sessions 40\n\
          bo: balance 645, vouchers 700, sessions 5, and 1 sessions of no plan\n\
          cy: no balance, and the session nas-8 s4\n\
          cy: no balance, and the voucher V-6\n",
-        "db: Unbalanced\n",
+            "db: Unbalanced\n",
+        ),
     ),
-)];
+];
 
 // What is right again is carried forward, and stays right.
 const MENDED: &str = "\
     UPDATE account SET balance = 312 WHERE name = x'616c'; UPDATE session_plan SET plan_class = \
     x'676f6c64' WHERE id = x'7333'; INSERT INTO account VALUES (x'6379', -1);";
 
-static CARRIED: [Row; 5] = [
-    (
-        (
-            "forward --config audit.toml --db audit-book --yes --dry-run",
-            "",
-        ),
+static CARRIED: [Step; 6] = [
+    Step::Does("audit-book", Deed::Alter(MENDED)),
+    Step::Comes(
+        "forward --config audit.toml --db audit-book --yes --dry-run",
+        "",
         (
             Status::Done,
             "would carry 5 sessions of 2 accounts\nstay: 1 open, 0 recent, 0 kept, 0 too large\n",
             "",
         ),
     ),
-    (
-        ("check --config audit.toml --db audit-book --audit", ""),
+    Step::Comes(
+        "check --config audit.toml --db audit-book --audit",
+        "",
         (
             Status::Done,
             "ok: 1 clients, 2 plans, 2 keys\n\
@@ -94,19 +106,18 @@ static CARRIED: [Row; 5] = [
             "",
         ),
     ),
-    (
-        (
-            "forward --config audit.toml --db audit-book --yes --keep nas-4 --keep nas-8",
-            "",
-        ),
+    Step::Comes(
+        "forward --config audit.toml --db audit-book --yes --keep nas-4 --keep nas-8",
+        "",
         (
             Status::Done,
             "carried 4 sessions of 2 accounts\nstay: 0 open, 0 recent, 2 kept, 0 too large\n",
             "",
         ),
     ),
-    (
-        ("export --config audit.toml --db audit-book balances", ""),
+    Step::Comes(
+        "export --config audit.toml --db audit-book balances",
+        "",
         (
             Status::Done,
             "account,balance,overrun\nal,312,0\nbo,645,0\ncy,-1,1\n",
@@ -114,8 +125,9 @@ static CARRIED: [Row; 5] = [
         ),
     ),
     // Two lines of `al`, one of `bo`, and two sessions that stay.
-    (
-        ("check --config audit.toml --db audit-book --audit", ""),
+    Step::Comes(
+        "check --config audit.toml --db audit-book --audit",
+        "",
         (
             Status::Done,
             "ok: 1 clients, 2 plans, 2 keys\n\
@@ -127,12 +139,8 @@ static CARRIED: [Row; 5] = [
 
 #[test]
 fn an_audit_says_what_is_wrong(rt: HostRuntime) -> Result<(), Fail> {
-    write_sites(&rt, ["audit.toml", "audit-more.toml", "audit-other.toml"])?;
-    alter(&rt, "audit-book", &[OLD_TABLES, BALANCED])?;
-    assert_eq!(rt; first_wrong(&rt, &SOUND)?, None);
-    alter(&rt, "audit-book", &[UNBALANCED])?;
-    assert_eq!(rt; first_wrong(&rt, &WRONG)?, None);
-    alter(&rt, "audit-book", &[MENDED])?;
-    assert_eq!(rt; first_wrong(&rt, &CARRIED)?, None);
+    assert_eq!(rt; first_failing(&rt, &SOUND)?, None);
+    assert_eq!(rt; first_failing(&rt, &WRONG)?, None);
+    assert_eq!(rt; first_failing(&rt, &CARRIED)?, None);
     Ok(())
 }

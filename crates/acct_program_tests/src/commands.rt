@@ -1,5 +1,6 @@
 //! What each command prints over files, and how it ends.
-use crate::trial::{Command, OLD_TABLES, Row, alter, came, comes, first_wrong, write_sites};
+use crate::steps::{Deed, Step, first_failing};
+use crate::trial::{ADDED, Command, MADE, OLD_TABLES, came, comes};
 use acct_program::Status;
 use std::test::Fail;
 use std::time::{SystemTime, UNIX_EPOCH};
@@ -9,26 +10,32 @@ const UPLOAD: &str = "voucher,account,sum\nV-1,al,500\nV-2,bo,300\nV-1,al,501\n"
 const BALANCES: &str = "account,balance,overrun\nal,500,0\nbo,300,0\n";
 
 // A site with its book, from its first command to the last.
-static LIFE: [Row; 20] = [
-    (
-        ("check --config life.toml", ""),
+static LIFE: [Step; 21] = [
+    Step::Sites("life"),
+    Step::Comes(
+        "check --config life.toml",
+        "",
         (Status::Done, "ok: 1 clients, 2 plans, 2 keys\n", ""),
     ),
     // What is no file is not opened: a pipe would keep it waiting.
-    (
-        ("check --config /dev/null", ""),
+    Step::Comes(
+        "check --config /dev/null",
+        "",
         (Status::Refused, "", "file: cannot read\n"),
     ),
-    (
-        ("check --config life.toml --db life-book", ""),
+    Step::Comes(
+        "check --config life.toml --db life-book",
+        "",
         (Status::Unavailable, "", "db: cannot open\n"),
     ),
-    (
-        ("init --config life.toml --db life-book", ""),
+    Step::Comes(
+        "init --config life.toml --db life-book",
+        "",
         (Status::Done, "book made\n", ""),
     ),
-    (
-        ("import --config life.toml --db life-book", UPLOAD),
+    Step::Comes(
+        "import --config life.toml --db life-book",
+        UPLOAD,
         (
             Status::Refused,
             "added 2, repeated 0, refused 1\n4: VoucherDiffers\n",
@@ -36,60 +43,73 @@ static LIFE: [Row; 20] = [
         ),
     ),
     // A second one makes nothing anew.
-    (
-        ("init --config life.toml --db life-book", ""),
+    Step::Comes(
+        "init --config life.toml --db life-book",
+        "",
         (Status::Unavailable, "", "db: NotABook\n"),
     ),
-    (
-        ("export --config life.toml --db life-book balances", ""),
+    Step::Comes(
+        "export --config life.toml --db life-book balances",
+        "",
         (Status::Done, BALANCES, ""),
     ),
-    (
-        ("import --config life.toml --db life-book", UPLOAD),
+    Step::Comes(
+        "import --config life.toml --db life-book",
+        UPLOAD,
         (
             Status::Refused,
             "added 0, repeated 2, refused 1\n4: VoucherDiffers\n",
             "",
         ),
     ),
-    (
-        ("export --config life.toml --db life-book overruns", ""),
+    Step::Comes(
+        "export --config life.toml --db life-book overruns",
+        "",
         (Status::Done, "account,overrun\n", ""),
     ),
-    (
-        ("check --config life.toml --db life-book", ""),
+    Step::Comes(
+        "check --config life.toml --db life-book",
+        "",
         (Status::Done, "ok: 1 clients, 2 plans, 2 keys\n", ""),
     ),
-    (
-        ("check --config more.toml --db life-book", ""),
+    Step::Comes(
+        "check --config life-more.toml --db life-book",
+        "",
         (Status::Unavailable, "", "db: PlansDiffer\n"),
     ),
-    (
-        ("plans --config more.toml --db life-book", ""),
+    Step::Comes(
+        "plans --config life-more.toml --db life-book",
+        "",
         (Status::Done, "added 1\n", ""),
     ),
-    (
-        ("plans --config more.toml --db life-book", ""),
+    Step::Comes(
+        "plans --config life-more.toml --db life-book",
+        "",
         (Status::Done, "added 0\n", ""),
     ),
-    (
-        ("plans --config other.toml --db life-book", ""),
+    Step::Comes(
+        "plans --config life-other.toml --db life-book",
+        "",
         (Status::Unavailable, "", "db: PlansDiffer\n"),
     ),
-    (
-        ("export --config life.toml --db life-book balances", ""),
+    Step::Comes(
+        "export --config life.toml --db life-book balances",
+        "",
         (Status::Unavailable, "", "db: PlansDiffer\n"),
     ),
-    (
-        ("migrate --config more.toml --db life-book", ""),
+    Step::Comes(
+        "migrate --config life-more.toml --db life-book",
+        "",
         (Status::Unavailable, "", "db: WrongSchema\n"),
     ),
-    (
-        ("export --config more.toml --db life-book balances", ""),
+    Step::Comes(
+        "export --config life-more.toml --db life-book balances",
+        "",
         (Status::Done, BALANCES, ""),
     ),
-    (
-        ("export --config more.toml --db life-book sessions", ""),
+    Step::Comes(
+        "export --config life-more.toml --db life-book sessions",
+        "",
         (
             Status::Done,
             "client,session,account,class,input,output,total,charged,seconds,first,last,state,\
@@ -97,23 +117,21 @@ static LIFE: [Row; 20] = [
             "",
         ),
     ),
-    (
-        (
-            "feed --config more.toml",
-            "signed 1000 ap1 7 2806000000012c0473310104616c\nbalance al\n",
-        ),
+    Step::Comes(
+        "feed --config life-more.toml",
+        "signed 1000 ap1 7 2806000000012c0473310104616c\nbalance al\n",
         (Status::Done, "reply 05070014\nbalance al 0\n", ""),
     ),
-    (
-        ("feed", "signed 1000 ap2 7 -\n"),
+    Step::Comes(
+        "feed",
+        "signed 1000 ap2 7 -\n",
         (Status::Refused, "bad line\n", ""),
     ),
 ];
 
 #[test]
 fn commands_say_what_they_did(rt: HostRuntime) -> Result<(), Fail> {
-    write_sites(&rt, ["life.toml", "more.toml", "other.toml"])?;
-    assert_eq!(rt; first_wrong(&rt, &LIFE)?, None);
+    assert_eq!(rt; first_failing(&rt, &LIFE)?, None);
     Ok(())
 }
 
@@ -125,27 +143,31 @@ fn now(rt: &HostRuntime) -> Result<u64, Fail> {
     }
 }
 
+const UPLOAD_ONE: (&str, &str) = (
+    "import --config when.toml --db when-book",
+    "voucher,account,sum\nV-1,al,500\n",
+);
+
+// Whether a voucher that is imported has the moment of the clock.
+fn has_moment_of_clock(rt: &HostRuntime) -> Result<bool, Fail> {
+    let before = now(rt)?;
+    let is_added = comes(rt, UPLOAD_ONE, ADDED)?;
+    let between = (before, now(rt)?);
+    let topups = ("export --config when.toml --db when-book topups", "");
+    Ok(is_added && has_moment(rt, topups, between)?)
+}
+
+static WHEN: [Step; 2] = [
+    Step::Sites("when"),
+    Step::Comes("init --config when.toml --db when-book", "", MADE),
+];
+
 // The moment of a voucher that is imported is the clock's, and so is the one from which the days of
 // a cutoff are counted.
 #[test]
 fn vouchers_have_the_moment_of_the_clock(rt: HostRuntime) -> Result<(), Fail> {
-    write_sites(&rt, ["when.toml", "when-more.toml", "when-other.toml"])?;
-    let made = (Status::Done, "book made\n", "");
-    assert!(rt; comes(&rt, ("init --config when.toml --db when-book", ""), made)?);
-    let upload = "voucher,account,sum\nV-1,al,500\n";
-    let added = (Status::Done, "added 1, repeated 0, refused 0\n", "");
-    let before = now(&rt)?;
-    assert!(rt;
-        comes(
-            &rt,
-            ("import --config when.toml --db when-book", upload),
-            added
-        )?
-    );
-    let between = (before, now(&rt)?);
-    let topups = ("export --config when.toml --db when-book topups", "");
-    assert!(rt; has_moment(&rt, topups, between)?);
-    assert!(rt; counts_days(&rt, now(&rt)?)?);
+    assert_eq!(rt; first_failing(&rt, &WHEN)?, None);
+    assert!(rt; has_moment_of_clock(&rt)? && counts_days(&rt, now(&rt)?)?);
     Ok(())
 }
 
@@ -155,8 +177,9 @@ fn has_moment(
     command: Command<'_>,
     (first, last): (u64, u64),
 ) -> Result<bool, Fail> {
-    let came = came(rt, command)?;
-    let line = came.text().trim_end().rsplit('\n').next().unwrap_or("");
+    let text = came(rt, command)?.into_text();
+    let text = str::from_utf8(text.as_slice()).unwrap_or("");
+    let line = text.trim_end().rsplit('\n').next().unwrap_or("");
     let when = line.strip_prefix("V-1,al,500,").unwrap_or("");
     let moment = when.parse::<u64>().unwrap_or(0);
     Ok(first <= moment && moment <= last)
@@ -189,25 +212,32 @@ const FIRST_ROWS: &str = "\
     1700000007, 2, 1, x'62', x'0a000008');";
 
 // An older book, before and after it is made one of today's.
-static OLDER: [Row; 16] = [
-    (
-        ("check --config older.toml --db older-book", ""),
+static OLDER: [Step; 19] = [
+    Step::Sites("older"),
+    Step::Does("older-book", Deed::Alter(OLD_TABLES)),
+    Step::Does("older-book", Deed::Alter(FIRST_ROWS)),
+    Step::Comes(
+        "check --config older.toml --db older-book",
+        "",
         (Status::Unavailable, "", "db: WrongSchema\n"),
     ),
-    (
-        ("migrate --config older.toml --db older-book", ""),
+    Step::Comes(
+        "migrate --config older.toml --db older-book",
+        "",
         (Status::Done, "schema 3\n", ""),
     ),
-    (
-        ("export --config older.toml --db older-book balances", ""),
+    Step::Comes(
+        "export --config older.toml --db older-book balances",
+        "",
         (
             Status::Done,
             "account,balance,overrun\nal,280,0\nbo,-10,10\n",
             "",
         ),
     ),
-    (
-        ("export --config older.toml --db older-book sessions", ""),
+    Step::Comes(
+        "export --config older.toml --db older-book sessions",
+        "",
         (
             Status::Done,
             "client,session,account,class,input,output,total,charged,seconds,first,last,state,\
@@ -218,97 +248,83 @@ static OLDER: [Row; 16] = [
             "",
         ),
     ),
-    (
-        ("migrate --config older.toml --db older-book", ""),
+    Step::Comes(
+        "migrate --config older.toml --db older-book",
+        "",
         (Status::Unavailable, "", "db: WrongSchema\n"),
     ),
     // Its last report is years old, so the clock may be wrong.
-    (
-        ("forward --config older.toml --db older-book", ""),
+    Step::Comes(
+        "forward --config older.toml --db older-book",
+        "",
         (
             Status::Refused,
             "",
             "forward: no session heard of 1 to 8 days ago; give --yes if the clock is right\n",
         ),
     ),
-    (
-        (
-            "forward --config older.toml --db older-book --yes --at 9007199254740991",
-            "",
-        ),
+    Step::Comes(
+        "forward --config older.toml --db older-book --yes --at 9007199254740991",
+        "",
         (Status::Refused, "", "forward: less than 30 days ago\n"),
     ),
-    (
-        (
-            "forward --config older.toml --db older-book --yes --oldest-report 91",
-            "",
-        ),
+    Step::Comes(
+        "forward --config older.toml --db older-book --yes --oldest-report 91",
+        "",
         (
             Status::Refused,
             "",
             "forward: less than --oldest-report ago\n",
         ),
     ),
-    (
-        (
-            "forward --config older.toml --db older-book --yes --oldest-report 90 --dry-run",
-            "",
-        ),
+    Step::Comes(
+        "forward --config older.toml --db older-book --yes --oldest-report 90 --dry-run",
+        "",
         (
             Status::Done,
             "would carry 1 sessions of 1 accounts\nstay: 1 open, 0 recent, 0 kept, 0 too large\n",
             "",
         ),
     ),
-    (
-        (
-            "forward --config older.toml --db older-book --yes --dry-run",
-            "",
-        ),
+    Step::Comes(
+        "forward --config older.toml --db older-book --yes --dry-run",
+        "",
         (
             Status::Done,
             "would carry 1 sessions of 1 accounts\nstay: 1 open, 0 recent, 0 kept, 0 too large\n",
             "",
         ),
     ),
-    (
-        (
-            "forward --config older.toml --db older-book --yes --keep nas-7 --silent 30",
-            "",
-        ),
+    Step::Comes(
+        "forward --config older.toml --db older-book --yes --keep nas-7 --silent 30",
+        "",
         (
             Status::Done,
             "carried 0 sessions of 0 accounts\nstay: 0 open, 0 recent, 2 kept, 0 too large\n",
             "",
         ),
     ),
-    (
-        (
-            "forward --config older.toml --db older-book --yes --at 1700000007",
-            "",
-        ),
+    Step::Comes(
+        "forward --config older.toml --db older-book --yes --at 1700000007",
+        "",
         (
             Status::Done,
             "carried 0 sessions of 0 accounts\nstay: 1 open, 1 recent, 0 kept, 0 too large\n",
             "",
         ),
     ),
-    (
-        (
-            "forward --config older.toml --db older-book --yes --at 1700000008",
-            "",
-        ),
+    Step::Comes(
+        "forward --config older.toml --db older-book --yes --at 1700000008",
+        "",
         (
             Status::Done,
             "carried 1 sessions of 1 accounts\nstay: 1 open, 0 recent, 0 kept, 0 too large\n",
             "",
         ),
     ),
-    (
-        (
-            "forward --config older.toml --db older-book --yes --silent 30",
-            "",
-        ),
+    Step::Comes(
+        "forward --config older.toml --db older-book --yes --silent 30",
+        "",
         (
             Status::Done,
             "open: nas-7 s1 of al, silent since 1700000060\ncarried 1 sessions of 1 accounts\n\
@@ -317,16 +333,18 @@ static OLDER: [Row; 16] = [
         ),
     ),
     // Where nothing would be carried, the clock may be wrong.
-    (
-        ("forward --config older.toml --db older-book", ""),
+    Step::Comes(
+        "forward --config older.toml --db older-book",
+        "",
         (
             Status::Done,
             "carried 0 sessions of 0 accounts\nstay: 0 open, 0 recent, 0 kept, 0 too large\n",
             "",
         ),
     ),
-    (
-        ("export --config older.toml --db older-book balances", ""),
+    Step::Comes(
+        "export --config older.toml --db older-book balances",
+        "",
         (
             Status::Done,
             "account,balance,overrun\nal,280,0\nbo,-10,10\n",
@@ -337,8 +355,6 @@ static OLDER: [Row; 16] = [
 
 #[test]
 fn an_older_book_becomes_one_of_today(rt: HostRuntime) -> Result<(), Fail> {
-    write_sites(&rt, ["older.toml", "older-more.toml", "older-other.toml"])?;
-    alter(&rt, "older-book", &[OLD_TABLES, FIRST_ROWS])?;
-    assert_eq!(rt; first_wrong(&rt, &OLDER)?, None);
+    assert_eq!(rt; first_failing(&rt, &OLDER)?, None);
     Ok(())
 }

@@ -1,8 +1,8 @@
-//! What is printed for files that cannot be read or opened, and for bad command lines.
+//! What is printed for files that cannot be read or opened.
+use crate::steps::{Deed, Step, first_failing};
 use acct_model::Text;
-use acct_program_explain::{Explained, explain, explain_words};
+use acct_program_explain::{Explained, explain};
 use acct_site_config::{ConfigError, ConfigKind, ConfigTable};
-use std::alloc::Global;
 use std::fs;
 use std::test::Fail;
 
@@ -120,47 +120,45 @@ static ROWS: [Row; 18] = [
     ),
 ];
 
+// The files that these rows name.
+static FILES: [Step; 10] = [
+    Step::Does(
+        "acct_explain_test/site",
+        Deed::Write(b"# plans\n[[plan]]\nclass = 'a'\nblock = 1\nunit = -1\n"),
+    ),
+    Step::Does("acct_explain_test/text", Deed::Write(&[b'-'; 200])),
+    Step::Does("acct_explain_test/two", Deed::Write(&[b'-'; 200])),
+    Step::Does("acct_explain_test/hurt", Deed::Write(&[b'-'; 200])),
+    Step::Does("acct_explain_test/hurt-wal", Deed::Log([0; 8], 2)),
+    Step::Does("acct_explain_test/one-wal", Deed::Log(SUM, 1)),
+    Step::Does("acct_explain_test/torn-wal", Deed::Log(SUM, 2)),
+    Step::Does("acct_explain_test/lost-wal", Deed::Log(SUM, 3)),
+    Step::Does(
+        "acct_explain_test/sums",
+        Deed::Write(b"SQLite format 3\0\x10\0\x02\x02\x08"),
+    ),
+    Step::Does(
+        "acct_explain_test/three",
+        Deed::NameOf("acct_explain_test/two"),
+    ),
+];
+
+// The first text that is not printed, if there is one.
+fn first_unsaid(rt: &HostRuntime) -> Result<Option<&'static str>, Fail> {
+    for (asked, file, wanted) in &ROWS {
+        if !is_said_of(rt, *asked, file, wanted)? {
+            return Ok(Some(wanted));
+        }
+    }
+    Ok(None)
+}
+
 #[test]
 fn says_why_a_file_is_refused(rt: HostRuntime) -> Result<(), Fail> {
     let _ = fs::remove_dir_all(&rt, FOLDER);
     fs::create_dir(&rt, FOLDER)?;
-    fs::write(
-        &rt,
-        "acct_explain_test/site",
-        "# plans\n[[plan]]\nclass = 'a'\nblock = 1\nunit = -1\n",
-    )?;
-    fs::write(&rt, "acct_explain_test/text", [b'-'; 200].as_slice())?;
-    fs::write(&rt, "acct_explain_test/two", [b'-'; 200].as_slice())?;
-    fs::write(&rt, "acct_explain_test/hurt", [b'-'; 200].as_slice())?;
-    fs::write(
-        &rt,
-        "acct_explain_test/hurt-wal",
-        damaged_log(rt.alloc(), [0; 8], 2)?.as_slice(),
-    )?;
-    fs::write(
-        &rt,
-        "acct_explain_test/one-wal",
-        damaged_log(rt.alloc(), SUM, 1)?.as_slice(),
-    )?;
-    fs::write(
-        &rt,
-        "acct_explain_test/torn-wal",
-        damaged_log(rt.alloc(), SUM, 2)?.as_slice(),
-    )?;
-    fs::write(
-        &rt,
-        "acct_explain_test/lost-wal",
-        damaged_log(rt.alloc(), SUM, 3)?.as_slice(),
-    )?;
-    fs::write(
-        &rt,
-        "acct_explain_test/sums",
-        b"SQLite format 3\0\x10\0\x02\x02\x08",
-    )?;
-    fs::hard_link(&rt, "acct_explain_test/two", "acct_explain_test/three")?;
-    for (asked, file, wanted) in &ROWS {
-        assert!(rt; is_said_of(&rt, *asked, file, wanted)?, "{wanted}");
-    }
+    assert_eq!(rt; first_failing(&rt, &FILES)?, None);
+    assert_eq!(rt; first_unsaid(&rt)?, None);
     fs::remove_dir_all(&rt, FOLDER)?;
     Ok(())
 }
@@ -175,20 +173,6 @@ fn is_said_of(rt: &HostRuntime, asked: Asked, file: &str, wanted: &str) -> Resul
 
 // The sum of the log's header, as Python computed it by SQLite's description of the format.
 const SUM: [u8; 8] = [213, 203, 3, 19, 143, 164, 218, 184];
-
-// A log of so many commits of one page each, with this sum of its header. Each frame breaks its own.
-fn damaged_log(alloc: Global, sum: [u8; 8], commits: u8) -> Result<Vec<u8>, Fail> {
-    let mut log = Vec::new(alloc);
-    // The version 3007000, pages of 512 octets, and the salts 1 and 2.
-    log.extend_from_slice(&[0x37, 0x7f, 6, 0x82, 0, 45, 226, 24, 0, 0, 2, 0, 0, 0, 0, 0])?;
-    log.extend_from_slice(&[0, 0, 0, 1, 0, 0, 0, 2])?;
-    log.extend_from_slice(&sum)?;
-    for _ in 0..commits {
-        log.extend_from_slice(&[0, 0, 0, 1, 0, 0, 0, 1, 0, 0, 0, 1, 0, 0, 0, 2])?;
-        log.extend_from_slice(&[7; 520])?;
-    }
-    Ok(log)
-}
 
 // What is to be explained of a file.
 fn explained(asked: Asked, file: &Text) -> Explained<'_> {
@@ -213,34 +197,4 @@ fn explained(asked: Asked, file: &Text) -> Explained<'_> {
         },
         Asked::Unmade => Explained::Unmade { file },
     }
-}
-
-// The arguments of a command line, and what is printed for them.
-static WORDS: [([&str; 4], &str); 4] = [
-    (
-        ["radacctd", "export", "--explain", "money"],
-        "explained: WHAT is sessions, balances, topups or overruns\n",
-    ),
-    (["radacctd", "export", "--explain", "topups"], ""),
-    (["radacctd", "export", "--db", "money"], ""),
-    (["radacctd", "import", "--explain", "money"], ""),
-];
-
-#[test]
-fn says_which_words_an_export_takes(rt: HostRuntime) -> Result<(), Fail> {
-    for (words, wanted) in &WORDS {
-        assert!(rt; is_said_of_words(rt.alloc(), words, wanted)?, "{wanted}");
-    }
-    Ok(())
-}
-
-// Whether this is printed for a command line.
-fn is_said_of_words(alloc: Global, words: &[&str], wanted: &str) -> Result<bool, Fail> {
-    let mut owned = Vec::new(alloc);
-    for word in words {
-        owned.push(String::from_str(alloc, word)?)?;
-    }
-    let mut written = Vec::new(alloc);
-    explain_words(&owned, &mut written);
-    Ok(written.as_slice() == wanted.as_bytes())
 }

@@ -1,270 +1,179 @@
 //! Files that are no book, and configurations that are long.
-use crate::trial::{
-    Command, Row, Wanted, alter_log, came, comes, first_wrong, octets_of, write_sites,
-};
+use crate::steps::{Deed, Look, Step, first_failing};
+use crate::trial::{ADDED, MADE, Row, SHUT, SIZES, Wanted, came};
 use acct_program::Status;
-use sqlite::{Connection, Wary};
 use std::fs;
-use std::os::unix::fs::{PermissionsExt, symlink};
 use std::test::Fail;
 
 // Commands that take the book `slip-book`.
-static TAKING: [Command<'static>; 4] = [
-    ("check --config slip.toml --db slip-book", ""),
-    (
-        "import --config slip.toml --db slip-book",
-        "voucher,account,sum\n",
-    ),
-    ("export --config slip.toml --db slip-book topups", ""),
-    (
-        "serve --config slip.toml --db slip-book --turns 1 --radius-port 1 --desk-port 1",
-        "",
-    ),
+const TAKING: &[&str] = &[
+    "check --config slip.toml --db slip-book",
+    "import --config slip.toml --db slip-book",
+    "export --config slip.toml --db slip-book topups",
+    "serve --config slip.toml --db slip-book --turns 1 --radius-port 1 --desk-port 1",
 ];
 
-// Whether each of these commands prints only this of the book.
-fn is_refused(rt: &HostRuntime, faults: &str) -> Result<bool, Fail> {
-    for command in &TAKING {
-        if !comes(rt, *command, (Status::Unavailable, "", faults))? {
-            return Ok(false);
-        }
-    }
-    Ok(true)
-}
-
 // A name with no file behind it makes none. A file of few octets is not opened, nor is an empty one
-// next to a log that has more than its header.
+// next to a log that has more than its header. An empty file alone is an empty database to each
+// command, and becomes a book only by `init`.
+static SLIPS: [Step; 17] = [
+    Step::Sites("slip"),
+    Step::Come(TAKING, SHUT),
+    Step::Is("slip-book", Look::Absent),
+    Step::Does("slip-book", Deed::Write(&[7])),
+    Step::Come(TAKING, SHUT),
+    Step::Is("slip-book", Look::Has(&[7])),
+    Step::Does("slip-book", Deed::Write(&[7; 99])),
+    Step::Come(TAKING, SHUT),
+    Step::Is("slip-book", Look::Has(&[7; 99])),
+    Step::Does("slip-book", Deed::Write(b"")),
+    Step::Does("slip-book-wal", Deed::Write(&[7; 33])),
+    Step::Come(TAKING, SHUT),
+    Step::Is("slip-book", Look::Has(b"")),
+    Step::Does("slip-book-wal", Deed::Remove),
+    Step::Come(TAKING, (Status::Unavailable, "", "db: NotABook\n")),
+    Step::Comes("init --config slip.toml --db slip-book", "", MADE),
+    Step::Comes("check --config slip.toml --db slip-book", "", SIZES),
+];
+
 #[test]
 fn a_slip_makes_no_file(rt: HostRuntime) -> Result<(), Fail> {
-    write_sites(&rt, ["slip.toml", "slip-more.toml", "slip-other.toml"])?;
-    let unopened = "db: cannot open\n";
-    assert!(rt; is_refused(&rt, unopened)? && !fs::exists(&rt, "slip-book")?);
-    for length in [1, 99] {
-        fs::write(&rt, "slip-book", [7; 99].get(..length).unwrap_or(&[]))?;
-        assert!(rt; is_refused(&rt, unopened)? && has_length(&rt, "slip-book", length)?);
-    }
-    fs::write(&rt, "slip-book", "")?;
-    fs::write(&rt, "slip-book-wal", [7; 33])?;
-    assert!(rt; is_refused(&rt, unopened)? && has_length(&rt, "slip-book", 0)?);
-    fs::remove_file(&rt, "slip-book-wal")?;
-    assert!(rt; becomes_a_book(&rt)?);
+    assert_eq!(rt; first_failing(&rt, &SLIPS)?, None);
     Ok(())
 }
 
-// Whether a file has so many octets.
-fn has_length(rt: &HostRuntime, name: &str, length: usize) -> Result<bool, Fail> {
-    Ok(fs::metadata(rt, name)?.len() == length as u64)
-}
+// The pages of a new book end in sums only if that is asked for, as its header says. Both are books,
+// and only for their owner, as their logs are.
+static SUMS: [Step; 9] = [
+    Step::Sites("sums"),
+    Step::Comes("init --config sums.toml --db plain-book", "", MADE),
+    Step::Comes(
+        "init --config sums.toml --db summed-book --page-sums",
+        "",
+        MADE,
+    ),
+    Step::Is("plain-book", Look::Octet(20, 0)),
+    Step::Is("summed-book", Look::Octet(20, 8)),
+    Step::Is("plain-book", Look::Rights(0o600)),
+    Step::Is("plain-book-wal", Look::Rights(0o600)),
+    Step::Comes("check --config sums.toml --db plain-book", "", SIZES),
+    Step::Comes("check --config sums.toml --db summed-book", "", SIZES),
+];
 
-// Whether an empty file is an empty database to each command, and becomes a book only by `init`.
-fn becomes_a_book(rt: &HostRuntime) -> Result<bool, Fail> {
-    let made = (Status::Done, "book made\n", "");
-    let sizes = (Status::Done, "ok: 1 clients, 2 plans, 2 keys\n", "");
-    Ok(
-        is_refused(rt, "db: NotABook\n")?
-            && comes(rt, ("init --config slip.toml --db slip-book", ""), made)?
-            && comes(rt, ("check --config slip.toml --db slip-book", ""), sizes)?,
-    )
+#[test]
+fn sums_are_asked_for(rt: HostRuntime) -> Result<(), Fail> {
+    assert_eq!(rt; first_failing(&rt, &SUMS)?, None);
+    Ok(())
 }
 
 // Commands that open the book `hurt-book`; `init` opens one that is there to refuse it.
-static OPENING: [Command<'static>; 8] = [
-    ("check --config hurt.toml --db hurt-book", ""),
-    ("init --config hurt.toml --db hurt-book", ""),
-    (
-        "import --config hurt.toml --db hurt-book",
-        "voucher,account,sum\n",
-    ),
-    ("export --config hurt.toml --db hurt-book topups", ""),
-    ("migrate --config hurt.toml --db hurt-book", ""),
-    ("plans --config hurt.toml --db hurt-book", ""),
-    ("forward --config hurt.toml --db hurt-book", ""),
-    (
-        "serve --config hurt.toml --db hurt-book --turns 1 --radius-port 1 --desk-port 1",
-        "",
-    ),
-];
-
-// The pages of a new book end in sums only if that is asked for. Both are books.
-#[test]
-fn sums_are_asked_for(rt: HostRuntime) -> Result<(), Fail> {
-    write_sites(&rt, ["sums.toml", "sums-more.toml", "sums-other.toml"])?;
-    let made = (Status::Done, "book made\n", "");
-    let plain = "init --config sums.toml --db plain-book";
-    let summed = "init --config sums.toml --db summed-book --page-sums";
-    assert!(rt; comes(&rt, (plain, ""), made)? && comes(&rt, (summed, ""), made)?);
-    assert!(rt; reserved_in(&rt, "plain-book")? == Some(0));
-    assert!(rt; reserved_in(&rt, "summed-book")? == Some(8));
-    let sizes = (Status::Done, "ok: 1 clients, 2 plans, 2 keys\n", "");
-    for check in [
-        "check --config sums.toml --db plain-book",
-        "check --config sums.toml --db summed-book",
-    ] {
-        assert!(rt; comes(&rt, (check, ""), sizes)?);
-    }
-    Ok(())
-}
-
-// How many octets at the end of each page a database keeps for sums, as its header says.
-fn reserved_in(rt: &HostRuntime, name: &str) -> Result<Option<u8>, Fail> {
-    Ok(fs::read(rt, name)?.as_slice().get(20).copied())
-}
-
-// A book whose log is damaged is not opened, unless what is behind the damage is to be lost.
-#[test]
-fn a_damaged_log_is_refused(rt: HostRuntime) -> Result<(), Fail> {
-    write_sites(&rt, ["hurt.toml", "hurt-more.toml", "hurt-other.toml"])?;
-    let made = (Status::Done, "book made\n", "");
-    assert!(rt; comes(&rt, ("init --config hurt.toml --db hurt-book", ""), made)?);
-    fs::write(&rt, "hurt-book-wal", damaged_log(&rt)?.as_slice())?;
-    assert!(rt; is_left_alone(&rt)?);
-    assert_eq!(rt; first_wrong(&rt, &EMPTIED)?, None);
-    alter_log(&rt, "hurt-book", &COMMITS)?;
-    hurt_second(&rt)?;
-    assert!(rt; is_left_alone(&rt)?);
-    assert_eq!(rt; first_wrong(&rt, &CUT)?, None);
-    alter_log(&rt, "hurt-book", &COMMITS[2..])?;
-    assert_eq!(rt; first_wrong(&rt, &LATEST)?, None);
-    Ok(())
-}
-
-// Whether each command refuses the book, and leaves its files as they are.
-fn is_left_alone(rt: &HostRuntime) -> Result<bool, Fail> {
-    let before = octets_of(rt, "hurt-book")?;
-    let refused = (Status::Unavailable, "", "db: cannot open\n");
-    for command in &OPENING {
-        if !comes(rt, *command, refused)? || octets_of(rt, "hurt-book")? != before {
-            return Ok(false);
-        }
-    }
-    Ok(true)
-}
-
-// The log has no commit that can be read, so the book is as `init` made it. The store has begun the
-// log anew.
-static EMPTIED: [Row; 3] = [
-    (
-        (
-            "check --config hurt.toml --db hurt-book --lose-damaged-commits",
-            "",
-        ),
-        (Status::Done, "ok: 1 clients, 2 plans, 2 keys\n", ""),
-    ),
-    (
-        ("check --config hurt.toml --db hurt-book", ""),
-        (Status::Done, "ok: 1 clients, 2 plans, 2 keys\n", ""),
-    ),
+const OPENING: &[Row] = &[
+    (("check --config hurt.toml --db hurt-book", ""), SHUT),
+    (("init --config hurt.toml --db hurt-book", ""), SHUT),
     (
         (
             "import --config hurt.toml --db hurt-book",
-            "voucher,account,sum\nV-1,al,500\n",
+            "voucher,account,sum\n",
         ),
-        (Status::Done, "added 1, repeated 0, refused 0\n", ""),
+        SHUT,
+    ),
+    (
+        ("export --config hurt.toml --db hurt-book topups", ""),
+        SHUT,
+    ),
+    (("migrate --config hurt.toml --db hurt-book", ""), SHUT),
+    (("plans --config hurt.toml --db hurt-book", ""), SHUT),
+    (("forward --config hurt.toml --db hurt-book", ""), SHUT),
+    (
+        (
+            "serve --config hurt.toml --db hurt-book --turns 1 --radius-port 1 --desk-port 1",
+            "",
+        ),
+        SHUT,
     ),
 ];
 
 // Three commits of a page each.
-static COMMITS: [&str; 3] = [
-    "UPDATE account SET balance = 507 WHERE name = x'616c';",
-    "UPDATE account SET balance = 518 WHERE name = x'616c';",
-    "UPDATE account SET balance = 531 WHERE name = x'616c';",
-];
+const COMMITS: &str = "UPDATE account SET balance = 507 WHERE name = x'616c'; \
+    UPDATE account SET balance = 518 WHERE name = x'616c'; \
+    UPDATE account SET balance = 531 WHERE name = x'616c';";
+
+const LATER: &str = "UPDATE account SET balance = 531 WHERE name = x'616c';";
 
 // Where the page of the second commit is in the log, behind the header and a frame of 4,120 octets.
 const SECOND_PAGE: usize = 6_224;
 
-// Damages the second of three commits in the log: flips a bit in its page.
-fn hurt_second(rt: &HostRuntime) -> Result<(), Fail> {
-    let mut log = fs::read(rt, "hurt-book-wal")?;
-    match log.as_mut_slice().get_mut(SECOND_PAGE) {
-        Some(octet) => *octet ^= 1,
-        None => return Err("no log".into()),
-    }
-    fs::write(rt, "hurt-book-wal", log.as_slice())?;
-    Ok(())
-}
+const BALANCES: &str = "export --config hurt.toml --db hurt-book balances";
 
-// The first commit is kept, and from then on the book is opened as any other.
-static CUT: [Row; 2] = [
-    (
-        (
-            "export --config hurt.toml --db hurt-book --lose-damaged-commits balances",
-            "",
-        ),
-        (Status::Done, "account,balance,overrun\nal,507,0\n", ""),
+const LOSSY_BALANCES: &str =
+    "export --config hurt.toml --db hurt-book --lose-damaged-commits balances";
+
+// The balance after the first of the commits, and after the last one.
+const FIRST: Wanted<'static> = (Status::Done, "account,balance,overrun\nal,507,0\n", "");
+
+const LAST: Wanted<'static> = (Status::Done, "account,balance,overrun\nal,531,0\n", "");
+
+// A book whose log is damaged is not opened, unless what is behind the damage is to be lost. First
+// the log has no commit that can be read, so the book is as `init` made it then, and the store
+// begins the log anew. Then the second of three commits is damaged: the first one is kept, and a
+// later one, with and without the option.
+static DAMAGE: [Step; 15] = [
+    Step::Sites("hurt"),
+    Step::Comes("init --config hurt.toml --db hurt-book", "", MADE),
+    Step::Does("hurt-book-wal", Deed::Log([0; 8], 2)),
+    Step::Still("hurt-book", OPENING),
+    Step::Comes(
+        "check --config hurt.toml --db hurt-book --lose-damaged-commits",
+        "",
+        SIZES,
     ),
-    (
-        ("export --config hurt.toml --db hurt-book balances", ""),
-        (Status::Done, "account,balance,overrun\nal,507,0\n", ""),
+    Step::Comes("check --config hurt.toml --db hurt-book", "", SIZES),
+    Step::Comes(
+        "import --config hurt.toml --db hurt-book",
+        "voucher,account,sum\nV-1,al,500\n",
+        ADDED,
     ),
+    Step::Does("hurt-book", Deed::AlterLog(COMMITS)),
+    Step::Does("hurt-book-wal", Deed::Flip(SECOND_PAGE)),
+    Step::Still("hurt-book", OPENING),
+    Step::Comes(LOSSY_BALANCES, "", FIRST),
+    Step::Comes(BALANCES, "", FIRST),
+    Step::Does("hurt-book", Deed::AlterLog(LATER)),
+    Step::Comes(BALANCES, "", LAST),
+    Step::Comes(LOSSY_BALANCES, "", LAST),
 ];
 
-// A later commit is kept, with and without the option.
-static LATEST: [Row; 2] = [
-    (
-        ("export --config hurt.toml --db hurt-book balances", ""),
-        (Status::Done, "account,balance,overrun\nal,531,0\n", ""),
-    ),
-    (
-        (
-            "export --config hurt.toml --db hurt-book --lose-damaged-commits balances",
-            "",
-        ),
-        (Status::Done, "account,balance,overrun\nal,531,0\n", ""),
-    ),
-];
-
-// A log of two commits of one page each, by the salts of its header, which breaks its own sum.
-fn damaged_log(rt: &HostRuntime) -> Result<Vec<u8>, Fail> {
-    let mut log = Vec::new(rt.alloc());
-    // The version 3007000, pages of 512 octets, the salts 1 and 2, and no sum.
-    log.extend_from_slice(&[0x37, 0x7f, 6, 0x82, 0, 45, 226, 24, 0, 0, 2, 0, 0, 0, 0, 0])?;
-    log.extend_from_slice(&[0, 0, 0, 1, 0, 0, 0, 2, 0, 0, 0, 0, 0, 0, 0, 0])?;
-    for _ in 0..2 {
-        log.extend_from_slice(&[0, 0, 0, 1, 0, 0, 0, 1, 0, 0, 0, 1, 0, 0, 0, 2])?;
-        log.extend_from_slice(&[7; 520])?;
-    }
-    Ok(log)
-}
-
-// A new book, and its log, are only for their owner.
 #[test]
-fn a_new_book_is_private(rt: HostRuntime) -> Result<(), Fail> {
-    write_sites(&rt, ["own.toml", "own-more.toml", "own-other.toml"])?;
-    let made = (Status::Done, "book made\n", "");
-    assert!(rt; comes(&rt, ("init --config own.toml --db own-book", ""), made)?);
-    assert!(rt; is_private(&rt, "own-book")? && is_private(&rt, "own-book-wal")?);
+fn a_damaged_log_is_refused(rt: HostRuntime) -> Result<(), Fail> {
+    assert_eq!(rt; first_failing(&rt, &DAMAGE)?, None);
     Ok(())
-}
-
-// Whether a file is only for its owner.
-fn is_private(rt: &HostRuntime, name: &str) -> Result<bool, Fail> {
-    Ok(fs::metadata(rt, name)?.permissions().mode() & 0o777 == 0o600)
 }
 
 // Commands that read a configuration of as many keys as one may have, each in its own way.
-static LONG: [Row; 5] = [
-    (
-        ("check --config long.toml", ""),
+static LONG: [Step; 5] = [
+    Step::Comes(
+        "check --config long.toml",
+        "",
         (Status::Done, "ok: 0 clients, 1 plans, 4096 keys\n", ""),
     ),
-    (
-        ("init --config long.toml --db long-book", ""),
+    Step::Comes(
+        "init --config long.toml --db long-book",
+        "",
         (Status::Done, "book made\n", ""),
     ),
-    (
-        (
-            "import --config long.toml --db long-book",
-            "voucher,account,sum\nV-1,al,500\n",
-        ),
+    Step::Comes(
+        "import --config long.toml --db long-book",
+        "voucher,account,sum\nV-1,al,500\n",
         (Status::Done, "added 1, repeated 0, refused 0\n", ""),
     ),
-    (
-        ("export --config long.toml --db long-book balances", ""),
+    Step::Comes(
+        "export --config long.toml --db long-book balances",
+        "",
         (Status::Done, "account,balance,overrun\nal,500,0\n", ""),
     ),
-    (
-        ("feed --config long.toml", "balance al\n"),
+    Step::Comes(
+        "feed --config long.toml",
+        "balance al\n",
         (Status::Done, "balance al 0\n", ""),
     ),
 ];
@@ -272,7 +181,8 @@ static LONG: [Row; 5] = [
 #[test]
 fn a_long_configuration_is_read_whole(rt: HostRuntime) -> Result<(), Fail> {
     fs::write(&rt, "long.toml", long_site(&rt)?.as_str())?;
-    assert_eq!(rt; first_wrong(&rt, &LONG)?, None);
+    assert_eq!(rt; first_failing(&rt, &LONG)?, None);
+    assert!(rt; tells_each(&rt)?);
     Ok(())
 }
 
@@ -291,39 +201,24 @@ fn long_site(rt: &HostRuntime) -> Result<String, Fail> {
     Ok(text)
 }
 
-// For an upload of 1,500 wrong lines each line is reported.
-#[test]
-fn each_refused_line_is_told(rt: HostRuntime) -> Result<(), Fail> {
-    write_sites(&rt, ["wrong.toml", "wrong-more.toml", "wrong-other.toml"])?;
-    let made = (Status::Done, "book made\n", "");
-    assert!(rt; comes(&rt, ("init --config wrong.toml --db wrong-book", ""), made)?);
-    assert!(rt; tells_each(&rt)?);
-    Ok(())
-}
-
-// Whether 1,500 wrong lines are reported, from the first to the last.
+// Whether for an upload of 1,500 wrong lines each is reported, from the first to the last.
 fn tells_each(rt: &HostRuntime) -> Result<bool, Fail> {
     let mut upload = String::from_str(rt.alloc(), "voucher,account,sum\n")?;
     for _ in 0..1_500_u32 {
         upload.push_str("V-1,al,0\n")?;
     }
-    let came = came(
-        rt,
-        (
-            "import --config wrong.toml --db wrong-book",
-            upload.as_str(),
-        ),
-    )?;
-    let text = came.text();
+    let command = ("import --config long.toml --db long-book", upload.as_str());
+    let text = came(rt, command)?.into_text();
+    let begin = b"added 0, repeated 0, refused 1500\n2: BadSum\n3: BadSum\n".as_slice();
     Ok(
-        text.starts_with("added 0, repeated 0, refused 1500\n2: BadSum\n3: BadSum\n")
-            && text.ends_with("\n1501: BadSum\n"),
+        text.as_slice().starts_with(begin)
+            && text.as_slice().ends_with(b"\n1501: BadSum\n".as_slice()),
     )
 }
 
 // Commands that name files to be written. Each would take the place of another file: the
 // configuration, the book, its log, that of the other name, a folder, and what others wrote.
-static OVERWRITING: [&str; 14] = [
+const OVERWRITING: &[&str] = &[
     "check --config safe.toml --status safe.toml",
     "check --config safe.toml --balances safe-link",
     "check --config safe.toml --balances ./safe.toml",
@@ -344,7 +239,7 @@ static OVERWRITING: [&str; 14] = [
 ];
 
 // Commands whose files are free, or were written by the program.
-static KEEPING: [&str; 4] = [
+const KEEPING: &[&str] = &[
     "check --config safe.toml --status safe-status --balances safe-balances",
     "check --config safe.toml --status safe-empty --balances safe-new",
     "check --config safe.toml --db safe-book --status no-folder/status --balances safe-new",
@@ -352,79 +247,34 @@ static KEEPING: [&str; 4] = [
     "check --config safe.toml --status /proc/safe-out --balances /sys/safe-out",
 ];
 
-// Whether each of these commands ends so.
-fn all_come(rt: &HostRuntime, lines: &[&str], wanted: Wanted<'_>) -> Result<bool, Fail> {
-    for line in lines {
-        if !comes(rt, (line, ""), wanted)? {
-            return Ok(false);
-        }
-    }
-    Ok(true)
-}
-
 // No file that a server is to write takes the place of another one.
-#[test]
-fn nothing_is_overwritten(rt: HostRuntime) -> Result<(), Fail> {
-    write_sites(&rt, ["safe.toml", "safe-more.toml", "safe-other.toml"])?;
-    let made = (Status::Done, "book made\n", "");
-    assert!(rt; comes(&rt, ("init --config safe.toml --db safe-book", ""), made)?);
-    symlink(&rt, "safe.toml", "safe-link.new")?;
-    symlink(&rt, "safe-book", "safe-book-link")?;
-    symlink(&rt, "safe-later", "safe-nowhere.new")?;
-    fs::remove_file(&rt, "safe-book-wal")?;
-    fs::write(&rt, "safe-notes", "not radacctd's\n")?;
-    fs::write(&rt, "safe-status", "# HELP radacctd_events_total Data")?;
-    fs::write(&rt, "safe-balances", "account,balance,overrun\nal,500,0\n")?;
-    fs::write(&rt, "safe-balances.new", "account,bal")?;
-    fs::write(&rt, "safe-empty", "")?;
-    let refused = (Status::Refused, "", "file: would be overwritten\n");
-    assert!(rt; all_come(&rt, &OVERWRITING, refused)?);
-    let sizes = (Status::Done, "ok: 1 clients, 2 plans, 2 keys\n", "");
-    assert!(rt; all_come(&rt, &KEEPING, sizes)?);
-    Ok(())
-}
-
-// Gives a book an account without closing it: what was committed stays in the log.
-fn leave_log(rt: &HostRuntime, name: &str) -> Result<(), Fail> {
-    let opened = Connection::open_from(rt, name, false, Wary);
-    let Ok(mut connection) = opened else {
-        return Err("not opened".into());
-    };
-    connection.execute_batch("INSERT INTO account VALUES (x'616c', 7);")?;
-    Ok(())
-}
-
-// Commands that only look at a book, and what they print.
-static LOOKING: [(&str, &str); 3] = [
-    (
-        "export --config log.toml --db log-book balances",
-        "account,balance,overrun\nal,7,0\n",
+static SAFE: [Step; 13] = [
+    Step::Sites("safe"),
+    Step::Comes("init --config safe.toml --db safe-book", "", MADE),
+    Step::Does("safe-link.new", Deed::LinkTo("safe.toml")),
+    Step::Does("safe-book-link", Deed::LinkTo("safe-book")),
+    Step::Does("safe-nowhere.new", Deed::LinkTo("safe-later")),
+    Step::Does("safe-book-wal", Deed::Remove),
+    Step::Does("safe-notes", Deed::Write(b"not radacctd's\n")),
+    Step::Does(
+        "safe-status",
+        Deed::Write(b"# HELP radacctd_events_total Data"),
     ),
-    (
-        "check --config log.toml --db log-book",
-        "ok: 1 clients, 2 plans, 2 keys\n",
+    Step::Does(
+        "safe-balances",
+        Deed::Write(b"account,balance,overrun\nal,500,0\n"),
     ),
-    (
-        "export --config log.toml --db log-book overruns",
-        "account,overrun\n",
+    Step::Does("safe-balances.new", Deed::Write(b"account,bal")),
+    Step::Does("safe-empty", Deed::Write(b"")),
+    Step::Come(
+        OVERWRITING,
+        (Status::Refused, "", "file: would be overwritten\n"),
     ),
+    Step::Come(KEEPING, SIZES),
 ];
 
-// Who only looks at a book leaves its log as it is.
 #[test]
-fn a_look_leaves_the_log(rt: HostRuntime) -> Result<(), Fail> {
-    write_sites(&rt, ["log.toml", "log-more.toml", "log-other.toml"])?;
-    let made = (Status::Done, "book made\n", "");
-    assert!(rt; comes(&rt, ("init --config log.toml --db log-book", ""), made)?);
-    leave_log(&rt, "log-book")?;
-    let log = fs::read(&rt, "log-book-wal")?;
-    assert!(rt; log.len() > 32);
-    for (line, wanted) in &LOOKING {
-        assert!(rt;
-            comes(&rt, (line, ""), (Status::Done, wanted, ""))?,
-            "{line}"
-        );
-        assert!(rt; fs::read(&rt, "log-book-wal")? == log, "{line}");
-    }
+fn nothing_is_overwritten(rt: HostRuntime) -> Result<(), Fail> {
+    assert_eq!(rt; first_failing(&rt, &SAFE)?, None);
     Ok(())
 }

@@ -3,9 +3,9 @@
 #![tactic(auto)]
 
 #[cfg(test)]
-mod asked_server;
-#[cfg(test)]
 mod audits;
+#[cfg(test)]
+mod callers;
 #[cfg(test)]
 mod commands;
 #[cfg(test)]
@@ -38,6 +38,10 @@ mod sample_values;
 mod served;
 #[cfg(test)]
 mod servers;
+#[cfg(test)]
+mod steps;
+#[cfg(test)]
+mod streams;
 #[cfg(test)]
 mod trial;
 #[cfg(test)]

@@ -1,39 +1,23 @@
 //! Commands that only look leave both files of a book as they are, if its log has commits, too.
-use crate::trial::{Row, alter_log, comes, first_wrong, octets_of, write_sites};
+use crate::steps::{Deed, Look, Step, first_failing};
+use crate::trial::{Row, octets_of};
 use acct_model::Text;
 use acct_program::Status;
 use acct_program_explain::{Explained, explain};
-use std::fs;
 use std::test::Fail;
 
-// Makes a book of two accounts, and closes it.
-static MADE: [Row; 2] = [
-    (
-        ("init --config look.toml --db look-book", ""),
-        (Status::Done, "book made\n", ""),
-    ),
-    (
-        (
-            "import --config look.toml --db look-book",
-            "voucher,account,sum\nV-1,al,500\nV-2,bo,300\n",
-        ),
-        (Status::Done, "added 2, repeated 0, refused 0\n", ""),
-    ),
-];
-
 // Three commits for the log: vouchers of `al`, each with the balance after it.
-static LATER: [&str; 3] = [
+const LATER: &str =
     "BEGIN; INSERT INTO voucher VALUES ('V-3', x'616c', 7, 3000); UPDATE account SET balance = 507 \
-     WHERE name = x'616c'; COMMIT;",
-    "BEGIN; INSERT INTO voucher VALUES ('V-4', x'616c', 11, 4000); UPDATE account SET balance = 518 \
-     WHERE name = x'616c'; COMMIT;",
-    "BEGIN; INSERT INTO voucher VALUES ('V-5', x'616c', 13, 5000); UPDATE account SET balance = 531 \
-     WHERE name = x'616c'; COMMIT;",
-];
+     WHERE name = x'616c'; COMMIT; \
+     BEGIN; INSERT INTO voucher VALUES ('V-4', x'616c', 11, 4000); UPDATE account SET balance = 518 \
+     WHERE name = x'616c'; COMMIT; \
+     BEGIN; INSERT INTO voucher VALUES ('V-5', x'616c', 13, 5000); UPDATE account SET balance = 531 \
+     WHERE name = x'616c'; COMMIT;";
 
 // Commands that only look, or change nothing since they are refused. What they print is of the
 // commits in the log.
-static LOOKS: [Row; 9] = [
+const LOOKS: &[Row] = &[
     (
         ("check --config look.toml --db look-book", ""),
         (Status::Done, "ok: 1 clients, 2 plans, 2 keys\n", ""),
@@ -81,26 +65,23 @@ static LOOKS: [Row; 9] = [
     ),
 ];
 
-// Makes the book, and leaves three commits in its log.
-fn make(rt: &HostRuntime) -> Result<bool, Fail> {
-    write_sites(rt, ["look.toml", "look-more.toml", "look-other.toml"])?;
-    let is_made = first_wrong(rt, &MADE)?.is_none();
-    alter_log(rt, "look-book", &LATER)?;
-    Ok(is_made)
-}
-
-// The first row that does not hold, or after which a file has other octets.
-fn first_change(rt: &HostRuntime, rows: &[Row]) -> Result<Option<&'static str>, Fail> {
-    let before = octets_of(rt, "look-book")?;
-    for row in rows {
-        let (command, wanted) = *row;
-        let holds = comes(rt, command, wanted)?;
-        if !holds || octets_of(rt, "look-book")? != before {
-            return Ok(Some(command.0));
-        }
-    }
-    Ok(None)
-}
+// A book of two accounts is made and closed, and three commits are left in its log.
+static LOOKING: [Step; 6] = [
+    Step::Sites("look"),
+    Step::Comes(
+        "init --config look.toml --db look-book",
+        "",
+        (Status::Done, "book made\n", ""),
+    ),
+    Step::Comes(
+        "import --config look.toml --db look-book",
+        "voucher,account,sum\nV-1,al,500\nV-2,bo,300\n",
+        (Status::Done, "added 2, repeated 0, refused 0\n", ""),
+    ),
+    Step::Does("look-book", Deed::AlterLog(LATER)),
+    Step::Is("look-book-wal", Look::LongerThan(32)),
+    Step::Still("look-book", LOOKS),
+];
 
 // Whether the book and its log are as they were after more is said of them.
 fn is_explained(rt: &HostRuntime, what: Explained<'_>, wanted: &str) -> Result<bool, Fail> {
@@ -113,8 +94,7 @@ fn is_explained(rt: &HostRuntime, what: Explained<'_>, wanted: &str) -> Result<b
 
 #[test]
 fn a_look_changes_no_file(rt: HostRuntime) -> Result<(), Fail> {
-    assert!(rt; make(&rt)?);
-    assert_eq!(rt; first_change(&rt, &LOOKS)?, None);
+    assert_eq!(rt; first_failing(&rt, &LOOKING)?, None);
     let file = Text::from_str(rt.alloc(), "look-book")?;
     assert!(rt; is_explained(&rt, Explained::Opened { file: &file }, "")?);
     Ok(())

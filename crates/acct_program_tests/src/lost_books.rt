@@ -1,5 +1,5 @@
 //! `init` next to a log that is left without its book.
-use crate::trial::{comes, write_sites};
+use crate::trial::{MADE, SHUT, SIZES, comes, write_sites};
 use acct_program::Status;
 use std::fs;
 use std::test::Fail;
@@ -38,7 +38,7 @@ static PLACES: [Option<usize>; 4] = [None, Some(0), Some(1), Some(99)];
 
 #[test]
 fn init_leaves_the_log_of_a_book(rt: HostRuntime) -> Result<(), Fail> {
-    write_sites(&rt, ["lost.toml", "lost-more.toml", "lost-other.toml"])?;
+    write_sites(&rt, "lost")?;
     for place in &PLACES {
         assert!(rt; are_told_apart(&rt, *place)?);
     }
@@ -86,12 +86,11 @@ fn log_of(rt: &HostRuntime, frames: &[Frame]) -> Result<Vec<u8>, Fail> {
 
 // Whether `init` refuses with and without page sums, and changes neither file.
 fn is_refused(rt: &HostRuntime, place: Option<usize>, frames: &[Frame]) -> Result<bool, Fail> {
-    let shut = (Status::Unavailable, "", "db: cannot open\n");
     let plain = "init --config lost.toml --db lost-book";
     let summed = "init --config lost.toml --db lost-book --page-sums";
     Ok(
-        comes(rt, (plain, ""), shut)?
-            && comes(rt, (summed, ""), shut)?
+        comes(rt, (plain, ""), SHUT)?
+            && comes(rt, (summed, ""), SHUT)?
             && fs::read(rt, "lost-book-wal")?.as_slice() == log_of(rt, frames)?.as_slice()
             && length_of(rt) == place,
     )
@@ -108,10 +107,9 @@ fn length_of(rt: &HostRuntime) -> Option<usize> {
 // Whether `init` makes a book, which `check` takes, and a second `init` says that it is there.
 fn becomes_a_book(rt: &HostRuntime) -> Result<bool, Fail> {
     let init = "init --config lost.toml --db lost-book";
-    let sizes = (Status::Done, "ok: 1 clients, 2 plans, 2 keys\n", "");
     Ok(
-        comes(rt, (init, ""), (Status::Done, "book made\n", ""))?
-            && comes(rt, ("check --config lost.toml --db lost-book", ""), sizes)?
+        comes(rt, (init, ""), MADE)?
+            && comes(rt, ("check --config lost.toml --db lost-book", ""), SIZES)?
             && comes(rt, (init, ""), (Status::Unavailable, "", "db: NotABook\n"))?,
     )
 }

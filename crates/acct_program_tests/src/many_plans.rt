@@ -1,67 +1,66 @@
 //! More plans than one would add by hand, added to a book of one, and what is done with the book
 //! then. A script of many clients and plans.
-use crate::servers::free_port;
-use crate::trial::{Row, alter, comes, first_wrong};
+use crate::callers::free_port;
+use crate::steps::{Deed, Step, first_failing};
+use crate::trial::{MADE, comes};
 use acct_program::Status;
 use std::fs;
 use std::test::Fail;
 
 const DEFAULT: &str = "[[plan]]\nclass = \"default\"\nblock = 1000000\nunit = 5\n";
 
-// The plan `default`, and so many others behind it.
-fn site(rt: &HostRuntime, others: u32) -> Result<String, Fail> {
-    let mut text = String::from_str(rt.alloc(), DEFAULT)?;
-    for number in 0..others {
-        let plan = format!(in rt.alloc();
-            "[[plan]]\nclass = \"class {number}\"\nblock = 1000\nunit = {number}\n"
-        )?;
-        text.push_str(plan.as_str())?;
-    }
-    Ok(text)
-}
-
-// What is done with the book of one plan then, in turn.
-static ADDING: [Row; 8] = [
-    (
-        ("check --config many-plans.toml --db many-plans-book", ""),
+// The last of 256 clients reports an octet of the last of 50 plans, which costs 48. Then a book of
+// one plan gets 49 more.
+static ADDED: [Step; 10] = [
+    Step::Comes(
+        "feed --config many-clients.toml",
+        "signed 1000 ap255 7 2806000000032c0473350104616c190a636c6173732034382a0600000001\n\
+         balance al\n",
+        (Status::Done, "reply 05070014\nbalance al -48\n", ""),
+    ),
+    Step::Comes("init --config one-plan.toml --db many-plans-book", "", MADE),
+    Step::Comes(
+        "check --config many-plans.toml --db many-plans-book",
+        "",
         (Status::Unavailable, "", "db: PlansDiffer\n"),
     ),
-    (
-        ("plans --config many-plans.toml --db many-plans-book", ""),
+    Step::Comes(
+        "plans --config many-plans.toml --db many-plans-book",
+        "",
         (Status::Done, "added 49\n", ""),
     ),
-    (
-        ("check --config many-plans.toml --db many-plans-book", ""),
+    Step::Comes(
+        "check --config many-plans.toml --db many-plans-book",
+        "",
         (Status::Done, "ok: 0 clients, 50 plans, 0 keys\n", ""),
     ),
-    (
-        ("plans --config many-plans.toml --db many-plans-book", ""),
+    Step::Comes(
+        "plans --config many-plans.toml --db many-plans-book",
+        "",
         (Status::Done, "added 0\n", ""),
     ),
-    (
-        ("check --config one-plan.toml --db many-plans-book", ""),
+    Step::Comes(
+        "check --config one-plan.toml --db many-plans-book",
+        "",
         (Status::Unavailable, "", "db: PlansDiffer\n"),
     ),
-    (
-        (
-            "import --config many-plans.toml --db many-plans-book",
-            "voucher,account,sum\nV-1,al,500\n",
-        ),
+    Step::Comes(
+        "import --config many-plans.toml --db many-plans-book",
+        "voucher,account,sum\nV-1,al,500\n",
         (Status::Done, "added 1, repeated 0, refused 0\n", ""),
     ),
-    (
-        ("forward --config many-plans.toml --db many-plans-book", ""),
+    Step::Comes(
+        "forward --config many-plans.toml --db many-plans-book",
+        "",
         (
             Status::Done,
             "carried 0 sessions of 0 accounts\nstay: 0 open, 0 recent, 0 kept, 0 too large\n",
             "",
         ),
     ),
-    (
-        (
-            "export --config many-plans.toml --db many-plans-book balances",
-            "",
-        ),
+    Step::Comes(
+        "export --config many-plans.toml --db many-plans-book balances",
+        "",
         (Status::Done, "account,balance,overrun\nal,500,0\n", ""),
     ),
 ];
@@ -69,16 +68,16 @@ static ADDING: [Row; 8] = [
 // They make the book one of schema number 1.
 const OLDER: &str = "DROP TABLE session_plan; DROP TABLE plan_count; UPDATE meta SET value = 1;";
 
-static MIGRATED: [Row; 2] = [
-    (
-        ("migrate --config many-plans.toml --db many-plans-book", ""),
+static MIGRATED: [Step; 3] = [
+    Step::Does("many-plans-book", Deed::Alter(OLDER)),
+    Step::Comes(
+        "migrate --config many-plans.toml --db many-plans-book",
+        "",
         (Status::Done, "schema 3\n", ""),
     ),
-    (
-        (
-            "check --config many-plans.toml --db many-plans-book --audit",
-            "",
-        ),
+    Step::Comes(
+        "check --config many-plans.toml --db many-plans-book --audit",
+        "",
         (
             Status::Done,
             "ok: 0 clients, 50 plans, 0 keys\nbalanced: 1 accounts, 0 sessions, 1 vouchers\n",
@@ -87,19 +86,20 @@ static MIGRATED: [Row; 2] = [
     ),
 ];
 
-// The last of 256 clients reports an octet of the last of 50 plans, which costs 48.
-static FED: Row = (
-    (
-        "feed --config many-clients.toml",
-        "signed 1000 ap255 7 2806000000032c0473350104616c190a636c6173732034382a0600000001\n\
-         balance al\n",
-    ),
-    (Status::Done, "reply 05070014\nbalance al -48\n", ""),
-);
+// Writes a configuration of so many clients, of the plan `default` and of so many others behind it.
+fn write_site(rt: &HostRuntime, file: &str, clients: u32, others: u32) -> Result<(), Fail> {
+    let mut text = String::from_str(rt.alloc(), DEFAULT)?;
+    for number in 0..others {
+        let plan = format!(in rt.alloc();
+            "[[plan]]\nclass = \"class {number}\"\nblock = 1000\nunit = {number}\n"
+        )?;
+        text.push_str(plan.as_str())?;
+    }
+    push_clients(rt, &mut text, clients)?;
+    Ok(fs::write(rt, file, text.as_str())?)
+}
 
-// So many clients, and plans.
-fn site_of_clients(rt: &HostRuntime, clients: u32, others: u32) -> Result<String, Fail> {
-    let mut text = site(rt, others)?;
+fn push_clients(rt: &HostRuntime, text: &mut String, clients: u32) -> Result<(), Fail> {
     for number in 0..clients {
         let client = format!(in rt.alloc();
             "[[client]]\nname = \"ap{number}\"\naddress = \"10.0.{number}.1\"\n\
@@ -107,14 +107,6 @@ fn site_of_clients(rt: &HostRuntime, clients: u32, others: u32) -> Result<String
         )?;
         text.push_str(client.as_str())?;
     }
-    Ok(text)
-}
-
-#[test]
-fn the_last_of_many_clients_and_plans_counts(rt: HostRuntime) -> Result<(), Fail> {
-    let text = site_of_clients(&rt, 256, 49)?;
-    fs::write(&rt, "many-clients.toml", text.as_str())?;
-    assert!(rt; comes(&rt, FED.0, FED.1)?);
     Ok(())
 }
 
@@ -129,21 +121,18 @@ fn is_served(rt: &HostRuntime) -> Result<bool, Fail> {
     comes(rt, (line.as_str(), ""), (Status::Done, served, ""))
 }
 
+// Writes a configuration of many clients, one of one plan, and one of many.
+fn write_many(rt: &HostRuntime) -> Result<(), Fail> {
+    write_site(rt, "many-clients.toml", 256, 49)?;
+    write_site(rt, "one-plan.toml", 0, 0)?;
+    write_site(rt, "many-plans.toml", 0, 49)
+}
+
 #[test]
 fn many_plans_are_added(rt: HostRuntime) -> Result<(), Fail> {
-    fs::write(&rt, "one-plan.toml", site(&rt, 0)?.as_str())?;
-    fs::write(&rt, "many-plans.toml", site(&rt, 49)?.as_str())?;
-    let made = (Status::Done, "book made\n", "");
-    assert!(rt;
-        comes(
-            &rt,
-            ("init --config one-plan.toml --db many-plans-book", ""),
-            made
-        )?
-    );
-    assert_eq!(rt; first_wrong(&rt, &ADDING)?, None);
+    write_many(&rt)?;
+    assert_eq!(rt; first_failing(&rt, &ADDED)?, None);
     assert!(rt; is_served(&rt)?);
-    alter(&rt, "many-plans-book", &[OLDER])?;
-    assert_eq!(rt; first_wrong(&rt, &MIGRATED)?, None);
+    assert_eq!(rt; first_failing(&rt, &MIGRATED)?, None);
     Ok(())
 }

@@ -36,14 +36,25 @@ static ROWS: [(&str, &str); 4] = [
     ),
 ];
 
+// The first text of which something else is printed, if there is one.
+fn first_other(rt: &HostRuntime) -> Result<Option<&'static str>, Fail> {
+    for (site, wanted) in &ROWS {
+        fs::write(rt, "sample-site", *site)?;
+        if !is_warned_of(rt, wanted)? {
+            return Ok(Some(site));
+        }
+    }
+    fs::remove_file(rt, "sample-site")?;
+    Ok(if is_warned_of(rt, "")? {
+        None
+    } else {
+        Some("no file")
+    })
+}
+
 #[test]
 fn names_each_public_value(rt: HostRuntime) -> Result<(), Fail> {
-    for (site, wanted) in &ROWS {
-        fs::write(&rt, "sample-site", *site)?;
-        assert!(rt; is_warned_of(&rt, wanted)?, "{wanted}");
-    }
-    fs::remove_file(&rt, "sample-site")?;
-    assert!(rt; is_warned_of(&rt, "")?);
+    assert_eq!(rt; first_other(&rt)?, None);
     Ok(())
 }
 

@@ -1,38 +1,24 @@
 //! `serve`: what it prints, where it listens, and the files that it keeps.
-use crate::trial::{came, comes, write_sites};
+use crate::callers::free_port;
+use crate::steps::{Step, first_failing};
+use crate::trial::{ADDED, MADE, comes};
 use acct_program::Status;
-use std::net::{Ipv4Addr, TcpListener, UdpSocket};
+use std::fs;
+use std::net::{Ipv4Addr, TcpListener};
 use std::test::Fail;
-use std::{fs, io};
 
 const SERVED: &str = "serving\nevents 0, replies 0, mute 0, faults 0\n";
 
-// Makes a site and its book, which credits a voucher.
-fn make_site(rt: &HostRuntime, names: [&str; 3], init: &str, import: &str) -> Result<bool, Fail> {
-    write_sites(rt, names)?;
-    let made = (Status::Done, "book made\n", "");
-    let added = (Status::Done, "added 1, repeated 0, refused 0\n", "");
-    let upload = "voucher,account,sum\nV-1,al,500\n";
-    Ok(comes(rt, (init, ""), made)? && comes(rt, (import, upload), added)?)
-}
-
-// A port of 127.0.0.1 at which nobody receives datagrams.
-pub(crate) fn free_port(rt: &HostRuntime) -> io::Result<u16> {
-    let socket = UdpSocket::bind(rt, (Ipv4Addr::from([127, 0, 0, 1]), 0))?;
-    Ok(socket.local_addr()?.port())
-}
-
-// An idle server prints that it serves, and what it counted. It writes the files that it is to
-// keep.
-#[test]
-fn a_server_without_callers_ends(rt: HostRuntime) -> Result<(), Fail> {
-    let names = ["quiet.toml", "quiet-more.toml", "quiet-other.toml"];
-    let init = "init --config quiet.toml --db quiet-book";
-    let import = "import --config quiet.toml --db quiet-book";
-    assert!(rt; make_site(&rt, names, init, import)?);
-    assert!(rt; serves_and_keeps(&rt)?);
-    Ok(())
-}
+// A site and its book, which credits a voucher.
+static SITE: [Step; 3] = [
+    Step::Sites("quiet"),
+    Step::Comes("init --config quiet.toml --db quiet-book", "", MADE),
+    Step::Comes(
+        "import --config quiet.toml --db quiet-book",
+        "voucher,account,sum\nV-1,al,500\n",
+        ADDED,
+    ),
+];
 
 // The options of as many addresses for reports as there may be.
 fn more_addresses(rt: &HostRuntime) -> Result<String, Fail> {
@@ -43,11 +29,9 @@ fn more_addresses(rt: &HostRuntime) -> Result<String, Fail> {
     Ok(options)
 }
 
-// Whether a server of one turn and 16 addresses prints what it is to print, and keeps its files.
-fn serves_and_keeps(rt: &HostRuntime) -> Result<bool, Fail> {
-    let desk = TcpListener::bind(rt, (Ipv4Addr::from([127, 0, 0, 1]), 0))?;
-    let taken = desk.local_addr()?.port();
-    // The desk's port is taken at 127.0.0.1, so it is to be bound at 127.0.0.2 and nowhere else.
+// Whether a server of one turn and 16 addresses prints what it is to print, and keeps its files. The
+// desk's port is taken at 127.0.0.1, so it is to be bound at 127.0.0.2 and nowhere else.
+fn serves_and_keeps(rt: &HostRuntime, taken: u16) -> Result<bool, Fail> {
     let (radius, binds) = (free_port(rt)?, more_addresses(rt)?);
     let line = format!(in rt.alloc();
         "serve --config quiet.toml --db quiet-book --turns 1 {binds} \
@@ -65,26 +49,27 @@ fn serves_and_keeps(rt: &HostRuntime) -> Result<bool, Fail> {
     )
 }
 
-// A port that is taken is reported.
-#[test]
-fn a_taken_port_is_told(rt: HostRuntime) -> Result<(), Fail> {
-    let names = ["taken.toml", "taken-more.toml", "taken-other.toml"];
-    let init = "init --config taken.toml --db taken-book";
-    let import = "import --config taken.toml --db taken-book";
-    assert!(rt; make_site(&rt, names, init, import)?);
-    assert!(rt; cannot_bind(&rt)?);
-    Ok(())
-}
-
 // Whether a server prints that it cannot bind the desk's port, which is taken.
-fn cannot_bind(rt: &HostRuntime) -> Result<bool, Fail> {
-    let desk = TcpListener::bind(rt, (Ipv4Addr::from([127, 0, 0, 1]), 0))?;
-    let taken = desk.local_addr()?.port();
+fn cannot_bind(rt: &HostRuntime, taken: u16) -> Result<bool, Fail> {
     let radius = free_port(rt)?;
     let line = format!(in rt.alloc();
-        "serve --config taken.toml --db taken-book --turns 1 \
+        "serve --config quiet.toml --db quiet-book --turns 1 \
         --radius-port {radius} --desk-port {taken}"
     )?;
-    let came = came(rt, (line.as_str(), ""))?;
-    Ok(came.is((Status::Socket, "", "socket: cannot bind\n")))
+    let wanted = (Status::Socket, "", "socket: cannot bind\n");
+    comes(rt, (line.as_str(), ""), wanted)
+}
+
+// Whether an idle server serves beside a port that is taken, and tells that it cannot bind that.
+fn serves_beside(rt: &HostRuntime) -> Result<bool, Fail> {
+    let desk = TcpListener::bind(rt, (Ipv4Addr::from([127, 0, 0, 1]), 0))?;
+    let taken = desk.local_addr()?.port();
+    Ok(serves_and_keeps(rt, taken)? && cannot_bind(rt, taken)?)
+}
+
+#[test]
+fn a_server_without_callers_ends(rt: HostRuntime) -> Result<(), Fail> {
+    assert_eq!(rt; first_failing(&rt, &SITE)?, None);
+    assert!(rt; serves_beside(&rt)?);
+    Ok(())
 }

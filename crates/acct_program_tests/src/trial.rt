@@ -2,13 +2,17 @@
 ghost use Rattle.std.specs.Prelude.{IfOk};
 ghost use Rattle.acct_program_args.specs.Orders.{HasBounds};
 
+use crate::callers::Callers;
+use crate::streams::{Act, Stream};
 use acct_program::Status;
 use acct_program_args::{Order, job_of};
-use acct_program_jobs::{Outcome, Streams, carry_out};
+use acct_program_jobs::{Streams, carry_out};
 use acct_program_serving::Errors;
 use sqlite::{Connection, FileFrom, FileStore, Wary};
 use std::alloc::Global;
+use std::cell::RefCell;
 use std::fs;
+use std::io::BufWriter;
 use std::test::Fail;
 
 /// A command: its arguments after the program's name, and its standard input.
@@ -20,60 +24,136 @@ pub type Wanted<'a> = (Status, &'a str, &'a str);
 /// A command with the result that is expected of it.
 pub type Row = (Command<'static>, Wanted<'static>);
 
+/// The result of an `init`.
+pub const MADE: Wanted<'static> = (Status::Done, "book made\n", "");
+
+/// The result of an `import` of one voucher.
+pub const ADDED: Wanted<'static> = (Status::Done, "added 1, repeated 0, refused 0\n", "");
+
+/// The result of a `check`, if all is right.
+pub const SIZES: Wanted<'static> = (Status::Done, "ok: 1 clients, 2 plans, 2 keys\n", "");
+
+/// The result of each command whose book cannot be opened.
+pub const SHUT: Wanted<'static> = (Status::Unavailable, "", "db: cannot open\n");
+
 /// The result of a command.
+#[derive(Drop)]
 pub struct Printed {
-    status: Status,
-    output: Vec<u8>,
+    pub status: Status,
+    output: RefCell<Vec<u8>>,
+    drops: RefCell<Vec<u8>>,
+    notices: RefCell<Vec<u8>>,
     faults: Vec<u8>,
 }
 
-impl Drop for Printed {
-    fn drop(self) {
-        let Printed {
-            status: _,
-            output: _,
-            faults: _,
-        } = self;
-    }
-}
-
 impl Printed {
+    // Nothing was printed yet.
+    fn new(alloc: Global) -> Printed {
+        Printed {
+            status: Status::Done,
+            output: RefCell::new(Vec::new(alloc)),
+            drops: RefCell::new(Vec::new(alloc)),
+            notices: RefCell::new(Vec::new(alloc)),
+            faults: Vec::new(alloc),
+        }
+    }
+
+    // Runs a command that prints here, if its output has room for so many octets. Callers act when
+    // it first prints, and at its first notice.
+    fn run(
+        &mut self,
+        rt: &HostRuntime,
+        command: Command<'_>,
+        setting: Setting<'_>,
+    ) -> Result<(), Fail> {
+        let order = order_of(rt.alloc(), command.0)?;
+        let errors = Errors {
+            drops: Some(Stream::new(&self.drops, ROOM, Act::Nothing)),
+            notices: Stream::new(&self.notices, ROOM, setting.at_notice),
+            explains: order.explains,
+        };
+        let output = Stream::new(&self.output, setting.room, setting.at_output);
+        let output = BufWriter::new(rt.alloc(), output)?;
+        let streams = Streams::new(command.1.as_bytes(), output, errors);
+        let (status, _outcome) = carry_out(rt, &order, streams, &mut self.faults, Wary);
+        self.status = status;
+        Ok(())
+    }
+
     /// Whether it is this.
     pub fn is(&self, (status, output, faults): Wanted<'_>) -> bool {
         self.status == status
-            && self.output.as_slice() == output.as_bytes()
+            && has(&self.output, output)
             && self.faults.as_slice() == faults.as_bytes()
     }
 
+    /// Whether a server printed these drops and notices.
+    pub fn tells(&self, drops: &str, notices: &str) -> bool {
+        has(&self.drops, drops) && has(&self.notices, notices)
+    }
+
     /// What it printed on standard output.
-    pub fn text(&self) -> &str {
-        str::from_utf8(self.output.as_slice()).unwrap_or("")
+    pub fn into_text(self) -> Vec<u8> {
+        self.output.into_inner()
+    }
+}
+
+// Whether a cell has this text.
+fn has(cell: &RefCell<Vec<u8>>, wanted: &str) -> bool {
+    match cell.try_borrow() {
+        Ok(text) => text.as_slice() == wanted.as_bytes(),
+        Err(_) => false,
+    }
+}
+
+// More than any command prints.
+const ROOM: usize = 1 << 24;
+
+/// What a command finds around it.
+#[derive(Clone, Copy)]
+pub struct Setting<'a> {
+    /// How many octets its standard output has room for.
+    pub room: usize,
+    /// What callers do at its first output.
+    pub at_output: Act<'a>,
+    /// What they do at its first notice.
+    pub at_notice: Act<'a>,
+}
+
+impl<'a> Setting<'a> {
+    /// Room for all, and no callers.
+    pub fn plain() -> Setting<'a> {
+        Setting {
+            room: ROOM,
+            at_output: Act::Nothing,
+            at_notice: Act::Nothing,
+        }
+    }
+
+    /// Room for all, and these callers.
+    pub fn of(rt: &'a HostRuntime, callers: &'a Callers) -> Setting<'a> {
+        Setting {
+            room: ROOM,
+            at_output: Act::Begin(rt, callers),
+            at_notice: Act::GoOn(rt, callers),
+        }
     }
 }
 
 /// Runs a command of the program, and returns its result.
-pub fn came(rt: &HostRuntime, (line, input): Command<'_>) -> Result<Printed, Fail> {
-    let order = order_of(rt.alloc(), line)?;
-    let errors = Errors {
-        drops: Some(Vec::new(rt.alloc())),
-        notices: Vec::new(rt.alloc()),
-        explains: order.explains,
-    };
-    let output = Vec::new(rt.alloc());
-    let mut faults = Vec::new(rt.alloc());
-    let input = input.as_bytes();
-    let streams = Streams::new(input, output, errors);
-    let (status, outcome) = carry_out(rt, &order, streams, &mut faults, Wary);
-    let Outcome {
-        output,
-        ended: _ended,
-        left: _left,
-    } = outcome;
-    Ok(Printed {
-        status,
-        output: output.unwrap_or(Vec::new(rt.alloc())),
-        faults,
-    })
+pub fn came(rt: &HostRuntime, command: Command<'_>) -> Result<Printed, Fail> {
+    came_in(rt, command, Setting::plain())
+}
+
+/// Runs a command of the program in this setting, and returns its result.
+pub fn came_in(
+    rt: &HostRuntime,
+    command: Command<'_>,
+    setting: Setting<'_>,
+) -> Result<Printed, Fail> {
+    let mut printed = Printed::new(rt.alloc());
+    printed.run(rt, command, setting)?;
+    Ok(printed)
 }
 
 /// The order of a command line.
@@ -101,16 +181,6 @@ pub fn comes(rt: &HostRuntime, command: Command<'_>, wanted: Wanted<'_>) -> Resu
     Ok(came(rt, command)?.is(wanted))
 }
 
-/// The first of these commands that has another result, if there is one.
-pub fn first_wrong(rt: &HostRuntime, rows: &[Row]) -> Result<Option<&'static str>, Fail> {
-    for (command, wanted) in rows {
-        if !comes(rt, *command, *wanted)? {
-            return Ok(Some(command.0));
-        }
-    }
-    Ok(None)
-}
-
 /// The tables of a book of schema number 1, and the plans of a site of `default` and `gold`.
 pub const OLD_TABLES: &str = "CREATE TABLE meta (name TEXT NOT NULL PRIMARY KEY, value INTEGER NOT \
     NULL) STRICT; CREATE TABLE price_plan (class BLOB NOT NULL PRIMARY KEY, block INTEGER NOT \
@@ -134,24 +204,19 @@ fn database(rt: &HostRuntime, name: &str) -> Result<Connection<FileStore<FileFro
 }
 
 /// Gives statements to the database in a file, and closes it.
-pub fn alter(rt: &HostRuntime, name: &str, statements: &[&str]) -> Result<(), Fail> {
+pub fn alter(rt: &HostRuntime, name: &str, statements: &str) -> Result<(), Fail> {
     let mut connection = database(rt, name)?;
-    for statement in statements {
-        connection.execute_batch(statement)?;
-    }
+    let done = connection.execute_batch(statements);
     match connection.close_files() {
-        Ok(_files) => Ok(()),
+        Ok(_files) => Ok(done?),
         Err((error, _store)) => Err(error.into()),
     }
 }
 
 /// Gives statements to the database in a file, and leaves what they do in its log.
-pub fn alter_log(rt: &HostRuntime, name: &str, statements: &[&str]) -> Result<(), Fail> {
+pub fn alter_log(rt: &HostRuntime, name: &str, statements: &str) -> Result<(), Fail> {
     let mut connection = database(rt, name)?;
-    for statement in statements {
-        connection.execute_batch(statement)?;
-    }
-    Ok(())
+    Ok(connection.execute_batch(statements)?)
 }
 
 /// The octets of a book's file and of its log.
@@ -171,20 +236,18 @@ const GOLD: &str = "[[plan]]\nclass = \"gold\"\nblock = 1048576\nunit = 10\n";
 
 const SILVER: &str = "[[plan]]\nclass = \"silver\"\nblock = 1000000\nunit = 7\n";
 
-/// Writes three configurations into files: of the plans `default` and `gold`, with `silver` too,
-/// and of `default` and `silver`.
-pub fn write_sites(rt: &HostRuntime, names: [&str; 3]) -> Result<(), Fail> {
-    let [site, more, other] = names;
-    fs::write(rt, site, format!(in rt.alloc(); "{HEAD}{GOLD}")?.as_str())?;
-    fs::write(
-        rt,
-        more,
-        format!(in rt.alloc(); "{HEAD}{GOLD}{SILVER}")?.as_str(),
-    )?;
-    fs::write(
-        rt,
-        other,
-        format!(in rt.alloc(); "{HEAD}{SILVER}")?.as_str(),
-    )?;
-    Ok(())
+/// Writes three configurations into files: of the plans `default` and `gold` into `NAME.toml`, with
+/// `silver` too into `NAME-more.toml`, and of `default` and `silver` into `NAME-other.toml`.
+pub fn write_sites(rt: &HostRuntime, name: &str) -> Result<(), Fail> {
+    write_site(rt, name, ".toml", [HEAD, GOLD, ""])?;
+    write_site(rt, name, "-more.toml", [HEAD, GOLD, SILVER])?;
+    write_site(rt, name, "-other.toml", [HEAD, SILVER, ""])
+}
+
+// Writes these parts into a file.
+fn write_site(rt: &HostRuntime, name: &str, end: &str, parts: [&str; 3]) -> Result<(), Fail> {
+    let [head, first, second] = parts;
+    let file = format!(in rt.alloc(); "{name}{end}")?;
+    let text = format!(in rt.alloc(); "{head}{first}{second}")?;
+    Ok(fs::write(rt, file.as_str(), text.as_str())?)
 }

@@ -1,10 +1,9 @@
 //! Logs that cannot be read to their end. That is no damage, and the book is refused all the same.
-use crate::trial::{Wanted, alter_log, comes, write_sites};
-use acct_program::Status;
+use crate::steps::{Deed, Look, Step, first_failing};
+use crate::trial::{MADE, SHUT, SIZES};
 use acct_sql_log::{Unread, damage_beside, damage_in};
 use std::alloc::Global;
 use std::io::{ErrorKind, Read};
-use std::os::unix::fs::symlink;
 use std::test::Fail;
 use std::{fs, io};
 
@@ -12,32 +11,29 @@ const CHECK: &str = "check --config unread.toml --db unread-book";
 
 const LOG: &str = "unread-book-wal";
 
-const SOUND: Wanted<'static> = (Status::Done, "ok: 1 clients, 2 plans, 2 keys\n", "");
+// Three commits of a page each.
+const COMMITS: &str = "INSERT INTO account VALUES (x'616c', 7); \
+    UPDATE account SET balance = 18 WHERE name = x'616c'; \
+    UPDATE account SET balance = 31 WHERE name = x'616c';";
 
-const REFUSED: Wanted<'static> = (Status::Unavailable, "", "db: cannot open\n");
-
-fn make(rt: &HostRuntime) -> Result<bool, Fail> {
-    write_sites(rt, ["unread.toml", "unread-more.toml", "unread-other.toml"])?;
-    let _ = fs::remove_file(rt, "unread-book");
-    let _ = fs::remove_file(rt, LOG);
-    let made = (Status::Done, "book made\n", "");
-    comes(rt, ("init --config unread.toml --db unread-book", ""), made)
-}
-
-// The store could open a device in the place of the log, and would find no commits there.
-#[test]
-fn a_log_that_is_no_file_is_refused(rt: HostRuntime) -> Result<(), Fail> {
-    assert!(rt; make(&rt)?);
-    let _ = fs::remove_file(&rt, LOG);
-    symlink(&rt, "/dev/null", LOG)?;
-    assert!(rt; comes(&rt, (CHECK, ""), REFUSED)?);
-    fs::remove_file(&rt, LOG)?;
-    fs::create_dir(&rt, LOG)?;
-    assert!(rt; comes(&rt, (CHECK, ""), REFUSED)?);
-    fs::remove_dir(&rt, LOG)?;
-    assert!(rt; comes(&rt, (CHECK, ""), SOUND)?);
-    Ok(())
-}
+// The store could open a device in the place of the log, and would find no commits there. Without a
+// log the book is sound.
+static NO_FILES: [Step; 14] = [
+    Step::Sites("unread"),
+    Step::Does("unread-book", Deed::Remove),
+    Step::Does(LOG, Deed::Remove),
+    Step::Comes("init --config unread.toml --db unread-book", "", MADE),
+    Step::Does(LOG, Deed::Remove),
+    Step::Does(LOG, Deed::LinkTo("/dev/null")),
+    Step::Comes(CHECK, "", SHUT),
+    Step::Does(LOG, Deed::Remove),
+    Step::Does(LOG, Deed::Folder),
+    Step::Comes(CHECK, "", SHUT),
+    Step::Does(LOG, Deed::RemoveFolder),
+    Step::Comes(CHECK, "", SIZES),
+    Step::Does("unread-book", Deed::AlterLog(COMMITS)),
+    Step::Is(LOG, Look::LongerThan(12_000)),
+];
 
 // A log of which each read behind these octets fails.
 struct Failing<'a> {
@@ -62,13 +58,6 @@ impl Read for Failing<'_> {
     }
 }
 
-// Three commits of a page each.
-static COMMITS: [&str; 3] = [
-    "INSERT INTO account VALUES (x'616c', 7);",
-    "UPDATE account SET balance = 18 WHERE name = x'616c';",
-    "UPDATE account SET balance = 31 WHERE name = x'616c';",
-];
-
 // Whether it is told that a read fails behind so many octets of a log.
 fn is_told(alloc: Global, log: &[u8], count: usize) -> bool {
     let octets = log.get(..count).unwrap_or(log);
@@ -78,26 +67,34 @@ fn is_told(alloc: Global, log: &[u8], count: usize) -> bool {
     )
 }
 
-// In the header, at its end, in a frame, at its end, and at the end of the log.
-#[test]
-fn a_read_that_fails_is_told(rt: HostRuntime) -> Result<(), Fail> {
-    assert!(rt; make(&rt)?);
-    alter_log(&rt, "unread-book", &COMMITS)?;
-    let log = fs::read(&rt, LOG)?;
-    assert!(rt; log.len() > 12_000);
+// Whether it is, in the header, at its end, in a frame, at its end, and at the end of the log.
+fn is_told_anywhere(rt: &HostRuntime) -> Result<bool, Fail> {
+    let log = fs::read(rt, LOG)?;
     for count in [0, 31, 32, 33, 4_152, 5_000, log.len()] {
-        assert!(rt; is_told(rt.alloc(), log.as_slice(), count), "{count}");
+        if !is_told(rt.alloc(), log.as_slice(), count) {
+            return Ok(false);
+        }
     }
-    Ok(())
+    Ok(true)
 }
 
-// The log of a book may be opened, and each read of it fails.
+// The log of a book that may be opened, and of which each read fails.
+static FAILING: [Step; 2] = [
+    Step::Does("failing-book-wal", Deed::Remove),
+    Step::Does("failing-book-wal", Deed::LinkTo("/proc/self/mem")),
+];
+
+// Whether that is told, too.
+fn is_told_of_a_file(rt: &HostRuntime) -> Result<bool, Fail> {
+    let is_made = first_failing(rt, &FAILING)?.is_none();
+    let found = damage_beside(rt, rt.alloc(), "failing-book");
+    fs::remove_file(rt, "failing-book-wal")?;
+    Ok(is_made && matches!(found, Err(Unread::CannotRead)))
+}
+
 #[test]
-fn a_log_whose_reads_fail_is_told(rt: HostRuntime) -> Result<(), Fail> {
-    let _ = fs::remove_file(&rt, "failing-book-wal");
-    symlink(&rt, "/proc/self/mem", "failing-book-wal")?;
-    let found = damage_beside(&rt, rt.alloc(), "failing-book");
-    assert!(rt; matches!(found, Err(Unread::CannotRead)));
-    fs::remove_file(&rt, "failing-book-wal")?;
+fn a_log_that_cannot_be_read_is_told(rt: HostRuntime) -> Result<(), Fail> {
+    assert_eq!(rt; first_failing(&rt, &NO_FILES)?, None);
+    assert!(rt; is_told_anywhere(&rt)? && is_told_of_a_file(&rt)?);
     Ok(())
 }
