@@ -487,11 +487,45 @@ class Existing(Folder):
         for text, count in ((SERVER, 2), (lines, 1), (right, 0), (late, 2)):
             self.put("sites-enabled/eduroam", text)
             self.assertEqual(len(list(doctor_front.lines(one))), count)
+        # Of two that sell, each has the lines.
+        for more in (late, right.replace("\tradacctd_login\n", "")):
+            self.put("sites-enabled/eduroam", right + more.replace("eduroam", "more"))
+            self.assertEqual(len(list(doctor_front.lines(one))), 1 + (more is late))
         # Another virtual server, for others, is no fault.
         self.put("sites-enabled/more", SERVER.replace("eduroam", "more"))
         self.put("sites-enabled/eduroam", right)
         self.assertEqual(list(doctor_front.lines(one)), [])
         self.assertEqual(freeradius.selling(), ["eduroam"])
+
+    def test_each_server_of_a_file_sells(self):
+        """Who logs in by the second one would pay nothing."""
+        visitors = "server visitors {\nauthorize {\n\tpap\n}\n}\n"
+        text = SERVER + visitors + SERVER.replace("eduroam", "more")
+        wanted = self.wanted(sql={"password_file": "/root/x"})
+        found = front.default(text, wanted, "x")
+        for line in ("accounting {\n\tradacctd_accounting\n\tdetail\n\t# sql\n\t# -sql\n",
+                     "post-auth {\n\tradacctd_login\n"):
+            self.assertEqual(found.count(line), 2)
+        self.assertIn(visitors, found)
+        self.assertEqual(front.default(found, wanted, "x"), found)
+        self.assertEqual(away.lines_out(found), text)
+        path = os.path.join(self.folder, "sites-enabled/eduroam")
+        said = f"{path}: the server visitors lacks one of the sections accounting and post-auth, and"
+        for more in (visitors, visitors.replace("authorize", "accounting {\n\tok\n}\nauthorize")):
+            self.put("sites-enabled/eduroam", SERVER + more)
+            self.assertEqual([it[:len(said)] for it in front.others(wanted)], [said])
+        self.put("sites-enabled/eduroam", SERVER)
+        self.assertEqual(list(front.others(wanted)), [])
+
+    def test_logins_and_reports_may_have_a_server_each(self):
+        """Then a file is taken for one server, as its first lines say."""
+        text = SERVER.replace("accounting {", "}\nserver reports {\naccounting {", 1)
+        text = text.replace("post-auth {", "}\nserver logins {\npost-auth {", 1)
+        found = front.default(text, self.wanted(), "x")
+        for line in ("accounting {\n\tradacctd_accounting\n", "post-auth {\n\tradacctd_login\n"):
+            self.assertEqual(found.count(line), 1)
+        self.put("sites-enabled/eduroam", found)
+        self.assertEqual(list(doctor_front.lines(mock.Mock(has_shards=False))), [])
 
     def test_both_lines_of_the_database_are_taken_out(self):
         wanted = {"password_file": "/root/x"}

@@ -93,6 +93,23 @@ def section(text_of_site, name):
     return text_of_site[begin:end]
 
 
+def servers_in(text_of_file, *names):
+    """Where each of a file's virtual servers with these sections begins and ends. If none has all of
+    them, the file is taken for one.
+    """
+    found = [(it.start(), end_of_block(text_of_file, it.end()))
+             for it in SERVER.finditer(text_of_file)]
+    has_all = lambda it: all(section(text_of_file[slice(*it)], name) for name in names)
+    return [*filter(has_all, found)] or [(0, len(text_of_file))]
+
+
+def with_servers(text_of_file, change, *names):
+    """A file in which each virtual server with these sections is changed."""
+    for begin, end in reversed(servers_in(text_of_file, *names)):
+        text_of_file = text_of_file[:begin] + change(text_of_file[begin:end]) + text_of_file[end:]
+    return text_of_file
+
+
 def with_section(text_of_site, name, change):
     """A virtual server in which a section is changed: another one may have the same lines."""
     begin, end = place_of_section(text_of_site, name) or (0, 0)

@@ -90,19 +90,25 @@ def steps(kind):
 def lines(kind):
     """Those of the virtual servers that the site sells by: others may be next to them."""
     first = [*(["radacctd_shard"] if kind.has_shards else []), "radacctd_accounting"]
-    servers = {it: freeradius.text("sites-enabled", it)
-               for it in freeradius.serving("auth", "acct") or ["default"]}
-    sold = {name: freeradius.section(text, "accounting") for name, text in servers.items()
-            if "radacctd_accounting" in freeradius.section(text, "accounting").split()}
-    if not any(freeradius.begins_with(it, first) for it in sold.values()):
-        name = next(iter(sold or servers))
+    names = freeradius.serving("auth", "acct") or ["default"]
+    servers = [(name, *it) for name in names for it in sections(name)]
+    sold = [it for it in servers if "radacctd_accounting" in it[1].split()]
+    late = [it[0] for it in sold if not freeradius.begins_with(it[1], first)]
+    free = [it[0] for it in sold if it[2] and "radacctd_login" not in it[2].split()]
+    if late or not sold:
         cure = "step 4 of SHARDS.md" if kind.has_shards else f"step 6 of {PAGE}"
         yield Fault("raddb-steps", f"accounting does not begin with {' and '.join(first)}",
-                    f"write it there in sites-enabled/{name}: {cure}")
-    if not any("radacctd_login" in freeradius.section(it, "post-auth").split()
-               for it in servers.values()):
+                    f"write it there in sites-enabled/{(late or names)[0]}: {cure}")
+    if free or not any("radacctd_login" in it[2].split() for it in servers):
         yield Fault("raddb-steps", "post-auth has no radacctd_login: everybody gets in",
-                    f"write it into sites-enabled/{next(iter(servers))}: step 7 of {PAGE}")
+                    f"write it into sites-enabled/{(free or names)[0]}: step 7 of {PAGE}")
+
+
+def sections(name):
+    """What each virtual server of a file has in accounting and in post-auth."""
+    text, parts = freeradius.text("sites-enabled", name), ("accounting", "post-auth")
+    for begin, end in sorted({it for part in parts for it in freeradius.servers_in(text, part)}):
+        yield [freeradius.section(text[begin:end], it) for it in parts]
 
 
 def tunnel():

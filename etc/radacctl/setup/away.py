@@ -64,7 +64,8 @@ def lines_out(text):
     text = front.WITH_CLASS.sub("", text)
     text = re.sub(r"(?m)^[ \t]*radacctd_(?:accounting|login|packages\w*)[ \t]*\n", "", text)
     text = re.sub(r"(?m)^(\s*)radacctd_filter\b", r"\1filter_username", text)
-    return freeradius.with_line(text, "accounting", "-?sql|detail")
+    again = lambda it: freeradius.with_line(it, "accounting", "-?sql|detail")
+    return freeradius.with_servers(text, again, "accounting")
 
 
 def includes_out(text):

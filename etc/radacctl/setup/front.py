@@ -61,6 +61,8 @@ HEAD = """\
 # Access servers. `radacctl setup` wrote this file, and only adds to it. Each has its own secret.
 """
 MARK = "# radacctl setup:"
+# What a virtual server has that the site sells by.
+SOLD = ("accounting", "post-auth")
 
 
 def of(answers, config):
@@ -317,6 +319,13 @@ def others(answers):
             if has not in ("", usual[name]):
                 yield (f"{it['name']} has radacctd_{name} = {has}, which stays. For its vendor "
                        f"({it['vendor']}) it is {usual[name]}: ACCESS-SERVERS.md")
+    for path in outer(answers) if answers.has_front else []:
+        text = freeradius.without_comments(files.text(path))
+        found = {it for part in ("authorize", *SOLD) for it in freeradius.servers_in(text, part)}
+        for begin, end in sorted(found - set(freeradius.servers_in(text, *SOLD))):
+            if end < len(text):
+                yield (f"{path}: the server {freeradius.SERVER.search(text, begin)[1]} lacks one of "
+                       f"the sections {' and '.join(SOLD)}, and stays as it is: nobody pays by it")
 
 
 def test_address(wanted, block):
@@ -374,6 +383,10 @@ def default(old, answers, path=None):
     """
     text = there(old, path or "sites-available/default")
     is_new = is_debians(path, text)
+    return freeradius.with_servers(text, lambda it: sold(it, answers, is_new), *SOLD)
+
+
+def sold(text, answers, is_new):
     if is_new:
         # A file a day for each access server, which nobody removes, would fill the queue's disk.
         text = freeradius.without_line(text, "accounting", "detail")
@@ -388,8 +401,9 @@ def inner(old, answers, path=None):
     # As in the server around it.
     has_filter = [is_debians(it, files.text(it)) or "radacctd_filter" in files.text(it)
                   for it in outer(answers)]
-    text = with_login(text, is_debians(path, text) and all(has_filter))
-    return packages.inner(text) if answers.has_packages else text
+    is_new = is_debians(path, text) and all(has_filter)
+    change = lambda it: (packages.inner if answers.has_packages else str)(with_login(it, is_new))
+    return freeradius.with_servers(text, change, "post-auth")
 
 
 def is_debians(path, text, package="freeradius-config"):
