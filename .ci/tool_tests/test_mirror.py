@@ -1,12 +1,17 @@
-"""What the mirror does with files that a power cut left."""
+"""What the mirror does with files that a power cut left, and while one of 16 books is down."""
 
+import contextlib
 import os
+import re
+import sqlite3
 import tempfile
+import time
 import unittest
 
-from radacctl import names, outbox
-from tool_tests import script
+from radacctl import names, outbox, shards
+from tool_tests import ROOT, script
 
+HOUR = 3600
 BALANCES = "account,balance,overrun\nal,5,0\n"
 PLANS = "class,block,unit,count\ndefault,1000,5,both\n"
 MIRROR = script("etc", "freeradius", "balances-mirror")
@@ -32,15 +37,98 @@ class Files(unittest.TestCase):
         changed, faults = files.read()
         self.assertEqual((changed, len(faults)), (False, 1))
         self.assertIn(self.paths[0], faults[0])
-        self.assertEqual(files.rows["balance"], {b"al": (5,)})
+        self.assertEqual(files.rows["balance"], {b"al": (5, 0)})
         self.write(BALANCES.replace("5", "7"))
         self.assertEqual(files.read(), (True, []))
-        self.assertEqual(files.rows["balance"], {b"al": (7,)})
+        self.assertEqual(files.rows["balance"], {b"al": (7, 0)})
 
     def test_zeros_are_no_balances(self):
         self.write("\0" * 200_000)
         with self.assertRaisesRegex(ValueError, "balances.csv has no balances"):
             names.balances_in(self.paths[0])
+
+
+class Policy(unittest.TestCase):
+    """What FreeRADIUS' policies ask the mirror, of books of which one is down."""
+
+    def setUp(self):
+        folder = tempfile.TemporaryDirectory()
+        self.addCleanup(folder.cleanup)
+        self.folder, self.now = folder.name, int(time.time())
+        self.path = lambda name: os.path.join(self.folder, name)
+        for it in shards.SHARDS:
+            self.write(it, 5)
+        with open(self.path("plans.csv"), "w", encoding="ascii") as file:
+            file.write(PLANS)
+        self.files = MIRROR.Files(self.path("balances.csv"), self.path("plans.csv"))
+        self.mirror = MIRROR.Mirror(self.path("mirror.db"))
+
+    def write(self, shard, balance, age=0):
+        with open(self.path(f"{shard}.csv"), "w", encoding="ascii") as file:
+            file.write(f"account,balance,overrun\nof-{shard},{balance},0\n")
+        os.utime(self.path(f"{shard}.csv"), (self.now - age, self.now - age))
+
+    def turn(self):
+        shards.join_balances(self.folder)
+        changed, faults = self.files.read()
+        return faults + self.mirror.turn(self.files, lambda written: written, changed)
+
+    def asked(self, name, account, **values):
+        """The answer to the query of a policy."""
+        with open(os.path.join(ROOT, "etc", "freeradius", "policy"), encoding="utf-8") as file:
+            text = file.read()
+        query = re.search(rf"(?s)^{name} \{{.*?%\{{radacctd_mirror:(.*?)\}}\"", text, re.M)[1]
+        octets = account.encode().hex()
+        values |= {r"%l": self.now, r"\$\{radacctd.oldest\}": 60, r"\$\{radacctd.\w+\}": 0,
+                   r"%\{hex:&Class\}": "", r"%\{base64tohex:%\{base64:&User-Name\}\}": octets,
+                   r"%\{control:Tmp-String-2\}": octets, r"%\{control:Tmp-String-8\}": ""}
+        query = query.replace("\\\n", "").replace("${radacctd.share}", "1")
+        for pattern, value in values.items():
+            query = re.sub(pattern, str(value), query)
+        with contextlib.closing(sqlite3.connect(self.path("mirror.db"))) as opened:
+            found = opened.execute(query).fetchone()
+        return found and found[0]
+
+    def login(self, account, oldest=60):
+        most = {r"%\{control:Tmp-String-0\}": oldest, r"%\{control:Tmp-String-3\}": 1 << 62}
+        return self.asked("radacctd_balance", account, **most)
+
+    def test_while_one_book_is_down_those_of_the_others_are_cut_off(self):
+        self.write("s5", -9, HOUR)
+        self.write("s3", -9)
+        self.assertEqual(self.turn(), [])
+        cut = {it: self.asked("radacctd_cut_off", f"of-s{it}") for it in "3457"}
+        self.assertEqual(cut, {"3": 1, "4": 0, "5": 0, "7": 0})
+        self.write("s5", -9)
+        self.assertEqual((self.turn(), self.asked("radacctd_cut_off", "of-s5")), ([], 1))
+        for it in shards.SHARDS:
+            self.write(it, -9, HOUR)
+        self.assertEqual((self.turn(), self.asked("radacctd_cut_off", "of-s3")), ([], 0))
+
+    def test_by_the_last_balances_of_a_book_that_is_down(self):
+        self.write("s5", 50, HOUR)
+        self.assertEqual(self.turn(), [])
+        self.assertEqual(self.login("of-s5"), "old")
+        self.assertEqual(self.login("of-s3"), "both 0 1000 1000 1000")
+        self.assertEqual(self.login("of-s5", (1 << 63) - 1), "both 0 10000 10000 10000")
+        self.assertEqual(self.login("nobody"), "spent")
+
+    def late(self):
+        with contextlib.closing(sqlite3.connect(self.path("mirror.db"))) as opened:
+            return {it[0].decode() for it in opened.execute("SELECT account FROM late")}
+
+    def test_logins_by_old_balances_are_counted_until_that_book_is_back(self):
+        """Else each would get the first quota again."""
+        self.write("s5", 50, HOUR)
+        self.assertEqual(self.turn(), [])
+        with contextlib.closing(sqlite3.connect(self.path("mirror.db"))) as opened:
+            for it in ("of-s5", "of-s3"):
+                opened.execute("INSERT INTO late VALUES (?, 1, ?)", (it.encode(), self.now - 100))
+            opened.commit()
+        self.write("s3", 7)
+        self.assertEqual((self.turn(), self.late()), ([], {"of-s5"}))
+        self.write("s5", 50)
+        self.assertEqual((self.turn(), self.late()), ([], set()))
 
 
 class Bodies(unittest.TestCase):

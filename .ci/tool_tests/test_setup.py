@@ -510,7 +510,7 @@ class Existing(Folder):
         self.assertEqual(front.default(found, wanted, "x"), found)
         self.assertEqual(away.lines_out(found), text)
         path = os.path.join(self.folder, "sites-enabled/eduroam")
-        said = f"{path}: the server visitors lacks one of the sections accounting and post-auth, and"
+        said = f"{path}: the server visitors lacks one of the sections accounting and post-auth"
         for more in (visitors, visitors.replace("authorize", "accounting {\n\tok\n}\nauthorize")):
             self.put("sites-enabled/eduroam", SERVER + more)
             self.assertEqual([it[:len(said)] for it in front.others(wanted)], [said])

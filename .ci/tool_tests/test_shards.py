@@ -44,20 +44,26 @@ class Joined(unittest.TestCase):
         with open(self.path("balances.csv"), encoding="ascii") as file:
             rows = [line.split(",") for line in file.read().splitlines()[1:]]
         found = {name: int(balance) for name, balance, _ in rows}
+        self.old = {name for name, _, overrun in rows if overrun == ""}
         return found, self.now - os.stat(self.path("balances.csv")).st_mtime
 
     def test_while_one_book_is_down_the_others_go_on(self):
         self.write("s5", 5, HOUR)
-        self.assertEqual(self.joined()[1], HOUR)
-        self.write("s3", 77)
+        self.write("s3", 77, 20)
         found, age = self.joined()
-        self.assertEqual((found["of-s3"], age), (77, HOUR))
+        self.assertEqual((found["of-s3"], found["of-s5"], age, self.old), (77, 5, 20, {"of-s5"}))
+        for it in books.SHARDS:
+            self.write(it, 5, HOUR)
+        self.assertEqual((self.joined()[1], len(self.old)), (HOUR, 16))
 
     def test_what_is_of_a_time_to_come_counts_as_old(self):
         self.write("s5", 5, -HOUR)
+        self.assertEqual((self.joined()[1], self.old), (0, {"of-s5"}))
+        self.write("s5", 5, -books.OLD + 10)
+        self.assertEqual((abs(self.joined()[1]) < 10, self.old), (True, set()))
+        for it in books.SHARDS:
+            self.write(it, 5, -HOUR)
         self.assertGreater(self.joined()[1], 10 * 365 * 86_400)
-        self.write("s5", 5, -books.AHEAD + 10)
-        self.assertLess(abs(self.joined()[1]), 10)
 
     def test_money_in_a_wrong_book_lets_nobody_in_for_ever(self):
         """A sale to another book than the account's: sessions are charged in their own one."""

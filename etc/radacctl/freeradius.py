@@ -94,8 +94,8 @@ def section(text_of_site, name):
 
 
 def servers_in(text_of_file, *names):
-    """Where each of a file's virtual servers with these sections begins and ends. If none has all of
-    them, the file is taken for one.
+    """Where each of a file's virtual servers with these sections begins and ends. If none has all,
+    the file is taken for one.
     """
     found = [(it.start(), end_of_block(text_of_file, it.end()))
              for it in SERVER.finditer(text_of_file)]

@@ -18,8 +18,9 @@ PLANS = list(plans.HEADER)
 PROBE = b"radacctd-probe"
 HEADER = ["shard", "address", "radius", "desk"]
 TABLE = "/etc/radacctd-shards.csv"
-# In seconds: what was written later than this from now was written by a clock that was ahead.
-AHEAD = 60
+# In seconds: what was written longer ago is of a book that is down, and what is of so much later, of
+# a clock that was ahead.
+OLD = 60
 
 
 class Wrong(Exception):
@@ -97,7 +98,7 @@ def as_old_as(moments):
     how old its part is, which counts as older than all.
     """
     now = time.time()
-    return min([now, *(0 if it > now + AHEAD else it for it in moments)])
+    return min([now, *(0 if it > now + OLD else it for it in moments)])
 
 
 def is_written(path, text, moment):
@@ -106,31 +107,35 @@ def is_written(path, text, moment):
 
 
 def balances_of_all(folder):
-    """The balance of each account in its own book, and when each book wrote. Money that was sold to
-    another book is never used up: nobody is to log in by it once there is a session.
+    """What is joined of each account, and when each book wrote. If a book is down, or its clock is
+    wrong, its balances are old: they have no overrun. Money that was sold to another book than the
+    account's is never used up: nobody is to log in by it once there is a session.
     """
     found, moments = {}, []
     for shard in SHARDS:
         rows, moment = balances_in(folder, shard)
         rows.pop(PROBE, None)
         moments.append(moment)
-        for account in rows.keys() & found.keys():
-            if shard_of(account) != shard:
-                del rows[account]
-        found.update(rows)
-    return found, moments
+        is_known = is_new(moment)
+        for account, balance in rows.items():
+            if account not in found or shard_of(account) == shard:
+                overrun = max(-balance, 0) if is_known else ""
+                found[account] = (shown(account), balance, overrun)
+    return found.values(), moments
+
+
+def is_new(moment):
+    return abs(time.time() - moment) <= OLD
 
 
 def join_balances(folder):
-    """One file of all balances, as old as the oldest part."""
-    found, moments = balances_of_all(folder)
+    """One file of all balances, as old as the oldest part that is not old itself."""
+    rows, moments = balances_of_all(folder)
     made = io.StringIO(newline="")
-    writer = csv.writer(made, lineterminator="\n")
-    writer.writerow(names.BALANCES)
-    for account, balance in found.items():
-        writer.writerow((shown(account), balance, max(-balance, 0)))
-    path, moment = os.path.join(folder, "balances.csv"), as_old_as(moments)
-    # While one book is down, and the moment stays, those of the others go on.
+    csv.writer(made, lineterminator="\n").writerows([names.BALANCES, *rows])
+    path, moment = os.path.join(folder, "balances.csv"), as_old_as(
+        [*filter(is_new, moments)] or moments)
+    # While all are down, the moment stays.
     if not is_written(path, made.getvalue(), moment):
         written(path, made.getvalue(), moment)
 

@@ -263,7 +263,7 @@ def faults_of(shard, rows, oldest):
     age = time.time() - written
     if age > oldest:
         yield f"{shard}: the balances are {age:.0f} seconds old"
-    if -age > books.AHEAD:
+    if -age > books.OLD:
         yield f"{shard}: the balances are of {-age:.0f} seconds from now: look at the clocks"
     for account, balance in found.items():
         if books.shard_of(account) != shard and (account != books.PROBE or balance != 0):

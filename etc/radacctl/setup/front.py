@@ -324,8 +324,8 @@ def others(answers):
         found = {it for part in ("authorize", *SOLD) for it in freeradius.servers_in(text, part)}
         for begin, end in sorted(found - set(freeradius.servers_in(text, *SOLD))):
             if end < len(text):
-                yield (f"{path}: the server {freeradius.SERVER.search(text, begin)[1]} lacks one of "
-                       f"the sections {' and '.join(SOLD)}, and stays as it is: nobody pays by it")
+                yield (f"{path}: the server {freeradius.SERVER.search(text, begin)[1]} lacks one "
+                       f"of the sections {' and '.join(SOLD)}, and stays: nobody pays by it")
 
 
 def test_address(wanted, block):
