@@ -5,6 +5,7 @@ import io
 import json
 import os
 import socket
+import sqlite3
 import tempfile
 import threading
 import time
@@ -120,10 +121,26 @@ class Pair(unittest.TestCase):
 
     def test_the_outbox_is_no_link_to_another_database(self):
         other, path = (os.path.join(self.folder, it) for it in ("book", "outbox.db"))
-        outbox.Store(other, True)
-        os.symlink(other, path)
+        sqlite3.connect(other).close()
+        connect = outbox.sqlite3.connect
+
+        def swapped(*words, **more):
+            """The link is there while the file is opened, and not before or after it."""
+            os.rename(path, f"{path}.own")
+            os.symlink(other, path)
+            found = connect(*words, **more)
+            if is_back:
+                os.rename(f"{path}.own", path)
+            return found
+
+        for is_back in (True, False):
+            outbox.Store(path, True).opened.close()
+            with mock.patch.object(outbox.sqlite3, "connect", swapped):
+                with self.assertRaisesRegex(OSError, "outbox.db is a link"):
+                    outbox.Store(path)
         with self.assertRaisesRegex(OSError, "outbox.db is a link"):
             outbox.Store(path)
+        self.assertEqual(os.path.getsize(other), 0)
 
     def settle(self, *pairs):
         """What --settle prints and returns if both machines have these balances, turn by turn."""

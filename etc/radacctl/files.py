@@ -115,6 +115,16 @@ def replace(path, octets, mode=0o600):
     sync_folder(os.path.dirname(path))
 
 
+def is_opened(path):
+    """Whether this process has the file of a name open, and not one to which a link leads."""
+    found = []
+    for number in os.listdir("/proc/self/fd"):
+        # That of the list itself is closed.
+        with contextlib.suppress(OSError):
+            found.append(os.path.samestat(os.fstat(int(number)), os.lstat(path)))
+    return any(found)
+
+
 @contextlib.contextmanager
 def opened_folder(path):
     """A folder by its path, none of whose names is followed as a link."""

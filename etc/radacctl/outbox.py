@@ -13,7 +13,7 @@ import urllib.parse
 import zlib
 
 from radacctl import desk as desks
-from radacctl import money, names
+from radacctl import files, money, names
 
 DESKS = ("own", "other")
 # In seconds: how long a desk has for a connection and for an answer, how long one that gave none is
@@ -56,12 +56,12 @@ class Store:
     def __init__(self, path, may_make=False):
         if not may_make and not os.path.exists(path):
             raise OSError(f"there is no {path}")
-        # Root may give the command, and another user owns the folder.
-        if os.path.islink(path):
-            raise OSError(f"{path} is a link")
         self.opened = sqlite3.connect(
             path, timeout=30, isolation_level=None, check_same_thread=False
         )
+        # Root may give the command, and another user owns the folder. By now nothing is written.
+        if not files.is_opened(path):
+            raise OSError(f"{path} is a link")
         self.lock = threading.Lock()
         self.opened.row_factory = sqlite3.Row
         self.opened.execute("PRAGMA journal_mode = WAL")
