@@ -74,6 +74,8 @@ def rows():
         ("without it, by `strip`", strip, "al@campus.example", (), "al"),
         ("in capitals", strip, "AL@campus.example", (), "AL"),
         ("by `strip` that of a stamped Class", strip, "x@campus.example", [stamped("bo")], "bo"),
+        ("by `strip` the name, of a Class that was cut off", strip, "al@campus.example",
+         ['Class = "gold;radacctd;;a"'], "al"),
         ("a user's, by a visitor's outer name", [], "x@away.example", [stamped("al")], "al"),
         ("a visitor's", [], "x@away.example", (), None),
         ("a visitor's, by `strip`", strip, "x@away.example", (), None),
@@ -100,3 +102,20 @@ def pays(folder):
                 check(f"{title}: in the queue of who pays", radius.queued(f"P-{at}"), wanted)
         finally:
             radius.end()
+    without_book(os.path.join(folder, "names-without"))
+
+
+def without_book(folder):
+    """Nobody would read the queue of no book."""
+    radius = Radius(folder, [])
+    path = f"{radius.raddb}/sites-enabled/default"
+    with open(path, encoding="utf-8") as file:
+        text = file.read()
+    front.written(path, text.replace("\t\tradacctd_shard\n", ""))
+    radius.start()
+    try:
+        lines = front.report("Stop", "P-W", "al", 1000)
+        check("by a server that picks no book", radius.reports("127.0.4.1", lines), False)
+        check("nothing is queued", front.files_in(radius.queue), [])
+    finally:
+        radius.end()
