@@ -260,6 +260,8 @@ def moved(site):
     state = one.run("systemctl is-enabled radacctd@s7; ls /var/lib/radacctd")[1].split()
     check("the old place has no server", ("s7.moved" in state, "s7" in state, state[0]),
           (True, False, "disabled"))
+    one.must("rm -r /root/s7")
+    check("nor its secrets", one.run("ls /etc /root | grep s7")[1], "")
 
 
 def doctored(site):
