@@ -34,16 +34,6 @@ SALE = {"Radacctd": "desk", "Content-Type": "application/json"}
 RECORD = re.compile(r'\tAcct-Session-Id = "[^"]*/S-(\d+)/')
 
 
-def shipped():
-    """The sample of nginx is what radacctd-shards prints of the sample of the table."""
-    etc = os.path.join(front.ROOT, "etc")
-    with open(f"{etc}/nginx/radacctd/desks-shards.conf", encoding="utf-8") as file:
-        sample = [line for line in file if not line.startswith("#")]
-    printed = tool("nginx", table=f"{etc}/shards/shards.csv")[1].splitlines(keepends=True)
-    printed = [line for line in printed if not line.startswith("#")]
-    check("desks-shards.conf is what radacctd-shards prints", sample, printed)
-
-
 class Model:
     """What was sold and reported, and what each account then has by the plan's rule."""
 
