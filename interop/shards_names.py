@@ -25,6 +25,7 @@ home_server away {
 	secret = testing-000
 }
 """
+BOOKS = f"client books {{\n\tipaddr = 127.0.0.9\n\tsecret = {front.SECRET}\n}}\n"
 SUFFIX = 'realm suffix {\n\tformat = suffix\n\tdelimiter = "@"\n}\n'
 
 
@@ -38,7 +39,7 @@ class Radius(front.FreeRadius):
     def __init__(self, folder, settings):
         queue = ("queue", '"${radacctdir}/radacctd/%{Tmp-String-8}"')
         book = types.SimpleNamespace(radius=9)
-        super().__init__(folder, book, settings=[queue, *settings], sites=REALMS)
+        super().__init__(folder, book, settings=[queue, *settings], sites=REALMS, clients=BOOKS)
         with open(POLICY, encoding="utf-8") as file:
             front.written(f"{self.raddb}/policy.d/radacctd-shards", file.read())
         path = f"{self.raddb}/sites-enabled/default"
@@ -76,6 +77,7 @@ def rows():
         ("by `strip` that of a stamped Class", strip, "x@campus.example", [stamped("bo")], "bo"),
         ("by `strip` the name, of a Class that was cut off", strip, "al@campus.example",
          ['Class = "gold;radacctd;;a"'], "al"),
+        ("a debit of a name with its realm", strip, "al@campus.example", (), "al@campus.example"),
         ("a user's, by a visitor's outer name", [], "x@away.example", [stamped("al")], "al"),
         ("a visitor's", [], "x@away.example", (), None),
         ("a visitor's, by `strip`", strip, "x@away.example", (), None),
@@ -97,7 +99,8 @@ def pays(folder):
             for at, (title, _, name, more, payer) in part:
                 lines = front.report("Stop", f"P-{at}", name, 1000, more)
                 lines = [it for it in lines if not (more and it == 'Class = "gold"')]
-                check(f"{title}: it is answered", radius.reports("127.0.4.1", lines), True)
+                source = "127.0.0.9" if title.startswith("a debit") else "127.0.4.1"
+                check(f"{title}: it is answered", radius.reports(source, lines), True)
                 wanted = None if payer is None else (shard_of(payer), payer)
                 check(f"{title}: in the queue of who pays", radius.queued(f"P-{at}"), wanted)
         finally:
