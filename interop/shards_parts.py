@@ -283,6 +283,37 @@ def logins(site, model):
     heads = re.findall(r"^# TYPE (\S+)", text, re.M)
     check("and each metric once", len(heads), len(set(heads)))
     waiting(site)
+    down(site, poor, rich)
+
+
+def down(site, account, other):
+    """While a book is down, only its accounts count as old: the others' sessions are cut off."""
+    book = site.books[site.place[account.encode()]]
+    check("two accounts of two books", book.shard != site.place[other.encode()], True)
+    quota = lambda name: site.radius.logs_in(name)[1].get("Mikrotik-Total-Limit")
+
+    def are_old():
+        tool("--balances", site.balances, "--counts", site.counts, "join")
+        return [old_in(site.radius.mirror, it) for it in (account, other)]
+
+    front.waits_for("both are up", are_old, [0, 0])
+    usual, moment = [quota(it) for it in (account, other)], time.time() - 300
+    book.process.send_signal(signal.SIGSTOP)
+    os.utime(f"{site.balances}/{book.shard}.csv", (moment, moment))
+    front.waits_for(f"{book.shard} is down: its accounts are old, and no others", are_old, [1, 0])
+    found = [quota(account) for _ in range(9)]
+    check("a login is let in by what was there", found[0] is None, False)
+    check("and the ninth is not", found[-1], None)
+    check("one of another book gets all that is left", quota(other), usual[1])
+    book.process.send_signal(signal.SIGCONT)
+    front.waits_for("it is back", are_old, [0, 0])
+    front.waits_for("and so is all that is left", lambda: quota(account), usual[0])
+
+
+def old_in(path, account):
+    query = "SELECT is_old FROM balance WHERE account = ?"
+    with contextlib.closing(sqlite3.connect(path)) as opened:
+        return opened.execute(query, (account.encode(),)).fetchone()[0]
 
 
 def waiting(site):
