@@ -189,7 +189,7 @@ ALLOWED = {
     },
     "man/radacctd-outbox.8": {"/waiting": "a path of radacctd-outbox' own"},
     "docs/SHARDS.md": {
-        **each("made by the page's steps", "/etc/radacctd-s0.toml", "/root", "s7.moved"),
+        **each("made by the page's steps", "/etc/radacctd-s0.toml", "/root/s7", "s7.moved"),
         **each("another program's", ".ssh/authorized_keys", "sites-enabled/default"),
         "radacctd/settings.conf": "a copy of a file of etc/freeradius",
     },
