@@ -41,6 +41,9 @@ class Joined(unittest.TestCase):
     def joined(self):
         """The balance of each account of the joined file, and how old it is."""
         books.join_balances(self.folder)
+        return self.read()
+
+    def read(self):
         with open(self.path("balances.csv"), encoding="ascii") as file:
             rows = [line.split(",") for line in file.read().splitlines()[1:]]
         found = {name: int(balance) for name, balance, _ in rows}
@@ -55,6 +58,28 @@ class Joined(unittest.TestCase):
         for it in books.SHARDS:
             self.write(it, 5, HOUR)
         self.assertEqual((self.joined()[1], len(self.old)), (HOUR, 16))
+
+    def test_while_the_file_of_one_book_cannot_be_read_the_others_go_on(self):
+        """As after a power cut, until that book has started: also if nothing was joined before."""
+        account = next(it for it in map(str, range(99)) if books.shard_of(it.encode()) == "s5")
+        for text, kept in ((bytes(50), 5), (None, 5), (bytes(50), None)):
+            self.write("s5", 5)
+            with open(self.path("s5.csv"), "w", encoding="ascii") as file:
+                file.write(f"account,balance,overrun\n{account},5,0\n")
+            self.joined()
+            if kept is None:
+                os.remove(self.path("balances.csv"))
+            os.remove(self.path("s5.csv"))
+            if text:
+                with open(self.path("s5.csv"), "wb") as file:
+                    file.write(text)
+            self.write("s3", 77, 20)
+            for _ in range(2):
+                with self.assertRaisesRegex((OSError, ValueError), "s5.csv"):
+                    self.joined()
+                found, age = self.read()
+                self.assertEqual((found["of-s3"], found.get(account), age), (77, kept, 20))
+                self.assertEqual(self.old, {account} if kept else set())
 
     def test_what_is_of_a_time_to_come_counts_as_old(self):
         self.write("s5", 5, -HOUR)

@@ -1,5 +1,6 @@
 """The 16 books of a site: which one an account has, and one file of what all of them wrote."""
 
+import contextlib
 import csv
 import hashlib
 import io
@@ -18,8 +19,8 @@ PLANS = list(plans.HEADER)
 PROBE = b"radacctd-probe"
 HEADER = ["shard", "address", "radius", "desk"]
 TABLE = "/etc/radacctd-shards.csv"
-# In seconds: what was written longer ago is of a book that is down, and what is of so much later, of
-# a clock that was ahead.
+# In seconds: what was written longer ago is of a book that is down, and what is of so much later
+# of a clock that was ahead.
 OLD = 60
 
 
@@ -101,19 +102,19 @@ def as_old_as(moments):
     return min([now, *(0 if it > now + OLD else it for it in moments)])
 
 
-def is_written(path, text, moment):
-    """Whether a file has this text and this time of change already."""
-    return os.path.exists(path) and os.stat(path).st_mtime == moment and text_of(path) == text
-
-
 def balances_of_all(folder):
-    """What is joined of each account, and when each book wrote. If a book is down, or its clock is
-    wrong, its balances are old: they have no overrun. Money that was sold to another book than the
-    account's is never used up: nobody is to log in by it once there is a session.
+    """What is joined of each account, when each book wrote, and what cannot be read. If a book is
+    down, or its clock is wrong, its balances are old: they have no overrun. Money that was sold to
+    another book than the account's is never used up: nobody is to log in by it once there is a
+    session.
     """
-    found, moments = {}, []
+    found, moments, faults = {}, [], []
     for shard in SHARDS:
-        rows, moment = balances_in(folder, shard)
+        try:
+            rows, moment = balances_in(folder, shard)
+        except (OSError, ValueError) as fault:
+            faults.append(fault)
+            rows, moment = joined_of(folder, shard), 0
         rows.pop(PROBE, None)
         moments.append(moment)
         is_known = is_new(moment)
@@ -121,7 +122,15 @@ def balances_of_all(folder):
             if account not in found or shard_of(account) == shard:
                 overrun = max(-balance, 0) if is_known else ""
                 found[account] = (shown(account), balance, overrun)
-    return found.values(), moments
+    return found.values(), moments, faults
+
+
+def joined_of(folder, shard):
+    """The balances of a book as they were joined last."""
+    with contextlib.suppress(OSError, ValueError):
+        rows = names.balances_in(os.path.join(folder, "balances.csv"))
+        return {account: it for account, it in rows.items() if shard_of(account) == shard}
+    return {}
 
 
 def is_new(moment):
@@ -130,14 +139,13 @@ def is_new(moment):
 
 def join_balances(folder):
     """One file of all balances, as old as the oldest part that is not old itself."""
-    rows, moments = balances_of_all(folder)
+    rows, moments, faults = balances_of_all(folder)
     made = io.StringIO(newline="")
     csv.writer(made, lineterminator="\n").writerows([names.BALANCES, *rows])
-    path, moment = os.path.join(folder, "balances.csv"), as_old_as(
-        [*filter(is_new, moments)] or moments)
-    # While all are down, the moment stays.
-    if not is_written(path, made.getvalue(), moment):
-        written(path, made.getvalue(), moment)
+    moment = as_old_as([*filter(is_new, moments)] or moments)
+    written(os.path.join(folder, "balances.csv"), made.getvalue(), moment)
+    if faults:
+        raise faults[0]
 
 
 def plans_in(folder, shard):
