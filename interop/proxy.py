@@ -59,6 +59,11 @@ class Proxy:
             ("/etc/radacctd-web", f"{folder}/site"),
             ("/etc/nginx/radacctd", f"{folder}/radacctd"),
         ]
+        # As docs/SHARDS.md has each site print its own.
+        tool, table = (os.path.join(ROOT, "etc", *it) for it in (
+            ("tools", "radacctd-shards"), ("shards", "shards.csv")))
+        with open(f"{folder}/radacctd/desks-shards.conf", "wb") as file:
+            subprocess.run([tool, "--table", table, "nginx"], stdout=file, check=True)
         self.write()
 
     def write(self):
