@@ -287,7 +287,7 @@ def logins(site, model):
 
 
 def down(site, account, other):
-    """While a book is down, only its accounts count as old: the others' sessions are cut off."""
+    """While a book is down, and a report waits for it, only its accounts count as old."""
     book = site.books[site.place[account.encode()]]
     check("two accounts of two books", book.shard != site.place[other.encode()], True)
     quota = lambda name: site.radius.logs_in(name)[1].get("Mikrotik-Total-Limit")
@@ -296,24 +296,30 @@ def down(site, account, other):
         tool("--balances", site.balances, "--counts", site.counts, "join")
         return [old_in(site.radius.mirror, it) for it in (account, other)]
 
-    front.waits_for("both are up", are_old, [0, 0])
+    front.waits_for("both are up", are_old, [False, False])
     usual, moment = [quota(it) for it in (account, other)], time.time() - 300
     book.process.send_signal(signal.SIGSTOP)
     os.utime(f"{site.balances}/{book.shard}.csv", (moment, moment))
-    front.waits_for(f"{book.shard} is down: its accounts are old, and no others", are_old, [1, 0])
-    found = [quota(account) for _ in range(9)]
-    check("a login is let in by what was there", found[0] is None, False)
-    check("and the ninth is not", found[-1], None)
-    check("one of another book gets all that is left", quota(other), usual[1])
+    lines = ["Acct-Status-Type = Start", 'Acct-Session-Id = "127.0.4.1/D-1/0"']
+    lines += [f'User-Name = "{account}"', f'Tmp-String-8 = "{book.shard}"']
+    text = "".join(f"\t{it}\n" for it in [*lines, f"Timestamp = {int(moment)}"])
+    queue = f"{site.radius.queue}/{book.shard}"
+    front.written(f"{queue}/detail-1", f"Fri Nov 27 10:00:00 2026\n{text}\n")
+    front.waits_for(f"{book.shard} is down: its accounts are old, and no others", are_old, [True, False])
+    found = [(quota(account), quota(other)) for _ in range(9)]
+    check("a login is let in by what was there", found[0][0] is None, False)
+    check("and the ninth is not", found[-1][0], None)
+    check("those of another book get all that is left", found[-1][1], usual[1])
+    check("a report waits", len(os.listdir(queue)), 1)
     book.process.send_signal(signal.SIGCONT)
-    front.waits_for("it is back", are_old, [0, 0])
+    front.waits_for("it is back", are_old, [False, False])
     front.waits_for("and so is all that is left", lambda: quota(account), usual[0])
 
 
 def old_in(path, account):
-    query = "SELECT is_old FROM balance WHERE account = ?"
+    query = "SELECT down FROM balance WHERE account = ?"
     with contextlib.closing(sqlite3.connect(path)) as opened:
-        return opened.execute(query, (account.encode(),)).fetchone()[0]
+        return opened.execute(query, (account.encode(),)).fetchone()[0] != ""
 
 
 def waiting(site):

@@ -37,10 +37,10 @@ class Files(unittest.TestCase):
         changed, faults = files.read()
         self.assertEqual((changed, len(faults)), (False, 1))
         self.assertIn(self.paths[0], faults[0])
-        self.assertEqual(files.rows["balance"], {b"al": (5, 0)})
+        self.assertEqual(files.rows["balance"], {b"al": (5, "")})
         self.write(BALANCES.replace("5", "7"))
         self.assertEqual(files.read(), (True, []))
-        self.assertEqual(files.rows["balance"], {b"al": (7, 0)})
+        self.assertEqual(files.rows["balance"], {b"al": (7, "")})
 
     def test_zeros_are_no_balances(self):
         self.write("\0" * 200_000)
@@ -71,7 +71,7 @@ class Policy(unittest.TestCase):
     def turn(self):
         shards.join_balances(self.folder)
         changed, faults = self.files.read()
-        return faults + self.mirror.turn(self.files, lambda written: written, changed)
+        return faults + self.mirror.turn(self.files, lambda written, _: written, changed)
 
     def asked(self, name, account, **values):
         """The answer to the query of a policy."""
@@ -112,6 +112,16 @@ class Policy(unittest.TestCase):
         self.assertEqual(self.login("of-s3"), "both 0 1000 1000 1000")
         self.assertEqual(self.login("of-s5", (1 << 63) - 1), "both 0 10000 10000 10000")
         self.assertEqual(self.login("nobody"), "spent")
+
+    def test_what_waits_for_a_book_that_is_down_makes_no_other_one_old(self):
+        queues = MIRROR.Queues([self.path("queue"), self.path("more")], None)
+        for name, age in (("queue/s5", 300), ("more/s5", 250), ("queue/s6", 200), ("queue", 100)):
+            os.makedirs(self.path(name), exist_ok=True)
+            with open(self.path(f"{name}/detail-1"), "w", encoding="ascii") as file:
+                file.write(f'Sun\n\tUser-Name = "a"\n\tTimestamp = {self.now - age}\n\n')
+        self.assertEqual(queues.look(), [])
+        for down, age in ((set(), 300), ({""}, 300), ({"", "s5"}, 200), ({"s5", "s6"}, 100)):
+            self.assertLess(abs(self.now - queues.as_of(self.now, down) - age), 3, down)
 
     def late(self):
         with contextlib.closing(sqlite3.connect(self.path("mirror.db"))) as opened:

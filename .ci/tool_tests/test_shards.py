@@ -47,7 +47,7 @@ class Joined(unittest.TestCase):
         with open(self.path("balances.csv"), encoding="ascii") as file:
             rows = [line.split(",") for line in file.read().splitlines()[1:]]
         found = {name: int(balance) for name, balance, _ in rows}
-        self.old = {name for name, _, overrun in rows if overrun == ""}
+        self.old = {name for name, _, more in rows if not more.isdecimal()}
         return found, self.now - os.stat(self.path("balances.csv")).st_mtime
 
     def test_while_one_book_is_down_the_others_go_on(self):

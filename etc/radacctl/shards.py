@@ -103,8 +103,8 @@ def as_old_as(moments):
 
 
 def balances_of_all(folder):
-    """What is joined of each account, when each book wrote, and what cannot be read. If a book is
-    down, or its clock is wrong, its balances are old: they have no overrun. Money that was sold to
+    """What is joined of each account, when each book wrote, and what cannot be read. In place of an
+    overrun is the name of a book that is down, or whose clock is wrong. Money that was sold to
     another book than the account's is never used up: nobody is to log in by it once there is a
     session.
     """
@@ -117,11 +117,11 @@ def balances_of_all(folder):
             rows, moment = joined_of(folder, shard), 0
         rows.pop(PROBE, None)
         moments.append(moment)
-        is_known = is_new(moment)
+        is_up = is_new(moment)
         for account, balance in rows.items():
             if account not in found or shard_of(account) == shard:
-                overrun = max(-balance, 0) if is_known else ""
-                found[account] = (shown(account), balance, overrun)
+                more = max(-balance, 0) if is_up else shard
+                found[account] = (shown(account), balance, more)
     return found.values(), moments, faults
 
 
