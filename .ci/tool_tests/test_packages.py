@@ -8,6 +8,7 @@ import os
 import sqlite3
 import subprocess
 import tempfile
+import time
 import types
 import unittest
 from unittest import mock
@@ -291,6 +292,16 @@ class Withdraw(unittest.TestCase):
 
 
 class Codes(unittest.TestCase):
+    def test_balances_of_a_time_to_come_lack_what_was_sold_now(self):
+        now = time.time()
+        with tempfile.NamedTemporaryFile() as file, mock.patch.object(codes, "WRITTEN", -1):
+            os.utime(file.name, (now, now))
+            codes.await_balances(now - 1, file.name)
+            for moment in (now + 3600, now - 2):
+                os.utime(file.name, (moment, moment))
+                with contextlib.redirect_stderr(io.StringIO()), self.assertRaises(SystemExit):
+                    codes.await_balances(now - 1, file.name)
+
     def test_the_account_says_nothing_of_the_code_without_the_key(self):
         code = "ACDEF-HJKMN-PQRTU"
         one, other = (logins.digest_of(code, it) for it in (KEY, KEY[::-1]))

@@ -49,8 +49,9 @@ def sold():
 
 def await_balances(moment, path=None):
     """Waits until the balances were written since a moment: what was sold before it is in them."""
+    # Those of a time to come were written before it, by a clock that was ahead.
     path, end = path or site.BALANCES, time.monotonic() + WRITTEN
-    while not os.path.exists(path) or os.stat(path).st_mtime < moment:
+    while not os.path.exists(path) or not moment <= os.stat(path).st_mtime <= time.time():
         if time.monotonic() > end:
             fail(f"{path} is not written anew: nothing was done. Is radacctd running?")
         time.sleep(0.2)
