@@ -75,6 +75,11 @@ def make_books(it, address):
     said = run(it, "the books", lines[4])
     check(f"{it.title}: eight are made", said.count("book made"), 8)
     run(it, "they start", lines[5])
+    # A person may type it at night, as for one book.
+    status, said = it.run("systemctl restart radacctd")
+    check(f"{it.title}: one book is not started", ("ssertion failed" in said, status), (True, 1))
+    active = it.run("systemctl is-active 'radacctd@*' | sort | uniq -c")[1].split()
+    check("and stops none of the eight", active, ["8", "active"])
 
 
 def join(one, two):

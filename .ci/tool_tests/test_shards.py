@@ -172,6 +172,17 @@ class Doctor(unittest.TestCase):
         for text in (other, other + one, one, "\t\tdetail\n" + one + other):
             self.assertEqual(self.told(text), [wanted])
 
+    def test_no_cure_is_for_one_book(self):
+        """Its start was the end of all 16, which radacctd-shards joins the plans of."""
+        rows = lambda _, query: [(time.time(),)] if "written" in query else []
+        with mock.patch.object(front.files, "rows", rows), \
+                mock.patch.object(front.plans, "in_force", lambda _: None), \
+                mock.patch.object(front.machine, "to_come", lambda *_: ()), \
+                mock.patch.object(freeradius, "settings", lambda: {"oldest": "60"}):
+            [fault] = front.mirror(self.kind())
+        self.assertEqual((fault.name, fault.cure),
+                         ("mirror-plans", "journalctl -u radacctd-shards -n 20"))
+
     def test_each_book_has_its_queue(self):
         for value in ("${radacctdir}/radacctd/%{Tmp-String-8}", ""):
             with mock.patch.object(freeradius, "settings", lambda it=value: {"queue": it}):

@@ -63,5 +63,6 @@ def main(words):
     except OSError as fault:
         fail(f"{fault.filename or words.to}: {fault.strerror}")
     if not os.path.exists(words.plans):
-        fail(f"{words.plans} is not there yet: systemctl restart radacctd writes it")
+        fail(f"{words.plans} is not there yet: radacctd writes it as it starts, and of 16 books "
+             "radacctd-shards: journalctl -u radacctd-shards -n 20")
     return 0

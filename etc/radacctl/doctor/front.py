@@ -330,12 +330,11 @@ def mirror(kind):
         yield Fault("mirror-old", f"the balances of logins are {age:.0f} seconds old",
                     "systemctl status radacctd radacctd-mirror; date")
     found = {names.shown(row[0].encode("latin-1")): tuple(map(str, row[1:])) for row in rows}
-    path = "/var/lib/radacctd-pair/plans.csv" if kind.has_pair else kind.books[0].plans
-    if kind.has_shards:
-        path = site.PLANS
+    path = "/var/lib/radacctd-pair/plans.csv" if kind.has_pair else site.PLANS
     wanted = plans.in_force(path)
     if wanted is None:
         yield Fault("mirror-plans", f"{path} is missing: nobody knows the plans of logins",
+                    "journalctl -u radacctd-shards -n 20" if kind.has_shards else
                     "systemctl restart radacctd; of a pair, start the other machine")
     elif wanted != found:
         which = sorted(set(found) ^ set(wanted)) or sorted(it for it in found

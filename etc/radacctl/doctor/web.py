@@ -101,7 +101,7 @@ def settings():
     path, plans = f"{WEB}/plans.json", site.PLANS_JSON
     if not os.path.islink(path) or os.path.realpath(path) != plans or not os.path.exists(plans):
         yield Fault("pages-plans", f"{path} is no link to the plans in force, {plans}",
-                    "radacctl pages; systemctl restart radacctd")
+                    "radacctl pages; it says what else")
 
 
 def clerk(kind):
