@@ -12,6 +12,18 @@ from radacctl.doctor import front
 from tool_tests import ROOT
 
 
+class Planted(unittest.TestCase):
+    def test_each_fault_of_access_servers_still_fits(self):
+        """interop/access-servers --faults ends at the first one that does not."""
+        with open(os.path.join(ROOT, "interop", "access_servers", "faults"), encoding="utf-8") as file:
+            faults = re.split(r"\n(?=fault  )", file.read())[1:]
+        self.assertGreater(len(faults), 20)
+        for fault in faults:
+            [name, old] = re.search(r"(?s)\nfile   (.*?)\nold    (.*?)\nnew    ", fault).groups()
+            with open(os.path.join(ROOT, "etc", "freeradius", name), encoding="utf-8") as file:
+                self.assertEqual(file.read().count(old), 1, fault)
+
+
 class Names(unittest.TestCase):
     def test_spellings_come_back(self):
         for octets in (b"al", b"a,b", b"50%", b'"', b"\\", "Łódź".encode(), bytes(range(256))):
