@@ -175,7 +175,7 @@ def set_up_freeradius(box):
     check("the page's files are copied", (status, text), (0, ""))
     folders = page_of_freeradius("FREERADIUS.md", "8. Make the folders", "9. Start the mirror")
     box.must(f"cd /etc/freeradius/3.0; {folders}")
-    box.must(page_of_freeradius("SHARDS.md", "5. Make the folders of", "If one book is down"))
+    box.must(page_of_freeradius("SHARDS.md", "5. Make the folders of", "If a book is down"))
 
 
 def freeradius(site):

@@ -72,7 +72,7 @@ class Followed(unittest.TestCase):
             ("FREERADIUS.md", "## Set it up", "8. Make the folders"),
             ("FREERADIUS.md", "8. Make the folders", "9. Start the mirror"),
             ("SHARDS.md", "3. Copy the policy", "4. In `sites-en"),
-            ("SHARDS.md", "5. Make the folders of", "If one book is down"),
+            ("SHARDS.md", "5. Make the folders of", "If a book is down"),
         )
         for part in parts:
             self.assertIn("\n", units_shards.page_of_freeradius(*part))
