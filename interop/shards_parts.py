@@ -296,7 +296,8 @@ def down(site, account, other):
         tool("--balances", site.balances, "--counts", site.counts, "join")
         return [old_in(site.radius.mirror, it) for it in (account, other)]
 
-    front.waits_for("both are up", are_old, [False, False])
+    is_new = lambda: (are_old(), time.time() - as_of_in(site.radius.mirror) < 9)
+    front.waits_for("both are up", is_new, ([False, False], True))
     usual, moment = [quota(it) for it in (account, other)], time.time() - 300
     book.process.send_signal(signal.SIGSTOP)
     os.utime(f"{site.balances}/{book.shard}.csv", (moment, moment))
@@ -312,7 +313,7 @@ def down(site, account, other):
     check("those of another book get all that is left", found[-1][1], usual[1])
     check("a report waits", len(os.listdir(queue)), 1)
     book.process.send_signal(signal.SIGCONT)
-    front.waits_for("it is back", are_old, [False, False])
+    front.waits_for("it is back, and its report is sent", is_new, ([False, False], True))
     front.waits_for("and so is all that is left", lambda: quota(account), usual[0])
 
 
