@@ -81,6 +81,13 @@ class Joined(unittest.TestCase):
                 self.assertEqual((found["of-s3"], found.get(account), age), (77, kept, 20))
                 self.assertEqual(self.old, {account} if kept else set())
 
+    def test_by_no_file_at_all_nothing_is_joined(self):
+        for it in books.SHARDS:
+            os.remove(self.path(f"{it}.csv"))
+        with self.assertRaisesRegex(OSError, "s0.csv"):
+            self.joined()
+        self.assertFalse(os.path.exists(self.path("balances.csv")))
+
     def test_what_is_of_a_time_to_come_counts_as_old(self):
         self.write("s5", 5, -HOUR)
         self.assertEqual((self.joined()[1], self.old), (0, {"of-s5"}))

@@ -143,7 +143,9 @@ def join_balances(folder):
     made = io.StringIO(newline="")
     csv.writer(made, lineterminator="\n").writerows([names.BALANCES, *rows])
     moment = as_old_as([*filter(is_new, moments)] or moments)
-    written(os.path.join(folder, "balances.csv"), made.getvalue(), moment)
+    # By no file at all nobody is known: each login would be told that its money is spent.
+    if len(faults) < len(SHARDS):
+        written(os.path.join(folder, "balances.csv"), made.getvalue(), moment)
     if faults:
         raise faults[0]
 
