@@ -569,6 +569,29 @@ class Existing(Folder):
         found = away.own_clients_out(front.clients(None, wanted, books))
         self.assertEqual([name for name, _ in freeradius.CLIENT.findall(found)], ["ap"])
 
+    def test_a_second_removal_keeps_the_clients_of_the_first(self):
+        """Else FreeRADIUS would know none of the access servers, nor their secrets."""
+        wanted = self.wanted({"name": "lobby", "address": "10.7.0.1", "vendor": "mikrotik"})
+        place = lambda *names: os.path.join(self.folder, *names)
+        text = lambda name: self.read(place(name)).decode()
+        seen = []
+        for _ in range(3):
+            os.mkdir(place("radacctd"))
+            self.put("radacctd/access-servers.conf", front.clients(None, wanted))
+            self.put("radiusd.conf", front.main(text("radiusd.conf"), wanted))
+            [step] = [it for it in away.rest() if it.path == place(away.CLIENTS)]
+            # Also if it is killed behind this step.
+            for _ in range(2):
+                self.put(away.CLIENTS, step.wanted(step.found()[0]).decode())
+            self.put("radiusd.conf", away.includes_out(text("radiusd.conf")))
+            shutil.rmtree(place("radacctd"))
+            seen.append((freeradius.CLIENT.findall(text(away.CLIENTS)), freeradius.cuts(""),
+                         text("radiusd.conf").count(f"$INCLUDE {away.CLIENTS}\n")))
+        self.assertEqual([name for name, _ in seen[0][0]], ["lobby"])
+        self.assertEqual(len(seen[0][1]), 1)
+        self.assertEqual(seen, [seen[0]] * 3)
+        self.assertEqual(seen[0][2], 1)
+
     def test_a_link_goes_and_a_file_is_kept(self):
         os.symlink("/usr/share/x", self.path)
         step = away.Gone(self.path)

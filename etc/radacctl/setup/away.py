@@ -72,8 +72,9 @@ def includes_out(text):
     """radiusd.conf without radacctd's settings. The access servers stay FreeRADIUS' clients."""
     text = re.sub(r"(?m)^[ \t]*\$INCLUDE[ \t]+\S*radacctd/(?:settings|pair|packages)\.conf[ \t]*\n",
                   "", text)
-    return re.sub(r"(?m)^([ \t]*\$INCLUDE[ \t]+)\S*radacctd/access-servers\.conf[ \t]*$",
-                  rf"\g<1>{CLIENTS}", text)
+    is_there = re.search(rf"(?m)^[ \t]*\$INCLUDE[ \t]+(?!\S*radacctd/)\S*{CLIENTS}[ \t]*$", text)
+    return re.sub(r"(?m)^([ \t]*\$INCLUDE[ \t]+)\S*radacctd/access-servers\.conf[ \t]*\n",
+                  "" if is_there else rf"\g<1>{CLIENTS}\n", text)
 
 
 def own_clients_out(text):
@@ -111,7 +112,9 @@ def rest():
         yield from (Gone(raddb(it)) for it in places if it.startswith(kind))
     if os.path.isdir(folder):
         text = own_clients_out(files.text(os.path.join(folder, "access-servers.conf")))
-        yield front.of_group(raddb(CLIENTS), lambda _: text)
+        # An earlier removal may have left some there.
+        joined = lambda old: old if text in old else f"{old}\n{text}"
+        yield front.of_group(raddb(CLIENTS), lambda old: text if old is None else joined(old))
     yield from changed(raddb("radiusd.conf"), includes_out)
     yield from changed(raddb("mods-config/files/authorize"), test_user_out)
     yield Away(folder)
