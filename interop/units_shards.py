@@ -182,8 +182,8 @@ def freeradius(site):
     """FreeRADIUS and its mirror under systemd: a report, a login and a refusal."""
     box = site.box
     set_up_freeradius(box)
-    status, text = box.run("freeradius -CX")
-    check("freeradius -CX is content", status, 0)
+    status, text = box.run("runuser -P -u freerad -- freeradius -CX")
+    check("FreeRADIUS is content with its files", status, 0)
     if status:
         print(text[-1500:])
     box.must("cp /usr/local/share/radacctd/freeradius/radacctd-mirror.service /etc/systemd/system/")

@@ -55,7 +55,7 @@ CRITICALS = {
         "FreeRADIUS ignores a device: the device has another secret",
         "write one secret into access-servers.conf and there; restart freeradius",
     ),
-    "raddb-wrong": ("FreeRADIUS' configuration has a fault", "`freeradius -CX` names the line"),
+    "raddb-wrong": ("FreeRADIUS' configuration has a fault", "the line's command names the place"),
     "raddb-steps": (
         "FreeRADIUS lacks a step of the set-up",
         "`radacctl setup`, or [the step](FREERADIUS.md#set-it-up)",

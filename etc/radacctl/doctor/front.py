@@ -84,7 +84,8 @@ def steps(kind):
     if status:
         errors = [it for it in said.splitlines() if "rror" in it or "ailed" in it]
         line = look.last_line("\n".join(errors) or said)
-        yield Fault("raddb-wrong", f"FreeRADIUS says: {line}", "freeradius -CX | tail")
+        yield Fault("raddb-wrong", f"FreeRADIUS says: {line}",
+                    f"runuser -P -u {site.RADIUS_USER} -- freeradius -CX | tail")
 
 
 def lines(kind):
