@@ -1,4 +1,6 @@
-"""Rows of interop/package: an upgrade behind FreeRADIUS, with open sessions and a waiting queue."""
+"""Rows of interop/package: an upgrade behind FreeRADIUS, with open sessions and a waiting queue; and
+what apt says of a removal while others read files of the package.
+"""
 
 import os
 import re
@@ -79,3 +81,20 @@ def upgraded(box):
     check("the set-up brings the rest to this version", (status, said[-300:] if status else ""),
           (0, ""))
     check("and the doctor finds nothing", start_site.is_sound(box), [])
+    removed(box)
+
+
+def removed(box):
+    """apt removes nothing that others read, until one has done what it says."""
+    others = ("freeradius", "nginx", "fail2ban")
+    for who in ("FreeRADIUS has", "nginx and fail2ban have"):
+        status, said = box.run("apt-get remove -y radacctd")
+        check(f"while {who} its files, apt removes nothing",
+              (status != 0, f"{who} files of this package" in said), (True, True))
+        check("and all go on", box.run(f"systemctl is-active {' '.join(others)}")[1],
+              "active\n" * len(others))
+        for command in re.findall(r"(?m)^ {4}(\S.*)$", said):
+            box.must(command.replace("setup --remove", "setup --remove --yes"))
+    check("then apt removes it", box.run("apt-get remove -y radacctd")[0], 0)
+    for it in others:
+        check(f"{it} starts without it", box.run(f"systemctl restart {it}")[0], 0)

@@ -89,31 +89,33 @@ class Units(unittest.TestCase):
 
 
 class Removal(unittest.TestCase):
-    """While nginx or FreeRADIUS has links into the package, nothing is removed."""
+    """While nginx, fail2ban or FreeRADIUS has links into the package, nothing is removed."""
 
     def test_what_would_not_start_again_is_told(self):
         script = text("etc", "package", "prerm").replace("@ALL_UNITS@", "").replace("@UNITS@", "")
         with tempfile.TemporaryDirectory() as folder:
             script = script.replace("/etc/", f"{folder}/etc/").replace("/var/lib", folder)
             script = script.replace("/run/systemd", f"{folder}/none")
-            places = {"nginx": "nginx/radacctd/headers.conf",
-                      "FreeRADIUS": "freeradius/3.0/policy.d/radacctd"}
-            os.makedirs(os.path.join(folder, "etc/nginx/conf.d"))
-            for name in places.values():
-                os.makedirs(os.path.dirname(os.path.join(folder, "etc", name)))
-            with open(os.path.join(folder, "etc/nginx/conf.d/radacctd.conf"), "w") as file:
-                file.write("server {\n}\n")
+            places = {"nginx": ("nginx/radacctd/headers.conf", "nginx/conf.d/radacctd.conf"),
+                      "fail2ban": ("fail2ban/filter.d/radacctd.conf",
+                                   "fail2ban/jail.d/radacctd.conf"),
+                      "FreeRADIUS": ("freeradius/3.0/policy.d/radacctd", "freeradius/own")}
+            for name in (it for both in places.values() for it in both):
+                os.makedirs(os.path.dirname(os.path.join(folder, "etc", name)), exist_ok=True)
             run = lambda act: subprocess.run(["sh", "-c", script, "prerm", act], text=True,
                                              capture_output=True)
             self.assertEqual(run("remove").returncode, 0)
-            for who, name in places.items():
-                path = os.path.join(folder, "etc", name)
+            for who, names in places.items():
+                path, own = (os.path.join(folder, "etc", it) for it in names)
+                with open(own, "w", encoding="ascii") as file:
+                    file.write("server {\n}\n")
                 for target, status in (("/usr/share/radacctd/x", 1), ("/usr/local/share/x", 0)):
                     os.symlink(target, path)
                     done = run("remove")
                     self.assertEqual((done.returncode, who in done.stderr), (status, bool(status)))
                     self.assertEqual(run("upgrade").returncode, 0)
                     os.remove(path)
+                os.remove(own)
 
 
 class Files(unittest.TestCase):
