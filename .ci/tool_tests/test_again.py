@@ -227,12 +227,8 @@ class Again(Folder):
     def test_fail2ban_goes_by_the_networks_that_were_given_last(self):
         """It runs, and its jail is there: so is the file that it has not read yet."""
         self.patched(web, "JAIL", self.put("[radacctd]\n"))
-        self.patched(steps, "CHANGED", set())
-        self.patched(steps, "given", lambda *_, **__: "")
-        self.patched(steps.look, "properties", lambda *_: {"MainPID": "1"})
-        for later, is_done in ((-60, False), (60, True)):
-            begun = os.stat(self.path).st_ctime + later
-            self.patched(steps.machine, "begin_of", lambda _, it=begun: it)
+        for start, later, is_done in (("a", -60, False), ("b", 60, True)):
+            self.started(start, later=later)
             self.assertEqual(web.Jail().is_done(), is_done)
 
     def test_a_front_desk_that_nobody_named_is_told(self):
@@ -307,21 +303,54 @@ class Again(Folder):
             f"{self.folder}/copy/sites-available/own", "../sites-available/own",
             f"{raddb}-of-others/x", f"{self.folder}/copy/sites-available"])
 
-    def test_a_clock_that_is_set_hides_no_change(self):
-        """A file of this run seems older than the server, since the clock went on by an hour."""
-        self.patched(steps, "CHANGED", set())
-        self.patched(steps.look, "properties", lambda *_: {"MainPID": "1"})
+    def started(self, start="a", **begun):
+        """A unit runs, of which nothing is known but when it began, by the clock as it is now."""
+        self.patched(steps, "MARKS", os.path.join(self.folder, "marks"))
+        self.patched(steps.look, "properties", lambda *_: {"MainPID": "1", "InvocationID": start})
         self.patched(steps, "given", lambda *_, **__: "")
+        moment = os.lstat(self.folder).st_ctime + begun.get("later", 0)
+        self.patched(steps.machine, "begin_of", lambda _: moment)
+
+    def test_a_clock_that_is_set_hides_no_change(self):
+        """A run was killed once it had changed a file, and the clock went on by an hour: the file
+        seems older than the server.
+        """
         link = os.path.join(self.folder, "link")
         for step in (steps.File(self.path, lambda _: "new\n"), steps.Link(link, self.path)):
-            later = os.lstat(self.folder).st_ctime + 3600
-            self.patched(steps.machine, "begin_of", lambda _, it=later: it)
-            fresh, other = (steps.Fresh("x", ("x.service",), [it]) for it in (step.path, "/x"))
-            self.assertTrue(fresh.is_done())
+            fresh = lambda path: steps.Fresh("x", f"{os.path.basename(path)}.service", [path])
+            self.started(later=60)
+            self.assertTrue(fresh(step.path).is_done() and fresh("/x").is_done())
             step.do()
-            self.assertEqual((fresh.is_done(), other.is_done()), (False, True))
-            fresh.do()
-            self.assertTrue(fresh.is_done())
+            self.started(later=3600)
+            self.assertEqual([fresh(it).is_done() for it in (step.path, "/x")], [False, True])
+            fresh(step.path).do()
+            self.assertTrue(fresh(step.path).is_done())
+
+    def test_a_file_that_is_gone_is_a_change(self):
+        """FreeRADIUS' part is taken out, and that run is killed before the restart."""
+        self.put("x")
+        self.started(later=60)
+        fresh = steps.Fresh("x", "x.service", [self.path])
+        self.assertTrue(fresh.is_done())
+        os.remove(self.path)
+        self.assertFalse(fresh.is_done())
+
+    def test_a_clock_that_was_ahead_keeps_no_set_up_from_its_end(self):
+        """Each file seems newer than any server that is started now."""
+        self.patched(web, "JAIL", self.put("[radacctd]\n"))
+        self.patched(steps.time, "monotonic", iter(range(0, 999, 30)).__next__)
+        self.started(later=-3600)
+        web.Jail().do()
+        self.assertTrue(web.Jail().is_done())
+
+    def test_who_was_started_again_by_hand_is_known_by_the_clock(self):
+        for start, later, is_done in (("a", -60, False), ("b", 60, True), ("c", -60, False)):
+            self.put("x")
+            self.started(start, later=later)
+            self.assertEqual(steps.Fresh("x", "x.service", [self.path]).is_done(), is_done)
+            # What was seen at first holds, whatever the clock says later.
+            self.started(start, later=-later)
+            self.assertEqual(steps.Fresh("x", "x.service", [self.path]).is_done(), is_done)
 
     def test_a_clock_that_was_ahead_makes_no_program_an_older_one(self):
         now = steps.time.time()
@@ -421,6 +450,8 @@ class TakenOut(Folder):
         self.given = []
         self.patched(places, "RADDB", self.folder)
         self.patched(steps, "given", lambda words, **_: self.given.append(" ".join(words)) or "")
+        self.patched(steps, "MARKS", os.path.join(self.folder, "marks"))
+        self.patched(steps.look, "properties", lambda *_: {})
         self.patched(sql, "ENDED", self.put("", "ended"))
         self.patched(away, "drain", lambda: self.given.append("drain"))
         for name in ("servers", "rest"):

@@ -134,6 +134,13 @@ def is_done(step):
         return False
 
 
+def finish(step):
+    """What one step makes may be what a later one looks for: so each is asked again."""
+    if not is_done(step):
+        print(f"{step.text().splitlines()[0]} ..", flush=True)
+        step.do()
+
+
 def show(found):
     for it in found:
         print(f"  - {it.text()}")
@@ -161,11 +168,13 @@ def do(words, wanted):
         program.fail("nothing was done")
     if any(isinstance(it, proof.Proof) for it in last):
         files.remove(proof.DONE)
-    # What one step makes may be what a later one looks for: so each is asked again.
-    for it in [packages, *steps_of(wanted, config)]:
-        if not is_done(it):
-            print(f"{it.text().splitlines()[0]} ..", flush=True)
-            it.do()
+    finish(packages)
+    found = list(steps_of(wanted, config))
+    # What each unit has read is noted before a file is changed, be it one that was installed now.
+    for it in (it for it in found if isinstance(it, steps.Fresh)):
+        is_done(it)
+    for it in found:
+        finish(it)
     for it in last:
         it.do()
     print(f"What to type at access servers is in {devices.FOLDER}.")

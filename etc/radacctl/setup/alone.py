@@ -263,7 +263,7 @@ def of(answers, config):
     # Before a restart, which fails as long as a plan waits. A server that never ran says nothing.
     if plans.in_force() is not None or has_book():
         yield Plans(answers, book)
-    yield Fresh("restart radacctd", ("radacctd.service",), [site.DEFAULTS])
+    yield Fresh("restart radacctd", "radacctd.service", [site.DEFAULTS])
     yield unit("radacctd.service")
     for name in ("radacctd-nightly.timer", "radacctd-key.timer"):
         yield unit(name)

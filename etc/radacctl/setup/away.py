@@ -157,14 +157,15 @@ def do_all(found):
     """Does steps to FreeRADIUS' folder, once FreeRADIUS has tested them in a copy of it, and
     restarts it. An earlier run may have been killed before it did that.
     """
-    lacking = [it for it in found if not it.is_done()]
+    fresh = Fresh("restart FreeRADIUS", "freeradius.service", [it.path for it in found],
+                  freeradius.test())
+    # Before a file is changed: no clock tells later what FreeRADIUS has read.
+    is_fresh, lacking = fresh.is_done(), [it for it in found if not it.is_done()]
     if lacking:
         Trial(lacking).do()
     for it in lacking:
         it.do()
-    fresh = Fresh("restart FreeRADIUS", ("freeradius.service",), [it.path for it in found],
-                  freeradius.test())
-    if lacking or not fresh.is_done():
+    if lacking or not is_fresh:
         fresh.do()
 
 

@@ -445,7 +445,7 @@ def running(inside):
     paths += [freeradius.path(it) for it in packages.OURS]
     paths += [freeradius.path(it) for it in ("sites-enabled/radacctd-pair", "mods-enabled/sql")]
     paths += [it.path for it in inside if isinstance(it, File)]
-    return Fresh("test FreeRADIUS' configuration, and restart it", ("freeradius.service",), paths,
+    return Fresh("test FreeRADIUS' configuration, and restart it", "freeradius.service", paths,
                  freeradius.test())
 
 
@@ -455,4 +455,4 @@ def parts_running():
     for name, path in (("mirror", freeradius.path("radacctd/balances-mirror")),
                        ("front", freeradius.path("radacctd/front-counts"))):
         paths = [path, *([drop_in] if name == "mirror" else [])]
-        yield Fresh(f"restart radacctd-{name}", (f"radacctd-{name}.service",), paths)
+        yield Fresh(f"restart radacctd-{name}", f"radacctd-{name}.service", paths)

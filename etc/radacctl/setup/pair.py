@@ -75,7 +75,7 @@ def after(answers, config):
     for name in ("radacctd-outbox.service", "radacctd-state.socket", "radacctd-compare.timer"):
         yield unit(name)
     paths = [desk.CASHIER_KEY, "/etc/default/radacctd-pair"]
-    yield Fresh("restart the outbox", ("radacctd-outbox.service",), paths)
+    yield Fresh("restart the outbox", "radacctd-outbox.service", paths)
     # It fails as long as the other machine is not there.
     yield Command("compare both books once", has_balances, "systemctl", "start",
                   "radacctd-compare.service", may_fail=True)

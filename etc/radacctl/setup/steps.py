@@ -8,7 +8,9 @@ name of the same file, which no program reads. No name on a path is followed as 
 import contextlib
 import copy
 import difflib
+import glob
 import grp
+import itertools
 import os
 import pwd
 import re
@@ -24,8 +26,8 @@ from radacctl.doctor import look, machine
 SECRET = re.compile(r"secret|token|password|Desk-Key|^[+-]\s*key\s*=|^[+-][A-Za-z0-9-]{16,}$", re.I)
 MOST_LINES = 12
 TRIAL = "/run/radacctd-trial"
-# What this run has changed: by a clock that was set meanwhile it may seem older than who reads it.
-CHANGED = set()
+# Of each unit which of its starts has read which files. A boot starts all, and empties the folder.
+MARKS = "/run/radacctd-setup"
 
 
 class Failed(Exception):
@@ -150,7 +152,6 @@ class File:
             new = self.wanted(old)
             is_kept = old is not None and old != new
             self.write(folder, name, new, self.rights(status), is_kept)
-        CHANGED.add(self.path)
 
     def write(self, folder, name, octets, rights, is_kept=False):
         """Puts a new file into place. What was there is kept once the new one is whole."""
@@ -210,7 +211,6 @@ class Link:
             os.symlink(self.target, part, dir_fd=folder)
             os.rename(part, name, src_dir_fd=folder, dst_dir_fd=folder)
             os.fsync(folder)
-        CHANGED.add(self.path)
 
 
 class Command:
@@ -307,32 +307,51 @@ def lead_inside(raddb):
 
 
 class Fresh:
-    """Restarts units that began before one of their files changed, once a test of these is well."""
+    """Restarts a unit that has not read its files as they are, once a test of these is well.
 
-    def __init__(self, what, units, paths, test=()):
-        self.what, self.units, self.paths, self.test = what, units, paths, test
-        self.is_restarted = False
+    The clock, which may be set at any time, is asked only of a start that no set-up has seen before.
+    """
+
+    def __init__(self, what, unit, paths, test=()):
+        self.what, self.unit, self.paths, self.test = what, unit, paths, test
 
     def text(self):
         return self.what
 
     def is_done(self):
-        if not self.is_restarted and CHANGED.intersection(self.paths):
-            return False
-        # A link that changed is as new as what it leads to.
-        moments = [max(os.stat(it).st_ctime, os.lstat(it).st_ctime) for it in self.paths
-                   if os.path.exists(it)]
-        begun = [machine.begin_of(look.properties(it, "MainPID").get("MainPID", "0"))
-                 for it in self.units]
-        return all(it and it >= max(moments, default=0) for it in begun)
+        it, found = look.properties(self.unit, "MainPID", "InvocationID"), self.statuses()
+        begun = machine.begin_of(it.get("MainPID", "0"))
+        start, _, known = files.text(f"{MARKS}/{self.unit}").partition("\n")
+        if begun and start != it.get("InvocationID"):
+            is_fresh = begun * 1e9 >= max((each[-1] for each in found), default=0)
+            known = self.mark(found if is_fresh else None)
+        return bool(begun) and known == ascii(found)
+
+    def statuses(self):
+        """What any change of a file changes. A link that changed is as new as what it leads to."""
+        found = set()
+        names = (name for it in self.paths for name in glob.glob(it))
+        for path, look_at in itertools.product(names, (os.stat, os.lstat)):
+            with contextlib.suppress(OSError):
+                it = look_at(path)
+                found.add((path, it.st_ino, it.st_size, it.st_ctime_ns))
+        return sorted(found)
+
+    def mark(self, found):
+        """Notes what this start of the unit has read; None: not what is there."""
+        start = look.properties(self.unit, "InvocationID").get("InvocationID", "-")
+        files.make_folder(MARKS)
+        files.replace(f"{MARKS}/{self.unit}", f"{start}\n{ascii(found)}".encode())
+        return ascii(found)
 
     def do(self):
+        found = self.statuses()
         if self.test:
             given(self.test, seconds=60)
-        if "radacctd.service" in self.units:
+        if self.unit == "radacctd.service":
             refuse_if_away()
-        given(["systemctl", "restart", *self.units])
-        self.is_restarted = True
+        given(["systemctl", "restart", self.unit])
+        self.mark(found)
 
 
 def refuse_if_away():

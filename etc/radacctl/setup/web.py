@@ -218,9 +218,8 @@ def no_fcgiwrap():
 
 def running():
     """nginx runs with the files as they are, which it has tested."""
-    names = os.listdir(FOLDER) if os.path.isdir(FOLDER) else []
-    paths = [CONF, CERTIFICATE, *(f"{FOLDER}/{it}" for it in names)]
-    return Fresh("test and restart nginx", ("nginx.service",), paths, ("nginx", "-t"))
+    paths = [CONF, CERTIFICATE, f"{FOLDER}/*"]
+    return Fresh("test and restart nginx", "nginx.service", paths, ("nginx", "-t"))
 
 
 def fail2ban(answers, own):
@@ -240,7 +239,7 @@ class Jail(Fresh):
     """fail2ban watches the pages, by the files as they are."""
 
     def __init__(self):
-        super().__init__("let fail2ban watch the pages", ("fail2ban.service",), [FILTER, JAIL, SSHD])
+        super().__init__("let fail2ban watch the pages", "fail2ban.service", [FILTER, JAIL, SSHD])
 
     def is_done(self):
         if not super().is_done():
