@@ -249,6 +249,32 @@ class Again(Folder):
             self.put(cashiers, "cashiers")
             found = [it.name for it in of_web.fail2ban()]
             self.assertEqual(found, ["fail2ban-desk"] * count, (jail, more, cashiers))
+        self.put("", "jail.d", "radacctd.conf")
+        self.put("", "jail.local")
+        self.put("ignoreip = 10.0.1.0/24\n", "jail.d", "zz.local")
+        self.assertEqual(list(of_web.fail2ban()), [])
+
+    def test_what_a_site_changes_of_nginx_stays(self):
+        """Its rates, and where it listens; other lines have a file that is never written again."""
+        one = wanted(name="x", currency="EUR", host="a.example.org")
+        text = web.server("", one)
+        self.assertEqual(web.server(text, one), text)
+        mine = text.replace("rate=60r/m", "rate=600r/m").replace("limit_req_zone $", "limit_req_zone  $")
+        mine = mine.replace("    listen 443 ssl http2;\n", "    listen 10.0.0.5:443 ssl http2;\n"
+                            "    listen [fd00::5]:443 ssl;\n")
+        self.assertEqual(web.server(mine, one), mine)
+        self.assertEqual(web.server(mine.replace("gzip on;", "gzip off;"), one), mine)
+        # Who has a server more in that file has it in a copy of it, as is said.
+        self.assertEqual(web.server(f"{text}server {{\n    listen 81;\n}}\n", one), text)
+        self.patched(web, "FOLDER", self.folder)
+        self.assertIn("include radacctd/own*.conf;", text)
+        for name in ("own.conf", "login.conf"):
+            step = next(it for it in web.of(one, mock.Mock(keys={"cashier": "c", "redeem": "r"}))
+                        if getattr(it, "path", "") == os.path.join(self.folder, name))
+            self.assertEqual(step.wanted(b"# mine\n"), b"# mine\n")
+            self.assertTrue(step.wanted(None).startswith(b"# "))
+        self.put("old\n")
+        self.assertIn(f"{self.folder}/own.conf", web.Server(self.path, lambda _: "new\n").text())
 
     def test_a_book_that_has_sold_keeps_its_decimals(self):
         """One more, and each sum of it would be a tenth."""

@@ -231,7 +231,7 @@ class Site(Folder):
 
     def test_a_sample_that_is_missing_empties_no_file(self):
         with mock.patch.object(places, "shared", lambda *_: self.path):
-            for change in (lambda: web.server(self.wanted()), lambda: list(web.logs()),
+            for change in (lambda: web.server("", self.wanted()), lambda: list(web.logs()),
                            lambda: front.settings(None, self.wanted(), "x")):
                 self.assertRaises(OSError, change)
 

@@ -29,14 +29,15 @@ def of(answers, config):
         yield Link(f"{FOLDER}/{name}", own("radacctd", name))
     if answers.pair:
         yield File(f"{FOLDER}/desks-outbox.conf", pair.desks(answers), 0o644)
-    login = files.sample("nginx", "radacctd", "login.conf")
-    yield File(f"{FOLDER}/login.conf", lambda old: login if old is None else old, 0o644)
+    for name in ("login.conf", "own.conf"):
+        own_text = files.sample("nginx", "radacctd", name)
+        yield File(f"{FOLDER}/{name}", lambda old, it=own_text: it if old is None else old, 0o644)
     key = f'proxy_set_header Desk-Key "{config.keys["cashier"]}";\n'
     yield File(f"{FOLDER}/cashier.conf", key, 0o600)
     for name in answers.cashiers:
         yield Cashier(name)
     yield File(f"{FOLDER}/cashiers", lambda old: old or "", 0o640, of_group=site.WEB_USER)
-    yield File(CONF, lambda old: server(answers), 0o644)
+    yield Server(CONF, lambda old: server(old or "", answers), 0o644)
     yield Folder("/etc/radacctd-web")
     yield Link("/etc/radacctd-web/plans.json", site.PLANS_JSON)
     yield File(money.SETTINGS, lambda old: settings(old, answers), 0o644)
@@ -103,8 +104,20 @@ class Certificate:
                 File(path, files.text(own), mode).do()
 
 
-def server(answers):
-    """The file for nginx with the site's names."""
+class Server(File):
+    """The file for nginx, which each set-up writes anew."""
+
+    def text(self):
+        return f"{super().text()}\n    (lines of your own belong into {FOLDER}/own.conf, which stays)"
+
+
+# Where a server listens, and how often an address may ask.
+LISTEN = re.compile(r"(?m)(?:^[ \t]*listen[ \t].*\n)+")
+RATE = re.compile(r"(?m)^limit_req_zone .* zone=(\w+):.*$")
+
+
+def server(old, answers):
+    """The file for nginx with the site's names. Where it listens, and its rates, stay."""
     text = files.sample("nginx", "radacctd.conf")
     if answers.pair:
         text = text.replace("radacctd/desks-one.conf;", "radacctd/desks-outbox.conf;", 1)
@@ -112,7 +125,11 @@ def server(answers):
     key = answers.certificate_key or PRIVATE_KEY
     text = re.sub(r"(?m)^(\s+server_name )\S+;.*$", rf"\g<1>{answers.host};", text)
     text = re.sub(r"(?m)^(\s+ssl_certificate )\s*\S+;.*$", rf"\g<1>{pem};", text)
-    return re.sub(r"(?m)^(\s+ssl_certificate_key )\S+;.*$", rf"\g<1>{key};", text)
+    text = re.sub(r"(?m)^(\s+ssl_certificate_key )\S+;.*$", rf"\g<1>{key};", text)
+    places, rates = LISTEN.findall(old), {it[1]: it[0] for it in RATE.finditer(old)}
+    if len(places) == len(LISTEN.findall(text)):
+        text = LISTEN.sub(lambda _: places.pop(0), text)
+    return RATE.sub(lambda it: rates.get(it[1], it[0]), text)
 
 
 def settings(old, answers):
