@@ -155,6 +155,12 @@ class Again(Folder):
         self.put(f"$INCLUDE {self.folder}/own.conf\n$INCLUDE /etc/hosts\n", "radiusd.conf")
         self.put("client wlc {\n\tipaddr = 10.0.0.1\n\tsecret = of-the-wlc\n}\n", "own.conf")
         self.assertEqual(freeradius.client_at("10.0.0.1")[:2], ("own.conf", "wlc"))
+        # But none that FreeRADIUS' user names by a way out of its folder: root would write into it.
+        self.put("client out {\n\tipaddr = 10.0.0.2\n\tsecret = x\n}\n", "..", "out.conf")
+        self.addCleanup(os.remove, os.path.join(self.folder, "..", "out.conf"))
+        self.put("$INCLUDE own.conf\n$INCLUDE ../out.conf\n$INCLUDE x/../../out.conf\n", "radiusd.conf")
+        os.mkdir(os.path.join(self.folder, "x"))
+        self.assertEqual(freeradius.included(), ["own.conf"])
 
     def test_an_access_server_of_another_vendor_is_told(self):
         """What its client has stays: it was changed by hand, or the answer is new."""

@@ -20,6 +20,7 @@ from radacctl.setup import alone, answers, front, pair, sql, steps
 from tool_tests import ROOT
 
 PLAN = {"class": "default", "block": 1000, "unit": 5}
+DATES = "notBefore=Dec  1 00:00:00 2025 GMT\nnotAfter=Feb  1 00:00:00 2026 GMT\n"
 
 
 def sources(folder):
@@ -384,7 +385,7 @@ class Cures(unittest.TestCase):
                          if it.text.endswith(" is missing")]
         self.assertEqual(len(found), len(freeradius.OURS))
         for it in found:
-            self.assertRegex(it.cure, r"^radacctl setup, or ln -sf --backup=numbered /\S+ /\S+$")
+            self.assertRegex(it.cure, r"^radacctl setup, or ln -sfT --backup=numbered /\S+ /\S+$")
 
     def test_of_a_unit_that_failed(self):
         units = "radacctd-nightly.service", "radacctd@s3.service", "radacctd-clerk-work@7-1.service"
@@ -415,7 +416,7 @@ class Kept(unittest.TestCase):
         differing = unittest.mock.patch.object(freeradius, "differing", lambda: [("/a", "/b")])
         with differing, unittest.mock.patch.object(fronts, "steps", side_effect=StopIteration):
             fault = next(fronts.look_at(unittest.mock.Mock(has_front=True)))
-        self.assertIn("diff /a /b; ln -sf --backup=numbered /b /a; systemctl restart", fault.cure)
+        self.assertIn("diff /a /b; ln -sfT --backup=numbered /b /a; systemctl restart", fault.cure)
 
 
 class Ignored(unittest.TestCase):
@@ -513,6 +514,36 @@ class Unseen(unittest.TestCase):
         self.assertEqual(fault.name, "certificate-ended")
         self.assertEqual(fault.text, "/x/certs/a.pem is missing")
         self.assertIn("restart freeradius", fault.cure)
+
+    def test_what_freeradius_user_names_is_read_by_that_user(self):
+        """Root would open it, be it a device."""
+        seen = []
+        with unittest.mock.patch.object(look, "must", lambda *words: seen.append(words) or DATES), \
+                unittest.mock.patch.object(look, "status_of", lambda _: True), \
+                unittest.mock.patch.object(freeradius, "file_at", lambda it: it), \
+                unittest.mock.patch.object(
+                    freeradius, "text", lambda *_: "certificate_file = /dev/watchdog\n"):
+            list(fronts.certificates())
+        self.assertEqual(seen[0][1:4], ("--as", places.RADIUS_USER, "openssl"))
+        self.assertTrue(seen[0][0].endswith("/as-owner"))
+
+    def test_a_certificate_holds_between_two_days(self):
+        for now, name in (("Nov 30 00:00:00 2025", ["certificate-ended"]), ("Dec  2 00:00:00 2025", []),
+                          ("Jan 20 00:00:00 2026", ["certificate-ends"]),
+                          ("Feb  2 00:00:00 2026", ["certificate-ended"])):
+            with said((0, DATES)), unittest.mock.patch.object(look, "status_of", lambda _: True), \
+                    unittest.mock.patch("time.time", lambda: look.seconds_of(f"{now} GMT")):
+                self.assertEqual([it.name for it in look.certificate("/x", "renew it")], name, now)
+
+    def test_a_link_is_named_by_what_it_leads_to(self):
+        """Root types the cure: another user may have made the link."""
+        with tempfile.TemporaryDirectory() as folder:
+            path = os.path.join(os.path.realpath(folder), "file")
+            files.make(path, b"", 0o644)
+            os.symlink(path, f"{path}-link")
+            [fault] = look.open_to_others(f"{path}-link")
+        self.assertEqual((fault.text[:20 + len(path)], fault.cure),
+                         (f"others may read {path}: it", f"chmod o= {path}"))
 
     def test_counts_that_are_missing(self):
         """Without them nobody knows how old the balances are."""

@@ -193,7 +193,7 @@ def included(name="radiusd.conf"):
         inner = line.replace("${confdir}/", "").replace("${raddbdir}/", "")
         inner = inner.removeprefix(f"{site.RADDB}/")
         is_own = not inner.startswith(("/", "radacctd/")) and not inner.endswith("/")
-        if is_own and "$" not in inner and os.path.isfile(path(inner)):
+        if is_own and not re.search(r"\$|(?:^|/)\.\./", inner) and os.path.isfile(path(inner)):
             found += [inner, *included(inner)]
     return list(dict.fromkeys(found))
 

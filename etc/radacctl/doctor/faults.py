@@ -110,7 +110,7 @@ CRITICALS = {
         "write one key into both",
     ),
     "certificate-ended": (
-        "a certificate is over, or not there",
+        "a certificate does not hold now, or is not there",
         "renew it, and reload nginx, or restart freeradius",
     ),
     "pair-alarm": (

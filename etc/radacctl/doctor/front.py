@@ -62,7 +62,7 @@ def linked(place, own):
     """A command that makes a place a link, and keeps what was changed there by hand, as NAME.~1~:
     FreeRADIUS reads no such name.
     """
-    return f"ln -sf --backup=numbered {own} {place}"
+    return f"ln -sfT --backup=numbered {own} {place}"
 
 
 def steps(kind):
@@ -188,7 +188,8 @@ def certificates():
     eap = freeradius.text("mods-enabled", "eap")
     named = re.findall(r"""(?m)^\s*certificate_file\s*=\s*["']?([^"'\s]+)""", eap)
     for path in sorted({freeradius.file_at(it) for it in named} - {""}):
-        yield from look.certificate(path, "renew it, then: systemctl restart freeradius")
+        yield from look.certificate(path, "renew it, then: systemctl restart freeradius",
+                                    site.part("as-owner"), "--as", site.RADIUS_USER)
 
 
 def proxies(kind):
@@ -264,6 +265,7 @@ def queue(kind):
         owner = look.must("stat", "-c", "%U", path).strip() if status else "nobody"
         if owner != site.RADIUS_USER:
             yield Fault("queue-folder", f"{path} belongs to {owner}: no report is answered",
+                        f"radacctl setup; or, if namei -l {path} shows no link of freerad's: "
                         f"install -d -o freerad -g freerad -m 0700 {path}")
     yield from states()
 

@@ -6,6 +6,8 @@ import re
 import stat
 import subprocess
 import tempfile
+import time
+from ssl import cert_time_to_seconds as seconds_of
 
 from radacctl import files
 from radacctl.doctor.faults import Fault
@@ -89,25 +91,28 @@ def mode_of(status):
 
 
 def open_to_others(path, most=None):
-    """The fault of a file that has more rights than `most`, or else any for all other users."""
-    status = status_of(path)
+    """The fault of a file that has more rights than `most`, or else any for all other users. Of a
+    link it names what that leads to: the cure changes that.
+    """
+    path, status = os.path.realpath(path), status_of(path)
     if status and mode_of(status) & (0o007 if most is None else ~most & 0o077):
         yield Fault("mode-open", f"others may read {path}: it has {mode_of(status):o}",
                     f"chmod {'o=' if most is None else f'{most:o}'} {path}")
 
 
-def certificate(path, cure):
-    """The fault of a certificate that is missing, is over, or will be within three weeks."""
+def certificate(path, cure, *user):
+    """The fault of a certificate that is missing, does not hold now, or ends within three weeks. A
+    user who names it reads it: root would open what that is.
+    """
     if status_of(path) is None:
         yield Fault("certificate-ended", f"{path} is missing", cure)
         return
-    words = ("openssl", "x509", "-in", path, "-noout")
-    when = must(*words, "-enddate").strip().removeprefix("notAfter=")
-    lasts = lambda seconds: run(*words, "-checkend", str(seconds))[0] == 0
-    if not lasts(0):
-        yield Fault("certificate-ended", f"{path} is over, since {when}", cure)
-    elif not lasts(SOON):
-        yield Fault("certificate-ends", f"{path} is over at {when}", cure)
+    said = must(*user, "openssl", "x509", "-in", path, "-noout", "-dates")
+    begin, end = re.findall("not(?:Before|After)=(.*)", said)
+    if not seconds_of(begin) <= time.time() < seconds_of(end):
+        yield Fault("certificate-ended", f"{path} holds from {begin} to {end}", cure)
+    elif seconds_of(end) < time.time() + SOON:
+        yield Fault("certificate-ends", f"{path} is over at {end}", cure)
 
 
 def values_in(path):
