@@ -72,6 +72,7 @@ class Sections(unittest.TestCase):
         text = SERVER.replace("accounting {", "accounting {\n\t# to here: }")
         found = sql.without_sql(text)
         self.assertEqual(found, text.replace("here: }\n\tsql\n", "here: }\n\t# sql\n"))
+        found = steps.begun(found, "accounting", "radacctd_accounting")
         self.assertEqual(away.lines_out(found), text)
 
     def test_a_database_that_is_written_again_is(self):
@@ -97,6 +98,10 @@ class Sections(unittest.TestCase):
             bare = freeradius.without_comments(found)
             self.assertEqual(freeradius.section(bare, "accounting").split(), words)
             self.assertEqual(away.lines_out(found), text)
+
+    def test_a_server_that_no_set_up_touched_keeps_its_comments(self):
+        text = SERVER.replace("\tsql\n", "\t# sql\n\t# detail\n")
+        self.assertEqual(away.lines_out(text), text)
 
     def test_a_server_without_the_section_stays(self):
         text = SERVER.replace("accounting", "preacct")

@@ -60,7 +60,11 @@ class Away(Gone):
 
 
 def lines_out(text):
-    """A virtual server without radacctd's lines. What a set-up made a comment is a line again."""
+    """A virtual server without radacctd's lines. What a set-up made a comment is a line again: in a
+    server without such lines it is the site's own comment.
+    """
+    if not re.search(r"(?m)^[ \t]*radacctd_", text):
+        return text
     text = front.WITH_CLASS.sub("", text)
     text = re.sub(r"(?m)^[ \t]*radacctd_(?:accounting|login|packages\w*)[ \t]*\n", "", text)
     text = re.sub(r"(?m)^(\s*)radacctd_filter\b", r"\1filter_username", text)
