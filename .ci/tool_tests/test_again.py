@@ -244,7 +244,8 @@ class Again(Folder):
 
     def test_a_front_desk_that_nobody_named_is_told(self):
         self.patched(of_web, "JAIL", self.put("", "jail.d", "radacctd.conf"))
-        self.patched(of_web, "JAILS", os.path.join(self.folder, "jail.d", "*.conf"))
+        jails = of_web.JAILS.replace("/etc/fail2ban", self.folder)
+        self.patched(of_web, "JAILS", jails)
         self.patched(of_web, "JAIL_LOCAL", os.path.join(self.folder, "jail.local"))
         self.patched(of_web, "FOLDER", self.folder)
         self.patched(of_web.look, "run", lambda *_: (0, ""))
@@ -312,6 +313,20 @@ class Again(Folder):
         self.patched(of_web, "asked", lambda where, *_: seen.append(where) or 429)
         self.assertEqual(list(of_web.answers(mock.Mock(has_codes=False), text)), [])
         self.assertEqual(set(seen), {("10.0.0.5", 443)})
+
+    def test_who_logs_in_by_a_certificate_is_refused_without_one(self):
+        """A page that nobody may see is no fault; nor is one that asks for a password."""
+        self.patched(of_web, "FOLDER", self.folder)
+        self.patched(of_web.look, "is_active", lambda _: True)
+        for login, status in (("set $radacctd_login  password;", 401),
+                              ("# set $radacctd_login certificate;\n", 401),
+                              ("set $radacctd_login certificate;", 403)):
+            self.put(login, "login.conf")
+            for found in (401, 403):
+                self.patched(of_web, "asked", lambda _, __, path, it=found: (
+                    it if path == "/desk/" else 200))
+                told = list(of_web.answers(mock.Mock(has_codes=False), ""))
+                self.assertEqual(bool(told), found != status, (login, found))
 
     def test_a_site_of_16_books_gets_no_other_one(self):
         self.patched(setup.kind, "TABLE", self.put("shard,address,radius,desk\n"))

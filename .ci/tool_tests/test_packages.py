@@ -214,9 +214,16 @@ class Refused(unittest.TestCase):
                 file.write("of the copy")
             copy = f"{folder}/copies/2026-11-26"
             subprocess.run(["tar", "-czf", f"{copy}/site.tar.gz", "-C", copy, "var"], check=True)
-            text = doctor.PUT_BACK
+            # Where the site has its copies, and none that is of a day to come.
+            os.mkdir(f"{folder}/copies/2099-01-01")
+            for it in ("2026-11-26", "2099-01-01"):
+                with open(f"{folder}/copies/{it}/book", "w", encoding="ascii"):
+                    pass
+            there = {"RADACCTD_BACKUPS": f"{folder}/copies"}
+            with mock.patch.object(doctor.copies.look, "values_in", lambda _: there):
+                text = doctor.put_back()
             for old, new in (("systemctl", "true"), (" -C / ", f" -C {folder}/root "),
-                             (site.BACKUPS, f"{folder}/copies"), (" /root/;", f" {folder}/moved;"),
+                             (" /root/;", f" {folder}/moved;"),
                              (f"mv {logins.FOLDER}", f"mv {folder}/root{logins.FOLDER}")):
                 self.assertEqual(text.count(old), 2 if old == "systemctl" else 1, old)
                 text = text.replace(old, new)

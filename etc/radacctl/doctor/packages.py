@@ -5,7 +5,7 @@ import shlex
 import time
 
 from radacctl import files, freeradius, logins, names, packages, plans, site
-from radacctl.doctor import look
+from radacctl.doctor import copies, look
 from radacctl.doctor.faults import Fault
 from radacctl.setup import packages as wanted
 from radacctl.setup.steps import Failed
@@ -13,9 +13,6 @@ from radacctl.setup.steps import Failed
 # How long a guest may be begun, or a debit decided, in seconds.
 UNFINISHED = 600
 CURE = "radacctl setup, with packages = true in its file: PACKAGES.md"
-PUT_BACK = f"systemctl stop freeradius; mv {logins.FOLDER} /root/; tar -xpzf $(ls -d "
-PUT_BACK += f"{site.BACKUPS}/20*[0-9] | tail -1)/site.tar.gz -C / {logins.FOLDER.lstrip('/')}; "
-PUT_BACK += "systemctl start freeradius"
 MADE_ANEW = "restore nothing: systemctl start radacctd-packages makes it anew"
 
 
@@ -95,13 +92,19 @@ def free_codes(store):
                         f"{shlex.quote(sheet)}; radacctl guest new sells such a package")
 
 
+def put_back():
+    copy = copies.last_good() or f"{site.BACKUPS}/DATE"
+    return (f"systemctl stop freeradius; mv {logins.FOLDER} /root/; tar -xpzf {copy}/site.tar.gz "
+            f"-C / {logins.FOLDER.lstrip('/')}; systemctl start freeradius")
+
+
 def refused(name, path, why):
     """What refuses logins: a database that is lost, or one that is not. A copy cures lost logins;
     that of devices is in no copy, and made anew. Without a path FreeRADIUS' file names a strange
     one.
     """
     if path and logins.is_lost(path, why):
-        cure = PUT_BACK if name == "logins" else MADE_ANEW
+        cure = put_back() if name == "logins" else MADE_ANEW
         return Fault("packages-lost", f"logins are refused: {why}", cure)
     return Fault("packages-shut", f"logins are refused: {why}",
                  f"restore nothing. df -h {logins.FOLDER}; ls -la {logins.FOLDER}; then systemctl "

@@ -18,7 +18,7 @@ CHANGED = re.compile(r"^(?:server_name|ssl_|listen|include radacctd/desks|root|l
                      r"fastcgi_param SCRIPT_FILENAME|access_log|error_log)")
 # It keeps what was changed by hand, as NAME.~1~, which neither nginx nor fail2ban reads.
 COPY = "cp --backup=numbered"
-JAILS, JAIL_LOCAL = "/etc/fail2ban/jail.d/*.conf", "/etc/fail2ban/jail.local"
+JAILS, JAIL_LOCAL = "/etc/fail2ban/jail.d/*.[cl]o*", "/etc/fail2ban/jail.local"
 OWN = {"127.0.0.1", "127.0.0.1/8", "127.0.0.0/8", "::1", "::1/128"}
 JAIL, FILTER = "/etc/fail2ban/jail.d/radacctd.conf", "/etc/fail2ban/filter.d/radacctd.conf"
 SECRETS = {
@@ -123,7 +123,9 @@ def answers(kind, text):
     if not look.is_active("nginx.service"):
         return
     name = re.search(r"(?m)^\s*server_name\s+([^\s;]+)", text)
-    wanted = {"/": 200, "/desk/": 401, "/settings.json": 200}
+    by_certificate = re.search(r"(?m)^\s*set \$radacctd_login\s+certificate",
+                               files.text(f"{FOLDER}/login.conf"))
+    wanted = {"/": 200, "/desk/": 403 if by_certificate else 401, "/settings.json": 200}
     if kind.has_codes:
         wanted["/redeem/"] = 200
     where = heard_at(text)
