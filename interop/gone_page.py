@@ -122,7 +122,8 @@ class Lost(Asking):
         status = box.run("systemctl enable --now freeradius")[0]
         check("FreeRADIUS starts", status, 0)
         if status:
-            print(box.run("runuser -P -u freerad -- freeradius -CX | tail -5; journalctl -u freeradius -n 9 -o cat")[1])
+            print(box.run("runuser -P -u freerad -- freeradius -CX | tail -5; "
+                          "journalctl -u freeradius -n 9 -o cat")[1])
         desk_page.put_proxy(box, CASHIER)
         box.must(f"sed -i 's|\"url\": \"\"|\"url\": \"{URL}\"|' /etc/radacctd-web/settings.json")
         box.must("systemctl restart nginx; systemctl enable nginx 2>&1")

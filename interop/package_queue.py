@@ -1,5 +1,5 @@
-"""Rows of interop/package: an upgrade behind FreeRADIUS, with open sessions and a waiting queue; and
-what apt says of a removal while others read files of the package.
+"""Rows of interop/package: an upgrade behind FreeRADIUS, with open sessions and a waiting queue;
+and what apt says of a removal while others read files of the package.
 """
 
 import os

@@ -528,11 +528,12 @@ class Unseen(unittest.TestCase):
         self.assertTrue(seen[0][0].endswith("/as-owner"))
 
     def test_a_certificate_holds_between_two_days(self):
-        for now, name in (("Nov 30 00:00:00 2025", ["certificate-ended"]), ("Dec  2 00:00:00 2025", []),
-                          ("Jan 20 00:00:00 2026", ["certificate-ends"]),
-                          ("Feb  2 00:00:00 2026", ["certificate-ended"])):
+        for now, name in (("Nov 30 2025", ["certificate-ended"]), ("Dec  2 2025", []),
+                          ("Jan 20 2026", ["certificate-ends"]),
+                          ("Feb  2 2026", ["certificate-ended"])):
+            moment = time.mktime(time.strptime(now, "%b %d %Y"))
             with said((0, DATES)), unittest.mock.patch.object(look, "status_of", lambda _: True), \
-                    unittest.mock.patch("time.time", lambda: look.seconds_of(f"{now} GMT")):
+                    unittest.mock.patch("time.time", lambda it=moment: it):
                 self.assertEqual([it.name for it in look.certificate("/x", "renew it")], name, now)
 
     def test_a_link_is_named_by_what_it_leads_to(self):

@@ -309,7 +309,7 @@ def lead_inside(raddb):
 class Fresh:
     """Restarts a unit that has not read its files as they are, once a test of these is well.
 
-    The clock, which may be set at any time, is asked only of a start that no set-up has seen before.
+    The clock, which may be set at any time, is asked only of a start that no set-up has seen.
     """
 
     def __init__(self, what, unit, paths, test=()):

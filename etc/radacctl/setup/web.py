@@ -108,7 +108,7 @@ class Server(File):
     """The file for nginx, which each set-up writes anew."""
 
     def text(self):
-        return f"{super().text()}\n    (lines of your own belong into {FOLDER}/own.conf, which stays)"
+        return f"{super().text()}\n    (your own lines belong into {FOLDER}/own.conf, which stays)"
 
 
 # Where a server listens, and how often an address may ask.
