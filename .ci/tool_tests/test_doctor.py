@@ -15,7 +15,7 @@ import unittest.mock
 from radacctl import files, freeradius, site as places
 from radacctl.commands import doctor
 from radacctl.doctor import book, copies, faults, front as fronts, kind, look, machine
-from radacctl.doctor import pair as pairs, web as pages
+from radacctl.doctor import packages as of_packages, pair as pairs, web as pages
 from radacctl.setup import alone, answers, front, pair, sql, steps
 from tool_tests import ROOT
 
@@ -387,11 +387,71 @@ class Cures(unittest.TestCase):
         for it in found:
             self.assertRegex(it.cure, r"^radacctl setup, or ln -sfT --backup=numbered /\S+ /\S+$")
 
+    def test_of_a_unit_that_is_gone(self):
+        """`systemctl disable` removes a unit that is a link: none can be started then."""
+        one = unittest.mock.Mock(units=lambda: ["radacctd-mirror.service"])
+        for state, act in (("not-found", "radacctl setup"), ("masked", "systemctl unmask --now ")):
+            with said((0, f"LoadState={state}\nActiveState=inactive\nUnitFileState=\n")):
+                [fault] = machine.units(one)
+            self.assertEqual(fault.name, "unit-down")
+            self.assertTrue(fault.cure.startswith(act), fault.cure)
+            self.assertNotIn("systemctl start", fault.cure)
+
     def test_of_a_unit_that_failed(self):
         units = "radacctd-nightly.service", "radacctd@s3.service", "radacctd-clerk-work@7-1.service"
         with said((0, "".join(f"{it} loaded failed failed x\n" for it in units))):
             acts = [it.cure.rpartition("systemctl ")[2] for it in machine.failed()]
         self.assertEqual(acts, [f"start {units[0]}", f"start {units[1]}", f"reset-failed {units[2]}"])
+
+
+class Sound(unittest.TestCase):
+    """What a site may spell otherwise is no fault; and what it spells otherwise is found, too."""
+
+    def setUp(self):
+        folder = tempfile.TemporaryDirectory()
+        self.addCleanup(folder.cleanup)
+        self.folder = os.path.realpath(folder.name)
+        patched = unittest.mock.patch.object(places, "RADDB", self.folder)
+        patched.start()
+        self.addCleanup(patched.stop)
+
+    def put(self, text, *names):
+        path = os.path.join(self.folder, *names)
+        os.makedirs(os.path.dirname(path), exist_ok=True)
+        files.remove(path)
+        files.make(path, text.encode())
+
+    def test_files_that_radiusd_conf_includes(self):
+        names = ("settings.conf", "access-servers.conf", "pair.conf", "packages.conf")
+        for folder in ("\t", " /etc/freeradius/3.0/", " ${confdir}/", "  "):
+            self.put("".join(f"$INCLUDE{folder}radacctd/{it}\n" for it in names), "radiusd.conf")
+            with said((0, "")), unittest.mock.patch.object(files, "sample", lambda *_: ""):
+                found = list(fronts.steps(unittest.mock.Mock(has_pair=True, has_shards=False)))
+                found += of_packages.lines()
+            self.assertEqual([it.text for it in found if "does not include" in it.text], [], folder)
+        self.put("# $INCLUDE radacctd/settings.conf\n", "radiusd.conf")
+        with said((0, "")):
+            found = list(fronts.steps(unittest.mock.Mock(has_pair=True, has_shards=False)))
+        self.assertEqual(len([it for it in found if "does not include" in it.text]), 3)
+
+    def test_a_tunnel_whose_file_has_another_name(self):
+        self.put("peap {\n\tvirtual_server = inner-tunnel\n}\n", "mods-enabled", "eap")
+        self.put("server inner-tunnel {\npost-auth {\n}\n}\n", "sites-enabled", "inside")
+        [fault] = fronts.tunnel()
+        self.assertIn("sites-enabled/inside has no radacctd_login", fault.text)
+        text = "server inner-tunnel {\npost-auth {\nradacctd_login\n}\n}\n"
+        self.put(text, "sites-enabled", "inside")
+        self.assertEqual(list(fronts.tunnel()), [])
+
+    def test_the_secret_of_radsec_is_the_same_for_all(self):
+        """Who may speak is known by a certificate."""
+        client = "client {0} {{\n\tipaddr = 10.0.0.{0}\n{1}\tsecret = radsec\n}}\n"
+        for proto, names in (("\tproto = tls\n", []),
+                             ("", ["secret-short", "secret-short", "secret-shared"])):
+            text = client.format(1, proto) + client.format(2, proto)
+            self.put(text, "radacctd/access-servers.conf")
+            found = [it.name for it in fronts.samples() if it.name.startswith("secret-")]
+            self.assertEqual(found, names)
 
 
 class Kept(unittest.TestCase):

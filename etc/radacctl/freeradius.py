@@ -198,6 +198,11 @@ def included(name="radiusd.conf"):
     return list(dict.fromkeys(found))
 
 
+def own_included(main):
+    """The names of radacctd's files that radiusd.conf includes, however a site spells the folder."""
+    return set(re.findall(r"(?m)^[ \t]*-?\$INCLUDE[ \t]+(?:\S*/)?radacctd/(\S+)[ \t]*$", main))
+
+
 def network(name, block):
     """The addresses of a client, or None if they cannot be told: a host's name, say."""
     found = value(block, "ip(?:v4|v6)?addr") or name

@@ -67,12 +67,11 @@ def linked(place, own):
 
 def steps(kind):
     """The lines that a site writes into FreeRADIUS' own files."""
-    main = freeradius.text("radiusd.conf")
+    known = freeradius.own_included(freeradius.text("radiusd.conf"))
     wanted = ["settings.conf", "access-servers.conf", *(["pair.conf"] if kind.has_pair else [])]
-    for name in wanted:
-        if f"$INCLUDE radacctd/{name}" not in main and f"/radacctd/{name}" not in main:
-            yield Fault("raddb-steps", f"radiusd.conf does not include radacctd/{name}",
-                        f"add it before `modules`: {PAGE}")
+    for name in (it for it in wanted if it not in known):
+        yield Fault("raddb-steps", f"radiusd.conf does not include radacctd/{name}",
+                    f"add it before `modules`: {PAGE}")
     for place, own in freeradius.OURS.items():
         path = freeradius.path(place)
         if not os.path.exists(path):
@@ -114,12 +113,9 @@ def sections(name):
 
 def tunnel():
     """A login by PEAP or TTLS gets its name and Class from the inner tunnel."""
-    eap = freeradius.text("mods-enabled", "eap")
-    if not re.search(r"(?m)^\s*(?:peap|ttls)\s*\{", eap):
-        return
-    for name in set(re.findall(r'(?m)^\s*virtual_server\s*=\s*"?([\w-]+)', eap)):
+    for name in freeradius.tunnels():
         inner = freeradius.text("sites-enabled", name)
-        if inner and "radacctd_login" not in freeradius.section(inner, "post-auth").split():
+        if "radacctd_login" not in freeradius.section(inner, "post-auth").split():
             yield Fault("tunnel-login", f"sites-enabled/{name} has no radacctd_login in post-auth: "
                         "logins by PEAP and TTLS are refused", f"step 7 of {PAGE}")
 
@@ -157,7 +153,10 @@ def samples():
         yield from look.open_to_others(path)
     seen = {}
     for name, block in freeradius.blocks(freeradius.CLIENT, "radacctd", "access-servers.conf"):
+        # All of RadSec have one secret: who may speak is known by a certificate.
         secret = freeradius.value(block, "secret")
+        if freeradius.value(block, "proto") == "tls":
+            continue
         if 0 < len(secret) < books.SHORTEST_SECRET and "change-me" not in secret:
             text = f"client {name} of FreeRADIUS has {len(secret)} characters"
             yield Fault("secret-short", text, books.LONGER)

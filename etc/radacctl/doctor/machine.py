@@ -12,6 +12,8 @@ from radacctl.doctor import look
 # Free space that a disk is to have at least: a part, or so many octets of a large one.
 LEAST_PART, LEAST_OCTETS = 0.05, 1 << 30
 YEAR_2026 = 1_767_225_600
+# What a unit that cannot be started needs. `systemctl disable` removes one that is a link.
+UNSTARTED = {"masked": "systemctl unmask --now {}", "not-found": "radacctl setup, which brings it"}
 # The programs whose process may be an older one: of each, the unit.
 SCRIPTS = {
     f"{site.RADDB}/radacctd/balances-mirror": "radacctd-mirror.service",
@@ -30,8 +32,8 @@ def look_at(kind):
 def units(kind):
     for unit in kind.units():
         found = look.properties(unit, "LoadState", "ActiveState", "UnitFileState")
-        if found.get("LoadState") == "masked":
-            yield Fault("unit-down", f"{unit} is masked", f"systemctl unmask --now {unit}")
+        if cure := UNSTARTED.get(found.get("LoadState")):
+            yield Fault("unit-down", f"{unit} is {found['LoadState']}", cure.format(unit))
             continue
         if found.get("ActiveState") not in ("active", "reloading"):
             state = found.get("ActiveState", "unknown")

@@ -35,8 +35,8 @@ def lines():
         if files.text(freeradius.path(place)) != files.sample("packages", own):
             yield Fault("packages-steps", f"{freeradius.path(place)} is not that of this version",
                         CURE)
-    if wanted.INCLUDE.strip() not in freeradius.text("radiusd.conf"):
-        yield Fault("packages-steps", "radiusd.conf does not include radacctd/packages.conf", CURE)
+    if logins.CONF not in freeradius.own_included(freeradius.text("radiusd.conf")):
+        yield Fault("packages-steps", f"radiusd.conf does not include radacctd/{logins.CONF}", CURE)
     places = [(it, wanted.default) for it in freeradius.selling()]
     places += [(it, wanted.inner) for it in freeradius.tunnels() or ["inner-tunnel"]]
     for name, change in places:

@@ -352,10 +352,9 @@ def main(old, answers):
     """radiusd.conf with the files of the site, before its modules."""
     wanted = INCLUDES + ("$INCLUDE radacctd/pair.conf\n" if answers.pair else "")
     wanted += packages.INCLUDE if answers.has_packages else ""
-    bare = freeradius.without_comments(there(old, "radiusd.conf"))
-    # However a site spells the folder: twice the same would be a fault.
-    named = set(re.findall(r"(?m)^[ \t]*-?\$INCLUDE[ \t]+\S*(radacctd/\S+)[ \t]*$", bare))
-    lacks = [it for it in wanted.splitlines(True) if it.split()[1] not in named]
+    # Twice the same would be a fault.
+    known = freeradius.own_included(freeradius.without_comments(there(old, "radiusd.conf")))
+    lacks = [it for it in wanted.splitlines(True) if it.strip().rpartition("/")[2] not in known]
     if not lacks:
         return old
     if "\nmodules {" not in old:
