@@ -14,7 +14,8 @@ from unittest import mock
 from radacctl import configuration, files, freeradius, site as places
 from radacctl.commands import setup, site as copying
 from radacctl.doctor import book, machine, packages as of_packages, web as of_web
-from radacctl.setup import alone, answers, away, front, packages as of_setup, sql, steps, web
+from radacctl.setup import alone, answers, away, front, packages as of_setup, pair as of_pair, sql
+from radacctl.setup import steps, web
 import tool_tests
 from tool_tests import ROOT
 
@@ -288,6 +289,26 @@ class Again(Folder):
             self.assertTrue(step.wanted(None).startswith(b"# "))
         self.put("old\n")
         self.assertIn(f"{self.folder}/own.conf", web.Server(self.path, lambda _: "new\n").text())
+
+    def test_what_a_site_changes_of_fail2ban_stays(self):
+        """As the file says: if many guests share an address, it may mistype more."""
+        one = wanted(front_desk=["10.0.1.0/24"])
+        [step] = [it for it in web.fail2ban(one, lambda *_: "")
+                  if getattr(it, "path", "") == web.JAIL]
+        jail = step.wanted(None).decode()
+        self.assertIn("\nignoreip = 127.0.0.1/8 ::1 10.0.1.0/24\n", jail)
+        mine = jail.replace("maxretry = 10", "maxretry=200").replace("1h", "10m")
+        self.assertEqual(step.wanted(mine.encode()).decode(), mine)
+        other = mine.replace("10.0.1.0/24", "10.0.9.0/24").replace("nftables", "iptables")
+        self.assertEqual(step.wanted(other.encode()).decode(), mine)
+
+    def test_what_a_site_decides_of_a_pair_stays(self):
+        """In another folder of the queue reports for the other machine would wait for ever."""
+        one = wanted(pair={"own": "10.9.0.5", "other": "10.9.0.6"})
+        text = of_pair.conf_of(None, one, "s" * 32)
+        mine = text.replace("11814", "21814").replace("${radacctdir}", "/srv")
+        self.assertEqual(of_pair.conf_of(mine, one, "s" * 32), mine)
+        self.assertEqual(of_pair.conf_of(mine.replace("10.9.0.5", "10.9.0.7"), one, "s" * 32), mine)
 
     def test_a_book_that_has_sold_keeps_its_decimals(self):
         """One more, and each sum of it would be a tenth."""

@@ -43,8 +43,8 @@ def in_front(answers, config):
     known = freeradius.value(freeradius.text("radacctd", "pair.conf"), "secret")
     secret = answers.secrets.get("pair") or (known if len(known) >= 16 else None)
     config.pair_secret = secret or config.pair_secret
-    conf = conf_of(answers, config.pair_secret)
-    yield File(raddb("radacctd", "pair.conf"), conf, 0o640, of_group=site.RADIUS_USER)
+    yield File(raddb("radacctd", "pair.conf"), lambda old: conf_of(old, answers, config.pair_secret),
+               0o640, of_group=site.RADIUS_USER)
     yield Link(raddb("sites-enabled/radacctd-pair"), own("pair-server"))
     yield Folder(f"{site.RADACCT}/radacctd-other", 0o700, site.RADIUS_USER, site.RADIUS_USER)
     both = f"RADACCTD_OWN={answers.pair['own']}\nRADACCTD_OTHER={answers.pair['other']}\n"
@@ -62,8 +62,8 @@ def in_front(answers, config):
         yield File(f"{SYSTEMD}/radacctd-redeem.service.d/pair.conf", TO_OUTBOX, 0o644)
 
 
-def conf_of(answers, secret):
-    text = files.sample("pair", "pair.conf")
+def conf_of(old, answers, secret):
+    text = old or files.sample("pair", "pair.conf")
     for name, value in (("own", answers.pair["own"]), ("other", answers.pair["other"]),
                         ("secret", secret)):
         text = re.sub(rf"(?m)^(\t{name} = ).*$", lambda it, to=value: it[1] + to, text, count=1)

@@ -111,9 +111,16 @@ class Server(File):
         return f"{super().text()}\n    (your own lines belong into {FOLDER}/own.conf, which stays)"
 
 
-# Where a server listens, and how often an address may ask.
+# Where a server listens; how often an address may ask, and how often it may be wrong.
 LISTEN = re.compile(r"(?m)(?:^[ \t]*listen[ \t].*\n)+")
 RATE = re.compile(r"(?m)^limit_req_zone .* zone=(\w+):.*$")
+LIMIT = re.compile(r"(?m)^(maxretry|findtime|bantime)\b.*$")
+
+
+def kept(pattern, text, old):
+    """A text with the lines of a pattern that a site has, each in the place of its own."""
+    had = {it[1]: it[0] for it in pattern.finditer(old)}
+    return pattern.sub(lambda it: had.get(it[1], it[0]), text)
 
 
 def server(old, answers):
@@ -126,10 +133,10 @@ def server(old, answers):
     text = re.sub(r"(?m)^(\s+server_name )\S+;.*$", rf"\g<1>{answers.host};", text)
     text = re.sub(r"(?m)^(\s+ssl_certificate )\s*\S+;.*$", rf"\g<1>{pem};", text)
     text = re.sub(r"(?m)^(\s+ssl_certificate_key )\S+;.*$", rf"\g<1>{key};", text)
-    places, rates = LISTEN.findall(old), {it[1]: it[0] for it in RATE.finditer(old)}
+    places = LISTEN.findall(old)
     if len(places) == len(LISTEN.findall(text)):
         text = LISTEN.sub(lambda _: places.pop(0), text)
-    return RATE.sub(lambda it: rates.get(it[1], it[0]), text)
+    return kept(RATE, text, old)
 
 
 def settings(old, answers):
@@ -245,7 +252,7 @@ def fail2ban(answers, own):
     sample = files.sample("nginx", "fail2ban", "radacctd.jail.conf")
     jail = re.sub(r"(?m)^# ignoreip = .*$", f"ignoreip = {networks}", sample)
     yield Link(FILTER, own("fail2ban", "radacctd.filter.conf"))
-    yield File(JAIL, lambda old: jail, 0o644)
+    yield File(JAIL, lambda old: kept(LIMIT, jail, old or ""), 0o644)
     sshd = "[sshd]\nbackend = systemd\n"
     yield File(SSHD, lambda old: old or sshd, 0o644)
     yield unit("fail2ban.service")
