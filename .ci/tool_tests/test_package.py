@@ -96,6 +96,7 @@ class Removal(unittest.TestCase):
         with tempfile.TemporaryDirectory() as folder:
             script = script.replace("/etc/", f"{folder}/etc/").replace("/var/lib", folder)
             script = script.replace("/run/systemd", f"{folder}/none")
+            script = re.sub(r"/usr/s?bin/", f"{folder}/", script)
             places = {"nginx": ("nginx/radacctd/headers.conf", "nginx/conf.d/radacctd.conf"),
                       "fail2ban": ("fail2ban/filter.d/radacctd.conf",
                                    "fail2ban/jail.d/radacctd.conf"),
@@ -105,12 +106,19 @@ class Removal(unittest.TestCase):
             run = lambda act: subprocess.run(["sh", "-c", script, "prerm", act], text=True,
                                              capture_output=True)
             self.assertEqual(run("remove").returncode, 0)
-            for who, names in places.items():
-                path, own = (os.path.join(folder, "etc", it) for it in names)
-                with open(own, "w", encoding="ascii") as file:
-                    file.write("server {\n}\n")
-                for target, status in (("/usr/share/radacctd/x", 1), ("/usr/local/share/x", 0)):
+            for program, (who, names) in zip(("nginx", "fail2ban-server", "freeradius"),
+                                             places.items()):
+                path, own, program = (os.path.join(folder, it) for it in (
+                    *(f"etc/{it}" for it in names), program))
+                for it in (own, program):
+                    with open(it, "w", encoding="ascii") as file:
+                        file.write("server {\n}\n")
+                # Who was removed before starts no more: its links are in nobody's way.
+                for target, mode, status in (("/usr/share/radacctd/x", 0o755, 1),
+                                             ("/usr/share/radacctd/x", 0o644, 0),
+                                             ("/usr/local/share/x", 0o755, 0)):
                     os.symlink(target, path)
+                    os.chmod(program, mode)
                     done = run("remove")
                     self.assertEqual((done.returncode, who in done.stderr), (status, bool(status)))
                     self.assertEqual(run("upgrade").returncode, 0)

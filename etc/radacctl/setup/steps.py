@@ -277,7 +277,7 @@ class Trial:
                 one = copy.copy(it)
                 one.path = raddb + it.path.removeprefix(site.RADDB)
                 one.do()
-            File(os.path.join(raddb, "radiusd.conf"), lambda old: moved(old, raddb)).do()
+            File(os.path.join(raddb, "radiusd.conf"), lambda old: moved(old or "", raddb)).do()
             try:
                 given(freeradius.test("-d", raddb), seconds=60)
             except Failed as why:
