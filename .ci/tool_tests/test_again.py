@@ -181,6 +181,20 @@ class Again(Folder):
         self.assertIn("(mikrotik) it is mikrotik", found[0])
         self.assertEqual(list(front.others(wanted(access_server=[{**one, "name": "new"}]))), [])
 
+    def test_a_secret_stays_as_a_site_spells_it(self):
+        """Between other marks a backslash would mean more: the device would be ignored."""
+        for spelled in (r"'a\b'", r'"a\"b # c"', "plain", r"plain\x"):
+            self.patched(places, "RADDB", self.folder)
+            self.put("$INCLUDE clients.conf\n", "radiusd.conf")
+            self.put("".join(f"client {name} {{\n\tipaddr = {place}\n\tsecret = {spelled}\n}}\n"
+                             for name, place in (("all", "10.0.0.0/24"), ("one", "10.0.1.1"))),
+                     "clients.conf")
+            both = [{"name": "hall", "address": "10.0.0.7", "vendor": "openwrt"},
+                    {"name": "one", "address": "10.0.1.1", "vendor": "openwrt"}]
+            text = front.clients(None, wanted(access_server=both))
+            # The client of the hall, and where both are cut off.
+            self.assertEqual(text.count(f"\tsecret = {spelled}\n"), 3, text)
+
     def test_who_reported_to_radacctd_keeps_its_secret(self):
         """FreeRADIUS comes in front: nobody has to type a secret at the access server again."""
         self.patched(freeradius, "text", lambda *_: "")

@@ -562,6 +562,10 @@ class Existing(Folder):
         for more in ({"pair": pair}, {"packages": True}):
             found = away.includes_out(front.main(text, self.wanted(**more)))
             self.assertEqual(found.replace(f"$INCLUDE {away.CLIENTS}\n", ""), text)
+        # FreeRADIUS would read on without a word, and without any access server.
+        self.assertEqual(away.includes_out("-$INCLUDE radacctd/access-servers.conf\n"
+                                           "-$INCLUDE radacctd/settings.conf\n"),
+                         f"-$INCLUDE {away.CLIENTS}\n")
         text = "# mine\nal Cleartext-Password := x\n"
         self.assertEqual(away.test_user_out(front.users(text)), text)
         wanted = self.wanted({"name": "ap", "address": "10.0.0.2"})

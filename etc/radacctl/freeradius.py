@@ -64,6 +64,12 @@ def value(block, name):
     return next(it for it in found.groups() if it is not None) if found else ""
 
 
+def spelled(block, name):
+    """The same as the file spells it: between other marks it could be another value."""
+    found = re.search(rf"(?m)^[ \t]*{name}[ \t]*=[ \t]*({QUOTED}|\S+)", block)
+    return found[1] if found else '""'
+
+
 def file_at(name):
     """The path of a file that may begin with a folder of radiusd.conf, as ${certdir}; else ""."""
     main, found = text("radiusd.conf"), name
@@ -199,7 +205,7 @@ def included(name="radiusd.conf"):
 
 
 def own_included(main):
-    """The names of radacctd's files that radiusd.conf includes, however a site spells the folder."""
+    """The names of radacctd's files that radiusd.conf includes, however it spells the folder."""
     return set(re.findall(r"(?m)^[ \t]*-?\$INCLUDE[ \t]+(?:\S*/)?radacctd/(\S+)[ \t]*$", main))
 
 

@@ -74,11 +74,11 @@ def lines_out(text):
 
 def includes_out(text):
     """radiusd.conf without radacctd's settings. The access servers stay FreeRADIUS' clients."""
-    text = re.sub(r"(?m)^[ \t]*\$INCLUDE[ \t]+\S*radacctd/(?:settings|pair|packages)\.conf[ \t]*\n",
-                  "", text)
-    is_there = re.search(rf"(?m)^[ \t]*\$INCLUDE[ \t]+(?!\S*radacctd/)\S*{CLIENTS}[ \t]*$", text)
-    return re.sub(r"(?m)^([ \t]*\$INCLUDE[ \t]+)\S*radacctd/access-servers\.conf[ \t]*\n",
-                  "" if is_there else rf"\g<1>{CLIENTS}\n", text)
+    include = r"(?m)^([ \t]*-?\$INCLUDE[ \t]+)"
+    own = include + r"\S*radacctd/"
+    text = re.sub(own + r"(?:settings|pair|packages)\.conf[ \t]*\n", "", text)
+    is_there = re.search(include + rf"(?!\S*radacctd/)\S*{CLIENTS}[ \t]*$", text)
+    return re.sub(own + r"access-servers\.conf[ \t]*\n", "" if is_there else rf"\g<1>{CLIENTS}\n", text)
 
 
 def own_clients_out(text):

@@ -215,13 +215,12 @@ def clients(old, answers, books=None, reporting=()):
         values = {**it, **lines_of(it, test)}
         there = freeradius.client_at(it["address"])
         if there:
-            values["secret"] = quoted(freeradius.value(there[2], "secret"))
+            values["secret"] = freeradius.spelled(there[2], "secret")
         else:
             test_name(it)
-            own = covering(it) or reported(it, reporting)
-            own = own or secret(answers, f"client-{it['name']}")
+            own = reported(it, reporting) or secret(answers, f"client-{it['name']}")
             kind = "ipaddr" if it["version"] == 4 else "ipv6addr"
-            values |= {"secret": quoted(own), "kind": kind}
+            values |= {"secret": covering(it) or quoted(own), "kind": kind}
             text = text.rstrip("\n") + "\n\n" + CLIENT.format(**values)
         if values["cut"] == "yes" and not is_cut(it["address"], text):
             text = text.rstrip("\n") + "\n" + HOME.format(port=CUT_PORT[it["vendor"]], **values)
@@ -233,9 +232,9 @@ def with_coa(text, it, block):
     if not it.get("coa") or freeradius.value(block, "radacctd_coa"):
         return text
     if not is_cut(it["address"], text):
-        secret_there = quoted(freeradius.value(block, "secret"))
         text = text.rstrip("\n") + "\n" + HOME.format(
-            port=CUT_PORT[it["vendor"]], address=it["address"], secret=secret_there)
+            port=CUT_PORT[it["vendor"]], address=it["address"],
+            secret=freeradius.spelled(block, "secret"))
     return in_client(text, it["name"], [COA])
 
 
@@ -268,7 +267,7 @@ def is_cut(address, text):
 def covering(wanted):
     """The secret that these addresses have now, as a part of a network: it stays theirs."""
     addresses = ipaddress.ip_network(wanted["address"])
-    found = [(it.prefixlen, freeradius.value(block, "secret"))
+    found = [(it.prefixlen, freeradius.spelled(block, "secret"))
              for _, _, it, block in freeradius.other_clients()
              if it and it.version == addresses.version and addresses.subnet_of(it)]
     return max(found)[1] if found else None

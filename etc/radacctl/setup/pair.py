@@ -43,8 +43,8 @@ def in_front(answers, config):
     known = freeradius.value(freeradius.text("radacctd", "pair.conf"), "secret")
     secret = answers.secrets.get("pair") or (known if len(known) >= 16 else None)
     config.pair_secret = secret or config.pair_secret
-    yield File(raddb("radacctd", "pair.conf"), lambda old: conf_of(old, answers, config.pair_secret),
-               0o640, of_group=site.RADIUS_USER)
+    conf = lambda old: conf_of(old, answers, config.pair_secret)
+    yield File(raddb("radacctd", "pair.conf"), conf, 0o640, of_group=site.RADIUS_USER)
     yield Link(raddb("sites-enabled/radacctd-pair"), own("pair-server"))
     yield Folder(f"{site.RADACCT}/radacctd-other", 0o700, site.RADIUS_USER, site.RADIUS_USER)
     both = f"RADACCTD_OWN={answers.pair['own']}\nRADACCTD_OTHER={answers.pair['other']}\n"
