@@ -414,6 +414,19 @@ class Again(Folder):
             fresh(step.path).do()
             self.assertTrue(fresh(step.path).is_done())
 
+    def test_a_program_and_a_unit_of_a_new_version_are_started(self):
+        """Each is a link: an upgrade changes what it leads to, and restarts none of them."""
+        one = wanted(pair={"own": "10.9.0.5", "other": "10.9.0.6"})
+        found = [*front.parts_running(), *of_pair.after(one, mock.Mock())]
+        programs = {"radacctd-mirror": freeradius.path("radacctd/balances-mirror"),
+                    "radacctd-front": freeradius.path("radacctd/front-counts"),
+                    "radacctd-outbox": "/usr/local/sbin/radacctd-outbox"}
+        for it in (it for it in found if isinstance(it, steps.Fresh)):
+            program = programs.pop(it.unit.removesuffix(".service"))
+            self.assertLessEqual({program, f"/etc/systemd/system/{it.unit}"}, set(it.paths))
+            self.assertEqual(machine.SCRIPTS[program], it.unit)
+        self.assertEqual(programs, {})
+
     def test_a_file_that_is_gone_is_a_change(self):
         """FreeRADIUS' part is taken out, and that run is killed before the restart."""
         self.put("x")

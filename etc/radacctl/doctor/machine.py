@@ -18,6 +18,7 @@ UNSTARTED = {"masked": "systemctl unmask --now {}", "not-found": "radacctl setup
 SCRIPTS = {
     f"{site.RADDB}/radacctd/balances-mirror": "radacctd-mirror.service",
     f"{site.RADDB}/radacctd/front-counts": "radacctd-front.service",
+    "/usr/local/sbin/radacctd-outbox": "radacctd-outbox.service",
 }
 
 

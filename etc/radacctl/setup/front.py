@@ -449,8 +449,7 @@ def running(inside):
 
 def parts_running():
     """So do the mirror of the balances and the counts."""
-    drop_in = "/etc/systemd/system/radacctd-mirror.service.d/pair.conf"
-    for name, path in (("mirror", freeradius.path("radacctd/balances-mirror")),
-                       ("front", freeradius.path("radacctd/front-counts"))):
-        paths = [path, *([drop_in] if name == "mirror" else [])]
+    for name, program in (("mirror", "balances-mirror"), ("front", "front-counts")):
+        unit_file = f"/etc/systemd/system/radacctd-{name}.service"
+        paths = [freeradius.path("radacctd", program), unit_file, f"{unit_file}.d/pair.conf"]
         yield Fresh(f"restart radacctd-{name}", f"radacctd-{name}.service", paths)

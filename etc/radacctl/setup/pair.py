@@ -74,7 +74,8 @@ def after(answers, config):
     """What runs once FreeRADIUS does, and the answers for the other machine."""
     for name in ("radacctd-outbox.service", "radacctd-state.socket", "radacctd-compare.timer"):
         yield unit(name)
-    paths = [desk.CASHIER_KEY, "/etc/default/radacctd-pair"]
+    paths = [desk.CASHIER_KEY, "/etc/default/radacctd-pair", "/usr/local/sbin/radacctd-outbox",
+             f"{SYSTEMD}/radacctd-outbox.service"]
     yield Fresh("restart the outbox", "radacctd-outbox.service", paths)
     # It fails as long as the other machine is not there.
     yield Command("compare both books once", has_balances, "systemctl", "start",
