@@ -443,6 +443,23 @@ class Sound(unittest.TestCase):
         self.put(text, "sites-enabled", "inside")
         self.assertEqual(list(fronts.tunnel()), [])
 
+    SERVER = "server {0} {{\nlisten {{\n\ttype = auth\n}}\nauthorize {{\n\t{1}\n}}\n"
+    SERVER += "accounting {{\n\t{2}\n}}\n}}\n"
+
+    def test_a_server_by_which_nobody_sells_may_filter_names(self):
+        self.put(self.SERVER.format("other", "filter_username", "detail"), "sites-enabled/other")
+        with unittest.mock.patch.object(fronts.names, "balances", lambda: {b"room 12": 5}):
+            for word, count in (("radacctd_filter", 0), ("filter_username", 1)):
+                self.put(self.SERVER.format("own", word, "radacctd_accounting"), "sites-enabled/own")
+                self.assertEqual(len(list(fronts.names_refused())), count)
+
+    def test_a_home_server_of_any_file_is_looked_at(self):
+        one = unittest.mock.Mock(books=[unittest.mock.Mock(port=lambda: 11813)])
+        text = "home_server {0} {{\n\tport = 11813\n\tstatus_check = {1}\n}}\n"
+        self.put(text.format("x", "status-server"), "sites-enabled", "campus")
+        self.put(text.format("y", "none"), "proxy.conf")
+        self.assertEqual([it.name for it in fronts.proxies(one)], ["status-check"])
+
     def test_the_secret_of_radsec_is_the_same_for_all(self):
         """Who may speak is known by a certificate."""
         client = "client {0} {{\n\tipaddr = 10.0.0.{0}\n{1}\tsecret = radsec\n}}\n"

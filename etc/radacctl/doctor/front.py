@@ -194,7 +194,7 @@ def certificates():
 def proxies(kind):
     """A home server that asks radacctd for what it never answers."""
     ports = {str(it.port()) for it in kind.books}
-    for name in ("proxy.conf", "sites-enabled/default"):
+    for name in ("proxy.conf", *(f"sites-enabled/{it}" for it in freeradius.enabled())):
         for server, block in freeradius.blocks(freeradius.HOME_SERVER, name):
             is_ours = freeradius.value(block, "port") in ports
             if is_ours and freeradius.value(block, "status_check") == "status-server":
@@ -204,9 +204,8 @@ def proxies(kind):
 
 def names_refused():
     """Accounts that were sold to, and whose login Debian's filter refuses."""
-    servers = freeradius.serving("auth") or ["default"]
     found = [freeradius.section(freeradius.text("sites-enabled", it), "authorize").split()
-             for it in servers]
+             for it in freeradius.selling()]
     if not any("filter_username" in it for it in found):
         return
     try:
