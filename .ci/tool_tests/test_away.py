@@ -90,7 +90,7 @@ class Asks(unittest.TestCase):
             (("etc", "package", "postinst"), r"if may_restart \"\$name\"; then act", "act restart"),
             (("etc", "package", "prerm"), "refuse_if_away; fi", "then stop_all"),
             (("etc", "radacctl", "setup", "alone.py"), r"refuse_if_away\(\)", '"stop", "radacctd'),
-            (("etc", "radacctl", "setup", "steps.py"), r"  refuse_if_away\(\)", '"restart", .self'),
+            (("etc", "radacctl", "setup", "steps.py"), r"  refuse_if_away\(\)", '"restart", self'),
         ):
             text = self.text(*names)
             found = re.search(ask, text)
