@@ -765,7 +765,9 @@ class Page(unittest.TestCase):
                     env[b"RADACCTD_CASHIER"] = who
                 done = subprocess.run([os.path.join(ROOT, "etc", "clerk-page")], input=body,
                                       capture_output=True, env=env)
-                server.close()
+                # It ends the wait for a request that was refused, and never comes.
+                with socket.socket(socket.AF_UNIX) as waker:
+                    waker.connect(path)
                 thread.join(6)
         return done.stdout.decode().partition("\r\n\r\n"), b"".join(got), done.stderr
 

@@ -43,6 +43,22 @@ const LATER_RISE: &[Line] = &[
     (Counts(b"al", b"gold", 2_097_153), "new", -30, LIVE),
 ];
 
+// More than 2^35 octets, and nearly 2^62. The prices are those of Python.
+const LARGE: &[Line] = &[
+    (
+        Counts(b"al", b"gold", 34_359_738_369),
+        "new",
+        -327_690,
+        LIVE,
+    ),
+    (
+        Counts(b"al", b"gold", 4_611_686_018_427_387_903),
+        "new",
+        -43_980_465_111_040,
+        LIVE,
+    ),
+];
+
 // The first report's class names the plan.
 const FIRST_GOLD: &[Line] = &[
     (Counts(b"al", b"gold", 3_000_000), "new", -30, LIVE),
@@ -97,10 +113,11 @@ const EARLY_STOP: &[Line] = &[
     (Restarts("ap1"), "new", -10, STOPPED),
 ];
 
-static SCRIPTS: [(&str, &[Line]); 11] = [
+static SCRIPTS: [(&str, &[Line]); 12] = [
     ("a rise", RISE),
     ("a fall", FALL),
     ("a later rise", LATER_RISE),
+    ("large totals", LARGE),
     ("gold first", FIRST_GOLD),
     ("no Class first", FIRST_NONE),
     ("one moment", SAME_MOMENT),
