@@ -69,7 +69,7 @@ def lines_out(text):
     text = re.sub(r"(?m)^[ \t]*radacctd_(?:accounting|login|packages\w*)[ \t]*\n", "", text)
     text = re.sub(r"(?m)^(\s*)radacctd_filter\b", r"\1filter_username", text)
     again = lambda it: freeradius.with_line(it, "accounting", "-?sql|detail")
-    return freeradius.with_servers(text, again, "accounting")
+    return freeradius.with_servers(text, again, *front.SOLD)
 
 
 def includes_out(text):
