@@ -205,6 +205,9 @@ class Again(Folder):
         self.assertEqual(len(secret(address="10.0.0.2", secret="of another one")), 32)
         with self.assertRaisesRegex(steps.Failed, "the secret of lobby"):
             secret(address="10.0.0.1", secret="a\\b")
+        # One that FreeRADIUS knows already, as a part of a network, has that one's.
+        self.patched(front, "covering", lambda _: "of-all")
+        self.assertEqual(secret(address="10.0.0.1", secret="a\\b"), "of-all")
 
     @NEEDS_ROOT
     def test_no_secret_is_added_to_a_file_that_others_may_read(self):

@@ -218,9 +218,9 @@ def clients(old, answers, books=None, reporting=()):
             values["secret"] = freeradius.spelled(there[2], "secret")
         else:
             test_name(it)
-            own = reported(it, reporting) or secret(answers, f"client-{it['name']}")
+            own = lambda: reported(it, reporting) or secret(answers, f"client-{it['name']}")
             kind = "ipaddr" if it["version"] == 4 else "ipv6addr"
-            values |= {"secret": covering(it) or quoted(own), "kind": kind}
+            values |= {"secret": covering(it) or quoted(own()), "kind": kind}
             text = text.rstrip("\n") + "\n\n" + CLIENT.format(**values)
         if values["cut"] == "yes" and not is_cut(it["address"], text):
             text = text.rstrip("\n") + "\n" + HOME.format(port=CUT_PORT[it["vendor"]], **values)
