@@ -12,7 +12,7 @@ import time
 import unittest
 from unittest import mock
 
-from radacctl import outbox
+from radacctl import outbox, queues
 from tool_tests import script
 
 COMPARE = script("etc", "pair", "radacctd-compare")
@@ -118,6 +118,21 @@ class Pair(unittest.TestCase):
         with open(other, encoding="ascii") as file:
             self.assertEqual(file.read(), "another's")
         self.assertEqual(self.copied(), ["al,5,0"])
+
+    def test_no_pipe_of_a_queue_is_waited_for_and_no_link_is_read(self):
+        """Another user than root owns it, and root looks by hand."""
+        path = os.path.join(self.folder, "detail-1")
+        with open(path, "w", encoding="ascii") as file:
+            file.write('Sun\n\tUser-Name = "a"\n\tTimestamp = 7\n\n')
+        os.mkfifo(os.path.join(self.folder, "detail-2"))
+        found = []
+        look = lambda: found.append(queues.oldest_in(self.folder))
+        look = threading.Thread(target=look, daemon=True)
+        look.start()
+        look.join(5)
+        self.assertEqual(found, [7])
+        os.symlink(path, os.path.join(self.folder, "detail-3"))
+        self.assertRaises(OSError, queues.oldest_in, self.folder)
 
     def test_the_outbox_is_no_link_to_another_database(self):
         other, path = (os.path.join(self.folder, it) for it in ("book", "outbox.db"))

@@ -5,6 +5,8 @@ import glob
 import os
 import re
 
+from radacctl import files
+
 # In a record of a queue: when the report was answered at the other machine, and here. How many
 # octets of a file are read at once.
 MOMENTS = re.compile(rb"\n\t(?:Tmp-Integer-7 = (\d+)|(Time|Done)stamp = (\d+))(?=\n)")
@@ -29,6 +31,13 @@ def records(file):
             there = None
 
 
+def alone(path, _):
+    """Opens a file, and no link: root may look, and another user owns the folder. No pipe is waited
+    for.
+    """
+    return os.open(path, files.FLAGS)
+
+
 def oldest_in(folder):
     """When the oldest report that waits in a queue was answered; None if it is empty."""
     patterns = [os.path.join(glob.escape(folder), it) for it in ("detail*", "reader-*/detail*")]
@@ -37,8 +46,8 @@ def oldest_in(folder):
         try:
             with contextlib.ExitStack() as opened:
                 # All are opened first: meanwhile none is finished and the next one renamed to it.
-                files = [opened.enter_context(open(it, "rb")) for it in paths]
-                found = [moment for file in files for moment in records(file)]
+                found = [opened.enter_context(open(it, "rb", opener=alone)) for it in paths]
+                found = [moment for file in found for moment in records(file)]
             if not os.path.isdir(folder):
                 raise OSError(f"there is no {folder}")
             return min(found, default=None)
