@@ -4,7 +4,8 @@ use crate::pages::row_of_gold;
 use crate::sample_desk::Desk;
 use crate::texts::{MY_SESSIONS, MY_VOUCHERS, WHO_IS_OVER};
 use acct_book::{Book, MemBook};
-use acct_model::{Octets, TopUp};
+use acct_desk::{DeskKey, Keys, Role};
+use acct_model::{Octets, Text, TopUp};
 use chosen_sizes::chosen_size;
 use std::alloc::Global;
 use std::test::Fail;
@@ -119,5 +120,34 @@ fn long_pages_are_whole(rt: HostRuntime) -> Result<(), Fail> {
         let response = response_of(rt.alloc(), page, count)?;
         assert!(rt; desk.answers(rt.alloc(), page.0, response.as_bytes())?);
     }
+    Ok(())
+}
+
+// The keys of as many guests as a site may have.
+fn keys(alloc: Global) -> Result<Keys, Fail> {
+    let mut keys = Vec::new(alloc);
+    for number in 100_000..104_096_u32 {
+        let token = format!(in alloc; "key-of-guest-{number}")?;
+        let account = format!(in alloc; "a{number}")?;
+        keys.push(DeskKey {
+            token: Text::from_str(alloc, token.as_str())?,
+            role: Role::Account(Octets::from_slice(alloc, account.as_bytes())?),
+        })?;
+    }
+    Ok(Keys::new(alloc, keys)?)
+}
+
+// What the last of them asks, and what it gets.
+const ASKED: &[u8] = b"GET /me/balance HTTP/1.1\r\nDesk-Key: key-of-guest-104095\r\n\r\n";
+
+const GOT: &[u8] = b"HTTP/1.1 200 OK\r\nContent-Type: application/json\r\nContent-Length: 50\r\n\
+    Connection: close\r\n\r\n{\"account\":\"a104095\",\"balance\":104095,\"overrun\":0}";
+
+#[test]
+fn the_last_of_many_guests_is_known(rt: HostRuntime) -> Result<(), Fail> {
+    let mut desk = Desk::new(rt.alloc())?;
+    desk.keys = keys(rt.alloc())?;
+    put_account(rt.alloc(), &mut desk.book, 104_095)?;
+    assert!(rt; desk.answers(rt.alloc(), ASKED, GOT)?);
     Ok(())
 }

@@ -10,7 +10,7 @@ use std::test::Fail;
 // A desk over a book of any kind. Its requests arrive at the moment 1000.
 pub(crate) struct Desk<B> {
     pub(crate) book: B,
-    keys: Keys,
+    pub(crate) keys: Keys,
     plans: Plans,
 }
 

@@ -496,3 +496,55 @@ fn takes_turns(rt: HostRuntime) -> Result<(), Fail> {
     assert!(rt; alternate(&mut sockets));
     Ok(())
 }
+
+// Whether a datagram comes within eight turns, before each of which a caller sends an octet.
+fn is_heard_beside<X: Exchange>(exchange: &mut X, dripping: &mut TcpStream) -> bool {
+    for _ in 0..8 {
+        if dripping.write_all(b"G").is_err() {
+            return false;
+        }
+        if let Ok(Some(event)) = turn(exchange) {
+            return matches!(&event.what, What::Datagram { .. });
+        }
+    }
+    false
+}
+
+// A caller who keeps sending holds up no report of a client that was silent before.
+#[test]
+fn hears_a_report_beside_a_busy_caller(rt: HostRuntime) -> Result<(), Fail> {
+    let (mut sockets, desk) = bound(&rt)?;
+    let client = UdpSocket::bind(&rt, "127.0.0.1:0")?;
+    let mut dripping = caller(&rt, desk, b"G")?;
+    let is_quiet = is_quiet(&mut sockets, 4);
+    client.send_to(START, ("127.0.0.1", sockets.radius_port(0)?))?;
+    assert!(rt; is_quiet && is_heard_beside(&mut sockets, &mut dripping));
+    Ok(())
+}
+
+// Whether a caller's request comes within 16 turns, before each of which a client sends a datagram.
+fn is_served_beside<X: Exchange>(exchange: &mut X, client: &UdpSocket, radius: u16) -> bool {
+    for _ in 0..16 {
+        if client.send_to(START, ("127.0.0.1", radius)).is_err() {
+            return false;
+        }
+        match turn(exchange) {
+            Ok(Some(event)) if matches!(&event.what, What::Desk { .. }) => return true,
+            Ok(_) => {}
+            Err(_) => return false,
+        }
+    }
+    false
+}
+
+// Clients who keep sending hold up no caller who comes after a pause.
+#[test]
+fn serves_a_caller_beside_busy_clients(rt: HostRuntime) -> Result<(), Fail> {
+    let (mut sockets, desk) = bound(&rt)?;
+    let client = UdpSocket::bind(&rt, "127.0.0.1:0")?;
+    let is_quiet = is_quiet(&mut sockets, 4);
+    let _caller = caller(&rt, desk, REQUEST)?;
+    let radius = sockets.radius_port(0)?;
+    assert!(rt; is_quiet && is_served_beside(&mut sockets, &client, radius));
+    Ok(())
+}

@@ -35,9 +35,25 @@ impl Drop for Source {
     }
 }
 
+// A socket at a port that the system gives to nobody by itself, as access servers have.
+fn at_low_port(rt: &HostRuntime, address: [u8; 4]) -> Result<UdpSocket, Fail> {
+    for _ in 0..100 {
+        let port = u16::try_from(number_within(rt, 1_025, 32_767)?).unwrap_or(1_646);
+        if let Ok(socket) = UdpSocket::bind(rt, (Ipv4Addr::from(address), port)) {
+            return Ok(socket);
+        }
+    }
+    Err("no port".into())
+}
+
 impl Source {
+    // A source at a port that the system gives.
     fn bind(rt: &HostRuntime, address: [u8; 4], server: u16) -> Result<Source, Fail> {
         let socket = UdpSocket::bind(rt, (Ipv4Addr::from(address), 0))?;
+        Source::over(socket, address, server)
+    }
+
+    fn over(socket: UdpSocket, address: [u8; 4], server: u16) -> Result<Source, Fail> {
         socket.set_read_timeout(Some(Duration::from_secs(5)))?;
         let port = socket.local_addr()?.port();
         Ok(Source {
@@ -130,8 +146,9 @@ fn answers_very_many(rt: HostRuntime) -> Result<(), Fail> {
     let flaky = Flaky::at(rt, 0);
     let mut sockets = bound(&flaky)?;
     let server = sockets.radius_port(0)?;
+    let low = at_low_port(&flaky.host, SOURCES[0])?;
     let sources = [
-        Source::bind(&flaky.host, SOURCES[0], server)?,
+        Source::over(low, SOURCES[0], server)?,
         Source::bind(&flaky.host, SOURCES[1], server)?,
     ];
     let first = first_unanswered(&flaky, &mut sockets, &sources, 140_000);

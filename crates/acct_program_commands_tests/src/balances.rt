@@ -13,11 +13,11 @@ use std::fs::Permissions;
 use std::os::unix::fs::PermissionsExt;
 use std::test::Fail;
 
-// A file that is written at most once in five seconds.
+// A file that is written at most once a day, the longest time that may be named.
 fn asked(alloc: Global, name: &str) -> Result<BalancesFile, Fail> {
     Ok(BalancesFile {
         file: Text::from_str(alloc, name)?,
-        seconds: 5,
+        seconds: 86_400,
     })
 }
 
@@ -74,7 +74,7 @@ const TWO_VOUCHERS: &str = "voucher,account,sum\nV-1,al,500\nV-2,bo,300\n";
 
 const LATER_VOUCHER: &str = "voucher,account,sum\nV-3,bo,700\n";
 
-// Whether a file has all balances of a book, and is not written again within five seconds.
+// Whether a file has all balances of a book, and is not written again within a day.
 fn is_kept_up(
     rt: &HostRuntime,
     config: &Config,
@@ -88,9 +88,9 @@ fn is_kept_up(
     kept.keep(alloc, &config.plans, book, 3000, gauges, told);
     let begins = has(rt, config, book, "kept-balances", FIRST)?;
     credit(alloc, config, book, LATER_VOUCHER)?;
-    kept.keep(alloc, &config.plans, book, 3004, gauges, told);
+    kept.keep(alloc, &config.plans, book, 89_399, gauges, told);
     let stays = reads(rt, "kept-balances", FIRST)?;
-    kept.keep(alloc, &config.plans, book, 3005, gauges, told);
+    kept.keep(alloc, &config.plans, book, 89_400, gauges, told);
     let goes_on = has(rt, config, book, "kept-balances", SECOND)?;
     let is_renamed = !fs::exists(rt, "kept-balances.new")?;
     fs::remove_file(rt, "kept-balances")?;
@@ -116,7 +116,7 @@ fn keeps_up_with_the_book(rt: HostRuntime) -> Result<(), Fail> {
         is_kept_up(&rt, &config, &mut book, &mut kept, &gauges, &mut told)? && told.is_empty()
     );
     let written = BalancesWritten {
-        at: 3005,
+        at: 89_400,
         accounts: 2,
         overdrawn: 0,
     };
@@ -169,7 +169,7 @@ fn owe(
 }
 
 // Moments at which a file is due.
-static DUE: [u64; 3] = [3000, 3005, 3010];
+static DUE: [u64; 3] = [3000, 89_400, 175_800];
 
 // Whether this is printed of a file of balances that is due three times.
 fn tells<B: Book>(
@@ -201,10 +201,10 @@ fn tells_that_it_is_not_written(rt: HostRuntime) -> Result<(), Fail> {
 // Moments at which a file is due, and whether it can be written then.
 static OUTAGES: [(u64, bool); 5] = [
     (3000, true),
-    (3005, false),
-    (3010, false),
-    (3015, true),
-    (3020, false),
+    (89_400, false),
+    (175_800, false),
+    (262_200, true),
+    (348_600, false),
 ];
 
 // When the file was last written, after each of these moments.
@@ -237,7 +237,7 @@ fn tells_each_outage(rt: HostRuntime) -> Result<(), Fail> {
     let mut told = Vec::new(rt.alloc());
     let mut kept = KeptBalances::new(&rt, rt.alloc(), &asked(rt.alloc(), "at-times/balances")?)?;
     let moments = written_at(&rt, &mut kept, &mut told)?;
-    assert!(rt; moments.as_slice() == [3000, 3000, 3000, 3015, 3015].as_slice());
+    assert!(rt; moments.as_slice() == [3000, 3000, 3000, 262_200, 262_200].as_slice());
     assert!(rt; told.as_slice() == b"balances: cannot write\nbalances: cannot write\n".as_slice());
     Ok(())
 }

@@ -160,7 +160,7 @@ fn each_account_and_plan_is_carried(rt: HostRuntime) -> Result<(), Fail> {
     Ok(())
 }
 
-// A book of so many accounts, with a session of each that is old.
+// A book of so many accounts with names of 253 octets, with a session of each that is old.
 fn many(alloc: Global, count: u32) -> Result<MemBook, Fail> {
     let mut book = MemBook::new(alloc);
     for number in 100_000..count.saturating_add(100_000) {
@@ -169,7 +169,9 @@ fn many(alloc: Global, count: u32) -> Result<MemBook, Fail> {
             &("ap1", b"", b"gold", 0, 0, 9, Stopped, 4_000_000),
             number,
         )?;
-        row.account = Octets::from_slice(alloc, &number.to_be_bytes())?;
+        let mut name = [b'.'; 253];
+        name[..4].copy_from_slice(&number.to_be_bytes());
+        row.account = Octets::from_slice(alloc, &name)?;
         book.put_session(&row, -10)?;
     }
     // The last report, which stays.

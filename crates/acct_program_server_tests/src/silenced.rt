@@ -31,6 +31,8 @@ const BOOK: &str = "silenced-book";
 
 const MOVED: &str = "silenced-book-moved";
 
+const STATUS: &str = "silenced-status";
+
 // The access server. It is the source of the configuration, too, which nobody changes: so it sends
 // in each round.
 #[derive(Clone, Copy)]
@@ -118,7 +120,7 @@ fn serving(rt: &HostRuntime) -> Result<Serving, Fail>
         oldest_report: None,
         telling: Telling {
             is_quiet: true,
-            status: None,
+            status: Some(Text::from_str(rt.alloc(), STATUS)?),
             balances: None,
         },
     })
@@ -127,7 +129,18 @@ fn serving(rt: &HostRuntime) -> Result<Serving, Fail>
 // The reports of the first slice are answered, those of the second one are lost.
 const OUTPUT: &str = "serving\nevents 240, replies 240, mute 0, faults 0\n";
 
-// Whether the server prints this.
+// Whether the file of its counts says that its book is not there.
+fn tells_loss(rt: &HostRuntime) -> Result<bool, Fail> {
+    let counts = fs::read_to_string(rt, STATUS)?;
+    Ok(
+        counts
+            .as_str()
+            .split_once("\nradacctd_book_is_there 0\n")
+            .is_some(),
+    )
+}
+
+// Whether the server prints this, and says so in the file of its counts.
 fn is_silenced(runtime: &Staged, client: &UdpSocket) -> Result<bool, Fail> {
     let alloc = runtime.host.alloc();
     let (config, serving) = (site_of(alloc, SITE)?, serving(&runtime.host)?);
@@ -158,7 +171,8 @@ fn is_silenced(runtime: &Staged, client: &UdpSocket) -> Result<bool, Fail> {
         &serving,
         &mut output,
     );
-    Ok(ended == Ok(Status::Done) && output.text.as_slice() == OUTPUT.as_bytes())
+    let is_printed = output.text.as_slice() == OUTPUT.as_bytes();
+    Ok(ended == Ok(Status::Done) && is_printed && tells_loss(&runtime.host)?)
 }
 
 #[test]
@@ -171,5 +185,6 @@ fn a_lost_book_answers_nobody(rt: HostRuntime) -> Result<(), Fail> {
     };
     assert!(runtime.host; is_silenced(&runtime, &client)?);
     fs::remove_file(&runtime, MOVED)?;
+    fs::remove_file(&runtime, STATUS)?;
     Ok(())
 }

@@ -13,22 +13,32 @@ const TAKING: &[&str] = &[
     "serve --config slip.toml --db slip-book --turns 1 --radius-port 1 --desk-port 1",
 ];
 
+// Commands that change it, or carry its sessions.
+const CHANGING: &[&str] = &[
+    "migrate --config slip.toml --db slip-book",
+    "plans --config slip.toml --db slip-book",
+    "forward --config slip.toml --db slip-book",
+];
+
 // A name with no file behind it makes none. A file of few octets is not opened, nor is an empty one
 // next to a log that has more than its header. An empty file alone is an empty database to each
 // command, and becomes a book only by `init`.
-static SLIPS: [Step; 17] = [
+static SLIPS: [Step; 20] = [
     Step::Sites("slip"),
     Step::Come(TAKING, SHUT),
+    Step::Come(CHANGING, SHUT),
     Step::Is("slip-book", Look::Absent),
     Step::Does("slip-book", Deed::Write(&[7])),
     Step::Come(TAKING, SHUT),
     Step::Is("slip-book", Look::Has(&[7])),
     Step::Does("slip-book", Deed::Write(&[7; 99])),
     Step::Come(TAKING, SHUT),
+    Step::Come(CHANGING, SHUT),
     Step::Is("slip-book", Look::Has(&[7; 99])),
     Step::Does("slip-book", Deed::Write(b"")),
     Step::Does("slip-book-wal", Deed::Write(&[7; 33])),
     Step::Come(TAKING, SHUT),
+    Step::Come(CHANGING, SHUT),
     Step::Is("slip-book", Look::Has(b"")),
     Step::Does("slip-book-wal", Deed::Remove),
     Step::Come(TAKING, (Status::Unavailable, "", "db: NotABook\n")),
@@ -44,7 +54,7 @@ fn a_slip_makes_no_file(rt: HostRuntime) -> Result<(), Fail> {
 
 // The pages of a new book end in sums only if that is asked for, as its header says. Both are books,
 // and only for their owner, as their logs are.
-static SUMS: [Step; 9] = [
+static SUMS: [Step; 11] = [
     Step::Sites("sums"),
     Step::Comes("init --config sums.toml --db plain-book", "", MADE),
     Step::Comes(
@@ -56,6 +66,8 @@ static SUMS: [Step; 9] = [
     Step::Is("summed-book", Look::Octet(20, 8)),
     Step::Is("plain-book", Look::Rights(0o600)),
     Step::Is("plain-book-wal", Look::Rights(0o600)),
+    Step::Is("summed-book", Look::Rights(0o600)),
+    Step::Is("summed-book-wal", Look::Rights(0o600)),
     Step::Comes("check --config sums.toml --db plain-book", "", SIZES),
     Step::Comes("check --config sums.toml --db summed-book", "", SIZES),
 ];

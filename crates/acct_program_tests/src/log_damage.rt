@@ -134,7 +134,7 @@ fn damage_in_each_frame_is_noticed(rt: HostRuntime) -> Result<(), Fail> {
     Ok(())
 }
 
-// A log of 60 commits, damaged near its begin: they are lost on demand.
+// A log of 450 commits and 3.7 MB, damaged near its begin: they are lost on demand.
 static LOSING: [Step; 3] = [
     Step::Does(LOG, Deed::Flip(17_512)),
     Step::Comes(CHECK, "", SHUT),
@@ -154,7 +154,7 @@ static TORN: [Step; 2] = [
 // Commits that were lost lie in the log no more: they are not taken for damage of a later one.
 #[test]
 fn lost_commits_are_gone(rt: HostRuntime) -> Result<(), Fail> {
-    make(&rt, Sync::Once, 60, 1)?;
+    make(&rt, Sync::Once, 450, 1)?;
     assert_eq!(rt; first_failing(&rt, &LOSING)?, None);
     commit(&rt, Sync::Once, 10, 1)?;
     assert_eq!(rt; first_failing(&rt, &TORN)?, None);

@@ -9,14 +9,14 @@ use std::test::Fail;
 
 const DEFAULT: &str = "[[plan]]\nclass = \"default\"\nblock = 1000000\nunit = 5\n";
 
-// The last of 256 clients reports an octet of the last of 50 plans, which costs 48. Then a book of
-// one plan gets 49 more.
+// The last of 1,024 clients reports an octet of the last of 256 plans, which costs 254. Then a book
+// of one plan gets 255 more.
 static ADDED: [Step; 10] = [
     Step::Comes(
         "feed --config many-clients.toml",
-        "signed 1000 ap255 7 2806000000032c0473350104616c190a636c6173732034382a0600000001\n\
+        "signed 1000 ap1023 7 2806000000032c0473350104616c190b636c617373203235342a0600000001\n\
          balance al\n",
-        (Status::Done, "reply 05070014\nbalance al -48\n", ""),
+        (Status::Done, "reply 05070014\nbalance al -254\n", ""),
     ),
     Step::Comes("init --config one-plan.toml --db many-plans-book", "", MADE),
     Step::Comes(
@@ -27,12 +27,12 @@ static ADDED: [Step; 10] = [
     Step::Comes(
         "plans --config many-plans.toml --db many-plans-book",
         "",
-        (Status::Done, "added 49\n", ""),
+        (Status::Done, "added 255\n", ""),
     ),
     Step::Comes(
         "check --config many-plans.toml --db many-plans-book",
         "",
-        (Status::Done, "ok: 0 clients, 50 plans, 0 keys\n", ""),
+        (Status::Done, "ok: 0 clients, 256 plans, 0 keys\n", ""),
     ),
     Step::Comes(
         "plans --config many-plans.toml --db many-plans-book",
@@ -80,7 +80,7 @@ static MIGRATED: [Step; 3] = [
         "",
         (
             Status::Done,
-            "ok: 0 clients, 50 plans, 0 keys\nbalanced: 1 accounts, 0 sessions, 1 vouchers\n",
+            "ok: 0 clients, 256 plans, 0 keys\nbalanced: 1 accounts, 0 sessions, 1 vouchers\n",
             "",
         ),
     ),
@@ -101,8 +101,9 @@ fn write_site(rt: &HostRuntime, file: &str, clients: u32, others: u32) -> Result
 
 fn push_clients(rt: &HostRuntime, text: &mut String, clients: u32) -> Result<(), Fail> {
     for number in 0..clients {
+        let (third, fourth) = (number / 256, number % 256);
         let client = format!(in rt.alloc();
-            "[[client]]\nname = \"ap{number}\"\naddress = \"10.0.{number}.1\"\n\
+            "[[client]]\nname = \"ap{number}\"\naddress = \"10.0.{third}.{fourth}\"\n\
             secret = \"secret {number}\"\n"
         )?;
         text.push_str(client.as_str())?;
@@ -123,9 +124,9 @@ fn is_served(rt: &HostRuntime) -> Result<bool, Fail> {
 
 // Writes a configuration of many clients, one of one plan, and one of many.
 fn write_many(rt: &HostRuntime) -> Result<(), Fail> {
-    write_site(rt, "many-clients.toml", 256, 49)?;
+    write_site(rt, "many-clients.toml", 1_024, 255)?;
     write_site(rt, "one-plan.toml", 0, 0)?;
-    write_site(rt, "many-plans.toml", 0, 49)
+    write_site(rt, "many-plans.toml", 0, 255)
 }
 
 #[test]

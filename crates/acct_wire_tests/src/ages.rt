@@ -46,6 +46,17 @@ fn reports_of_any_age_are_taken_without_a_guard(rt: HostRuntime) -> Result<(), F
     Ok(())
 }
 
+// Moments of 2106 and later have more than 32 bits.
+#[test]
+fn reports_after_2106_are_recorded(rt: HostRuntime) -> Result<(), Fail> {
+    let mut site = Site::new(rt.alloc())?;
+    site.later = u32::MAX;
+    assert!(rt; report(&mut site, 7, 11)? == SHORT_REPLY);
+    let last = site.row(b"s\x07")?.map(|row| row.last);
+    assert!(rt; last == Some(4_294_972_284) && site.balance(b"al")? == -20);
+    Ok(())
+}
+
 // A clock that lags behind the delay: the report's own moment is 0 then, and says nothing.
 static LAGS: [(u32, u32, Outcome); 4] = [
     (50, 100, SHORT_REPLY),

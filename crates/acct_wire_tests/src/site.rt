@@ -19,11 +19,12 @@ pub(crate) const STRANGER: [u8; 4] = [10, 0, 0, 2];
 pub(crate) const SHORT_REPLY: Outcome = Outcome::Reply(20);
 
 /// The sample site, its book, of which a call can be refused, how many seconds old a report may be,
-/// and the array that its replies are written to.
+/// how many seconds later all comes than a test says, and the array that its replies are written to.
 pub(crate) struct Site {
     pub(crate) book: FailingBook<MemBook>,
     pub(crate) plans: Plans,
     pub(crate) oldest: Option<u64>,
+    pub(crate) later: u32,
     pub(crate) out: [u8; 4096],
     alloc: Global,
     clients: Clients,
@@ -35,6 +36,7 @@ impl Drop for Site {
             book: _,
             plans: _,
             oldest: _,
+            later: _,
             out: _,
             alloc: _,
             clients: _,
@@ -51,6 +53,7 @@ impl Site {
             book: FailingBook::new(MemBook::new(alloc), 0),
             plans,
             oldest: None,
+            later: 0,
             out: [0; 4096],
             alloc,
             clients,
@@ -62,7 +65,7 @@ impl Site {
         let datagram = Datagram {
             source,
             bytes,
-            moment: u64::from(moment),
+            moment: u64::from(moment) + u64::from(self.later),
         };
         match self.oldest {
             None => answer(
