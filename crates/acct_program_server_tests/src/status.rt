@@ -134,8 +134,8 @@ fn arrivals(count: u64, last_at: u64) -> Arrivals {
     Arrivals { count, last_at }
 }
 
-// The octets of a book of more than eight tebibytes, of which none are written.
-const BOOK_OCTETS: u64 = 8_796_093_022_213;
+// The octets of a book of more than two tebibytes, of which none are written.
+const BOOK_OCTETS: u64 = 2_199_023_255_557;
 
 // The octets of its log.
 const LOG_OCTETS: u64 = 8_291;
