@@ -17,7 +17,7 @@ from radacctl.commands import doctor
 from radacctl.doctor import book, copies, faults, front as fronts, kind, look, machine
 from radacctl.doctor import packages as of_packages, pair as pairs, web as pages
 from radacctl.setup import alone, answers, front, pair, sql, steps
-from tool_tests import ROOT
+from tool_tests import ROOT, Folder
 
 PLAN = {"class": "default", "block": 1000, "unit": 5}
 DATES = "notBefore=Dec  1 00:00:00 2025 GMT\nnotAfter=Feb  1 00:00:00 2026 GMT\n"
@@ -200,13 +200,7 @@ class Answers(unittest.TestCase):
             self.assertEqual(plan["unit"] * 10**9, round(float(text) * 100) * plan["block"])
 
 
-class Steps(unittest.TestCase):
-    def setUp(self):
-        folder = tempfile.TemporaryDirectory()
-        self.addCleanup(folder.cleanup)
-        self.folder = os.path.realpath(folder.name)
-        self.path = os.path.join(self.folder, "file")
-
+class Steps(Folder):
     def write(self, text, mode=0o640):
         with open(self.path, "w", encoding="utf-8") as file:
             file.write(text)

@@ -4,12 +4,12 @@ import contextlib
 import io
 import os
 import stat
-import tempfile
 import unittest
 from unittest import mock
 
 from radacctl import configuration, files, server_log, site
 from radacctl.commands import edit
+from tool_tests import Folder
 
 CONFIG = '''[[client]]
 name = "a"
@@ -24,11 +24,9 @@ unit = 5
 KEY = '\n# radacctd-key: made 2026-11-28\n[[key]]\ntoken = "bo-key-0000000001"\naccount = "bo"\n'
 
 
-class Edits(unittest.TestCase):
+class Edits(Folder):
     def setUp(self):
-        folder = tempfile.TemporaryDirectory()
-        self.addCleanup(folder.cleanup)
-        self.folder = os.path.realpath(folder.name)
+        super().setUp()
         self.config = os.path.join(self.folder, "site.toml")
         self.book = os.path.join(self.folder, "book")
         self.write(self.config, CONFIG)
