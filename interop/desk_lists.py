@@ -119,6 +119,7 @@ def finds(browser, desk):
     check("its button types it, and goes on to the sum", got, ("room 12", "sum"))
     shown = browser.shows("Balance 5.00 EUR", "#balance")
     check("with its balance", shown, True)
+    sells_to_nobody(browser, desk)
     desk.accounts = {f"guest-{at:05}": at for at in range(50_000)}
     browser.js("return refresh()")
     begun = time.monotonic()
@@ -126,6 +127,21 @@ def finds(browser, desk):
     got = (len(buttons(browser, "#found")), "8 of 10,000" in browser.text("#found-title"))
     check("of 10,000 accounts 8 are shown", got, (8, True))
     check("soon", time.monotonic() - begun < 5, True)
+
+
+def sells_to_nobody(browser, desk):
+    """Neither to an account whose octets are no text, nor by the letters of a tool's numbers."""
+    desk.accounts = {"M%FCller 7": 500}
+    browser.js("return refresh()")
+    typed(browser, "ller 7")
+    browser.click("#found button")
+    browser.submit({"sum": "5.00"})
+    check("an account that is no text is sold nothing", browser.shows("a broken letter"), True)
+    browser.js("const d = document.getElementById('desk'); d.value = 'w'; d.oninput()")
+    browser.submit({"account": "room 12", "sum": "5.00"})
+    check("a desk has no letters of a tool", browser.shows("Each desk has its own"), True)
+    check("and sells nothing", desk.credits[""], {})
+    letters(browser)
 
 
 def sells_packages(browser, desk):
@@ -269,6 +285,13 @@ def makes_guests(browser, desk):
     browser.js("document.querySelector('#sales button').click()")
     check("later the card is no longer given", browser.shows("no longer shown"), True)
     makes_none(browser, desk)
+    desk.answers["guest"] = [MADE]
+    asks_guest(browser, "Dora")
+    browser.click("#yes")
+    check("a card", browser.shows(CARD["password"], "#receipt"), True)
+    browser.js("return endShift(kept.shift.number).then(draw)")
+    found = (CARD["password"] in browser.text("#receipt"), browser.js("return cards.size"))
+    check("is gone once the shift was ended in another window", found, (False, 0))
 
 
 def shows_card(browser, number):
@@ -298,8 +321,11 @@ def makes_none(browser, desk):
     desk.answers["guest"] = [(409, {"error": "differs"})]
     asks_guest(browser, "Carl")
     browser.click("#yes")
-    said = browser.shows("Nobody knows here whether Carl has a login")
-    check("one of another cashier is not said to be none", said, True)
+    for answer in ((409, {"error": "differs"}), (403, {"error": "not allowed"})):
+        desk.answers["guest"] = [answer]
+        browser.js("say('wait'); return sendAgain()")
+        said = browser.shows("Nobody knows here whether Carl has a login")
+        check(f"one of another cashier is not said to be none: {answer[0]}", said, True)
     check("and stays open", "Carl" in browser.text("#pending"), True)
     desk.answers["guest"] = [(200, {"result": "repeat", "account": "carl-1128-acde", "card": None})]
     browser.js("return sendAgain()")

@@ -2,15 +2,22 @@
 // Long lists are shown by pages of so many lines. A page has a place for the bar of each: ID-pages.
 const LINES = 20, pageOf = {};
 
+function named(shown, act) {
+  return Object.assign(document.createElement("button"), { type: "button", className: "second", textContent: shown, onclick: act });
+}
+
+// A button in a line: a screen reader reads what it is about, too.
+function button(name, act, about) {
+  const it = named(text(name), act);
+  it.setAttribute("aria-label", text(name) + " " + about);
+  return it;
+}
+
 function barOf(id) {
   const bar = $(id + "-pages");
   for (const name of bar.children.length ? [] : ["pageBack", "pageOn"]) {
-    const it = document.createElement("button");
-    it.type = "button";
-    it.className = "second";
-    it.dataset.text = name;
-    it.textContent = text(name);
-    bar.append(it);
+    bar.append(named(text(name)));
+    bar.lastChild.dataset.text = name;
   }
   if (bar.children.length === 2) bar.append(" ", Object.assign(document.createElement("span"), { className: "soft" }));
   return bar;

@@ -359,6 +359,12 @@ class Proxy(unittest.TestCase):
                          '{"v\\u006fucher":"%s"}' % number]
             self.assertEqual([it for it in spellings if self.is_handed_on(it)], [], number)
 
+    def test_no_desk_has_letters_that_nginx_hands_on_no_sale_of(self):
+        with open(os.path.join(ROOT, "web/desk/index.html"), encoding="utf-8") as file:
+            known = json.loads(re.search(r"^const TOOLS = (.*);$", file.read(), re.M)[1])
+        tools = re.search(r"\(\?:(.*)\)-$", self.refused[1])[1].split("|")
+        self.assertEqual(known, [it for it in tools if "-" not in it])
+
     def test_a_sale_of_the_page_goes_on(self):
         for account in ("room 12", "G-1", "LAPSE-1", "J\u00f6rg", "%22voucher%22:%22G-1"):
             sale = {"account": account, "sum": 1, "voucher": NUMBERS[0], "package": "week",
