@@ -71,6 +71,7 @@ class PackagesFile(unittest.TestCase):
             ('valid = "7 days"', 'valid = "0 days"', "valid is as"),
             ('valid = "7 days"', 'valid = "99999 days"', "at most ten years"),
             ('valid = "7 days"', 'until = "tomorrow"', "until is as"),
+            ('valid = "7 days"', 'until = "0001-01-01T00:00"', "until is as"),
             ("up = 5000", "", "down and up, or neither"),
             ('plan = "default"', "plan = \"x'; DROP\"", "is no Class"),
             ("Mikrotik-Group := guests", "Mikrotik-Group := `id`", "is no attribute"),
@@ -110,6 +111,14 @@ class PackagesFile(unittest.TestCase):
     def test_two_of_one_name_and_no_toml(self):
         for text in (PACKAGE * 2, "[[package", "[other]\n"):
             self.assertRaises(packages.Wrong, packages.packages_of, text, MONEY)
+
+    def test_a_file_that_is_wrong_now_takes_no_card_away(self):
+        with tempfile.TemporaryDirectory() as folder, mock.patch.object(packages.program, "say"):
+            for text in ("[", "wifi = 5"):
+                path = os.path.join(folder, "packages.toml")
+                with open(path, "w", encoding="utf-8") as file:
+                    file.write(text)
+                self.assertIsNone(packages.wifi(path))
 
     def test_wifi_is_of_two_kinds(self):
         text = PACKAGE + '[wifi]\nname = "Hotel"\nsecurity = "wep"\n'

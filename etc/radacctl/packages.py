@@ -170,10 +170,11 @@ def validity_of(found, where):
     if "until" in found:
         need(not {"valid", "from"} & set(found), f"{where}: give until, or valid and from")
         try:
-            moment = datetime.datetime.fromisoformat(found["until"])
-        except ValueError:
+            # No local clock shows some moments of the years 1 and 9999.
+            moment = datetime.datetime.fromisoformat(found["until"]).timestamp()
+        except (ValueError, OverflowError):
             raise Wrong(f"{where}: until is as 2026-12-31T12:00") from None
-        return UNTIL, LONGEST, int(moment.timestamp())
+        return UNTIL, LONGEST, int(moment)
     found_valid = VALID.fullmatch(found.get("valid", ""))
     need(found_valid, f"{where}: valid is as \"7 days\", \"24 hours\" or \"90 minutes\"")
     seconds = int(found_valid[1]) * UNITS[found_valid[2]]
@@ -253,8 +254,12 @@ def wifi_of(found):
 
 
 def wifi(path=FILE):
-    """The same of the file, which was read without a fault before."""
-    return wifi_of(tomllib.loads(files.text(path)))
+    """The same of the file. While that is wrong, cards have no network."""
+    try:
+        return wifi_of(tomllib.loads(files.text(path)))
+    except (Wrong, ValueError) as why:
+        program.say(f"{path}: {why}")
+        return None
 
 
 def for_pages(known, now, plans=None):
