@@ -1,6 +1,7 @@
 """What cashiers may do at the front desk's page: once for each number, killed at each step."""
 
 import contextlib
+import gzip
 import io
 import json
 import os
@@ -14,7 +15,7 @@ from unittest import mock
 
 from radacctl import configuration, debits, drafts, files, keys, lapses, logins, names
 from radacctl.clerk import forms, journal, lists, rights, work
-from radacctl.commands import allow, guest, packages as sold, report
+from radacctl.commands import allow, guest, packages as sold, report, sell
 from radacctl.doctor import web as doctor
 from radacctl.setup import answers, clerk as steps_of_clerk, steps, web
 from tool_tests import ROOT
@@ -381,7 +382,8 @@ class Proxy(unittest.TestCase):
 
     def test_a_sale_without_an_answer_has_a_cashier(self):
         line = lambda status, number, who: json.dumps(
-            {"status": status, "cashier": who, "sale": json.dumps({"voucher": number})})
+            {"time": "2026-11-28T12:00:00+00:00", "status": status, "cashier": who,
+             "sale": json.dumps({"account": "al", "sum": 5, "voucher": number})})
         rows = [line(499, "D1-1", "anna"), line(503, "D1-2", "anna"), line(200, "D1-2", "bert"),
                 line(201, "D1-3", "anna"), line(499, "D1-3", "eve"), line(409, "D1-4", "eve")]
         with tempfile.TemporaryDirectory() as folder:
@@ -627,11 +629,41 @@ home_server lobby {
         self.assertEqual([tuple(it.values()) for it in found], [
             ("2026-11-28", "D2", "=bert", 1, 500, 900), ("2026-11-28", "D1", "anna", 2, 12, 12)])
 
-    def test_a_guests_sale_is_one(self):
-        self.guest()
+    def test_no_line_of_the_log_hides_the_others(self):
+        """A cashier may send anything as a sale, and a part of the log may be damaged."""
+        line = lambda sale, status=201, who="anna": json.dumps(
+            {"time": "2026-11-28T12:00:00+00:00", "status": status, "cashier": who, "sale": sale})
+        sale = lambda number, **more: json.dumps(
+            {"account": "al", "sum": 5, "voucher": number, **more})
+        rows = [line("[" * 4000), line("[" * 4000, 503), line(sale("D1-1", paid=-10**6)),
+                line(sale("D1-2", paid=10**13)), line(sale("D1-3", paid="9")), line(sale(["D1-4"])),
+                line(sale("D2-1", paid=0), who=r"CN=J\C3\B6rg"),
+                line(sale("D2-2"), who="J\udcf6rg"), line(sale("D1-5", sum=10**13))]
+        text = "\n".join(rows).replace("\\udcf6", "\udcf6") + "\n"
+        packed = bytearray(gzip.compress(line(sale("D1-6")).encode()))
+        packed[10] ^= 0xFF
+        for name, octets in (("sales.log", text.encode("utf-8", "surrogateescape")),
+                             ("sales.log.2.gz", packed)):
+            with open(self.site.path(name), "wb") as file:
+                file.write(octets)
+        found = self.asked(act="sales", begin="2026-11-01", end="2026-11-30")["sales"]
+        self.assertEqual([tuple(it.values()) for it in found], [
+            ("2026-11-28", "D2", "J%F6rg", 1, 5, 5), ("2026-11-28", "D2", "CN=Jörg", 1, 5, 0),
+            ("2026-11-28", "D1", "anna", 3, 15, 15)])
+        with mock.patch.object(lists.sales_log.program, "say"):
+            self.assertEqual(len(report.cashiers_of(self.site.path("sales.log"))), 5)
+        os.remove(self.site.path("sales.log.2.gz"))
+        words = sell.parser().parse_args(["--logged", "--sales", self.site.path("sales.log")])
+        self.assertEqual(len(sell.logged(words)[0]), 5)
+
+    def test_a_guests_sale_is_one_once_the_desk_took_it(self):
         day = lists.day_of(NOW)
-        found = self.asked(act="sales", begin=day, end=day)["sales"]
-        self.assertEqual([tuple(it.values()) for it in found], [(day, "D1", "anna", 1, 500, 900)])
+        for answers, wanted in ((["go", "lost", "away", "away"], []),
+                                ([], [(day, "D1", "anna", 1, 500, 900)])):
+            self.site.answers = answers
+            self.guest()
+            found = self.asked(act="sales", begin=day, end=day)["sales"]
+            self.assertEqual([tuple(it.values()) for it in found], wanted)
 
     def test_what_was_taken_back(self):
         self.site.numbers[SALE["voucher"]] = self.site.money[SALE["voucher"]] = (b"room 12", 500)

@@ -12,8 +12,8 @@ import tomllib
 import unittest
 from unittest import mock
 
-from radacctl import debits, files, freeradius, lapses, site as places
-from radacctl.commands import debit, pages, setup, site
+from radacctl import debits, files, freeradius, lapses, money as moneys, site as places
+from radacctl.commands import allow, debit, pages, setup, site, voucher
 from radacctl.doctor import front as doctor_front
 from radacctl.setup import alone, answers, away, front, pair, proof, sql, steps, web
 import tool_tests
@@ -769,9 +769,16 @@ class Others(Folder):
         self.assertEqual(freeradius.postgres(text), (
             ["-h", "db", "-U", "radius", "-d", "radius"], "*:*:*:*:a\\:b\\\\c\n"))
 
-    def test_a_file_of_debits_with_an_endless_field_is_refused(self):
-        self.write(b'account,sum,number\n"' + b"x" * 200_000)
-        self.assertRaises(debits.Refused, debit.debits_of, self.path)
+    def test_a_list_that_is_no_csv_is_refused(self):
+        """With a field that never ends, and with ends of lines of an old Macintosh."""
+        for octets in (b'account,sum,number,code\n"' + b"x" * 200_000,
+                       b'account,sum,number,code\n"a"\rb,c,d\n', b"code\ra\rb"):
+            self.write(octets)
+            self.assertRaises(debits.Refused, debit.debits_of, self.path)
+            self.assertRaises(ValueError, allow.rows_of, self.path, "2026-12", 5, moneys.Money())
+            with self.assertRaises(SystemExit), contextlib.redirect_stderr(io.StringIO()) as said:
+                voucher.codes_in(self.path)
+            self.assertIn("Nothing was withdrawn", said.getvalue())
 
 
 if __name__ == "__main__":

@@ -1,12 +1,12 @@
 """The exports of the nights: the book at two moments, and what differs between them."""
 
-import contextlib
 import csv
 import datetime
 import gzip
 import os
 import re
 import time
+import zlib
 
 from radacctl import names
 
@@ -39,21 +39,21 @@ class Snapshot:
             return self.name
 
     def rows(self, what):
-        """The rows of one export, as dictionaries."""
         path = os.path.join(self.folder, f"{what}.csv")
-        try:
-            with contextlib.ExitStack() as open_files:
-                if os.path.exists(path):
-                    file = open_files.enter_context(open(path, encoding="ascii", newline=""))
-                else:
-                    packed = gzip.open(f"{path}.gz", "rt", encoding="ascii", newline="")
-                    file = open_files.enter_context(packed)
-                reader = csv.DictReader(file)
-                if reader.fieldnames != COLUMNS[what]:
-                    raise Broken(f"{path} is no export of {what}")
-                yield from reader
-        except (OSError, EOFError, UnicodeDecodeError, csv.Error) as fault:
-            raise Broken(f"cannot read {path}: {fault}") from None
+        return rows_in(path if os.path.exists(path) else f"{path}.gz", what)
+
+
+def rows_in(path, what):
+    """The rows of an export, which may be compressed, as dictionaries."""
+    try:
+        opened = gzip.open if path.endswith(".gz") else open
+        with opened(path, "rt", encoding="ascii", newline="") as file:
+            reader = csv.DictReader(file)
+            if reader.fieldnames != COLUMNS[what]:
+                raise Broken(f"{path} is no export of {what}")
+            yield from reader
+    except (OSError, EOFError, zlib.error, UnicodeDecodeError, csv.Error) as fault:
+        raise Broken(f"cannot read {path}: {fault}") from None
 
 
 class Beginning:

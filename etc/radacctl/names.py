@@ -43,6 +43,15 @@ def shown(octets):
     return "".join(chr(it) if 32 <= it < 127 and it != 37 else f"%{it:02X}" for it in octets)
 
 
+def readable(text):
+    """A name as it is, unless it has what cannot be shown; then as exports spell it."""
+    try:
+        shown = octets_of(text).decode("utf-8")
+    except UnicodeDecodeError:
+        return text
+    return shown if shown.isprintable() else text
+
+
 def for_desk(octets):
     """An account as a request to the desk spells it."""
     return "".join(chr(it) if it in PLAIN else f"%{it:02X}" for it in octets)
@@ -107,3 +116,31 @@ def text_of_cell(field):
     """What a field of a CSV file for people says."""
     field = INNER_SPELLED.sub(lambda it: urllib.parse.unquote(it[0]), field)
     return field[1:] if field[:1] == "'" and FORMULA.match(field) else field
+
+
+def records_in(path, columns, one, marks=","):
+    """What `one` makes of each record of a CSV file of a person's, which it gets by column. Nothing
+    is taken of a file of which a part is wrong: ValueError says which.
+    """
+    try:
+        with open(path, encoding="utf-8-sig", errors="surrogateescape", newline="") as file:
+            text = file.read()
+        mark = next((it for it in marks if it in text.split("\n")[0]), ",")
+        header, *rows = [it for it in csv.reader(io.StringIO(text, newline=""), delimiter=mark)
+                         if it] or [[]]
+    except (OSError, csv.Error) as why:
+        raise ValueError(f"cannot read {path}: {getattr(why, 'strerror', None) or why}") from None
+    if any(header.count(it) != 1 for it in columns):
+        raise ValueError(f"the header of {path} is `{','.join(header)[:200]}`, and is to have "
+                         f"{','.join(columns)}, each once")
+    found, faults = [], []
+    for number, row in enumerate(rows, 2):
+        try:
+            if len(row) != len(header):
+                raise ValueError(f"it has {len(row)} fields, not {len(header)}")
+            found.append(one(dict(zip(header, map(text_of_cell, row)))))
+        except ValueError as why:
+            faults.append(f"record {number}: {why}")
+    if faults:
+        raise ValueError("\n".join([f"{path} is not taken:", *faults[:20]]))
+    return found

@@ -6,7 +6,6 @@ What devices and guests named is handed on as it is: a page shows it as text.
 
 import csv
 import io
-import json
 import re
 import time
 
@@ -52,52 +51,35 @@ def sales(begin, end, path=None):
     was paid. A package has a price of its own.
     """
     rows = {}
-    for day, desk, cashier, credit, paid in [*at_desks(path or sales_log.FILE), *of_guests()]:
+    for day, number, cashier, credit, paid in [*at_desks(path or sales_log.FILE), *of_guests()]:
         if begin <= day <= end:
-            had = rows.setdefault((day, desk, cashier), [0, 0, 0])
+            # What stands first is the letters of the desk that gave the number.
+            key = day, number.split("-")[0], names.readable(cashier)
+            had = rows.setdefault(key, [0, 0, 0])
             had[0], had[1], had[2] = had[0] + 1, had[1] + credit, had[2] + paid
     return [dict(zip(("day", "desk", "cashier", "count", "credit", "paid"), (*key, *row)))
             for key, row in sorted(rows.items(), reverse=True)]
 
 
 def at_desks(path):
-    """Each sale of nginx' log that a book took, once."""
+    """Each sale of nginx' log that a book took, once. Its first answer is 201."""
     found = {}
-    for line in sales_log.lines_of(path):
-        add_sale(found, line)
-    return [row for _, *row in found.values()]
-
-
-def add_sale(found, line):
-    """Adds a line of the log, if it is of a sale that a book took. Its first answer is 201."""
-    try:
-        entry = json.loads(line)
-        sale = json.loads(entry["sale"])
-        number, credit, status = sale["voucher"], sale["sum"], entry["status"]
-        paid = sale.get("paid", credit)
-        if status not in (200, 201) or not all(type(it) is int for it in (credit, paid)):
-            return
-        row = [status, entry["time"][:10], desk_of(number), entry["cashier"], credit, paid]
-    except (ValueError, LookupError, TypeError, AttributeError):
-        return
-    if number not in found or found[number][0] < status:
-        found[number] = row
-
-
-def desk_of(number):
-    """The letters of the desk that gave a number."""
-    return number.split("-")[0]
+    for it in sorted(sales_log.sales_of(path), key=lambda it: -it.status):
+        if it.status in sales_log.TAKEN:
+            found.setdefault(it.number, it)
+    return [(it.day, it.number, it.cashier, it.sum, it.paid) for it in found.values()]
 
 
 def of_guests():
     """Each guest that was made at a desk."""
     prices = {account: (credit, price) for account, credit, price in sold.store().read(
         "SELECT account, json_extract(terms, '$.credit'), json_extract(terms, '$.price') "
-        "FROM login JOIN package ON package.id = login.package WHERE digest IS NULL")}
+        "FROM login JOIN package ON package.id = login.package WHERE digest IS NULL "
+        "AND state <> 'making'")}
     for line in {it.number: it for it in journal.lines_in() if it.act == "guest"}.values():
         found = prices.get(names.octets_of(line.account))
         if found:
-            yield day_of(line.moment), desk_of(line.number), line.cashier, *found
+            yield day_of(line.moment), line.number, sales_log.spelled(line.cashier), *found
 
 
 def day_of(moment):

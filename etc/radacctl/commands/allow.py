@@ -23,7 +23,6 @@ with 3 if there was no answer: then give the same again.
 """
 
 import collections
-import csv
 import hashlib
 import os
 import re
@@ -56,40 +55,21 @@ def row_of(account, total, month):
 
 def rows_of(path, month, total, money):
     """The accounts of a list, if each line of it is right: nothing is sent of one that is not."""
-    try:
-        with open(path, encoding="utf-8-sig", errors="surrogateescape", newline="") as file:
-            header, *lines = [it for it in csv.reader(file) if it] or [[]]
-    except OSError as why:
-        return fail(f"cannot read {path}: {why.strerror}")
-    wanted = ["account"] + (["sum"] if total is None else [])
-    if any(it not in header for it in wanted):
-        return fail(f"{path} has no column {' and '.join(wanted)}: its first line is "
-                    f"{','.join(header)}")
-    found, faults = {}, []
-    for at, line in enumerate(lines, 2):
-        try:
-            account, own = fields_of(header, line, total, money)
-            if account in found:
-                raise ValueError(f"`{names.shown(account)}` is in the list twice")
-            found[account] = row_of(account, own, month)
-        except ValueError as why:
-            faults.append(f"record {at}: {why}")
-    if faults:
-        return fail("\n".join([f"{path} is not taken:", *faults[:20]]))
-    return list(found.values())
+    seen = set()
 
+    def one(cells):
+        account = names.octets_of(cells["account"])
+        if why := names.why_not(account):
+            raise ValueError(f"the account `{names.shown(account)}`: {why}")
+        own = total if total is not None else money.units(cells["sum"])
+        if own is None:
+            raise ValueError(f"{cells['sum']!r} is no sum as {money.plain(500)}")
+        if account in seen:
+            raise ValueError(f"`{names.shown(account)}` is in the list twice")
+        seen.add(account)
+        return row_of(account, own, month)
 
-def fields_of(header, line, total, money):
-    if len(line) != len(header):
-        raise ValueError(f"it has {len(line)} fields, not {len(header)}")
-    cells = dict(zip(header, map(names.text_of_cell, line)))
-    account = names.octets_of(cells["account"])
-    if why := names.why_not(account):
-        raise ValueError(f"the account `{names.shown(account)}`: {why}")
-    own = total if total is not None else money.units(cells["sum"])
-    if own is None:
-        raise ValueError(f"{cells['sum']!r} is no sum as {money.plain(500)}")
-    return account, own
+    return names.records_in(path, ["account"] + ["sum"] * (total is None), one)
 
 
 class Notes:

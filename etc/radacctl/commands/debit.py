@@ -35,7 +35,6 @@ It ends with 0 if the server answered, with 1 if a debit was refused and not sen
 command line, and with 3 if there was no answer: then give the same debit, or file, again.
 """
 
-import csv
 import os
 import re
 import shlex
@@ -51,28 +50,16 @@ HERE_AND_1813 = ("127.0.0.1", 1813)
 
 def debits_of(path):
     """The debits of a file, if each of them is well formed."""
-    found, faults = [], []
+    def one(cells):
+        debit = debit_of(*map(cells.get, FILE_HEADER))
+        if why := names.why_not(debit[0]):
+            raise ValueError(f"the account `{shown(debit[0])}` is not taken from a file: {why}")
+        return debit
+
     try:
-        with open(path, encoding="utf-8-sig", errors="surrogateescape", newline="") as file:
-            header, *rows = [row for row in csv.reader(file) if row] or [[]]
-    except (OSError, csv.Error) as fault:
-        raise debits.Refused(f"cannot read the debits: {fault}") from None
-    if header != FILE_HEADER:
-        raise debits.Refused(f"the header of {path} is {header}, and is to be "
-                             f"{','.join(FILE_HEADER)}")
-    for number, row in enumerate(rows, 2):
-        try:
-            if len(row) != len(FILE_HEADER):
-                raise ValueError(f"it has {len(row)} fields")
-            debit = debit_of(*map(names.text_of_cell, row))
-            if why := names.why_not(debit[0]):
-                raise ValueError(f"the account `{shown(debit[0])}` is not taken from a file: {why}")
-            found.append(debit)
-        except ValueError as fault:
-            faults.append(f"record {number}: {fault}")
-    if faults:
-        raise debits.Refused("\n".join([f"{path} is not taken:", *faults]))
-    return found
+        return names.records_in(path, FILE_HEADER, one)
+    except ValueError as why:
+        raise debits.Refused(why) from None
 
 
 def take_all(books, found):

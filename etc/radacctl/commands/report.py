@@ -39,18 +39,12 @@ import collections
 import csv
 import dataclasses
 import datetime
-import json
 import os
-import re
 
 from radacctl import money as moneys
 from radacctl import exports, names, program, sales_log, site as places, stock
 from radacctl.clerk import journal
 from radacctl.commands import guest
-
-SUBJECT, ESCAPED = re.compile(rb"[A-Za-z.0-9]+="), re.compile(rb"\\([0-9A-F]{2})")
-# What nginx logs of a sale whose answer it did not get: the caller was gone, or the desk silent.
-LOST, NO_ANSWER = "lost", (499, 503)
 
 
 @dataclasses.dataclass
@@ -88,23 +82,13 @@ class Money(int):
     """Whole units of the site's money."""
 
 
-def readable(text):
-    """A name as it is, unless it has what cannot be shown; then as exports spell it."""
-    try:
-        shown = names.octets_of(text).decode("utf-8")
-    except UnicodeDecodeError:
-        return text
-    return shown if shown.isprintable() else text
-
-
 def cashiers_of(path):
     """The cashier of each voucher that nginx' logs of sales have."""
     # Of a sale that was sent again: 201 is its first answer, and 200 that it is known. Of one that
     # the book has all the same, the answer was lost.
-    found = {LOST: {}, 200: {}, 201: {}}
-    for status, voucher, cashier in filter(None, map(sale_of, sales_log.lines_of(path))):
-        found[status][voucher] = cashier
-    return {**found[LOST], **found[200], **found[201]}
+    rank = lambda it: (it.status in sales_log.TAKEN, it.status)
+    return {it.number: it.cashier for it in sorted(sales_log.sales_of(path), key=rank)
+            if it.cashier}
 
 
 def cashiers_of_guests():
@@ -114,30 +98,8 @@ def cashiers_of_guests():
     except stock.Fault as why:
         program.say(why)
         return {}
-    return {guest.number_of(it.account): spelled(it.cashier) for it in lines if it.act == "guest"}
-
-
-def sale_of(line):
-    """Status, voucher and cashier of a line of the log, if the book may have the sale."""
-    try:
-        entry = json.loads(line.decode("utf-8", "surrogateescape"))
-        if entry["status"] in (200, 201, *NO_ANSWER) and entry["cashier"]:
-            voucher = str(json.loads(entry["sale"])["voucher"])
-            status = LOST if entry["status"] in NO_ANSWER else entry["status"]
-            return status, voucher, spelled(entry["cashier"])
-    except (ValueError, KeyError, TypeError, AttributeError):
-        pass
-    return None
-
-
-def spelled(cashier):
-    """A cashier of the log as exports spell a name. That of a certificate has escaped octets, as
-    C3 and B6 for an umlaut; that of a login may be in another coding than UTF-8.
-    """
-    octets = cashier.encode("utf-8", "surrogateescape")
-    if SUBJECT.match(octets):
-        octets = ESCAPED.sub(lambda it: bytes([int(it[1], 16)]), octets)
-    return names.shown(octets)
+    return {guest.number_of(it.account): sales_log.spelled(it.cashier)
+            for it in lines if it.act == "guest"}
 
 
 class Report:
@@ -211,7 +173,7 @@ class Report:
             yield f"{self.counts['lowered']} sessions have less than before: was the book restored?"
         for name, account in sorted(self.accounts.items()):
             if not account.is_explained():
-                name = readable(name)
+                name = names.readable(name)
                 yield f"UNEXPLAINED: the balance of {name} moved otherwise than its entries say"
 
     def carried(self):
@@ -251,7 +213,7 @@ def shown(value):
     """A cell as a person reads it."""
     if isinstance(value, Money):
         return site.plain(value, ",")
-    return f"{value:,}" if isinstance(value, int) else readable(value) or "(none)"
+    return f"{value:,}" if isinstance(value, int) else names.readable(value) or "(none)"
 
 
 # The site's money; without settings sums are in units of the book.
@@ -333,7 +295,7 @@ def cell(value):
     """A field of a CSV file."""
     if isinstance(value, Money):
         return site.plain(value)
-    return value if isinstance(value, int) else names.cell(readable(value))
+    return value if isinstance(value, int) else names.cell(names.readable(value))
 
 
 def write_all(report, folder):

@@ -31,19 +31,15 @@ with 3 if the desk gave no answer for SECONDS, 600 unless given.
 
 import collections
 import csv
-import glob
-import gzip
 import http.client
 import io
-import json
-import re
 import sys
 import threading
 import time
 import urllib.parse
 
 from radacctl import desk as desks
-from radacctl import money, names, program, site, stock
+from radacctl import exports, money, names, program, sales_log, site, stock
 
 HEADER = ["voucher", "account", "sum"]
 # The limits of an import.
@@ -51,8 +47,6 @@ LARGEST_TEXT, MOST_RECORDS = 67_108_864, 1_000_000
 # In seconds: the pauses between tries, how often progress is shown.
 FIRST_PAUSE, LAST_PAUSE, PROGRESS = 0.2, 5, 3
 MOST_WARNINGS, MOST_KEYS = 20, 1000
-# nginx' log of sales, and what it has of one whose answer it did not get.
-SALES, NO_ANSWER = "/var/log/nginx/radacctd-sales.log", (499, 503)
 STOPPED = "stopped; give the same file again: nothing is credited twice"
 # What an import calls these.
 CAUSES = {desks.DIFFERS: "VoucherDiffers", desks.LIMIT: "BalanceLimit"}
@@ -321,50 +315,24 @@ def dry_run(vouchers, refused, stop):
 def logged(words):
     """The sales of nginx' logs: those that were answered, and the numbers of those that were not."""
     answered, others = {}, set()
-    # An older part has a larger number, and the sales before: of two of one number the first counts.
-    age = lambda path: [int(it) for it in re.findall(r"\d+", path[len(words.sales):])]
-    for path in sorted(glob.glob(glob.escape(words.sales) + "*"), key=age, reverse=True):
-        with (gzip.open if path.endswith(".gz") else open)(path, "rb") as file:
-            for line in file:
-                found = sale_of(line, words.since)
-                if found and found[0] in (200, 201):
-                    answered.setdefault(found[1], found[1:])
-                elif found:
-                    others.add(found[1])
+    for it in sales_log.sales_of(words.sales, program.fail):
+        if it.day >= (words.since or ""):
+            if it.status in sales_log.TAKEN:
+                # Of two of one number the first counts.
+                answered.setdefault(it.number, (it.number, it.account, it.sum))
+            else:
+                others.add(it.number)
     return answered, others - set(answered)
-
-
-def sale_of(line, since):
-    """Status, number, account and sum of a line of a day from `since` on, or None."""
-    try:
-        entry = json.loads(line.decode("utf-8", "surrogateescape"))
-        if entry["status"] not in (200, 201, *NO_ANSWER) or entry["time"][:10] < (since or ""):
-            return None
-        sale = json.loads(entry["sale"])
-        account = names.shown(urllib.parse.unquote_to_bytes(sale["account"]))
-        is_sale = desks.NUMBER.fullmatch(sale["voucher"]) and money.sum_of(str(sale["sum"]))
-        return (entry["status"], sale["voucher"], account, sale["sum"]) if is_sale else None
-    except (ValueError, KeyError, TypeError, AttributeError):
-        return None
-
-
-def numbers_in(path):
-    """The vouchers that an export of topups has."""
-    with open(path, encoding="ascii", newline="") as file:
-        header, *rows = list(csv.reader(file)) or [[]]
-    if header != [*HEADER, "when"]:
-        raise ValueError(f"{path} is no export of topups")
-    return {row[0] for row in rows}
 
 
 def print_logged(words):
     try:
-        known = numbers_in(words.but) if words.but else set()
-        answered, others = logged(words)
-    except (OSError, EOFError, ValueError) as why:
+        known = {it["voucher"] for it in exports.rows_in(words.but, "topups")} if words.but else ()
+    except exports.Broken as why:
         return program.fail(why)
+    answered, others = logged(words)
     rows = [it for number, it in answered.items() if number not in known]
-    for number in sorted(others - known):
+    for number in sorted(others.difference(known)):
         program.say(f"{number} was not answered: it is not in the file, and its page sends it again")
     sys.stdout.write(stock.lines_of([HEADER, *rows]).decode())
     total = sum(row[2] for row in rows)
@@ -394,7 +362,7 @@ def parser():
     it.add_argument("--known", metavar="BALANCES")
     it.add_argument("--dry-run", action="store_true")
     it.add_argument("--logged", action="store_true")
-    it.add_argument("--sales", default=SALES, metavar="LOG")
+    it.add_argument("--sales", default=sales_log.FILE, metavar="LOG")
     it.add_argument("--since", type=day, metavar="YYYY-MM-DD")
     it.add_argument("--but", metavar="TOPUPS")
     return it

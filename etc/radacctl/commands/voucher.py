@@ -37,14 +37,13 @@ import argparse
 import collections
 import csv
 import datetime
-import gzip
 import io
 import os
 import re
 import sys
 import time
 
-from radacctl import files, money as moneys, names, program, sheets, site
+from radacctl import exports, files, money as moneys, names, program, sheets, site
 from radacctl import stock as stocks
 from radacctl.program import fail
 
@@ -200,33 +199,24 @@ class Stock:
 
 def redeemed_in(path):
     """The account of each printed code that a book credited, by its export."""
-    opened = gzip.open if path.endswith(".gz") else open
     try:
-        with opened(path, "rt", encoding="ascii", newline="") as file:
-            rows = list(csv.DictReader(file))
-        return {it["voucher"][2:]: it["account"] for it in rows if it["voucher"][:2] == "W-"}
-    except (OSError, ValueError, KeyError, TypeError, EOFError):
-        return fail(f"{path} is no export of topups")
+        return {it["voucher"][2:]: it["account"] for it in exports.rows_in(path, "topups")
+                if it["voucher"][:2] == "W-"}
+    except exports.Broken as why:
+        return fail(why)
 
 
 def codes_in(path):
     """The codes of a CSV file that has a column `code`: a sheet's, or a log of withdrawn ones."""
+    def one(cells):
+        if (code := stocks.code_of(cells["code"])) is None:
+            raise ValueError("it has no code")
+        return code
+
     try:
-        with open(path, encoding="utf-8-sig", newline="") as file:
-            text = file.read()
-    except (OSError, ValueError) as fault:
-        return fail(f"cannot read {path}: {getattr(fault, 'strerror', None) or 'it is no text'}")
-    mark = ";" if ";" in text.split("\n")[0] else ","
-    header, *rows = [it for it in csv.reader(io.StringIO(text), delimiter=mark) if it] or [[]]
-    if "code" not in header:
-        return fail(f"{path} has no column `code`: nothing was withdrawn")
-    at, found = header.index("code"), set()
-    for number, row in enumerate(rows, 2):
-        code = stocks.code_of(names.text_of_cell(row[at])) if len(row) > at else None
-        if code is None:
-            return fail(f"{path}: record {number} has no code: nothing was withdrawn")
-        found.add(code)
-    return found
+        return set(names.records_in(path, ["code"], one, ";,"))
+    except ValueError as why:
+        return fail(f"{why}\nNothing was withdrawn")
 
 
 def named(stock, what):
