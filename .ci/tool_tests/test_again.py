@@ -118,9 +118,6 @@ class Sections(unittest.TestCase):
             text = "".join(f"$INCLUDE {folder}{it.split()[1]}\n"
                            for it in front.INCLUDES.splitlines()) + "modules {\n}\n"
             self.assertEqual(front.main(text, wanted()), text)
-        text = "raddbdir = /etc/freeradius/3.0\n$INCLUDE /etc/freeradius/3.0/own.conf\n$INCLUDE x\n"
-        self.assertEqual(steps.moved(text, "/run/raddb"),
-                         "raddbdir = /run/raddb\n$INCLUDE /run/raddb/own.conf\n$INCLUDE x\n")
 
 
 class Again(Folder):
@@ -378,22 +375,6 @@ class Again(Folder):
         self.assertIn("(a line with a secret)", said)
         self.assertNotIn("key =", said)
 
-    def test_a_copy_is_tried_and_not_what_it_is_of(self):
-        """A link that an administrator made by a whole path leads to the copy, too."""
-        raddb = os.path.join(self.folder, "raddb")
-        self.patched(places, "RADDB", raddb)
-        self.put("old\n", "copy", "sites-available", "own")
-        os.makedirs(os.path.join(self.folder, "copy", "sites-enabled"))
-        link = lambda name: os.path.join(self.folder, "copy", "sites-enabled", name)
-        os.symlink(f"{raddb}/sites-available/own", link("own"))
-        os.symlink("../sites-available/own", link("near"))
-        os.symlink(f"{raddb}-of-others/x", link("far"))
-        os.symlink(f"{raddb}/sites-available", link("folder"))
-        steps.lead_inside(os.path.join(self.folder, "copy"))
-        self.assertEqual([os.readlink(link(it)) for it in ("own", "near", "far", "folder")], [
-            f"{self.folder}/copy/sites-available/own", "../sites-available/own",
-            f"{raddb}-of-others/x", f"{self.folder}/copy/sites-available"])
-
     def started(self, start="a", **begun):
         """A unit runs, of which nothing is known but when it began, by the clock as it is now."""
         self.patched(steps, "MARKS", os.path.join(self.folder, "marks"))
@@ -484,21 +465,46 @@ class Again(Folder):
 @unittest.skipUnless(shutil.which("freeradius") and os.path.isdir("/etc/freeradius/3.0"),
                      "freeradius is missing")
 class Tested(Folder):
+    def setUp(self):
+        super().setUp()
+        os.chmod(self.folder, 0o711)
+        self.patched(steps, "TRIAL", f"/run/radacctd-trial-{os.getpid()}")
+
     def test_a_test_of_freeradius_runs_its_code_as_its_user(self):
         """Its user may write the files, and so what root would run."""
-        raddb, out = (os.path.join(self.folder, it) for it in ("raddb", "out"))
-        steps.given(["cp", "-a", "/etc/freeradius/3.0", raddb])
-        self.put(f"perl zz {{\n\tfilename = {self.path}\n}}\n", raddb, "mods-enabled", "zz",
-                 mode=0o644)
-        self.put(f'open F, ">", "{out}/uid"; print F $<; close F; sub authorize {{ 0 }} 1;\n',
-                 mode=0o644)
+        out = os.path.join(self.folder, "out")
         os.mkdir(out)
         os.chmod(out, 0o777)
-        os.chmod(self.folder, 0o711)
-        self.patched(places, "RADDB", raddb)
-        steps.Trial([]).do()
+        self.put(f'open F, ">", "{out}/uid"; print F $<; close F; sub authorize {{ 0 }} 1;\n',
+                 mode=0o644)
+        module = f"perl zz {{\n\tfilename = {self.path}\n}}\n"
+        steps.Trial([steps.File(freeradius.path("mods-enabled", "zz"), module)]).do()
         with open(os.path.join(out, "uid"), encoding="ascii") as file:
             self.assertEqual(int(file.read()), steps.user(places.RADIUS_USER))
+
+    def test_a_copy_is_tried_and_not_what_it_is_of(self):
+        """A name from the root, as in a link that an administrator made, is that of the copy."""
+        own, link = (freeradius.path(it) for it in ("mods-config/zz", "mods-enabled/zz"))
+        for text, is_right in (("always zz {\n}\n", True), ("always {\n", False)):
+            trial = steps.Trial([steps.File(own, text), steps.Link(link, own)])
+            if is_right:
+                trial.do()
+            else:
+                self.assertRaisesRegex(steps.Failed, "none was changed", trial.do)
+            self.assertFalse(os.path.lexists(own) or os.path.lexists(steps.TRIAL))
+
+    def test_a_copy_has_nothing_that_root_alone_may_read(self):
+        """Its user may let a name lead elsewhere while the copy is made."""
+        raddb = os.path.join(self.folder, "raddb")
+        self.patched(places, "RADDB", raddb)
+        self.patched(freeradius, "test", lambda: ["true"])
+        for name, mode in (("open", 0o644), ("shut", 0o600)):
+            self.put(name, raddb, name, mode=mode)
+        seen = []
+        look = lambda it: seen.extend(os.listdir(os.path.dirname(it.path)))
+        step = type("Step", (), {"path": f"{raddb}/x", "do": look})()
+        steps.Trial([step]).do()
+        self.assertEqual(seen, ["open"])
 
     def test_all_of_them_do(self):
         folder = os.path.join(ROOT, "etc", "radacctl")

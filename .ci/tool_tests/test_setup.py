@@ -630,20 +630,17 @@ class Trying(Folder):
     """A fault that FreeRADIUS finds leaves all files as they were."""
 
     def test_a_fault_changes_nothing(self):
-        raddb = os.path.join(self.folder, "raddb")
-        steps.given(["cp", "-a", "/etc/freeradius/3.0", raddb])
-        path = os.path.join(raddb, "clients.conf")
+        path = freeradius.path("clients.conf")
         before = self.read(path)
-        with mock.patch.object(places, "RADDB", raddb):
-            for more, is_right in (("client x {\n}\n", False), ("# right\n", True)):
-                step = steps.File(path, lambda old, more=more: old.replace("# right\n", "") + more)
-                trial = steps.Trial([step])
-                self.assertFalse(trial.is_done())
-                if is_right:
-                    trial.do()
-                else:
-                    self.assertRaisesRegex(steps.Failed, "none was changed", trial.do)
-                self.assertEqual(self.read(path), before)
+        for more, is_right in (("client x {\n}\n", False), ("# right\n", True)):
+            step = steps.File(path, lambda old, more=more: old.replace("# right\n", "") + more)
+            trial = steps.Trial([step])
+            self.assertFalse(trial.is_done())
+            if is_right:
+                trial.do()
+            else:
+                self.assertRaisesRegex(steps.Failed, "none was changed", trial.do)
+            self.assertEqual(self.read(path), before)
         self.assertFalse(os.path.exists(steps.TRIAL))
 
 

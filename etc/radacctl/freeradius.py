@@ -39,12 +39,16 @@ def path(*names):
     return os.path.join(site.RADDB, *names)
 
 
-def test(*more):
-    """What lets FreeRADIUS test its files, as its own user, who may write them: a test runs the code
-    of modules that they name, in Perl say. The service does the same before it starts.
+def as_user(*words):
+    """What runs a command as FreeRADIUS' user, who may change its files."""
+    return site.part("as-owner"), "--as", site.RADIUS_USER, *words
+
+
+def test():
+    """What lets FreeRADIUS test its files, as its own user: a test runs the code of modules that
+    they name, in Perl say. The service does the same before it starts.
     """
-    return (site.part("as-owner"), "--as", site.RADIUS_USER, "freeradius", "-C", "-l", "stdout",
-            *more)
+    return as_user("freeradius", "-C", "-l", "stdout")
 
 
 def without_comments(text):

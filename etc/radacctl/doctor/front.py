@@ -188,7 +188,7 @@ def certificates():
     named = re.findall(r"""(?m)^\s*certificate_file\s*=\s*["']?([^"'\s]+)""", eap)
     for path in sorted({freeradius.file_at(it) for it in named} - {""}):
         yield from look.certificate(path, "renew it, then: systemctl restart freeradius",
-                                    site.part("as-owner"), "--as", site.RADIUS_USER)
+                                    *freeradius.as_user())
 
 
 def proxies(kind):
@@ -305,8 +305,8 @@ def counted():
         except LookupError:
             return {}
         program = freeradius.path("radacctd", "front-counts")
-        words = [site.part("as-owner"), "--as", site.RADIUS_USER, program, f"{inner}/prom", MIRROR]
-        look.must(*words, site.RADACCT, STATE)
+        words = (program, f"{inner}/prom", MIRROR, site.RADACCT, STATE)
+        look.must(*freeradius.as_user(*words))
         return look.samples(f"{inner}/prom")
 
 

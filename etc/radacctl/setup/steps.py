@@ -252,7 +252,13 @@ class Install(Command):
 class Trial:
     """Does the steps to FreeRADIUS' folder in a copy of it, which FreeRADIUS tests: if that finds a
     fault, nothing was changed.
+
+    FreeRADIUS' user may change names in its folder at any time. So that user makes the copy: what
+    root alone may read gets into none. For the test the copy is in the place of the folder.
     """
+
+    COPY = 'tar -C "$1" --ignore-failed-read -c . | tar -C "$2" -x'
+    MOUNT = 'mount --bind "$1" "$2" && shift 2 && exec "$@"'
 
     def __init__(self, found):
         self.steps = found
@@ -265,45 +271,25 @@ class Trial:
 
     def do(self):
         shutil.rmtree(TRIAL, ignore_errors=True)
-        os.mkdir(TRIAL, 0o700)
+        os.mkdir(TRIAL)
+        os.chmod(TRIAL, 0o711)
+        raddb = os.path.join(TRIAL, "raddb")
+        shell = lambda text, *words: ["sh", "-c", text, "sh", *words]
         try:
-            raddb = os.path.join(TRIAL, "raddb")
-            given(["cp", "-a", site.RADDB, raddb])
-            # While nobody else may enter the folder: what is done here goes by names.
-            lead_inside(raddb)
-            os.chown(TRIAL, 0, group(site.RADIUS_USER))
-            os.chmod(TRIAL, 0o750)
+            Folder(raddb, 0o700, site.RADIUS_USER, site.RADIUS_USER).do()
+            given(freeradius.as_user(*shell(self.COPY, site.RADDB, raddb)))
             for it in self.steps:
                 one = copy.copy(it)
                 one.path = raddb + it.path.removeprefix(site.RADDB)
                 one.do()
-            File(os.path.join(raddb, "radiusd.conf"), lambda old: moved(old or "", raddb)).do()
             try:
-                given(freeradius.test("-d", raddb), seconds=60)
+                given(["unshare", "--mount", *shell(self.MOUNT, raddb, site.RADDB),
+                       *freeradius.test()], seconds=60)
             except Failed as why:
                 raise Failed(f"FreeRADIUS would not start with its new files, so none was changed. "
                              f"{why}") from None
         finally:
             shutil.rmtree(TRIAL, ignore_errors=True)
-
-
-def moved(text, raddb):
-    """radiusd.conf of a copy: what it names in FreeRADIUS' folder is in the copy."""
-    text = re.sub(r"(?m)^(\s*raddbdir\s*=\s*).*$", rf"\g<1>{raddb}", text)
-    whole = rf"(?m)^(\s*-?\$INCLUDE\s+){re.escape(site.RADDB)}/"
-    return re.sub(whole, rf"\g<1>{raddb}/", text)
-
-
-def lead_inside(raddb):
-    """Lets links of a copy that name a file of FreeRADIUS' folder from the root lead to its copy: a
-    test would else read the file that is not changed yet.
-    """
-    for above, folders, names in os.walk(raddb):
-        for path in (os.path.join(above, it) for it in (*folders, *names)):
-            target = os.readlink(path) if os.path.islink(path) else ""
-            if target.startswith(site.RADDB + "/"):
-                os.remove(path)
-                os.symlink(raddb + target.removeprefix(site.RADDB), path)
 
 
 class Fresh:
