@@ -72,7 +72,7 @@ class Sections(unittest.TestCase):
     def test_a_brace_of_a_comment_ends_no_section(self):
         text = SERVER.replace("accounting {", "accounting {\n\t# to here: }")
         found = sql.without_sql(text)
-        self.assertEqual(found, text.replace("here: }\n\tsql\n", "here: }\n\t# sql\n"))
+        self.assertEqual(found, text.replace("here: }\n\tsql\n", f"here: }}\n\t{freeradius.MARK} sql\n"))
         found = steps.begun(found, "accounting", "radacctd_accounting")
         self.assertEqual(away.lines_out(found), text)
 
@@ -100,9 +100,19 @@ class Sections(unittest.TestCase):
             self.assertEqual(freeradius.section(bare, "accounting").split(), words)
             self.assertEqual(away.lines_out(found), text)
 
-    def test_a_server_that_no_set_up_touched_keeps_its_comments(self):
-        text = SERVER.replace("\tsql\n", "\t# sql\n\t# detail\n")
-        self.assertEqual(away.lines_out(text), text)
+    def test_a_site_keeps_its_own_comments(self):
+        """As a line one would write into a database that is not there: FreeRADIUS does not start."""
+        other = wanted(sql={"password_file": "/root/x"})
+        for more in ("", "\tsql\n", "\t-sql\n\tdetail\n"):
+            text = SERVER.replace("\tsql\n", f"\t# sql\n\t# detail\n{more}")
+            self.assertEqual(away.lines_out(text), text)
+            for one in (wanted(), other):
+                self.assertEqual(away.lines_out(front.default(text, one, "x")), text)
+
+    def test_a_line_with_a_comment_is_taken_out(self):
+        text = front.default(SERVER, wanted(), "x")
+        text = text.replace("radacctd_login\n", "radacctd_login  # who pays\n")
+        self.assertEqual(away.lines_out(text), SERVER)
 
     def test_a_server_without_the_section_stays(self):
         text = SERVER.replace("accounting", "preacct")

@@ -503,7 +503,8 @@ class Existing(Folder):
         text = SERVER + visitors + SERVER.replace("eduroam", "more")
         wanted = self.wanted(sql={"password_file": "/root/x"})
         found = front.default(text, wanted, "x")
-        for line in ("accounting {\n\tradacctd_accounting\n\tdetail\n\t# sql\n\t# -sql\n",
+        off = f"\t{freeradius.MARK} sql\n\t{freeradius.MARK} -sql\n"
+        for line in (f"accounting {{\n\tradacctd_accounting\n\tdetail\n{off}",
                      "post-auth {\n\tradacctd_login\n"):
             self.assertEqual(found.count(line), 2)
         self.assertIn(visitors, found)

@@ -26,6 +26,8 @@ OURS = {
 SETTINGS = ("settings.conf", "access-servers.conf", "kept")
 UNITS = ("radacctd-mirror.service", "radacctd-front.service", "radacctd-clock.service",
          "radacctd-clock.timer")
+# What begins a line that a set-up wrote, or made a comment.
+MARK = "# radacctl setup:"
 CLIENT = re.compile(r"(?m)^\s*client\s+(\S+)\s*\{((?:[^{}]|\{[^{}]*\})*)\}")
 LISTEN = re.compile(r"(?m)^\s*listen\s*\{((?:[^{}]|\{[^{}]*\})*)\}")
 SERVER = re.compile(r"(?m)^\s*server\s+([\w.-]+)\s*\{")
@@ -120,22 +122,19 @@ def with_servers(text_of_file, change, *names):
     return text_of_file
 
 
-def with_section(text_of_site, name, change):
-    """A virtual server in which a section is changed: another one may have the same lines."""
-    begin, end = place_of_section(text_of_site, name) or (0, 0)
-    return text_of_site[:begin] + change(text_of_site[begin:end]) + text_of_site[end:]
-
-
 def without_line(text_of_site, name, word):
-    """A virtual server in a section of which the line of a word is a comment."""
-    commented = lambda inside: re.sub(rf"(?m)^([ \t]*)({word})[ \t]*$", r"\1# \2", inside)
-    return with_section(text_of_site, name, commented)
+    """A virtual server in a section of which the line of a word is a comment, with the mark: the
+    site may have such a comment of its own.
+    """
+    begin, end = place_of_section(text_of_site, name) or (0, 0)
+    marked = rf"\1{MARK} \2"
+    inside = re.sub(rf"(?m)^([ \t]*)({word})[ \t]*$", marked, text_of_site[begin:end])
+    return text_of_site[:begin] + inside + text_of_site[end:]
 
 
-def with_line(text_of_site, name, word):
+def with_line(text_of_site, word):
     """The same server, in which the line is one again."""
-    again = lambda inside: re.sub(rf"(?m)^([ \t]*)# ({word})$", r"\1\2", inside)
-    return with_section(text_of_site, name, again)
+    return re.sub(rf"(?m)^([ \t]*){MARK} ({word})$", r"\1\2", text_of_site)
 
 
 def enabled():

@@ -60,16 +60,11 @@ class Away(Gone):
 
 
 def lines_out(text):
-    """A virtual server without radacctd's lines. What a set-up made a comment is a line again: in a
-    server without such lines it is the site's own comment.
-    """
-    if not re.search(r"(?m)^[ \t]*radacctd_", text):
-        return text
-    text = front.WITH_CLASS.sub("", text)
-    text = re.sub(r"(?m)^[ \t]*radacctd_(?:accounting|login|packages\w*)[ \t]*\n", "", text)
+    """Virtual servers without radacctd's lines. What a set-up made a comment is a line again."""
+    lines = r"(?m)^[ \t]*radacctd_(?:accounting|login|packages\w*)[ \t]*(?:#[^\n]*)?\n"
+    text = re.sub(lines, "", front.WITH_CLASS.sub("", text))
     text = re.sub(r"(?m)^(\s*)radacctd_filter\b", r"\1filter_username", text)
-    again = lambda it: freeradius.with_line(it, "accounting", "-?sql|detail")
-    return freeradius.with_servers(text, again, *front.SOLD)
+    return freeradius.with_line(text, "-?sql|detail")
 
 
 def includes_out(text):
@@ -92,7 +87,7 @@ def own_clients_out(text):
 
 
 def test_user_out(text):
-    above = rf"(?:{front.MARK} the proof[^\n]*\n)?"
+    above = rf"(?:{freeradius.MARK} the proof[^\n]*\n)?"
     return re.sub(rf"(?m)^{above}{front.TEST_USER}\s[^\n]*\n\n?", "", text)
 
 

@@ -60,7 +60,6 @@ home_server cut-{address} {{
 HEAD = """\
 # Access servers. `radacctl setup` wrote this file, and only adds to it. Each has its own secret.
 """
-MARK = "# radacctl setup:"
 # What a virtual server has that the site sells by.
 SOLD = ("accounting", "post-auth")
 
@@ -368,10 +367,10 @@ def there(old, name):
     return old
 
 
-# What an earlier version wrote in the place of the line radacctd_login: the plan is in settings.conf
-# now, because a login that is left alone has none.
+# What an earlier version wrote in the place of radacctd_login: the plan is in settings.conf now,
+# because a login that is left alone has none.
 WITH_CLASS = re.compile(
-    rf'[ \t]*{MARK} who pays[^\n]*\n\tupdate reply {{\n\t\t&Class = "[^"\n]*"\n\t}}\n'
+    rf'[ \t]*{freeradius.MARK} who pays[^\n]*\n\tupdate reply {{\n\t\t&Class = "[^"\n]*"\n\t}}\n'
 )
 
 
@@ -425,7 +424,8 @@ def users(old):
     if re.search(rf"(?m)^{TEST_USER}\s", there(old, "mods-config/files/authorize")):
         return old
     line = f'{TEST_USER}\tCleartext-Password := "{secrets.token_hex(16)}"\n'
-    return f"{MARK} the proof at the end of a set-up logs in by this name\n{line}\n{old}"
+    about = f"{freeradius.MARK} the proof at the end of a set-up logs in by this name"
+    return f"{about}\n{line}\n{old}"
 
 
 def password():

@@ -84,7 +84,7 @@ def with_sql(text):
     """The same server, which writes into the database again, if an earlier set-up ended that."""
     inside = freeradius.section(text, "accounting")
     has_line = re.search(r"(?m)^[ \t]*-?sql[ \t]*$", inside)
-    return text if has_line else freeradius.with_line(text, "accounting", "-?sql")
+    return text if has_line else freeradius.with_line(text, "-?sql")
 
 
 def after(answers):
