@@ -130,6 +130,8 @@ BREAKS = {
                         "/etc/radacctd-redeem.key"),
     "certificate-ended": kept("/etc/ssl/radacctd.pem", "rm /etc/ssl/radacctd.pem"),
     "certificate-ends": kept(EAP, CERTIFICATE),
+    "certificate-old": kept("/etc/ssl/radacctd.pem", "openssl req -x509 -days 300 -subj /CN=x "
+                            "-key /etc/ssl/private/radacctd.key -out /etc/ssl/radacctd.pem"),
     "pair-alarm": (f"{PAIR}; systemd-run --unit=feigned {OUTBOX}; sleep 2",
                    f"systemctl stop feigned; {UNPAIR}"),
     "pair-differs": (f"{PAIR}; printf '[Service]\\nType=oneshot\\nExecStart=/bin/false\\n' > "

@@ -1,19 +1,24 @@
 """What a set-up that is given again finds, finishes and leaves alone; and a removal."""
 
 import contextlib
+import http.server
 import io
 import os
 import re
 import shutil
+import ssl
 import stat
 import subprocess
 import tempfile
+import threading
+import time
 import unittest
 from unittest import mock
 
 from radacctl import configuration, files, freeradius, site as places
 from radacctl.commands import setup, site as copying
-from radacctl.doctor import book, machine, packages as of_packages, web as of_web
+from radacctl.doctor import book, front as of_front, machine, packages as of_packages
+from radacctl.doctor import web as of_web
 from radacctl.setup import alone, answers, away, front, packages as of_setup, pair as of_pair, sql
 from radacctl.setup import steps, web
 import tool_tests
@@ -356,9 +361,10 @@ class Again(Folder):
         text = "server_name a.example.org;\nlisten 10.0.0.5:443 ssl;\n"
         self.patched(of_web.look, "is_active", lambda _: True)
         seen = []
-        self.patched(of_web, "asked", lambda where, *_: seen.append(where) or 429)
-        self.assertEqual(list(of_web.answers(mock.Mock(has_codes=False), text)), [])
-        self.assertEqual(set(seen), {("10.0.0.5", 443)})
+        refused = lambda where, **_: seen.append(where) or os.stat("/missing")
+        self.patched(of_web.socket, "create_connection", refused)
+        found = [it.text for it in of_web.answers(mock.Mock(has_codes=False), text)]
+        self.assertEqual((len(found), set(seen)), (3, {("10.0.0.5", 443)}))
 
     def test_who_logs_in_by_a_certificate_is_refused_without_one(self):
         """A page that nobody may see is no fault; nor is one that asks for a password."""
@@ -369,7 +375,7 @@ class Again(Folder):
                               ("set $radacctd_login certificate;", 403)):
             self.put(login, "login.conf")
             for found in (401, 403):
-                self.patched(of_web, "asked", lambda _, __, path, it=found: (
+                self.patched(of_web, "asked", lambda _, path, it=found: (
                     it if path == "/desk/" else 200))
                 told = list(of_web.answers(mock.Mock(has_codes=False), ""))
                 self.assertEqual(bool(told), found != status, (login, found))
@@ -447,6 +453,45 @@ class Again(Folder):
             self.started(start, later=-later)
             self.assertEqual(steps.Fresh("x", "x.service", [self.path]).is_done(), is_done)
 
+    def test_a_unit_began_when_systemd_says(self):
+        """In a container /proc/uptime is the container's, and the start of a process is not."""
+        for began in (time.monotonic() - 3600, 0):
+            unit = {"MainPID": "1", "ExecMainStartTimestampMonotonic": str(int(began * 1e6))}
+            self.patched(machine.look, "properties", lambda *_, it=unit: it)
+            ago = time.time() - machine.begin_of("x.service")
+            self.assertAlmostEqual(ago, time.monotonic() - began, delta=5)
+        self.patched(machine.look, "properties", lambda *_: {**unit, "MainPID": "0"})
+        self.assertIsNone(machine.begin_of("x.service"))
+
+    @NEEDS_ROOT
+    @unittest.skipUnless(shutil.which("ps"), "ps is missing")
+    def test_who_got_a_group_later_is_started_again(self):
+        """nginx may read no balances, whatever /etc/group says now."""
+        user, group = "daemon", "adm"
+        for more, lacks in ((["--groups", group], False), (["--clear-groups"], True)):
+            words = ["setpriv", "--reuid", user, "--regid", user, *more, "sleep", "60"]
+            with subprocess.Popen(words) as child:
+                self.addCleanup(child.kill)
+                time.sleep(0.3)
+                for main in (os.getpid(), child.pid):
+                    self.patched(machine.look, "properties", lambda *_, it=main: {"MainPID": str(it)})
+                    self.assertEqual(machine.lacks_group("x.service", user, group), lacks)
+                self.assertFalse(machine.lacks_group("x.service", "www-data", group))
+                child.kill()
+        for lacks, another, is_done in ((False, False, True), (True, False, False),
+                                        (False, True, False)):
+            self.started(later=60)
+            self.patched(machine, "lacks_group", lambda *_, it=lacks: it)
+            self.patched(of_web, "serves_another", lambda _, it=another: it)
+            self.assertEqual(web.Nginx().is_done(), is_done)
+
+    def test_the_doctor_says_so(self):
+        self.patched(book, "groups_of", lambda _: [places.READERS])
+        for lacks in (True, False):
+            self.patched(machine, "lacks_group", lambda *_, it=lacks: it)
+            found = [it.cure for it in book.groups(mock.Mock())]
+            self.assertEqual(found, ["systemctl restart nginx"] * lacks)
+
     def test_a_clock_that_was_ahead_makes_no_program_an_older_one(self):
         now = steps.time.time()
         self.patched(machine, "SCRIPTS", {self.put("x"): "x.service"})
@@ -469,6 +514,60 @@ class Again(Folder):
             with contextlib.suppress(steps.Failed):
                 step.do()
             self.assertEqual([it[0][0][0] for it in given.call_args_list], words)
+
+
+@unittest.skipUnless(shutil.which("openssl"), "openssl is missing")
+class Served(Folder):
+    """What browsers get is the certificate that nginx has read, and not that of the file."""
+
+    def made(self, name):
+        path = os.path.join(self.folder, name)
+        words = ["openssl", "req", "-x509", "-newkey", "ec", "-pkeyopt",
+                 "ec_paramgen_curve:prime256v1", "-nodes", "-days", "60", "-subj", "/CN=x", "-out",
+                 path, "-keyout", f"{path}.key"]
+        subprocess.run(words, capture_output=True, check=True)
+        return path
+
+    def served(self, path, names):
+        """A server with a certificate, which notes the names that it is asked for; its port."""
+        context = ssl.SSLContext(ssl.PROTOCOL_TLS_SERVER)
+        context.load_cert_chain(path, f"{path}.key")
+        context.sni_callback = lambda _, name, __: names.append(name)
+        server = http.server.HTTPServer(("127.0.0.1", 0), http.server.SimpleHTTPRequestHandler)
+        server.socket = context.wrap_socket(server.socket, server_side=True)
+        server.RequestHandlerClass.log_message = lambda *_: None
+        threading.Thread(target=server.serve_forever, daemon=True).start()
+        self.addCleanup(server.server_close)
+        self.addCleanup(server.shutdown)
+        return server.server_port
+
+    def test_a_certificate_that_nginx_has_not_read_is_told(self):
+        one, two = self.made("one.pem"), self.made("two of it.pem")
+        self.patched(of_web, "FOLDER", self.folder)
+        names = []
+        text = f"server_name *.b ~x a.example.org;\nlisten {self.served(one, names)} ssl;\n"
+        for more, count in ((f"ssl_certificate {one};\n", 0), (f'ssl_certificate "{two}";\n', 1),
+                            (f"ssl_certificate {two};\nssl_certificate '{one}';\n", 0),
+                            ("ssl_certificate $ssl_server_name.pem;\n", 0)):
+            found = [(it.name, it.cure) for it in of_web.certificates(text + more)]
+            self.assertEqual(found, [("certificate-old", "systemctl reload nginx")] * count, more)
+        self.assertEqual(of_web.asked(text, "/x"), 404)
+        self.assertEqual(set(names), {"a.example.org"})
+        self.put(f"ssl_certificate {one};\n", "own.conf")
+        self.assertEqual(list(of_web.certificates(of_web.whole(f"{text}ssl_certificate {two};\n"))),
+                         [])
+
+    def test_a_certificate_of_nginx_folder_is_there(self):
+        text = " ssl_certificate\tx/a.pem ;\n# ssl_certificate /no.pem;\nssl_certificate_key /k;\n"
+        self.assertEqual(of_web.named(text, "ssl_certificate"), ["/etc/nginx/x/a.pem"])
+
+    def test_a_certificate_that_freeradius_has_not_read_is_told(self):
+        self.patched(of_front.look, "certificate", lambda *_: [])
+        self.patched(freeradius, "text", lambda *_: f"certificate_file = {self.put('x')}\n")
+        for begun, count in ((time.time() - 60, 1), (time.time() + 60, 0), (None, 0)):
+            self.patched(machine, "begin_of", lambda _, it=begun: it)
+            found = [(it.name, it.cure) for it in of_front.certificates()]
+            self.assertEqual(found, [("certificate-old", "systemctl restart freeradius")] * count)
 
 
 @NEEDS_ROOT

@@ -8,7 +8,7 @@ import time
 import tomllib
 
 from radacctl import desk, files, names, plans, site, stock
-from radacctl.doctor import copies, look
+from radacctl.doctor import copies, look, machine
 from radacctl.doctor.faults import Fault
 from radacctl.doctor.kind import TABLE
 
@@ -237,6 +237,9 @@ def groups(kind):
         if site.READERS not in found:
             yield Fault("group-wrong", f"{user} is not in the group {site.READERS}",
                         f"gpasswd -a {user} {site.READERS}, and restart its service")
+        elif user == site.WEB_USER and machine.lacks_group("nginx.service", user, site.READERS):
+            yield Fault("group-wrong", f"nginx runs without the group {site.READERS}, which "
+                        f"{user} has got since", "systemctl restart nginx")
 
 
 # The files of cashiers' keys: of each, what finds the keys in it.

@@ -122,6 +122,8 @@ WARNINGS = {
                         "set auth to no in the section log of radiusd.conf"),
     "certificate-ends": ("a certificate ends within three weeks",
                          "renew it, and reload nginx, or restart freeradius"),
+    "certificate-old": ("nginx or FreeRADIUS has not read a certificate that was renewed",
+                        "reload nginx, or restart freeradius"),
     "pages-plans": ("the pages have other plans than the book, or none",
                     "`radacctl pages`, and a restart of radacctd"),
     "pages-settings": ("the pages' settings are missing or wrong",

@@ -186,9 +186,13 @@ def certificates():
     """The certificate of PEAP, TTLS and TLS: without it nobody logs in by these."""
     eap = freeradius.text("mods-enabled", "eap")
     named = re.findall(r"""(?m)^\s*certificate_file\s*=\s*["']?([^"'\s]+)""", eap)
+    cure = "systemctl restart freeradius"
     for path in sorted({freeradius.file_at(it) for it in named} - {""}):
-        yield from look.certificate(path, "renew it, then: systemctl restart freeradius",
-                                    *freeradius.as_user())
+        found = [*look.certificate(path, f"renew it, then: {cure}", *freeradius.as_user())]
+        begun = None if found else machine.begin_of("freeradius.service")
+        if begun and begun < look.status_of(path).st_mtime <= time.time():
+            found = [Fault("certificate-old", f"FreeRADIUS began before {path} was written", cure)]
+        yield from found
 
 
 def proxies(kind):

@@ -82,25 +82,30 @@ def unit_of(process):
 
 def old_scripts():
     for path, unit in SCRIPTS.items():
-        process = look.properties(unit, "MainPID").get("MainPID", "0")
-        status = look.status_of(path)
-        begun = begin_of(process)
+        status, begun = look.status_of(path), begin_of(unit)
         # A moment that is to come is of a clock that was ahead: it says nothing.
         if status and begun and begun + 2 < status.st_ctime <= time.time():
             yield Fault("old-program", f"{unit} runs an older {os.path.basename(path)}",
                         f"systemctl restart {unit}")
 
 
-def begin_of(process):
-    """When a process began, or None."""
-    try:
-        with open(f"/proc/{process}/stat", encoding="utf-8", errors="replace") as file:
-            ticks = int(file.read().rpartition(")")[2].split()[19])
-        with open("/proc/uptime", encoding="ascii") as file:
-            up = float(file.read().split()[0])
-    except (OSError, ValueError, IndexError):
+def begin_of(unit):
+    """When the process of a unit began, by the clock as it is now; None if none runs. In a
+    container /proc counts from two moments, its own start and the machine's.
+    """
+    found = look.properties(unit, "MainPID", "ExecMainStartTimestampMonotonic")
+    if found.get("MainPID", "0") == "0":
         return None
-    return time.time() - up + ticks / os.sysconf("SC_CLK_TCK")
+    ran = time.monotonic() - int(found["ExecMainStartTimestampMonotonic"]) / 1e6
+    return time.time() - ran
+
+
+def lacks_group(unit, user, group):
+    """Whether a unit has a process of a user without a group that the user has got since."""
+    main = look.properties(unit, "MainPID").get("MainPID", "0")
+    said = look.run("ps", "-p", main, "--ppid", main, "-o", "euser:32=,supgrp=")[1]
+    found = [re.split(r"[\s,]+", it) for it in said.splitlines()]
+    return any(it[0] == user and group not in it for it in found)
 
 
 def clock(kind):

@@ -1,9 +1,11 @@
 """nginx, its certificate and secrets, the pages' settings, printed codes, fail2ban."""
 
+import contextlib
 import glob
 import http.client
 import os
 import re
+import socket
 import ssl
 
 from radacctl import files, freeradius, money, site
@@ -33,8 +35,9 @@ def look_at(kind):
         return
     text = files.text(kinds.NGINX)
     yield from configuration(text)
+    text = whole(text)
     yield from certificates(text)
-    yield from modes()
+    yield from modes(text)
     yield from settings()
     yield from clerk(kind)
     yield from answers(kind, text)
@@ -64,21 +67,50 @@ def configuration(text):
                     "write your own in its place")
 
 
+def whole(text):
+    """The file for nginx, with the site's own lines."""
+    return "\n".join([text, *map(files.text, sorted(glob.glob(f"{FOLDER}/own*.conf")))])
+
+
+def named(text, directive):
+    """The files that a directive of nginx names, from its folder if from nowhere else. One that a
+    request chooses, or that is in the line itself, is no file to look at.
+    """
+    found = re.findall(rf"""(?m)^\s*{directive}\s+["']?([^"';$:\n]+?)["']?\s*;""", text)
+    return sorted({os.path.join("/etc/nginx", it) for it in found})
+
+
 def certificates(text):
-    """Each certificate of nginx is there and lasts three weeks."""
-    for path in sorted(set(re.findall(r"(?m)^\s*ssl_certificate\s+(\S+?);", text))):
-        yield from look.certificate(path, "renew it, then: systemctl reload nginx")
+    """Each certificate of nginx is there and lasts three weeks, and nginx serves one of them."""
+    sound = True
+    for path in named(text, "ssl_certificate"):
+        for fault in look.certificate(path, "renew it, then: systemctl reload nginx"):
+            sound = False
+            yield fault
+    if sound and serves_another(text):
+        yield Fault("certificate-old", "nginx serves another certificate than its file has",
+                    "systemctl reload nginx")
 
 
-def modes():
+def serves_another(text):
+    """Whether nginx serves a certificate that none of its files has: it was not reloaded since."""
+    known = ["".join(files.text(it).split()) for it in named(text, "ssl_certificate")]
+    try:
+        with connected(text) as (_, connection):
+            found = ssl.DER_cert_to_PEM_cert(connection.getpeercert(True))
+    except OSError:
+        return False
+    return bool(known) and not any("".join(found.split()) in it for it in known)
+
+
+def modes(text):
     for path, most in SECRETS.items():
         yield from look.open_to_others(path, most)
     for path in sorted(glob.glob(LOGS)):
         if look.mode_of(os.stat(path)) & 0o007:
             yield Fault("log-open", f"others may read {path}",
                         f"chmod o= {path}; and radacctd-logs.tmpfiles: DESK.md")
-    text = files.text(kinds.NGINX)
-    for path in re.findall(r"(?m)^\s*ssl_certificate_key\s+(\S+?);", text):
+    for path in named(text, "ssl_certificate_key"):
         yield from look.open_to_others(path)
 
 
@@ -122,15 +154,13 @@ def answers(kind, text):
     """What nginx answers on this machine: the pages, and no login without a name."""
     if not look.is_active("nginx.service"):
         return
-    name = re.search(r"(?m)^\s*server_name\s+([^\s;]+)", text)
     by_certificate = re.search(r"(?m)^\s*set \$radacctd_login\s+certificate",
                                files.text(f"{FOLDER}/login.conf"))
     wanted = {"/": 200, "/desk/": 403 if by_certificate else 401, "/settings.json": 200}
     if kind.has_codes:
         wanted["/redeem/"] = 200
-    where = heard_at(text)
     for path, status in wanted.items():
-        found = asked(where, name[1] if name else "localhost", path)
+        found = asked(text, path)
         if found not in (status, 429):
             is_file = path.endswith(".json")
             fault = "pages-settings" if is_file else "pages-silent"
@@ -139,7 +169,7 @@ def answers(kind, text):
 
 
 def heard_at(text):
-    """Where nginx answers by TLS: address and port. Of all addresses it is this machine's loopback."""
+    """Where nginx answers by TLS: address and port. Of all addresses it is the loopback."""
     own = {"*": "127.0.0.1", "0.0.0.0": "127.0.0.1", "::": "::1"}
     words = re.findall(r"(?m)^[ \t]*listen[ \t]+([^\s;]+)[ \t][^;\n]*\bssl\b", text)
     found = [place_of(it) for it in words if not it.startswith("unix:")] or [("*", 443)]
@@ -156,19 +186,29 @@ def place_of(word):
     return (host if is_whole else word).strip("[]"), int(port) if is_whole else 80
 
 
-def asked(where, name, path):
-    """The status that nginx gives on this machine for a page of a name."""
+@contextlib.contextmanager
+def connected(text):
+    """The pages' name, and a connection to nginx for it: another one may have another server."""
+    name = re.search(r"(?m)^\s*server_name\s(?:[^;]*?\s)?([A-Za-z0-9][\w.-]*)[\s;]", text)
+    name = name[1] if name else "localhost"
     context = ssl.create_default_context()
     # It is this machine: whether browsers trust its certificate is another question.
     context.check_hostname, context.verify_mode = False, ssl.CERT_NONE
-    caller = http.client.HTTPSConnection(*where, timeout=10, context=context)
+    with socket.create_connection(heard_at(text), timeout=10) as plain, \
+            context.wrap_socket(plain, server_hostname=name) as connection:
+        yield name, connection
+
+
+def asked(text, path):
+    """The status that nginx gives on this machine for a page."""
     try:
-        caller.request("GET", path, headers={"Host": name})
-        return caller.getresponse().status
+        with connected(text) as (name, connection):
+            caller = http.client.HTTPConnection(name)
+            caller.sock = connection
+            caller.request("GET", path)
+            return caller.getresponse().status
     except (OSError, http.client.HTTPException) as fault:
         return type(fault).__name__
-    finally:
-        caller.close()
 
 
 def programs():

@@ -305,8 +305,8 @@ class Fresh:
         return self.what
 
     def is_done(self):
-        it, found = look.properties(self.unit, "MainPID", "InvocationID"), self.statuses()
-        begun = machine.begin_of(it.get("MainPID", "0"))
+        it, found = look.properties(self.unit, "InvocationID"), self.statuses()
+        begun = machine.begin_of(self.unit)
         start, _, known = files.text(f"{MARKS}/{self.unit}").partition("\n")
         if begun and start != it.get("InvocationID"):
             is_fresh = begun * 1e9 >= max((each[-1] for each in found), default=0)

@@ -8,6 +8,7 @@ import tempfile
 import time
 
 from radacctl import files, freeradius, money, names, site, stock
+from radacctl.doctor import machine, web as of_web
 from radacctl.setup import clerk, pair, steps
 from radacctl.setup.alone import NOTES, Command, File, Folder, is_known_group, unit
 from radacctl.setup.front import is_debians, member
@@ -49,7 +50,7 @@ def of(answers, config):
     yield from clerk.of(answers)
     yield Command("take Debian's own page of nginx away", lambda: not has_debians_page(), "rm",
                   "-f", DEFAULT)
-    yield running()
+    yield Nginx()
     yield unit("nginx.service")
     yield from fail2ban(answers, own)
 
@@ -240,10 +241,16 @@ def no_fcgiwrap():
     return Command("stop Debian's own fcgiwrap", is_off, "systemctl", "disable", "--now", *both)
 
 
-def running():
-    """nginx runs with the files as they are, which it has tested."""
-    paths = [CONF, CERTIFICATE, f"{FOLDER}/*"]
-    return Fresh("test and restart nginx", "nginx.service", paths, ("nginx", "-t"))
+class Nginx(Fresh):
+    """nginx runs with the files as they are, which it has tested, and may read the balances."""
+
+    def __init__(self):
+        paths = [CONF, CERTIFICATE, f"{FOLDER}/*"]
+        super().__init__("test and restart nginx", "nginx.service", paths, ("nginx", "-t"))
+
+    def is_done(self):
+        lacks = machine.lacks_group(self.unit, site.WEB_USER, site.READERS)
+        return super().is_done() and not lacks and not of_web.serves_another(files.text(CONF))
 
 
 def fail2ban(answers, own):
