@@ -44,8 +44,10 @@ LOGINS = {
     " server is to say [who pays](#who-is-left-alone)",
     "radacctd: nothing proves the name": "EAP-TLS or EAP-PWD, by a name of somebody else",
 }
+# By root's own run what this user may write would be run with root's rights.
+DEBUG = "`runuser -P -u freerad -- freeradius -X`"
 # A text of Debian's own policy.
-OF_DEBIAN = ("User-Name contains whitespace", "`freeradius -X`",
+OF_DEBIAN = ("User-Name contains whitespace", DEBUG,
              "[filter_username](#which-names-may-log-in)")
 
 
@@ -56,7 +58,7 @@ def login_texts():
         for said in re.findall(r'&Reply-Message := "([^"]+)"', text):
             yield said, "Reply-Message"
         for said in re.findall(r'&Module-Failure-Message \+= "(radacctd: [^"]+)"', text):
-            yield re.sub(r"%\{[^}]+\}", "...", said), "`freeradius -X`"
+            yield re.sub(r"%\{[^}]+\}", "...", said), DEBUG
 
 
 def logins(checker):

@@ -152,5 +152,6 @@ class Proof:
                  f'Class = "{self.answers.usual_class}"']
         said = self.client(1813, "acct", lines)
         if "Received Accounting-Response" not in said:
-            raise steps.Failed("FreeRADIUS did not answer a report: freeradius -X shows why")
+            raise steps.Failed("FreeRADIUS did not answer a report: systemctl stop freeradius; "
+                               f"runuser -P -u {site.RADIUS_USER} -- freeradius -X shows why")
         return count, self.plan["unit"]
