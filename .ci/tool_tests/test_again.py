@@ -77,7 +77,8 @@ class Sections(unittest.TestCase):
     def test_a_brace_of_a_comment_ends_no_section(self):
         text = SERVER.replace("accounting {", "accounting {\n\t# to here: }")
         found = sql.without_sql(text)
-        self.assertEqual(found, text.replace("here: }\n\tsql\n", f"here: }}\n\t{freeradius.MARK} sql\n"))
+        off = f"here: }}\n\t{freeradius.MARK} sql\n"
+        self.assertEqual(found, text.replace("here: }\n\tsql\n", off))
         found = steps.begun(found, "accounting", "radacctd_accounting")
         self.assertEqual(away.lines_out(found), text)
 
@@ -106,7 +107,7 @@ class Sections(unittest.TestCase):
             self.assertEqual(away.lines_out(found), text)
 
     def test_a_site_keeps_its_own_comments(self):
-        """As a line one would write into a database that is not there: FreeRADIUS does not start."""
+        """As a line one could need a module that is not there: FreeRADIUS would not start."""
         other = wanted(sql={"password_file": "/root/x"})
         for more in ("", "\tsql\n", "\t-sql\n\tdetail\n"):
             text = SERVER.replace("\tsql\n", f"\t# sql\n\t# detail\n{more}")
@@ -474,7 +475,8 @@ class Again(Folder):
                 self.addCleanup(child.kill)
                 time.sleep(0.3)
                 for main in (os.getpid(), child.pid):
-                    self.patched(machine.look, "properties", lambda *_, it=main: {"MainPID": str(it)})
+                    unit = {"MainPID": str(main)}
+                    self.patched(machine.look, "properties", lambda *_, it=unit: it)
                     self.assertEqual(machine.lacks_group("x.service", user, group), lacks)
                 self.assertFalse(machine.lacks_group("x.service", "www-data", group))
                 child.kill()
@@ -554,11 +556,11 @@ class Served(Folder):
         self.assertEqual(of_web.asked(text, "/x"), 404)
         self.assertEqual(set(names), {"a.example.org"})
         self.put(f"ssl_certificate {one};\n", "own.conf")
-        self.assertEqual(list(of_web.certificates(of_web.whole(f"{text}ssl_certificate {two};\n"))),
-                         [])
+        text = of_web.whole(f"{text}ssl_certificate {two};\n")
+        self.assertEqual(list(of_web.certificates(text)), [])
 
     def test_a_certificate_of_nginx_folder_is_there(self):
-        text = " ssl_certificate\tx/a.pem ;\n# ssl_certificate /no.pem;\nssl_certificate_key /k;\n"
+        text = " ssl_certificate\tx/a.pem ;\n# ssl_certificate /b;\nssl_certificate_key /k;\n"
         self.assertEqual(of_web.named(text, "ssl_certificate"), ["/etc/nginx/x/a.pem"])
 
     def test_a_certificate_that_freeradius_has_not_read_is_told(self):

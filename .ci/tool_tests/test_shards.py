@@ -162,7 +162,8 @@ class Doctor(unittest.TestCase):
 
     def kind(self, *names, **more):
         found = [kind.Book(it) for it in names]
-        return mock.Mock(has_shards=True, books=found, has_pair=False, **more)
+        servers = lambda: kind.Kind.servers(mock.Mock(has_shards=True))
+        return mock.Mock(has_shards=True, books=found, has_pair=False, servers=servers, **more)
 
     def told(self, accounting):
         text = f"server default {{\n\taccounting {{\n{accounting}\t}}\n" \
@@ -189,6 +190,23 @@ class Doctor(unittest.TestCase):
             [fault] = front.mirror(self.kind())
         self.assertEqual((fault.name, fault.cure),
                          ("mirror-plans", "journalctl -u radacctd-shards -n 20"))
+
+    def test_a_cure_names_the_units_of_the_books(self):
+        waits = {"radacctd_queue_oldest_time_seconds": [({"queue": "radacctd"}, 1)]}
+        rows = lambda _, query: [(1,)] if "written" in query else []
+        new = mock.Mock(st_mtime=time.time())
+        with mock.patch.object(front, "counted", lambda: waits), \
+                mock.patch.object(front.files, "rows", rows), \
+                mock.patch.object(front.plans, "in_force", lambda _: {}), \
+                mock.patch.object(freeradius, "settings", lambda: {"oldest": "60"}), \
+                mock.patch.object(front.look, "status_of", lambda _: new):
+            for one, name in ((self.kind(), "'radacctd@*'"),
+                              (mock.Mock(servers=lambda: kind.Kind.servers(
+                                  mock.Mock(has_shards=False))), "radacctd")):
+                found = [*front.counts(one), *front.mirror(one)]
+                self.assertEqual([it.name for it in found], ["queue-waits", "mirror-old"])
+                for it in found:
+                    self.assertTrue(it.cure.startswith(f"systemctl status {name}"), it.cure)
 
     def test_each_book_has_its_queue(self):
         for value in ("${radacctdir}/radacctd/%{Tmp-String-8}", ""):

@@ -53,7 +53,7 @@ def look_at(kind):
     yield from names_refused()
     yield from ignored()
     yield from queue(kind)
-    yield from counts()
+    yield from counts(kind)
     yield from mirror(kind)
     yield from certificates()
 
@@ -279,7 +279,7 @@ def states():
             yield Fault("queue-state", f"{meaning}: {line}", f"{cure}: {PAGE}")
 
 
-def counts():
+def counts(kind):
     """What waits and what was filed: as front-counts counts it, run now by FreeRADIUS' user."""
     status = look.status_of(COUNTS)
     if status is None or time.time() - status.st_mtime > COUNTS_OLD:
@@ -290,7 +290,7 @@ def counts():
         if moment and time.time() - moment > WAITS:
             since = time.strftime("%F %T", time.localtime(moment))
             yield Fault("queue-waits", f"reports of the queue {labels['queue']} wait since {since}",
-                        "systemctl status radacctd; look at secret and address: " + PAGE)
+                        f"systemctl status {kind.servers()}; look at secret and address: {PAGE}")
     for labels, count in found.get("radacctd_unsent_reports", []):
         if count:
             folder = f"{site.RADACCT}/{labels['folder']}"
@@ -333,7 +333,7 @@ def mirror(kind):
     oldest = freeradius.settings()["oldest"]
     if age > (int(oldest) if oldest.isdigit() else 60):
         yield Fault("mirror-old", f"the balances of logins are {age:.0f} seconds old",
-                    "systemctl status radacctd radacctd-mirror; date")
+                    f"systemctl status {kind.servers()} radacctd-mirror; date")
     found = {names.shown(row[0].encode("latin-1")): tuple(map(str, row[1:])) for row in rows}
     path = "/var/lib/radacctd-pair/plans.csv" if kind.has_pair else site.PLANS
     wanted = plans.in_force(path)

@@ -66,6 +66,10 @@ class Kind:
         else:
             self.books = [Book()]
 
+    def servers(self):
+        """What names the servers to systemctl status."""
+        return "'radacctd@*'" if self.has_shards else "radacctd"
+
     def units(self):
         """The units that are to run and to start with the machine."""
         found = [it.unit for it in self.books]
