@@ -126,6 +126,51 @@ class Removal(unittest.TestCase):
                 os.remove(own)
 
 
+class CutOff(unittest.TestCase):
+    """A removal or an installation that was killed is given again by dpkg, and loses no unit."""
+
+    SYSTEMCTL = """#!/bin/sh
+if [ "$1 $2" = "--quiet disable" ]; then rm {0}/etc/systemd/system/x.wants/a.timer; fi
+if [ "$1 $2" = "--quiet enable" ]; then echo "$3" >>{0}/given; fi
+if [ -e {0}/kill ]; then kill -9 0; fi
+"""
+
+    def test_what_was_enabled_is_enabled_again(self):
+        with tempfile.TemporaryDirectory() as folder:
+            wants = os.path.join(folder, "etc/systemd/system/x.wants")
+            kill = os.path.join(folder, "kill")
+            os.makedirs(wants)
+            os.makedirs(os.path.join(folder, "bin"))
+            os.symlink("/x", os.path.join(wants, "a.timer"))
+            for name, said in (("systemctl", self.SYSTEMCTL.format(folder)), *(
+                    (it, "#!/bin/sh\n") for it in ("install", "systemd-sysusers",
+                                                   "systemd-tmpfiles"))):
+                path = os.path.join(folder, "bin", name)
+                with open(path, "w", encoding="ascii") as file:
+                    file.write(said)
+                os.chmod(path, 0o755)
+            for name, act, file in (("prerm", "remove", kill), ("prerm", "remove", ""),
+                                    ("postinst", "configure", kill), ("postinst", "configure", "")):
+                self.run_script(folder, name, act, file)
+            with open(os.path.join(folder, "given"), encoding="ascii") as file:
+                self.assertEqual(file.read(), 2 * "a.timer\n")
+            self.assertFalse(os.path.exists(os.path.join(folder, "radacctd-package")))
+
+    def run_script(self, folder, name, act, file):
+        script = text("etc", "package", name)
+        for old, new in (("@ALL_UNITS@", ""), ("@UNITS@", "a.timer"), ("/etc/", f"{folder}/etc/"),
+                         ("/var/lib", folder), ("/run/systemd", f"{folder}/none")):
+            script = script.replace(old, new)
+        if file:
+            open(file, "w", encoding="ascii").close()
+        path = f"{folder}/bin:{os.environ['PATH']}"
+        done = subprocess.run(["sh", "-c", script, name, act], env={"PATH": path},
+                              capture_output=True, start_new_session=True)
+        self.assertEqual(bool(done.returncode), bool(file), done.stderr)
+        if file:
+            os.remove(file)
+
+
 class Files(unittest.TestCase):
     def test_none_is_a_link(self):
         """The gate takes no link."""
