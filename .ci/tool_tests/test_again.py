@@ -381,10 +381,19 @@ class Again(Folder):
                 told = list(of_web.answers(mock.Mock(has_codes=False), ""))
                 self.assertEqual(bool(told), found != status, (login, found))
 
+    @NEEDS_ROOT
     def test_a_site_of_16_books_gets_no_other_one(self):
+        """Nor is a part of it taken out: its lines in FreeRADIUS' files are others."""
         self.patched(setup.kind, "TABLE", self.put("shard,address,radius,desk\n"))
-        with self.assertRaisesRegex(steps.Failed, "SHARDS.md"):
-            setup.do(setup.parser().parse_args(["--dry-run", "x"]), wanted())
+        self.patched(setup, "LOCK", os.path.join(self.folder, "lock"))
+        self.patched(setup.answers, "read", lambda _: wanted())
+        for name in ("do", "remove"):
+            self.patched(setup, name, lambda *_: self.fail("it was begun"))
+        for one in (["--dry-run", "x"], ["--remove", "--yes"]):
+            with contextlib.redirect_stderr(io.StringIO()) as said, \
+                    mock.patch.object(os, "umask"):
+                self.assertEqual(setup.main(one), 1)
+            self.assertIn("SHARDS.md", said.getvalue())
 
     def test_a_key_of_codes_is_not_shown(self):
         self.put("packages {\n\tkey = change-me-0123456789\n}\n")

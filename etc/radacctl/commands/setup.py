@@ -148,8 +148,6 @@ def show(found):
 
 def do(words, wanted):
     """Installs what is missing, does each step that is not done, and shows that the site works."""
-    if os.path.exists(kind.TABLE):
-        raise steps.Failed(f"{kind.TABLE} is there: 16 books are set up by hand, as SHARDS.md says")
     alone.refuse_if_lost(words.new_book)
     packages = alone.packages(packages_of(wanted))
     config = alone.Config(wanted)
@@ -243,6 +241,9 @@ def main(words):
     # A copy of FreeRADIUS' folder, secrets and all, that a killed run left.
     shutil.rmtree(steps.TRIAL, ignore_errors=True)
     try:
+        if os.path.exists(kind.TABLE):
+            raise steps.Failed(f"{kind.TABLE} is there: what 16 books need in FreeRADIUS and nginx "
+                               "is put there, and taken out, by hand: SHARDS.md")
         remove(words) if words.remove else do(words, wanted)
     except (steps.Failed, site.Missing, OSError) as why:
         program.say(f"{why}\nWhat is done stays. Mend it, and give the same again.")
