@@ -613,6 +613,22 @@ class Tested(Folder):
                 self.assertRaisesRegex(steps.Failed, "none was changed", trial.do)
             self.assertFalse(os.path.lexists(own) or os.path.lexists(steps.TRIAL))
 
+    def test_each_secret_is_read_as_it_is(self):
+        """One of an access server that reported to radacctd may have marks, braces and dollars."""
+        one = wanted(access_server=[{"name": "lobby", "address": "10.9.9.1", "vendor": "openwrt"}])
+        for secret in ("a${b}c", "$ENV{HOME}", "a{b", "}", "it's {", 'a "b"', "it's"):
+            known = {"lobby": {"address": "10.9.9.1", "secret": secret}}
+            text = front.clients(None, one, None, known)
+            self.assertEqual(front.clients(text, one, None, known), text, secret)
+            found = freeradius.CLIENT.findall(text) + freeradius.HOME_SERVER.findall(text)
+            self.assertEqual([freeradius.value(it[1], "secret") for it in found
+                              if "radacctd-setup" not in it], [secret, secret])
+            path = freeradius.path("clients.conf")
+            steps.Trial([steps.File(path, lambda old, more=text: f"{old}\n{more}")]).do()
+        with self.assertRaisesRegex(steps.Failed, "the secret of lobby"):
+            known = {"lobby": {"address": "10.9.9.1", "secret": "it's ${b}"}}
+            front.clients(None, one, None, known)
+
     def test_a_copy_has_nothing_that_root_alone_may_read(self):
         """Its user may let a name lead elsewhere while the copy is made."""
         raddb = os.path.join(self.folder, "raddb")

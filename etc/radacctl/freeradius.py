@@ -28,13 +28,15 @@ UNITS = ("radacctd-mirror.service", "radacctd-front.service", "radacctd-clock.se
          "radacctd-clock.timer")
 # What begins a line that a set-up wrote, or made a comment.
 MARK = "# radacctl setup:"
-CLIENT = re.compile(r"(?m)^\s*client\s+(\S+)\s*\{((?:[^{}]|\{[^{}]*\})*)\}")
-LISTEN = re.compile(r"(?m)^\s*listen\s*\{((?:[^{}]|\{[^{}]*\})*)\}")
-SERVER = re.compile(r"(?m)^\s*server\s+([\w.-]+)\s*\{")
-HOME_SERVER = re.compile(r"(?m)^\s*home_server\s+(\S+)\s*\{((?:[^{}]|\{[^{}]*\})*)\}")
 # A text in quotation marks of either kind, and a comment. A mark within a word begins no text.
 QUOTED = r"""(?<!\w)(?:"(?:[^"\\\n]|\\.)*"|'(?:[^'\\\n]|\\.)*')"""
 COMMENT = r"(?<!\S)#[^\n]*"
+# A block, and one in it. A text may have a brace: a secret, say.
+BLOCK = rf"\{{((?:{QUOTED}|[^{{}}]|\{{[^{{}}]*\}})*+)\}}"
+CLIENT = re.compile(rf"(?m)^\s*client\s+(\S+)\s*{BLOCK}")
+LISTEN = re.compile(rf"(?m)^\s*listen\s*{BLOCK}")
+HOME_SERVER = re.compile(rf"(?m)^\s*home_server\s+(\S+)\s*{BLOCK}")
+SERVER = re.compile(r"(?m)^\s*server\s+([\w.-]+)\s*\{")
 
 
 def path(*names):

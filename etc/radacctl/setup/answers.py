@@ -15,7 +15,7 @@ from radacctl.money import MOST_DECIMALS
 VENDORS = ("mikrotik", "unifi", "pfsense", "openwrt", "aruba", "cisco", "other")
 HOST = re.compile(r"(?=.{1,253}$)[a-z0-9]([a-z0-9-]*[a-z0-9])?(\.[a-z0-9]([a-z0-9-]*[a-z0-9])?)+")
 NAME = re.compile(r"[A-Za-z0-9_][A-Za-z0-9._-]{0,31}")
-OTHERS_SECRET = re.compile(r"""(?=[^']*\Z|[^"]*\Z)[^\\\x00-\x1f]{1,128}""")
+OTHERS_SECRET = re.compile(r"""(?=[^']*\Z|[^"$]*\Z)[^\\\x00-\x1f]{1,128}""")
 BROADCAST = ipaddress.ip_address("255.255.255.255")
 LARGEST_BLOCK, LARGEST_UNIT = 9_007_199_254_740_992, 1_000_000_000
 # The members of a file, with what each is if it is left out. None: it must be there.

@@ -253,8 +253,8 @@ def lines_of(it, test=None):
 
 
 def quoted(own):
-    """A secret as FreeRADIUS reads it. One that was in single marks may have a double one."""
-    mark = "'" if '"' in own else '"'
+    """A secret as FreeRADIUS reads it. Between double marks ${..} would be another value."""
+    mark = '"' if "'" in own else "'"
     return own if re.fullmatch(r"[A-Za-z0-9._-]+", own) else f"{mark}{own}{mark}"
 
 
