@@ -304,8 +304,8 @@ class Again(Folder):
         text = web.server("", one)
         self.assertEqual(web.server(text, one), text)
         mine = text.replace("rate=60r/m", "rate=600r/m").replace("_req_zone $", "_req_zone  $")
-        mine = mine.replace("    listen 443 ssl http2;\n", "    listen 10.0.0.5:443 ssl http2;\n"
-                            "    listen [fd00::5]:443 ssl;\n")
+        mine = mine.replace("    listen 443 ssl http2;\n", "    listen 10.0.0.5:443 ssl http2;\n\n"
+                            "    # of the house\n    listen [fd00::5]:443 ssl;\n")
         self.assertEqual(web.server(mine, one), mine)
         self.assertEqual(web.server(mine.replace("gzip on;", "gzip off;"), one), mine)
         # Who has a server more in that file has it in a copy of it, as is said.
@@ -331,6 +331,9 @@ class Again(Folder):
         self.assertEqual(step.wanted(mine.encode()).decode(), mine)
         other = mine.replace("10.0.1.0/24", "10.0.9.0/24").replace("nftables", "iptables")
         self.assertEqual(step.wanted(other.encode()).decode(), mine)
+        # Another one that begins alike is not in the place of one.
+        more = f"{mine}bantime.increment = true\n"
+        self.assertEqual(step.wanted(more.encode()).decode(), mine)
 
     def test_what_a_site_decides_of_a_pair_stays(self):
         """In another folder of the queue reports for the other machine would wait for ever."""

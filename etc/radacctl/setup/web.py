@@ -113,9 +113,9 @@ class Server(File):
 
 
 # Where a server listens; how often an address may ask, and how often it may be wrong.
-LISTEN = re.compile(r"(?m)(?:^[ \t]*listen[ \t].*\n)+")
+LISTEN = re.compile(r"(?m)^[ \t]*listen[ \t].*\n(?:(?:[ \t]*(?:#.*)?\n)*[ \t]*listen[ \t].*\n)*")
 RATE = re.compile(r"(?m)^limit_req_zone .* zone=(\w+):.*$")
-LIMIT = re.compile(r"(?m)^(maxretry|findtime|bantime)\b.*$")
+LIMIT = re.compile(r"(?m)^(maxretry|findtime|bantime)[ \t]*=.*$")
 
 
 def kept(pattern, text, old):
