@@ -434,7 +434,10 @@ class Again(Folder):
         programs = {"radacctd-mirror": freeradius.path("radacctd/balances-mirror"),
                     "radacctd-front": freeradius.path("radacctd/front-counts"),
                     "radacctd-outbox": "/usr/local/sbin/radacctd-outbox"}
-        for it in (it for it in found if isinstance(it, steps.Fresh)):
+        found = [it for it in found if isinstance(it, steps.Fresh)]
+        # That one begins a process for each caller.
+        self.assertEqual(found[-1].paths, ["/etc/systemd/system/radacctd-state.socket"])
+        for it in found[:-1]:
             program = programs.pop(it.unit.removesuffix(".service"))
             self.assertLessEqual({program, f"/etc/systemd/system/{it.unit}"}, set(it.paths))
             self.assertEqual(machine.SCRIPTS[program], it.unit)
@@ -469,12 +472,21 @@ class Again(Folder):
     def test_a_unit_began_when_systemd_says(self):
         """In a container /proc/uptime is the container's, and the start of a process is not."""
         for began in (time.monotonic() - 3600, 0):
-            unit = {"MainPID": "1", "ExecMainStartTimestampMonotonic": str(int(began * 1e6))}
+            unit = {"ActiveState": "active", "InactiveExitTimestampMonotonic": f"{began * 1e6:.0f}"}
             self.patched(machine.look, "properties", lambda *_, it=unit: it)
             ago = time.time() - machine.begin_of("x.service")
             self.assertAlmostEqual(ago, time.monotonic() - began, delta=5)
-        self.patched(machine.look, "properties", lambda *_: {**unit, "MainPID": "0"})
+        self.patched(machine.look, "properties", lambda *_: {**unit, "ActiveState": "failed"})
         self.assertIsNone(machine.begin_of("x.service"))
+
+    def test_systemd_reads_a_unit_whose_address_changed(self):
+        """In a pair the other machine asks that one."""
+        for state, changed, is_read in (("loaded", "no", True), ("not-found", "no", False),
+                                        ("loaded", "yes", False)):
+            said = {"LoadState": f"LoadState={state}\n", "NeedDaemonReload":
+                    f"NeedDaemonReload=no\n\nNeedDaemonReload={changed}\n"}
+            self.patched(steps, "given", lambda words, it=said: it[words[3]])
+            self.assertEqual(front.is_reloaded(), is_read)
 
     @NEEDS_ROOT
     @unittest.skipUnless(shutil.which("ps"), "ps is missing")

@@ -12,6 +12,7 @@ from radacctl.doctor import look
 # Free space that a disk is to have at least: a part, or so many octets of a large one.
 LEAST_PART, LEAST_OCTETS = 0.05, 1 << 30
 YEAR_2026 = 1_767_225_600
+RUNS = ("active", "reloading")
 # What a unit that cannot be started needs. `systemctl disable` removes one that is a link.
 UNSTARTED = {"masked": "systemctl unmask --now {}", "not-found": "radacctl setup, which brings it"}
 # The programs whose process may be an older one: of each, the unit.
@@ -36,7 +37,7 @@ def units(kind):
         if cure := UNSTARTED.get(found.get("LoadState")):
             yield Fault("unit-down", f"{unit} is {found['LoadState']}", cure.format(unit))
             continue
-        if found.get("ActiveState") not in ("active", "reloading"):
+        if found.get("ActiveState") not in RUNS:
             state = found.get("ActiveState", "unknown")
             cure = f"systemctl start {unit}; why it stopped: journalctl -u {unit} -n 20"
             yield Fault("unit-down", f"{unit} is {state}", cure)
@@ -90,13 +91,13 @@ def old_scripts():
 
 
 def begin_of(unit):
-    """When the process of a unit began, by the clock as it is now; None if none runs. In a
+    """When a unit that runs began, by the clock as it is now; None if it does not run. In a
     container /proc counts from two moments, its own start and the machine's.
     """
-    found = look.properties(unit, "MainPID", "ExecMainStartTimestampMonotonic")
-    if found.get("MainPID", "0") == "0":
+    found = look.properties(unit, "ActiveState", "InactiveExitTimestampMonotonic")
+    if found.get("ActiveState") not in RUNS:
         return None
-    ran = time.monotonic() - int(found["ExecMainStartTimestampMonotonic"]) / 1e6
+    ran = time.monotonic() - int(found["InactiveExitTimestampMonotonic"]) / 1e6
     return time.time() - ran
 
 

@@ -171,9 +171,10 @@ def member(user):
 
 
 def is_reloaded():
-    found = [steps.given(["systemctl", "show", it, "-p", "LoadState", "-p", "NeedDaemonReload"])
-             for it in freeradius.UNITS]
-    return all("LoadState=loaded" in it and "NeedDaemonReload=no" in it for it in found)
+    """Whether systemd has read FreeRADIUS' units, and all of radacctd's as they are now."""
+    shown = lambda name, *units: steps.given(["systemctl", "show", "-p", name, *units])
+    return ("=not-found" not in shown("LoadState", *freeradius.UNITS)
+            and "=yes" not in shown("NeedDaemonReload", "radacctd*"))
 
 
 def settings(old, answers, book_secret):

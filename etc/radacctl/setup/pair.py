@@ -77,6 +77,8 @@ def after(answers, config):
     paths = [desk.CASHIER_KEY, "/etc/default/radacctd-pair", "/usr/local/sbin/radacctd-outbox",
              f"{SYSTEMD}/radacctd-outbox.service"]
     yield Fresh("restart the outbox", "radacctd-outbox.service", paths)
+    socket = "radacctd-state.socket"
+    yield Fresh(f"restart {socket}", socket, [f"{SYSTEMD}/{socket}"])
     # It fails as long as the other machine is not there.
     yield Command("compare both books once", has_balances, "systemctl", "start",
                   "radacctd-compare.service", may_fail=True)
