@@ -134,6 +134,25 @@ class Pair(unittest.TestCase):
         os.symlink(path, os.path.join(self.folder, "detail-3"))
         self.assertRaises(OSError, queues.oldest_in, self.folder)
 
+    def test_what_was_given_by_a_clock_that_was_ahead_waits_since_nobody_knows_when(self):
+        """Else it would be taken for sent, and the balances for those of books that differ."""
+        path, now = os.path.join(self.folder, "detail-1"), int(time.time())
+        one = "Sun\n\tTmp-Integer-7 = {}\n\tTimestamp = {}\n\n"
+        for records, oldest in (([(now, now - 9)], now - 9), ([(now - 9, now)], now - 9),
+                                ([(now + HOUR, now)], now), ([(now + 4, now + 3)], now + 3),
+                                ([(now, now), (now - 9, now + HOUR)], now - 9),
+                                ([(now, now), (now + HOUR, now + HOUR)], 0)):
+            with open(path, "w", encoding="ascii") as file:
+                file.write("".join(one.format(*it) for it in records))
+            self.assertEqual(queues.oldest_in(self.folder), oldest)
+        store = outbox.Store(os.path.join(self.folder, "outbox.db"), True)
+        for ahead, oldest in ((-20, now - 20), (HOUR, 0)):
+            with mock.patch.object(outbox.time, "time", lambda it=ahead: now + it):
+                store.keep(f"V{ahead}", "al", 5)
+            self.assertEqual(store.summary()["oldest"], oldest)
+        both = [state(now, {}, outbox={"oldest": 0, "alarms": []}), state(now, {})]
+        self.assertEqual(COMPARE.settled(both), 0)
+
     def test_the_outbox_is_no_link_to_another_database(self):
         other, path = (os.path.join(self.folder, it) for it in ("book", "outbox.db"))
         sqlite3.connect(other).close()
@@ -156,6 +175,11 @@ class Pair(unittest.TestCase):
         with self.assertRaisesRegex(OSError, "outbox.db is a link"):
             outbox.Store(path)
         self.assertEqual(os.path.getsize(other), 0)
+        os.remove(other)
+        os.rename(f"{path}.own", path)
+        with mock.patch.object(outbox.sqlite3, "connect", swapped):
+            self.assertRaises((OSError, sqlite3.Error), outbox.Store, path)
+        self.assertFalse(os.path.exists(other))
 
     def settle(self, *pairs):
         """What --settle prints and returns if both machines have these balances, turn by turn."""

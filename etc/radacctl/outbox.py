@@ -56,10 +56,10 @@ class Store:
     def __init__(self, path, may_make=False):
         if not may_make and not os.path.exists(path):
             raise OSError(f"there is no {path}")
-        self.opened = sqlite3.connect(
-            path, timeout=30, isolation_level=None, check_same_thread=False
-        )
         # Root may give the command, and another user owns the folder. By now nothing is written.
+        how = {"timeout": 30, "isolation_level": None, "check_same_thread": False, "uri": True}
+        mode = "rwc" if may_make else "rw"
+        self.opened = sqlite3.connect(f"file:{urllib.parse.quote(path)}?mode={mode}", **how)
         if not files.is_opened(path):
             raise OSError(f"{path} is a link")
         self.lock = threading.Lock()
@@ -101,9 +101,11 @@ class Store:
         return self.run(f"SELECT * FROM sale WHERE {ALARM} AND is_closed = 0 ORDER BY id")
 
     def summary(self):
-        """What waits, since when, and the numbers that one book took and the other refuses."""
-        text = "SELECT count(*) AS count, min(given) AS oldest FROM sale WHERE "
-        found = [self.run(text + WAITS[desk])[0] for desk in DESKS]
+        """What waits, since when, and the numbers that one book took and the other refuses. Of one
+        that was given by a clock that was ahead nobody knows when it was: 0.
+        """
+        text = "SELECT count(*) AS count, min(iif(given > ?, 0, given)) AS oldest FROM sale WHERE "
+        found = [self.run(text + WAITS[desk], time.time())[0] for desk in DESKS]
         return {
             "waiting": {desk: row["count"] for desk, row in zip(DESKS, found)},
             "oldest": min((row["oldest"] for row in found if row["count"]), default=None),

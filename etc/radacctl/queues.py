@@ -2,8 +2,10 @@
 
 import contextlib
 import glob
+import math
 import os
 import re
+import time
 
 from radacctl import files
 
@@ -11,6 +13,8 @@ from radacctl import files
 # octets of a file are read at once.
 MOMENTS = re.compile(rb"\n\t(?:Tmp-Integer-7 = (\d+)|(Time|Done)stamp = (\d+))(?=\n)")
 PIECE = 1 << 22
+# In seconds: a clock that is kept right is set back by less.
+MARGIN = 5
 
 
 def records(file):
@@ -21,14 +25,15 @@ def records(file):
     rest = b""
     while piece := file.read(PIECE):
         whole, mark, rest = (rest + piece).rpartition(b"\n\n")
-        there = None
+        there = math.inf
         for found in MOMENTS.finditer(whole + mark):
             if found[1]:
                 there = int(found[1])
                 continue
             if found[2] == b"Time":
-                yield there or int(found[3])
-            there = None
+                # The other machine's clock may be ahead.
+                yield min(there, int(found[3]))
+            there = math.inf
 
 
 def alone(path, _):
@@ -50,7 +55,9 @@ def oldest_in(folder):
                 found = [moment for file in found for moment in records(file)]
             if not os.path.isdir(folder):
                 raise OSError(f"there is no {folder}")
-            return min(found, default=None)
+            # One of a time to come was queued by a clock that was ahead: nobody knows when.
+            limit = time.time() + MARGIN
+            return min((0 if it > limit else it for it in found), default=None)
         except FileNotFoundError:
             # The reader renamed or removed it.
             continue
