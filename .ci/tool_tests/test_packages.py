@@ -520,8 +520,9 @@ class Ends(unittest.TestCase):
             with self.subTest(name):
                 self.lapse(now, books, is_steady)
                 self.assertEqual((books.taken, self.site.state(account)), ({}, "live"))
-        self.site.balances(2399, {})
-        self.assertEqual(self.lapse(3000, books), (0, 1))
+        for as_of in (2399, 3001):
+            self.site.balances(as_of, {})
+            self.assertEqual(self.lapse(3000, books), (0, 1))
         self.site.balances(2999, {})
         self.assertEqual(self.lapse(3000, books), (1, 0))
         self.assertEqual(books.taken, {lapses.number_of(account): 70})

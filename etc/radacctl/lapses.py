@@ -129,8 +129,9 @@ class Lapse:
         heard, done, waiting = self.heard(now), 0, 0
         for account, since in self.over(now, is_steady):
             moment, is_live = heard.get(account, (0, False))
-            # All that was heard is in the balances; and a report that was under way has come.
-            if is_live or as_of < max(since, min(moment, now)) + self.wait:
+            # All that was heard is in the balances; and a report that was under way has come. Those
+            # of a time to come are of a clock that was ahead.
+            if is_live or not max(since, min(moment, now)) + self.wait <= as_of <= now:
                 waiting += 1
                 continue
             done += self.lapse(account, money.get(account, 0), now)
