@@ -255,6 +255,15 @@ class Told(unittest.TestCase):
         self.assertEqual(said.getvalue(), "added 1, repeated 0, refused 0\n"
                          "s2: stopped by signal 9; give the same file again\n")
 
+    def test_the_sales_of_nginx_log_need_no_file(self):
+        """Its status was that of a file with a wrong header."""
+        part = mock.patch.object(shards, "sell_part", lambda _, octets, options: (
+            "voucher,account,sum\n", 1 if octets or options != ["--logged"] else 0))
+        with part, mock.patch.object(shards.books, "table_of", lambda _: {"s0": None}), \
+                mock.patch("sys.stdin", None), contextlib.redirect_stdout(io.StringIO()) as said:
+            self.assertEqual(shards.main(["sell", "--logged"]), 0)
+        self.assertEqual(said.getvalue(), "voucher,account,sum\n")
+
     def test_freeradius_reads_each_queue_and_what_is_moved_back(self):
         with tempfile.NamedTemporaryFile("w", encoding="ascii") as file:
             file.write(TABLE)

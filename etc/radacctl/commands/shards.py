@@ -216,13 +216,14 @@ def sell_part(place, octets, options):
 
 
 def sell(words, table):
-    octets = sys.stdin.buffer.read()
+    # What nginx logged is of all books.
+    octets = b"" if "--logged" in words.option else sys.stdin.buffer.read()
     text = octets.removeprefix(b"\xef\xbb\xbf").decode("latin-1")
     header, *rows = [row for row in csv.reader(io.StringIO(text, newline="")) if row] or [[]]
     if header != VOUCHERS:
         said, status = sell_part(table["s0"], octets, words.option)
         print(said, end="")
-        return status or 1
+        return status
     parts = Parts(rows)
     named = [it for it in books.SHARDS if parts.rows[it]]
     with concurrent.futures.ThreadPoolExecutor(len(books.SHARDS)) as pool:
