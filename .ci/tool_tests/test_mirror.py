@@ -68,10 +68,10 @@ class Policy(unittest.TestCase):
             file.write(f"account,balance,overrun\nof-{shard},{balance},0\n")
         os.utime(self.path(f"{shard}.csv"), (self.now - age, self.now - age))
 
-    def turn(self):
+    def turn(self, behind=frozenset()):
         shards.join_balances(self.folder)
         changed, faults = self.files.read()
-        return faults + self.mirror.turn(self.files, lambda written, _: written, changed)
+        return faults + self.mirror.turn(self.files, lambda written, _: (written, behind), changed)
 
     def asked(self, name, account, **values):
         """The answer to the query of a policy."""
@@ -113,15 +113,45 @@ class Policy(unittest.TestCase):
         self.assertEqual(self.login("of-s5", (1 << 63) - 1), "both 0 10000 10000 10000")
         self.assertEqual(self.login("nobody"), "spent")
 
+    def test_while_reports_wait_for_a_book_the_others_are_new(self):
+        """Once it was back, nobody of any book had new balances until they were sent."""
+        one = next(it for it in map(str, range(99)) if shards.shard_of(it.encode()) == "s5")
+        with open(self.path("s5.csv"), "w", encoding="ascii") as file:
+            file.write(f"account,balance,overrun\n{one},-9,0\n")
+        for behind, found in ((set(), "spent"), ({"s5"}, "old"), (set(), "spent")):
+            self.assertEqual((self.turn(behind), self.login(one)), ([], found))
+            self.assertEqual(self.asked("radacctd_cut_off", one), 1)
+            self.assertEqual(self.login("of-s3"), "both 0 1000 1000 1000")
+        self.assertEqual(self.mirror.made, 0)
+
+    def test_by_the_mirror_of_the_version_before(self):
+        """After an upgrade the policy refused each login, until the mirror was restarted."""
+        self.write("s3", -9)
+        self.assertEqual(self.turn(), [])
+        with contextlib.closing(sqlite3.connect(self.path("mirror.db"))) as opened:
+            opened.execute("ALTER TABLE balance DROP COLUMN down")
+        self.assertEqual((self.login("of-s3"), self.login("of-s4")),
+                         ("spent", "both 0 1000 1000 1000"))
+        self.assertEqual([self.asked("radacctd_cut_off", f"of-s{it}") for it in "34"], [1, 0])
+
     def test_what_waits_for_a_book_that_is_down_makes_no_other_one_old(self):
         queues = MIRROR.Queues([self.path("queue"), self.path("more")], None)
-        for name, age in (("queue/s5", 300), ("more/s5", 250), ("queue/s6", 200), ("queue", 100)):
+        for name, age in (("queue/s5", 300), ("more/s5", 250), ("queue/s6", 200), ("queue", 100),
+                          ("queue/s7", 20), ("queue/reader-1", 110)):
             os.makedirs(self.path(name), exist_ok=True)
             with open(self.path(f"{name}/detail-1"), "w", encoding="ascii") as file:
                 file.write(f'Sun\n\tUser-Name = "a"\n\tTimestamp = {self.now - age}\n\n')
         self.assertEqual(queues.look(), [])
-        for down, age in ((set(), 300), ({""}, 300), ({"", "s5"}, 200), ({"s5", "s6"}, 100)):
-            self.assertLess(abs(self.now - queues.as_of(self.now, down) - age), 3, down)
+        for down in (set(), {""}, {"", "s5"}, {"s5", "s6"}):
+            moment, behind = queues.as_of(self.now, down)
+            self.assertEqual((self.now - moment in range(108, 113), behind), (True, {"s5", "s6"}))
+        for name in ("queue", "queue/reader-1"):
+            os.remove(self.path(f"{name}/detail-1"))
+        queues.looks.clear()
+        queues.due = 0
+        self.assertEqual(queues.look(), [])
+        for down, age in ((set(), 20), ({"s7"}, 0)):
+            self.assertLess(abs(self.now - queues.as_of(self.now, down)[0] - age), 3, down)
 
     def late(self):
         with contextlib.closing(sqlite3.connect(self.path("mirror.db"))) as opened:
