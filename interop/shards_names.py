@@ -57,8 +57,8 @@ class Radius(front.FreeRadius):
             with open(path, encoding="latin-1") as file:
                 for record in file.read().split("\n\n"):
                     if f"/{session}/" in record:
-                        name = re.search('User-Name = "(.*)"', record)[1]
-                        return os.path.basename(os.path.dirname(path)), name
+                        name = re.search('User-Name = "(.*)"', record)
+                        return os.path.basename(os.path.dirname(path)), name and name[1]
         return None
 
 
@@ -73,6 +73,7 @@ def rows():
         ("a name", [], "al", (), "al"),
         ("a name with its realm", [], "al@campus.example", (), "al@campus.example"),
         ("without it, by `strip`", strip, "al@campus.example", (), "al"),
+        ("nothing but the realm, by `strip`", strip, "@campus.example", (), None),
         ("in capitals", strip, "AL@campus.example", (), "AL"),
         ("by `strip` that of a stamped Class", strip, "x@campus.example", [stamped("bo")], "bo"),
         ("by `strip` the name, of a Class that was cut off", strip, "al@campus.example",

@@ -4,8 +4,10 @@
 #   keep SOURCE CLASS NAME NAME ID    remembers the Class of a login: "ok", or what is wrong
 #   look SOURCE NAME ID               the Class of a session: 0x and hex, or nothing
 #   count KIND SOURCE                 counts: "ok"
+#   name TEXT                         the name that is percent-encoded in a Class
 #
-# Class, names and id are hex, and the id may be missing.
+# Class, names and id are hex, and the id may be missing. FreeRADIUS reads what is returned as a text in
+# quotation marks: of DOM\nick a backslash and n would be a new line. So each backslash is two.
 #
 # 1. A login has a place in a file, by a digest of its source, name and id. Another login may have the
 #    same place, and then takes it: so the file never grows beyond its places.
@@ -30,6 +32,7 @@ sub xlat {
     my ($command, @words) = split " ", "@_";
     my $done = eval {
         return look(@words) if $command eq "look";
+        return $words[0] =~ s/%([0-9A-F]{2})/chr hex $1/gier =~ s/\\/\\\\/gr if $command eq "name";
         $command eq "keep" ? keep(@words) : count(@words);
         "ok";
     };
