@@ -19,6 +19,7 @@ function money(units) {
   return settings.currency ? shown + "\u00a0" + settings.currency : shown;
 }
 
+const moment = (seconds, timeStyle = "short") => new Date(seconds * 1000).toLocaleString(language, { dateStyle: "short", timeStyle });
 const unit = (value, name) => new Intl.NumberFormat(language, { style: "unit", unit: name, unitDisplay: "long" }).format(value);
 
 function setLanguage(wanted) {

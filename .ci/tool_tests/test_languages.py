@@ -1,6 +1,7 @@
 """No language of the pages lacks a text, no text is one too many, and a page is one file."""
 
 import base64
+import collections
 import hashlib
 import importlib.machinery
 import importlib.util
@@ -44,6 +45,8 @@ class Languages(unittest.TestCase):
     def setUpClass(cls):
         cls.web = web()
         cls.found = cls.web.languages()
+        cls.english = {page: {**cls.found["en"]["shared"], **cls.found["en"][page]}
+                       for page in PAGES}
 
     def test_there_are_three_and_english_is_the_first(self):
         self.assertEqual(list(self.found)[:1], ["en"])
@@ -53,14 +56,14 @@ class Languages(unittest.TestCase):
 
     def test_each_has_each_text(self):
         for code, texts in self.found.items():
-            self.assertEqual(set(texts), {"language", *PAGES}, code)
-            for page in PAGES:
+            self.assertEqual(set(texts), {"language", "shared", *PAGES}, code)
+            for page in ("shared", *PAGES):
                 self.assertEqual(set(texts[page]), set(self.found["en"][page]), f"{code}, {page}")
 
     def test_each_text_is_one_with_the_same_places(self):
         places = lambda text: sorted(re.findall(r"\{\d\}", text))
         for code, texts in self.found.items():
-            for page in PAGES:
+            for page in ("shared", *PAGES):
                 for name, text in texts[page].items():
                     with self.subTest(f"{code}, {page}, {name}"):
                         self.assertTrue(isinstance(text, str) and text.strip() == text and text)
@@ -73,20 +76,23 @@ class Languages(unittest.TestCase):
             said = set(SAID.findall(source)) | {name for name, _ in NAMED.findall(source)}
             said |= set(re.findall(r'return "(name\w+)"', source)) if "whyNot(" in text_of(
                 page, "index.html") else set()
-            self.assertEqual(said - set(self.found["en"][page]), set(), page)
+            self.assertEqual(said - set(self.english[page]), set(), page)
 
     def test_no_text_is_one_that_no_page_says(self):
+        said = collections.Counter()
         for page in PAGES:
             source = sources(page)
             words = {it for pair in QUOTED.findall(source) for it in pair if it}
             words |= {name for name, _ in NAMED.findall(source)}
             self.assertEqual(set(self.found["en"][page]) - words - COUNTED, set(), page)
+            said.update(words - set(self.found["en"][page]))
+        self.assertEqual([it for it in self.found["en"]["shared"] if said[it] < 2], [])
 
     def test_a_page_begins_in_english(self):
         for page in PAGES:
             for name, shown in NAMED.findall(text_of(page, "index.html")):
                 if shown:
-                    self.assertEqual(shown, self.found["en"][page][name], f"{page}, {name}")
+                    self.assertEqual(shown, self.english[page][name], f"{page}, {name}")
 
     def test_a_language_that_lacks_a_text_makes_no_page(self):
         lacks = {code: {page: dict(it[page]) if page in PAGES else it[page] for page in it}
