@@ -106,7 +106,7 @@ class Debits(unittest.TestCase):
                     self.assertRaises(debits.Refused, books.take, b"al", 500, second)
                     books.take(b"al", 500, third)
                 self.assertIsNone(books.journal.given(second))
-                os.close(books.journal.file)
+                books.journal.close()
 
 
 class Vouchers(unittest.TestCase):

@@ -100,11 +100,11 @@ class Ended(unittest.TestCase):
     def test_no_line_of_two_that_add_at_once_is_lost(self):
         """Else a code that was withdrawn would live again with an older copy of the logins."""
         with tempfile.TemporaryDirectory(dir=MEMORY) as folder:
-            path, found = os.path.join(folder, "ended.csv"), stock.Log.text
+            path, found = os.path.join(folder, "ended.csv"), stock.Log.end
             other = threading.Thread(
                 target=logins.log_ended, args=([b"withdrawn"], logins.WITHDRAWN, 2, path))
 
-            def text(log):
+            def end(log):
                 """What the first one has read, before the other one adds its line."""
                 read = found(log)
                 if not other.ident:
@@ -112,11 +112,24 @@ class Ended(unittest.TestCase):
                     other.join(0.3)
                 return read
 
-            with mock.patch.object(stock.Log, "text", text):
+            with mock.patch.object(stock.Log, "end", end):
                 logins.log_ended([b"lapsed"], logins.LAPSED, 1, path)
             other.join()
             self.assertEqual(logins.ended_in(path), {b"lapsed": logins.LAPSED,
                                                      b"withdrawn": logins.WITHDRAWN})
+
+    def test_a_line_that_was_cut_is_none_however_long(self):
+        header = logins.LOG_HEADER
+        for cut in (b"", b"1", b"x" * 65_536, b"x" * 200_000):
+            for whole in (b"", header, header + b"1,al,ended\n" * 9_000):
+                with tempfile.TemporaryDirectory(dir=MEMORY) as folder:
+                    path = os.path.join(folder, "ended.csv")
+                    with open(path, "wb") as file:
+                        file.write(whole + cut)
+                    log = stock.Log(path, header)
+                    log.add(b"2,bo,ended\n")
+                    self.assertEqual(log.text(), (whole or header) + b"2,bo,ended\n")
+                    log.close()
 
 
 class Minute(unittest.TestCase):

@@ -6,7 +6,6 @@ takes nothing more.
 
 import contextlib
 import csv
-import errno
 import fcntl
 import hashlib
 import hmac
@@ -17,14 +16,14 @@ import stat
 import time
 import tomllib
 
-from radacctl import files, names, plans, program, site
+from radacctl import files, names, plans, program, site, stock
 from radacctl.names import shown
 
 CLIENT, CLASS = "books", "debit"
 # What stands before the number of a sale that is taken back by hand, or of which a part is.
 BY_HAND = ("VOID-", "REFUND-")
 FILE = f"{site.BOOKS}/debits.csv"
-HEADER = ["moment", "event", "number", "account", "sum"]
+HEADER = b"moment,event,number,account,sum\n"
 GIVEN, ANSWERED = "given", "answered"
 # How often the report is sent, and how long an answer is waited for each time, in seconds.
 TRIES, PATIENCE = 5, 3
@@ -114,64 +113,34 @@ def source_of(words, secret):
     return address
 
 
-class Journal:
+class Journal(stock.Log):
     """The debits that were given, in a file that is locked as long as it is open."""
 
     def __init__(self, path):
-        folder = os.path.dirname(os.path.abspath(path))
-        files.make_folder(folder)
-        is_new = not os.path.exists(path)
-        self.file = os.open(path, os.O_RDWR | os.O_CREAT | os.O_APPEND, 0o600)
-        fcntl.flock(self.file, fcntl.LOCK_EX)
-        text = self.whole_lines(path)
-        if not text:
-            self.write(HEADER)
-            text = ",".join(HEADER) + "\n"
-        if is_new:
-            files.sync_folder(folder)
-        header, *self.rows = csv.reader(io.StringIO(text))
+        files.make_folder(os.path.dirname(os.path.abspath(path)))
+        super().__init__(path, HEADER)
+        fcntl.flock(self.handle, fcntl.LOCK_EX)
+        text = self.text()
+        # It was cut as it was written, before its debit was sent.
+        if cut := os.pread(self.handle, 4096, len(text)):
+            program.say(f"removed from the journal, since its line was cut: {cut!r}")
+            os.ftruncate(self.handle, len(text))
+        rows = csv.reader(io.StringIO(text.decode("ascii", "replace"), newline=""))
         # A spreadsheet may open the journal.
-        self.rows = [[names.text_of_cell(it) for it in row] for row in self.rows]
-        if header != HEADER or any(len(row) != len(HEADER) for row in self.rows):
+        self.rows = [[names.text_of_cell(it) for it in row] for row in rows][1:]
+        if text and not text.startswith(HEADER) or any(len(row) != 5 for row in self.rows):
             raise Refused(f"{path} is no journal of debits")
         self.known = {}
         for _, event, number, *debit in self.rows:
             if event == GIVEN:
                 self.known.setdefault(number, debit)
 
-    def whole_lines(self, path):
-        """The text of the file. A last line without an end was cut as it was written, before its
-        debit was sent, so it is removed.
-        """
-        with open(path, "rb") as file:
-            octets = file.read()
-        whole = octets[: octets.rfind(b"\n") + 1]
-        if whole != octets:
-            cut = octets[len(whole) :]
-            program.say(f"removed from the journal, since its line was cut: {cut!r}")
-            os.ftruncate(self.file, len(whole))
-        return whole.decode("ascii", "replace")
-
-    def write(self, row):
-        """Adds a line. It is on the disk, or the file is as it was and this is a fault."""
-        text = io.StringIO()
-        csv.writer(text, lineterminator="\n").writerow(map(names.cell, row))
-        line, whole = text.getvalue().encode("ascii"), os.fstat(self.file).st_size
-        try:
-            if os.write(self.file, line) != len(line):
-                raise OSError(errno.ENOSPC, os.strerror(errno.ENOSPC))
-            os.fsync(self.file)
-        except OSError:
-            with contextlib.suppress(OSError):
-                os.ftruncate(self.file, whole)
-            raise
-
     def given(self, number):
         """The account and the sum that a number was first given with, or None."""
         return self.known.get(number)
 
-    def add(self, event, number, account, total):
-        self.write([str(int(time.time())), event, number, account, str(total)])
+    def note(self, event, number, account, total):
+        self.add_alone(stock.lines_of([[int(time.time()), event, number, account, total]]))
         self.known.setdefault(number, [account, str(total)])
 
 
@@ -258,9 +227,9 @@ class Books:
 
     def note(self, event, *debit):
         try:
-            self.journal.add(event, *debit)
-        except OSError as fault:
-            raise Refused(f"the journal cannot be written: {fault.strerror}") from None
+            self.journal.note(event, *debit)
+        except stock.Fault as why:
+            raise Refused(f"the journal cannot be written: {why}") from None
 
     def is_answered(self, packet):
         """Sends the report until it is answered, a few times."""

@@ -6,6 +6,7 @@ from right to left, as Arabic ones, are refused: reportlab does not shape them.
 """
 
 import io
+import itertools
 import os
 import re
 import subprocess
@@ -72,14 +73,8 @@ class Fonts:
         """A text in pieces, each with the font that has its letters."""
         if not self.known and not self.missing:
             self.load()
-        found = []
-        for letter in text:
-            name = self.of(letter, text)
-            if found and found[-1][0] == name:
-                found[-1][1] += letter
-            else:
-                found.append([name, letter])
-        return [tuple(it) for it in found]
+        parts = itertools.groupby(text, lambda letter: self.of(letter, text))
+        return [(name, "".join(letters)) for name, letters in parts]
 
     def of(self, letter, text):
         if unicodedata.bidirectional(letter) in ("R", "AL") or unicodedata.combining(letter):

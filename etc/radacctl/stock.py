@@ -181,8 +181,17 @@ class Log:
 
     def text(self):
         """The whole lines, header and all."""
-        text = os.pread(self.handle, os.fstat(self.handle).st_size, 0)
-        return text[: text.rfind(b"\n") + 1]
+        return os.pread(self.handle, self.end(), 0)
+
+    def end(self):
+        """Where the whole lines end, sought from behind: a log may be long."""
+        end = os.fstat(self.handle).st_size
+        while end:
+            begin = max(0, end - 65_536)
+            if found := os.pread(self.handle, end - begin, begin).rfind(b"\n") + 1:
+                return begin + found
+            end = begin
+        return 0
 
     def add(self, octets):
         """Adds whole lines; they are on the disk, or the file is as it was and this is a fault."""
@@ -194,7 +203,7 @@ class Log:
             fcntl.flock(self.handle, fcntl.LOCK_UN)
 
     def add_alone(self, octets):
-        whole = len(self.text())
+        whole = self.end()
         try:
             # A line without its end was never counted.
             os.ftruncate(self.handle, whole)

@@ -11,9 +11,8 @@ from radacctl import files, names, site, stock
 
 FILE = f"{site.BOOKS}/clerk.csv"
 HEADER = b"moment,cashier,act,number,account,what,state\n"
-# An act was begun, or it is done; or it cannot be done, and changed nothing. Journals of earlier
-# versions say `lacking` of a sale that the book did not have: it was credited, and debited at once.
-BEGUN, DONE, REFUSED, LACKING = "begun", "done", "refused", "lacking"
+# An act was begun, or it is done; or it cannot be done, and changed nothing.
+BEGUN, DONE, REFUSED = "begun", "done", "refused"
 HOUR = 3600
 
 

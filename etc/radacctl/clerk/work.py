@@ -221,14 +221,10 @@ class Act:
         # One that was refused changed nothing, and says nothing of the next one.
         had = None if had is not None and had.state == journal.REFUSED else had
         made = self.notes.last("guest", number)
-        if had is not None and had.account != account:
+        if any(it is not None and it.account != account for it in (had, made)):
             raise Refused(409, "differs")
         if had is not None and had.state == journal.DONE:
             return {"result": "repeat"}
-        if had is not None and had.state == journal.LACKING:
-            raise Refused(404, "no such sale")
-        if made is not None and made.account != account:
-            raise Refused(409, "differs")
         if had is None:
             self.may_begin()
         if made is not None:

@@ -40,7 +40,7 @@ import re
 import shlex
 import time
 
-from radacctl import debits, desk, money, names, program, site
+from radacctl import debits, desk, money, names, program, site, stock
 from radacctl.names import shown
 
 FILE_HEADER = ["account", "sum", "number"]
@@ -184,6 +184,6 @@ def main(words):
     except debits.NoAnswer as why:
         program.say(why)
         return 3
-    except (debits.Refused, site.Missing, OSError) as why:
+    except (debits.Refused, stock.Fault, site.Missing, OSError) as why:
         program.say(why)
         return 1
