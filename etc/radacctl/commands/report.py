@@ -42,7 +42,7 @@ import datetime
 import os
 
 from radacctl import money as moneys
-from radacctl import exports, names, program, sales_log, site as places, stock
+from radacctl import exports, names, program, sales_log, site, stock
 from radacctl.clerk import journal
 from radacctl.commands import guest
 
@@ -79,7 +79,9 @@ class Account:
 
 
 class Money(int):
-    """Whole units of the site's money."""
+    """Units of the book, shown in the site's money; without settings as they are."""
+
+    site = moneys.Money()
 
 
 def cashiers_of(path):
@@ -196,61 +198,25 @@ def prefix_of(number):
 
 def table(title, header, rows):
     """Prints a table with its columns in line, numbers to the right."""
-    texts = [header]
-    texts += [[shown(it) for it in row] for row in rows]
-    widths = [max(len(row[at]) for row in texts) for at in range(len(header))]
+    texts = [header, *([shown(it) for it in row] for row in rows)]
+    widths = [max(map(len, column)) for column in zip(*texts)]
     print(f"\n{title}")
-    for text, values in zip(texts, [header, *rows]):
-        to_right = [isinstance(it, int) for it in values]
-        if text is header:
-            to_right = [at > 0 for at in range(len(header))]
-        cells = zip(text, widths, to_right)
-        line = "  ".join(it.rjust(wide) if right else it.ljust(wide) for it, wide, right in cells)
-        print(f"  {line}".rstrip())
+    # All but the first column of the header are to the right, too.
+    for text, values in zip(texts, [["", *range(1, len(header))], *rows]):
+        cells = [it.rjust(wide) if isinstance(value, int) else it.ljust(wide)
+                 for it, value, wide in zip(text, values, widths)]
+        print(f"  {'  '.join(cells)}".rstrip())
 
 
 def shown(value):
     """A cell as a person reads it."""
     if isinstance(value, Money):
-        return site.plain(value, ",")
+        return value.site.plain(value, ",")
     return f"{value:,}" if isinstance(value, int) else names.readable(value) or "(none)"
 
 
-# The site's money; without settings sums are in units of the book.
-site = moneys.Money()
-
-
-def settle(path):
-    """Reads what the site's money is."""
-    try:
-        found = moneys.of_site(path)
-    except (OSError, ValueError) as fault:
-        raise exports.Broken(f"cannot read {path}: {fault}") from None
-    site.decimals, site.currency = found.decimals, found.currency
-
-
 def in_money(title):
-    return f"{title}, in {site.currency}" if site.currency else title
-
-
-def usage_rows(found):
-    rows = [[*names, *dataclasses.astuple(used)] for *names, used in found]
-    return [[*row[:-1], Money(row[-1])] for row in rows]
-
-
-def sold_rows(found):
-    return [[name, count, Money(total)] for name, (count, total) in sorted(found.items())]
-
-
-def by_usage(report):
-    """The accounts and Classes with what they used, the most octets first."""
-    found = [(account, name, used) for (account, name), used in report.usage.items()]
-    return sorted(found, key=lambda it: (-(it[2].input + it[2].output), it[0], it[1]))
-
-
-def balance_rows(report):
-    found = sorted(report.accounts.items())
-    return [[name, *map(Money, dataclasses.astuple(it))] for name, it in found]
+    return f"{title}, in {Money.site.currency}" if Money.site.currency else title
 
 
 SOLD = ["vouchers", "sum"]
@@ -258,7 +224,23 @@ USAGE = ["account", "class", "sessions", "input", "output", "charged"]
 BALANCES = ["account", "before", "sold", "charged", "debited", "gone", "after"]
 
 
-def show(report, title, dates, top):
+def tables_of(report):
+    """The header and the rows of each table, by its name. Those who used most octets are first."""
+    used = lambda names, it: [*names, it.sessions, it.input, it.output, Money(it.charged)]
+    usage = [used(names, it) for names, it in sorted(report.usage.items())]
+    sold = lambda found: [[name, count, Money(total)] for name, (count, total) in
+                          sorted(found.items())]
+    return {
+        "usage": (USAGE, sorted(usage, key=lambda row: -(row[3] + row[4]))),
+        "plans": (USAGE[1:], [used([name], it) for name, it in sorted(report.plans.items())]),
+        "vouchers": (["prefix", *SOLD], sold(report.prefixes)),
+        "cashiers": (["cashier", *SOLD], sold(report.sold_by)),
+        "balances": (BALANCES, [[name, *map(Money, dataclasses.astuple(it))]
+                                for name, it in sorted(report.accounts.items())]),
+    }
+
+
+def show(report, tables, title, dates, top):
     print(f"{title}: from {report.first.moment()} to {report.last.moment()}")
     for date, snapshot in zip(dates, (report.first, report.last)):
         if date != snapshot.date:
@@ -267,46 +249,35 @@ def show(report, title, dates, top):
         print("a session that began before and was reported since counts with all that it used")
     counts = report.counts
     print(f"sessions begun {counts['begun']}, ended {counts['ended']}; debits {counts['debits']}")
-    plans = sorted(report.plans.items())
-    table(in_money("used (octets) and charged by Class"), USAGE[1:], usage_rows(plans))
-    title = in_money("vouchers sold by what their numbers begin with")
-    table(title, ["prefix", *SOLD], sold_rows(report.prefixes))
-    title = in_money("vouchers sold by cashier, as the log of sales says")
-    table(title, ["cashier", *SOLD], sold_rows(report.sold_by))
-    rows = balance_rows(report)
+    table(in_money("used (octets) and charged by Class"), *tables["plans"])
+    table(in_money("vouchers sold by what their numbers begin with"), *tables["vouchers"])
+    table(in_money("vouchers sold by cashier, as the log of sales says"), *tables["cashiers"])
+    rows, used = tables["balances"][1], tables["usage"][1]
     sums = [Money(sum(row[at] for row in rows)) for at in range(1, len(BALANCES))]
     table(in_money("money of all accounts"), BALANCES, [[f"all {len(rows)}", *sums]])
-    used = by_usage(report)
-    title = f"accounts that used most, {min(top, len(used))} of {len(used)}"
-    table(title, USAGE, usage_rows(used[:top]))
-    most = {name for name, *_ in used[:top]}
+    table(f"accounts that used most, {min(top, len(used))} of {len(used)}", USAGE, used[:top])
+    most = {row[0] for row in used[:top]}
     table("and their money", BALANCES, [row for row in rows if row[0] in most])
     for note in report.notes():
         print(f"\n{note}")
 
 
-def write(folder, name, header, rows):
-    with open(os.path.join(folder, name), "x", encoding="utf-8", newline="") as file:
-        rows = [[cell(it) for it in row] for row in rows]
-        csv.writer(file, lineterminator="\n").writerows([header, *rows])
-
-
 def cell(value):
     """A field of a CSV file."""
     if isinstance(value, Money):
-        return site.plain(value)
+        return value.site.plain(value)
     return value if isinstance(value, int) else names.cell(names.readable(value))
 
 
-def write_all(report, folder):
+def write_all(tables, folder):
     """Writes the same as CSV, into a folder that is not there before."""
     try:
         os.mkdir(folder, 0o700)
-        write(folder, "usage.csv", USAGE, usage_rows(by_usage(report)))
-        write(folder, "plans.csv", USAGE[1:], usage_rows(sorted(report.plans.items())))
-        write(folder, "vouchers.csv", ["prefix", *SOLD], sold_rows(report.prefixes))
-        write(folder, "cashiers.csv", ["cashier", *SOLD], sold_rows(report.sold_by))
-        write(folder, "balances.csv", BALANCES, balance_rows(report))
+        for name, (header, rows) in tables.items():
+            path = os.path.join(folder, f"{name}.csv")
+            with open(path, "x", encoding="utf-8", newline="") as file:
+                writer = csv.writer(file, lineterminator="\n")
+                writer.writerows([header, *(map(cell, row) for row in rows)])
     except OSError as fault:
         raise exports.Broken(f"cannot write: {fault}") from None
 
@@ -328,7 +299,7 @@ def period_of(parser, words):
 
 def parser():
     it = program.parser(__doc__)
-    it.add_argument("--folder", default=f"{places.BACKUPS}/exports", metavar="EXPORTS")
+    it.add_argument("--folder", default=f"{site.BACKUPS}/exports", metavar="EXPORTS")
     it.add_argument("--csv", metavar="FOLDER")
     it.add_argument("--top", type=int, default=20, metavar="N")
     it.add_argument("--debit-class", default="debit", metavar="CLASS")
@@ -344,14 +315,17 @@ def main(words):
     words = it.parse_args(words)
     title, begin, end = period_of(it, words)
     try:
-        settle(words.settings)
+        Money.site = moneys.of_site(words.settings)
+    except (OSError, ValueError) as fault:
+        program.fail(f"cannot read {words.settings}: {fault}")
+    try:
         first, last = exports.span_of(exports.snapshots_of(words.folder), begin, end)
         cashiers = {**cashiers_of_guests(), **cashiers_of(words.sales)}
         report = Report(first, last, words.debit_class, cashiers)
+        tables = tables_of(report)
         if words.csv:
-            write_all(report, words.csv)
+            write_all(tables, words.csv)
     except exports.Broken as fault:
-        program.say(fault)
-        return 1
-    show(report, title, (begin, end), words.top)
+        program.fail(fault)
+    show(report, tables, title, (begin, end), words.top)
     return 0 if report.is_explained() else 1
