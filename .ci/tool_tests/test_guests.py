@@ -353,7 +353,7 @@ class Codes(unittest.TestCase):
             stream.__enter__()
             self.addCleanup(stream.__exit__, None, None, None)
         for where, name, new in ((codes, "LOG", self.site.path("sheets.csv")),
-                                 (sold.desks, "CASHIER_KEY", self.site.path("cashier.key"))):
+                                 (sold.sells.desks, "CASHIER_KEY", self.site.path("cashier.key"))):
             patched = mock.patch.object(where, name, new)
             patched.start()
             self.addCleanup(patched.stop)

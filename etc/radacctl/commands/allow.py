@@ -28,7 +28,6 @@ import os
 import re
 import time
 
-from radacctl import desk as desks
 from radacctl import codes, debits, files, names, program, site, stock
 from radacctl.commands import debit
 from radacctl.commands import packages as sold
@@ -99,7 +98,7 @@ class Allowing:
 
     def __init__(self, words, rows):
         self.words, self.rows, self.faults = words, rows, []
-        self.desk = sells.Desk(words, desks.keys_in(words.key_file, sells.MOST_KEYS)[0])
+        self.desk = sells.Desk(words, sells.key_of(words))
         self.counts, self.taken = collections.Counter(), 0
         self.books, self.left = None, {}
         if words.lapse:
@@ -179,5 +178,5 @@ def main(words):
         it.error(f"--sum is a sum as {money.plain(500)}")
     try:
         return allow(words, rows_of(words.list, words.month, total, money), money)
-    except (desks.WrongKey, debits.Refused, stock.Fault, site.Missing, ValueError, OSError) as why:
+    except (debits.Refused, stock.Fault, site.Missing, ValueError, OSError) as why:
         return fail(why)

@@ -42,7 +42,7 @@ import re
 import sys
 import time
 
-from radacctl import codes, desk as desks
+from radacctl import codes
 from radacctl import files, lapses, logins, names, packages, plans, program, sheets, site, stock
 from radacctl.commands import debit, sell as sells
 from radacctl import money as moneys
@@ -204,10 +204,7 @@ def credit(words, logins_store, found, known):
 
     If this is killed before a sale is noted, the timer finds it in the balances.
     """
-    try:
-        key = desks.keys_in(words.key_file, sells.MOST_KEYS)[0]
-    except desks.WrongKey as why:
-        return fail(why)
+    key = sells.key_of(words)
     records = {at: sells.Record(at, number_of(it.account), it.account, it.credit)
                for at, it in enumerate(found, 1)}
     # The book says what was sold: an older one may lack sales that the logins have.
@@ -323,9 +320,9 @@ def make(_):
     return 0
 
 
-def mend(_):
+def mend(_, logins_store=None):
     logins.own_log()
-    count = logins.mend(store())
+    count = logins.mend(logins_store or store())
     if count:
         say(f"{count} logins were live again, as in an older copy: they are ended")
     return 0
@@ -335,12 +332,9 @@ def tick(words):
     """Ends what is over. One at a time; the next minute has another."""
     if not files.is_locked(files.open_lock(words.lock)):
         return 0
-    logins.own_log()
     packages.write_for_pages()
     logins_store, now = store(), int(time.time())
-    mended = logins.mend(logins_store)
-    if mended:
-        say(f"{mended} logins were live again, as in an older copy: they are ended")
+    mend(words, logins_store)
     use_store = uses_made()
     lapses.tidy(use_store, now)
     long = lapses.steady(logins_store)

@@ -284,6 +284,11 @@ def report(outcomes, refused, stop):
     causes = {number: it for number, it in outcomes.items() if it not in ("new", "repeat")}
     causes |= refused
     print(f"added {found['new']}, repeated {found['repeat']}, refused {len(causes)}")
+    return end_of_report(causes, stop)
+
+
+def end_of_report(causes, stop):
+    """Prints what was refused, and why it ended early; returns the status to end with."""
     for number in sorted(causes):
         print(f"{number}: {causes[number]}")
     if stop is None:
@@ -305,11 +310,7 @@ def dry_run(vouchers, refused, stop):
             refused[record.number] = "VoucherDiffers"
     total = sum(it.sum for it in first.values())
     print(f"vouchers {len(first)}, of {total} together, refused {len(refused)}")
-    for number in sorted(refused):
-        print(f"{number}: {refused[number]}")
-    if stop:
-        print(f"stopped: {stop}")
-    return 1 if refused or stop else 0
+    return end_of_report(refused, stop)
 
 
 def logged(words):
@@ -355,6 +356,14 @@ def add_desk(it, give_up):
     it.add_argument("--give-up", type=int, default=give_up, metavar="SECONDS")
 
 
+def key_of(words):
+    """The cashier's key by the options of a sale. Of several in the file it is the first one."""
+    try:
+        return desks.keys_in(words.key_file, MOST_KEYS)[0]
+    except desks.WrongKey as why:
+        return program.fail(why)
+
+
 def parser():
     it = program.parser(__doc__)
     add_desk(it, 600)
@@ -372,10 +381,7 @@ def main(words):
     words = parser().parse_args(words)
     if words.logged:
         return print_logged(words)
-    try:
-        key = None if words.dry_run else desks.keys_in(words.key_file, MOST_KEYS)[0]
-    except desks.WrongKey as why:
-        program.fail(why)
+    key = None if words.dry_run else key_of(words)
     known = known_in(words.known)
     if sys.stdin.isatty():
         program.fail(f"give a file of vouchers: {program.NAME} < vouchers.csv")
