@@ -12,11 +12,10 @@ import hmac
 import io
 import os
 import socket
-import stat
 import time
 import tomllib
 
-from radacctl import files, names, plans, program, site, stock
+from radacctl import desk, files, names, plans, program, site, stock
 from radacctl.names import shown
 
 CLIENT, CLASS = "books", "debit"
@@ -53,16 +52,11 @@ class NoAnswer(Exception):
 
 
 def secret_of(path):
-    """The secret, from a file that only its owner may read; a line end behind it is no part."""
+    """The secret of a file; a line end behind it is no part."""
     try:
-        with open(path, "rb") as file:
-            found = os.fstat(file.fileno())
-            secret = file.read(4096).rstrip(b"\r\n")
-    except OSError as fault:
-        raise Refused(f"cannot read the secret: {fault}") from None
-    if stat.S_IMODE(found.st_mode) & 0o077 or found.st_uid not in (0, os.getuid()):
-        raise Refused(f"others may read {path}, or it is another user's: chmod 600 {path}")
-    return secret
+        return desk.secret_in(path).rstrip(b"\r\n")
+    except desk.WrongKey as why:
+        raise Refused(why) from None
 
 
 def client_of(config, path, secret):

@@ -62,7 +62,11 @@ def topup(account, total, number):
 
 def ask(where, method, path, key, body=None, patience=30, most=1 << 20):
     """The status and the body that the desk at an address and a port gave."""
-    caller = http.client.HTTPConnection(*where, timeout=patience)
+    return send(http.client.HTTPConnection(*where, timeout=patience), method, path, key, body, most)
+
+
+def send(caller, method, path, key, body=None, most=1 << 20):
+    """The same of a connection, which then is closed."""
     try:
         caller.request(method, path, body, {"Desk-Key": key, "Connection": "close"})
         response = caller.getresponse()
@@ -71,17 +75,23 @@ def ask(where, method, path, key, body=None, patience=30, most=1 << 20):
         caller.close()
 
 
-def keys_in(path, most, may_read=lambda status: False):
-    """The keys of a file, one on a line. Only its owner may read it, unless `may_read` says so."""
+def secret_in(path, may_read=lambda status: False):
+    """The octets of a file that only its owner may read, unless `may_read` says so."""
     try:
         with open(path, "rb") as file:
             found = os.fstat(file.fileno())
-            lines = file.read(65_536).decode("ascii", "replace").split("\n")
+            octets = file.read(65_536)
     except OSError as fault:
-        raise WrongKey(f"cannot read the key: {path}: {fault.strerror}") from None
+        raise WrongKey(f"cannot read {path}: {fault.strerror}") from None
     is_open = stat.S_IMODE(found.st_mode) & 0o077 or found.st_uid not in (0, os.getuid())
     if is_open and not may_read(found):
-        raise WrongKey(f"others may read {path}, or it is another user's: chmod 600")
+        raise WrongKey(f"others may read {path}, or it is another user's: chmod 600 {path}")
+    return octets
+
+
+def keys_in(path, most, may_read=lambda status: False):
+    """The keys of a file, one on a line."""
+    lines = secret_in(path, may_read).decode("ascii", "replace").split("\n")
     named = [(at, line.strip()) for at, line in enumerate(lines, 1) if line.strip()]
     if not named:
         raise WrongKey(f"{path} has no key: {TOKEN_RULE}")

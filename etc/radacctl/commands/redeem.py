@@ -106,16 +106,12 @@ class Desk:
     def credit(self, key, account, total, code):
         """The status and the object that the desk gave to a top-up."""
         body = desks.topup(account, total, "W-" + code)
-        header = {"Desk-Key": key, "Content-Type": "application/json", "Connection": "close"}
         try:
-            self.caller.request("POST", "/topups", body, header)
-            reply = self.caller.getresponse()
-            return reply.status, json.loads(reply.read(4096))
-        except (OSError, http.client.HTTPException, ValueError) as fault:
+            status, said = desks.send(self.caller, "POST", "/topups", key, body, 4096)
+        except (OSError, http.client.HTTPException) as fault:
             why = why_of(fault)
             raise Away(f"no answer of the desk {self.where}: {why}; the same is right") from None
-        finally:
-            self.caller.close()
+        return status, desks.object_of(said)
 
 
 def why_of(fault):
