@@ -677,12 +677,12 @@ class Ends(unittest.TestCase):
     def test_a_run_that_was_killed_before_its_copy_makes_it(self):
         one = wanted()
         for changes, is_tried, is_copied, names in (
-            (True, True, True, ["Proof"]), (True, False, False, ["Proof", "Copy"]),
-            (False, True, False, ["Copy"]), (False, False, True, ["Proof"]),
+            (True, True, True, ["Proof"]), (True, False, False, ["Proof", "Command"]),
+            (False, True, False, ["Command"]), (False, False, True, ["Proof"]),
             (False, True, True, []),
         ):
             with mock.patch.object(setup.proof.Proof, "is_done", lambda _, it=is_tried: it), \
-                    mock.patch.object(setup.Copy, "is_done", lambda _, it=is_copied: it):
+                    mock.patch.object(setup, "has_copy", lambda it=is_copied: it):
                 found = setup.ends(["a step"] * changes, one, None)
             self.assertEqual([type(it).__name__ for it in found], names)
 
@@ -700,7 +700,7 @@ class Ends(unittest.TestCase):
         for names, is_done in (([], False), (["exports", "2026-11-28.bad"], False),
                                (["2026-11-28"], True)):
             with mock.patch.object(setup.copies, "place", lambda it=names: ("/mnt", it)):
-                self.assertEqual(setup.Copy().is_done(), is_done)
+                self.assertEqual(setup.has_copy(), is_done)
 
 
 class TakenOut(Folder):

@@ -178,16 +178,22 @@ def text(path):
 
 def behind_links(path):
     """The octets of a file on whose path links are; none if there is none."""
-    words = [*as_owner(path), "head", "-c", str(LARGEST), "--", path]
-    how = {"capture_output": True, "stdin": subprocess.DEVNULL, "cwd": "/", "timeout": 10}
+    octets, why = read_as_owner(path, 10, "head", "-c", str(LARGEST), "--", path)
+    if why and why not in ("No such file or directory", "Not a directory"):
+        raise OSError(f"{path}: {why}")
+    return octets
+
+
+def read_as_owner(path, seconds, *words):
+    """What a command printed as the user who may change names on a path, and why it failed, or ""."""
+    how = {"env": {"PATH": "/usr/bin:/bin", "LC_ALL": "C.UTF-8"}, "timeout": seconds, "cwd": "/"}
     try:
-        done = subprocess.run(words, env={"PATH": "/usr/bin:/bin", "LC_ALL": "C"}, **how)
+        done = subprocess.run([*as_owner(path), *words], capture_output=True,
+                              stdin=subprocess.DEVNULL, **how)
     except subprocess.TimeoutExpired:
-        raise OSError(f"{path}: it cannot be read in {how['timeout']} seconds") from None
+        return b"", f"it cannot be read in {seconds} seconds"
     said = done.stderr.decode("utf-8", "replace").strip().rpartition(": ")[2]
-    if done.returncode and said not in ("No such file or directory", "Not a directory"):
-        raise OSError(f"{path}: {said}")
-    return done.stdout
+    return done.stdout, (said or f"status {done.returncode}") if done.returncode else ""
 
 
 def sample(*names):
@@ -211,12 +217,8 @@ def rows(path, query, *values, is_still=False):
     """
     mark = "mode=ro&immutable=1" if is_still else "mode=ro"
     uri = f"file:{urllib.parse.quote(os.path.abspath(path))}?{mark}"
-    words = [*as_owner(path), "/usr/bin/python3", "-I", "-c", QUERY, uri, query, *values]
-    try:
-        done = subprocess.run(words, capture_output=True, text=True, cwd="/", timeout=120)
-    except subprocess.TimeoutExpired:
-        raise OSError(f"{path}: it cannot be read in two minutes") from None
-    if done.returncode:
-        why = done.stderr.strip().rpartition(": ")[2] or f"status {done.returncode}"
+    words = ("/usr/bin/python3", "-I", "-c", QUERY, uri, query, *values)
+    octets, why = read_as_owner(path, 120, *words)
+    if why:
         raise OSError(f"{path}: {why}")
-    return [tuple(row) for row in json.loads(done.stdout)]
+    return [tuple(row) for row in json.loads(octets)]

@@ -174,7 +174,7 @@ def do(words, wanted):
     for it in found:
         finish(it)
     for it in last:
-        it.do()
+        finish(it)
     print(f"What to type at access servers is in {devices.FOLDER}.")
     return doctor.main([])
 
@@ -196,22 +196,14 @@ def remove(words):
 
 def ends(found, wanted, config):
     """What is done at the end: whatever changes is tried anew, and there is a copy."""
-    tried, copy = proof.Proof(wanted, config), Copy()
+    tried = proof.Proof(wanted, config)
+    # The copy of the first night, now: until there is one, a lost disk loses all.
+    copy = steps.Command("copy the site", has_copy, "systemctl", "start", "radacctd-nightly.service")
     return [it for it in (tried, copy) if not it.is_done() or it is tried and found]
 
 
-class Copy:
-    """The copy of the first night, now: until there is one, a lost disk loses all."""
-
-    def text(self):
-        return "copy the site"
-
-    def is_done(self):
-        return any(copies.NAME.fullmatch(it) for it in copies.place()[1])
-
-    def do(self):
-        print(f"{self.text()} ..", flush=True)
-        steps.given(["systemctl", "start", "radacctd-nightly.service"])
+def has_copy():
+    return any(copies.NAME.fullmatch(it) for it in copies.place()[1])
 
 
 def locked():

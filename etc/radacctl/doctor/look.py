@@ -20,17 +20,24 @@ SAMPLE = re.compile(r'^(\w+)(?:\{(.*)\})? (\S+)$', re.M)
 LABEL = re.compile(r'(\w+)="([^"]*)"')
 
 
-def run(*words, seconds=LONGEST, text=None):
-    """The status and the text that a program printed; 127 if it is not there, 124 if it is slow."""
-    environment = {"PATH": PATH, "LC_ALL": "C.UTF-8", "LANG": "C.UTF-8"}
+def ran(words, seconds, text=None):
+    """A program that ended: with 127 if it is not there, with 124 if it is slow."""
+    environment = {"PATH": PATH, "LC_ALL": "C.UTF-8", "LANG": "C.UTF-8",
+                   "DEBIAN_FRONTEND": "noninteractive"}
     how = {"capture_output": True, "text": True, "errors": "replace", "env": environment}
     how |= {"timeout": seconds, "cwd": "/", "input": text or ""}
     try:
-        done = subprocess.run(words, **how)
+        return subprocess.run(words, **how)
     except FileNotFoundError:
-        return 127, f"{words[0]} is missing"
+        status, why = 127, "is missing"
     except subprocess.TimeoutExpired:
-        return 124, f"{words[0]} did not end in {seconds} seconds"
+        status, why = 124, f"did not end in {seconds} seconds"
+    return subprocess.CompletedProcess(words, status, "", f"{words[0]} {why}")
+
+
+def run(*words, seconds=LONGEST, text=None):
+    """The status of a program, and the text that it printed."""
+    done = ran(words, seconds, text)
     return done.returncode, done.stdout + done.stderr
 
 

@@ -16,7 +16,6 @@ import pwd
 import re
 import shutil
 import stat
-import subprocess
 import time
 
 from radacctl import files, freeradius, site
@@ -359,15 +358,7 @@ def begun(text, section, word, lines=None):
 
 def given(words, text=None, seconds=1800):
     """What a command printed, which must end well."""
-    environment = {"PATH": "/usr/sbin:/usr/bin:/sbin:/bin", "LC_ALL": "C.UTF-8",
-                   "DEBIAN_FRONTEND": "noninteractive"}
-    how = {"capture_output": True, "text": True, "errors": "replace", "env": environment}
-    try:
-        done = subprocess.run(words, input=text or "", timeout=seconds, cwd="/", **how)
-    except FileNotFoundError:
-        raise Failed(f"{words[0]} is missing") from None
-    except subprocess.TimeoutExpired:
-        raise Failed(f"{words[0]} did not end in {seconds} seconds") from None
+    done = look.ran(words, seconds, text)
     if done.returncode:
         said = (done.stderr or done.stdout).strip()[-600:]
         raise Failed(f"{' '.join(words[:4])} ended with {done.returncode}: {said}")
