@@ -73,26 +73,21 @@ def is_same(file, path):
         return False
 
 
-def copy_rights(file, path):
+def copy_rights(handle, path):
     """Gives a new file the owner, the group, the mode and the further attributes of another one."""
     status = os.stat(path)
-    os.fchown(file.fileno(), status.st_uid, status.st_gid)
-    os.fchmod(file.fileno(), stat.S_IMODE(status.st_mode))
+    os.fchown(handle, status.st_uid, status.st_gid)
+    os.fchmod(handle, stat.S_IMODE(status.st_mode))
     for name in os.listxattr(path):
         with contextlib.suppress(OSError):
-            os.setxattr(file.fileno(), name, os.getxattr(path, name))
+            os.setxattr(handle, name, os.getxattr(path, name))
 
 
 def write_beside(path, text):
     """Makes the file that is to take the place of a configuration, on the disk, with its rights."""
-    new = path + NEW
-    files.remove(new)
-    with os.fdopen(os.open(new, os.O_CREAT | os.O_EXCL | os.O_WRONLY, 0o600), "wb") as file:
-        copy_rights(file, path)
-        file.write(text.encode())
-        file.flush()
-        os.fsync(file.fileno())
-    return new
+    files.remove(path + NEW)
+    files.make(path + NEW, text.encode(), rights=lambda it: copy_rights(it, path))
+    return path + NEW
 
 
 def fault_of(new, path):
@@ -151,8 +146,6 @@ def put_in_place(path, text, is_needed):
     try:
         new = write_beside(path, text)
     except OSError as fault:
-        with contextlib.suppress(OSError):
-            os.remove(path + NEW)
         fail(f"cannot write {path}{NEW}: {fault.strerror}. Nothing was changed")
     try:
         fault = fault_of(new, path)

@@ -85,16 +85,17 @@ def open_lock(path):
     return os.open(path, os.O_RDWR | os.O_CREAT | os.O_NOFOLLOW | os.O_CLOEXEC, 0o600)
 
 
-def make(path, octets, mode=0o600):
+def make(path, octets, mode=0o600, rights=None):
     """Makes a file with a content, on the disk, and never over another one. A half one is removed.
 
-    The folder's caller syncs it.
+    It has a mode before its content; or further rights, which a function gives it. The folder's
+    caller syncs it.
     """
     handle = os.open(path, os.O_CREAT | os.O_EXCL | os.O_WRONLY | os.O_NOFOLLOW, 0o600)
     try:
         with os.fdopen(handle, "wb") as file:
+            rights(handle) if rights else os.fchmod(handle, mode)
             file.write(octets)
-            os.fchmod(file.fileno(), mode)
             file.flush()
             os.fsync(file.fileno())
     except OSError:

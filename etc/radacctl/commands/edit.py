@@ -182,12 +182,7 @@ class Edit:
         new = path + ".edit-new"
         try:
             files.remove(new)
-            way = os.O_CREAT | os.O_EXCL | os.O_WRONLY | os.O_NOFOLLOW
-            with os.fdopen(os.open(new, way, 0o600), "wb") as file:
-                self.give(file.fileno())
-                file.write(octets)
-                file.flush()
-                os.fsync(file.fileno())
+            files.make(new, octets, rights=self.give)
             os.rename(new, path)
         except OSError as why:
             with contextlib.suppress(OSError):

@@ -118,12 +118,13 @@ def steps_of(wanted, config):
     yield from devices.of(wanted, config)
 
 
-def confirmed(words):
+def confirm(words):
     if words.yes:
-        return True
+        return
     if not sys.stdin.isatty() and words.file:
         program.fail("nobody is there to answer: give --yes")
-    return program.is_yes("Do this?")
+    if not program.is_yes("Do this?"):
+        program.fail("nothing was done")
 
 
 def is_done(step):
@@ -162,8 +163,7 @@ def do(words, wanted):
     show([*found, *last])
     if words.dry_run:
         return 0
-    if not confirmed(words):
-        program.fail("nothing was done")
+    confirm(words)
     if any(isinstance(it, proof.Proof) for it in last):
         files.remove(proof.DONE)
     finish(packages)
@@ -189,8 +189,7 @@ def remove(words):
         print(f"  - {it}")
     if words.dry_run:
         return
-    if not words.yes and not confirmed(words):
-        program.fail("nothing was done")
+    confirm(words)
     away.remove()
 
 

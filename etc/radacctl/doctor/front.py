@@ -43,7 +43,7 @@ def look_at(kind):
         return
     for place, own in freeradius.differing():
         yield Fault("file-old", f"{place} is not that of this version",
-                    f"diff {place} {own}; {linked(place, own)}; systemctl restart freeradius "
+                    f"diff {place} {own}; {look.linked(place, own)}; systemctl restart freeradius "
                     "radacctd-mirror radacctd-front")
     yield from steps(kind)
     yield from settings(kind)
@@ -58,13 +58,6 @@ def look_at(kind):
     yield from certificates()
 
 
-def linked(place, own):
-    """A command that makes a place a link, and keeps what was changed there by hand, as NAME.~1~:
-    FreeRADIUS reads no such name.
-    """
-    return f"ln -sfT --backup=numbered {own} {place}"
-
-
 def steps(kind):
     """The lines that a site writes into FreeRADIUS' own files."""
     known = freeradius.own_included(freeradius.text("radiusd.conf"))
@@ -76,7 +69,7 @@ def steps(kind):
         path = freeradius.path(place)
         if not os.path.exists(path):
             yield Fault("raddb-steps", f"{path} is missing",
-                        f"radacctl setup, or {linked(path, site.shared('freeradius', own))}")
+                        f"radacctl setup, or {look.linked(path, site.shared('freeradius', own))}")
     yield from lines(kind)
     yield from tunnel()
     status, said = look.run(*freeradius.test())

@@ -107,6 +107,13 @@ def open_to_others(path, most=None):
                     f"chmod {'o=' if most is None else f'{most:o}'} {path}")
 
 
+def linked(place, own):
+    """A command that makes a place a link, and keeps what was changed there by hand, as NAME.~1~:
+    no program of a site reads such a name.
+    """
+    return f"ln -sfT --backup=numbered {own} {place}"
+
+
 def certificate(path, cure, *user):
     """The fault of a certificate that is missing, does not hold now, or ends within three weeks. A
     user who names it reads it: root would open what that is.

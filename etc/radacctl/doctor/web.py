@@ -18,8 +18,6 @@ FOLDER, WEB = "/etc/nginx/radacctd", "/etc/radacctd-web"
 # Of the file for nginx what a site changes: these directives, and where pages and tools are.
 CHANGED = re.compile(r"^(?:server_name|ssl_|listen|include radacctd/desks|root|limit_req_zone|"
                      r"fastcgi_param SCRIPT_FILENAME|access_log|error_log)")
-# It keeps what was changed by hand, as NAME.~1~, which neither nginx nor fail2ban reads.
-COPY = "cp --backup=numbered"
 JAILS, JAIL_LOCAL = "/etc/fail2ban/jail.d/*.[cl]o*", "/etc/fail2ban/jail.local"
 OWN = {"127.0.0.1", "127.0.0.1/8", "127.0.0.0/8", "::1", "::1/128"}
 JAIL, FILTER = "/etc/fail2ban/jail.d/radacctd.conf", "/etc/fail2ban/filter.d/radacctd.conf"
@@ -59,12 +57,17 @@ def configuration(text):
         yield Fault("file-old", f"{kinds.NGINX} is not that of this version, but for your names",
                     f"diff {site.shared('nginx', 'radacctd.conf')} {kinds.NGINX}")
     for name in ("headers.conf", "to-desk.conf"):
-        if files.text(f"{FOLDER}/{name}") != files.sample("nginx", "radacctd", name):
-            yield Fault("file-old", f"{FOLDER}/{name} is not that of this version",
-                        f"{COPY} {site.shared('nginx', 'radacctd', name)} {FOLDER}/")
+        yield from differing(f"{FOLDER}/{name}", "nginx", "radacctd", name)
     if "accounts.example.org" in text:
         yield Fault("sample-value", f"{kinds.NGINX} has the sample's name accounts.example.org",
                     "write your own in its place")
+
+
+def differing(path, *own):
+    """The fault of a file that is not that of this version."""
+    if files.text(path) != files.sample(*own):
+        yield Fault("file-old", f"{path} is not that of this version",
+                    look.linked(path, site.shared(*own)))
 
 
 def whole(text):
@@ -223,9 +226,7 @@ def programs():
 def fail2ban():
     if not os.path.exists(JAIL):
         return
-    if files.text(FILTER) != files.sample("nginx", "fail2ban", "radacctd.filter.conf"):
-        yield Fault("file-old", f"{FILTER} is not that of this version",
-                    f"{COPY} {site.shared('nginx', 'fail2ban', 'radacctd.filter.conf')} {FILTER}")
+    yield from differing(FILTER, "nginx", "fail2ban", "radacctd.filter.conf")
     if look.run("fail2ban-client", "status", "radacctd")[0]:
         yield Fault("fail2ban-down", "fail2ban has no jail radacctd",
                     "systemctl restart fail2ban; tail /var/log/fail2ban.log")
