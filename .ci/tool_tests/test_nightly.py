@@ -1,12 +1,17 @@
 """What the night's copy takes for a damaged book, and what only for a full disk or memory."""
 
+import contextlib
 import os
 import shutil
+import sqlite3
 import subprocess
+import tarfile
 import tempfile
 import unittest
+from unittest import mock
 
-from tool_tests import ROOT
+from radacctl import archive
+from tool_tests import Folder, ROOT
 
 # What each command of the program prints and ends with, by files of the test.
 PROGRAM = """#!/bin/sh
@@ -85,6 +90,71 @@ class Night(unittest.TestCase):
             self.assertEqual((found, names), (1, []), said)
             self.assertIn(why, said)
             self.assertIn("there is no copy of this night, and no older one was removed", said)
+
+
+class Databases(Folder):
+    """What the archive of a site has of a database whose log comes and goes meanwhile."""
+
+    def database(self, mode="WAL"):
+        found = sqlite3.connect(os.path.join(self.folder, "logins.db"), isolation_level=None)
+        found.execute(f"PRAGMA journal_mode = {mode}")
+        found.execute("CREATE TABLE login (account)")
+        found.execute("INSERT INTO login VALUES ('al')")
+        return found
+
+    def archived(self, act=None):
+        """The names of an archive, and the rows in its database; `act` is done as it is copied."""
+        acts = [act] if act else []
+        wait = lambda seconds: acts and acts.pop()()
+        made = archive.Archive(os.path.join(self.out, "made"))
+        with mock.patch.object(archive.time, "sleep", wait):
+            made.add_place(self.folder)
+        made.end({})
+        with tarfile.open(os.path.join(self.out, "made")) as tar:
+            names = [os.path.basename(it) for it in tar.getnames()[1:-1]]
+            with open(os.path.join(self.out, "copy.db"), "wb") as file:
+                file.write(tar.extractfile(f"{self.folder[1:]}/logins.db").read())
+        return names
+
+    def rows(self):
+        with contextlib.closing(sqlite3.connect(os.path.join(self.out, "copy.db"))) as copy:
+            return [it for it, in copy.execute("SELECT * FROM login")]
+
+    def setUp(self):
+        super().setUp()
+        out = tempfile.TemporaryDirectory()
+        self.addCleanup(out.cleanup)
+        self.out = out.name
+
+    def test_what_its_log_has_is_in_it(self):
+        with contextlib.closing(self.database()):
+            self.assertEqual((self.archived(), self.rows()), (["logins.db"], ["al"]))
+
+    def test_a_log_that_goes_as_its_last_program_closes_it(self):
+        self.assertEqual(self.archived(self.database().close), ["logins.db"])
+        self.assertEqual(self.rows(), ["al"])
+
+    def test_a_log_that_comes(self):
+        self.database().close()
+        with contextlib.ExitStack() as opened:
+            def write():
+                it = sqlite3.connect(os.path.join(self.folder, "logins.db"), isolation_level=None)
+                opened.enter_context(contextlib.closing(it))
+                it.execute("INSERT INTO login VALUES ('bo')")
+            self.assertEqual(self.archived(write), ["logins.db"])
+        self.assertEqual(self.rows(), ["al", "bo"])
+
+    def test_half_a_transaction_is_none(self):
+        with contextlib.closing(self.database("DELETE")) as opened:
+            opened.execute("PRAGMA cache_size = 1")
+            opened.execute("BEGIN")
+            opened.executemany("INSERT INTO login VALUES (?)", [("x" * 5000,)] * 9)
+            self.assertEqual((self.archived(), self.rows()), (["logins.db"], ["al"]))
+
+    def test_a_file_of_another_program(self):
+        with open(os.path.join(self.folder, "logins.db"), "wb") as file:
+            file.write(b"no SQLite")
+        self.assertEqual(self.archived(), ["logins.db"])
 
 
 if __name__ == "__main__":

@@ -63,35 +63,49 @@ class Hashed:
         return octets
 
 
-def mark_of(status):
-    return status.st_ino, status.st_size, status.st_mtime_ns
+def marks_of(folder, name):
+    """What a write changes of a database, and of its log or journal if it has one: the last one
+    that closes a database removes these.
+    """
+    found = {name: os.stat(name, dir_fd=folder, follow_symlinks=False)}
+    for it in (f"{name}-wal", f"{name}-journal"):
+        with contextlib.suppress(FileNotFoundError):
+            found[it] = os.stat(it, dir_fd=folder, follow_symlinks=False)
+    return {it: (that.st_ino, that.st_size, that.st_mtime_ns) for it, that in found.items()}
 
 
-def quiet_database(folder, name, names):
-    """A database and its log, of a moment in which nobody wrote either: as after a power cut."""
-    parts = [it for it in (name, f"{name}-wal") if it in names]
+def quiet_database(folder, name):
+    """A database with what its log has, and its status, of a moment in which nobody wrote either."""
     for _ in range(TRIES):
-        before = {it: os.stat(it, dir_fd=folder, follow_symlinks=False) for it in parts}
+        before = marks_of(folder, name)
         # A write in the same tick of the clock as the look is read by then. No clock is compared.
         time.sleep(QUIET)
-        read = {it: content_of(folder, it) for it in parts}
-        after = {it: os.stat(it, dir_fd=folder, follow_symlinks=False) for it in parts}
-        is_same = all(mark_of(before[it]) == mark_of(after[it]) for it in parts)
-        if is_same:
-            test_database(name, read)
-            return read
+        with contextlib.suppress(FileNotFoundError):
+            read = {it: content_of(folder, it) for it in before}
+            if marks_of(folder, name) == before:
+                return whole_database(name, read), read[name][1]
     raise Wrong(f"{name} was written all the while: try again")
 
 
-def test_database(name, read):
-    """The copy of a database is whole."""
+def whole_database(name, read):
+    """The octets of a database once SQLite has put what its log or journal has into it, as after a
+    power cut. Those of another program's are as they are.
+    """
+    if not read[name][0].startswith(b"SQLite format 3\0"):
+        return read[name][0]
     with tempfile.TemporaryDirectory() as folder:
         for part, (octets, _) in read.items():
             with open(os.path.join(folder, part), "wb") as file:
                 file.write(octets)
-        with contextlib.closing(sqlite3.connect(os.path.join(folder, name))) as database:
+        path = os.path.join(folder, name)
+        with contextlib.closing(sqlite3.connect(path)) as database:
             if database.execute("PRAGMA integrity_check").fetchall() != [("ok",)]:
                 raise Wrong(f"{name} is damaged")
+            database.execute("PRAGMA wal_checkpoint(TRUNCATE)")
+        if os.listdir(folder) != [name]:
+            raise Wrong(f"what the log of {name} has cannot be put into it")
+        with open(path, "rb") as file:
+            return file.read()
 
 
 class Archive:
@@ -119,9 +133,9 @@ class Archive:
         """A file, or a folder with all that is in it."""
         above, name = os.path.split(path)
         with opened(above) as folder:
-            self.add_name(folder, name, path, [name])
+            self.add_name(folder, name, path)
 
-    def add_name(self, folder, name, path, names):
+    def add_name(self, folder, name, path):
         status = os.stat(name, dir_fd=folder, follow_symlinks=False)
         it = member(path, status)
         if stat.S_ISLNK(status.st_mode):
@@ -132,26 +146,25 @@ class Archive:
             self.add(it)
             self.add_folder(folder, name, path)
         elif stat.S_ISREG(status.st_mode):
-            self.add_file(folder, name, path, names)
+            self.add_file(folder, name, path)
         # A socket or a pipe has no content.
 
     def add_folder(self, folder, name, path):
         inner = os.open(name, FOLDER, dir_fd=folder)
         try:
-            names = sorted(os.listdir(inner))
-            for it in names:
+            for it in sorted(os.listdir(inner)):
                 # A file may vanish meanwhile, as one that was filed.
                 with contextlib.suppress(FileNotFoundError):
-                    self.add_name(inner, it, f"{path}/{it}", names)
+                    self.add_name(inner, it, f"{path}/{it}")
         finally:
             os.close(inner)
 
-    def add_file(self, folder, name, path, names):
-        if name.endswith((".db-wal", ".db-shm")):
+    def add_file(self, folder, name, path):
+        if name.endswith((".db-wal", ".db-shm", ".db-journal")):
             return
         if name.endswith(".db"):
-            for part, (octets, status) in quiet_database(folder, name, names).items():
-                self.add(member(os.path.join(os.path.dirname(path), part), status), octets)
+            octets, status = quiet_database(folder, name)
+            self.add(member(path, status), octets)
             return
         with regular(folder, name) as (file, status):
             it = member(path, status)
