@@ -68,6 +68,14 @@ class Night(unittest.TestCase):
         self.assertEqual((status, len(names)), (0, 1), said)
         self.assertRegex(names[0], r"^\d{4}-\d\d-\d\d$")
 
+    def test_a_copy_of_the_day_that_was_removed(self):
+        name = self.night()[2][0]
+        shutil.rmtree(self.place(f"backups/{name}"))
+        status, said, names = self.night()
+        self.assertEqual((status, len(names)), (0, 1), said)
+        self.assertRegex(names[0], rf"^{name}\.\d{{6}}$")
+        self.assertTrue(os.path.exists(self.place(f"backups/exports/{names[0]}/taken")))
+
     def test_a_book_that_is_damaged(self):
         for text in ("db: Unbalanced\n", "db: cannot open\n", "db: Unavailable\n"):
             status, said, names = self.night(check=(text, 3))
