@@ -1,4 +1,6 @@
-"""What a restore takes: a copy that was refused, or has wrong balances, only if it is asked to."""
+"""What a restore takes: a copy that was refused, or has wrong balances, only if it is asked to. And
+what a backup takes for a copy.
+"""
 
 import os
 import shutil
@@ -6,7 +8,7 @@ import subprocess
 import tempfile
 import unittest
 
-from tool_tests import ROOT
+from tool_tests import Folder, ROOT
 
 # What `check` prints and ends with, by the file `fault`, if it is asked for an audit.
 PROGRAM = """#!/bin/sh
@@ -38,7 +40,7 @@ class Restore(unittest.TestCase):
         self.write("libexec/radacctd/holders", "#!/bin/sh\n", 0o755)
         self.write("libexec/radacctd/radacctd", PROGRAM.format(self.folder), 0o755)
         self.write("sbin/radacctl", "#!/bin/sh\necho '# plans of the copy'\n", 0o755)
-        for name in ("2026-11-26", "2026-11-27.bad", "now"):
+        for name in ("2026-11-26", "2026-11-27.bad", "killed.part", "now"):
             os.mkdir(os.path.join(self.folder, name))
             self.write(f"{name}/book", name)
 
@@ -67,6 +69,11 @@ class Restore(unittest.TestCase):
         # A stroke at the end makes it no other copy.
         self.assertEqual(self.restored("2026-11-27.bad/")[::2], (1, "now"))
         self.assertEqual(self.restored("--unsound", "2026-11-27.bad")[::2], (0, "2026-11-27.bad"))
+
+    def test_what_a_backup_left_that_was_killed(self):
+        status, said, book = self.restored("killed.part")
+        self.assertEqual((status, book), (1, "now"), said)
+        self.assertEqual(self.restored("--unsound", "killed.part")[::2], (0, "killed.part"))
 
     def test_a_copy_with_wrong_balances(self):
         self.write("fault", "db: Unbalanced\n")
@@ -98,6 +105,38 @@ class Restore(unittest.TestCase):
         self.write("fault", "db: PlansDiffer\n")
         self.assertEqual(self.restored("--config", config, "2026-11-27.bad")[0], 1)
         self.assertEqual(self.restored("--config", config, "--unsound", "2026-11-27.bad")[0], 1)
+
+
+class Backup(Folder):
+    """Copies of a book that no process has."""
+
+    def copied(self, act):
+        """The status, and what was said. `act` is done before the log is copied."""
+        book, tools = os.path.join(self.folder, "book"), os.path.join(self.folder, "bin")
+        for path in (book, book + "-wal"):
+            with open(path, "w", encoding="ascii") as file:
+                file.write("some octets\n")
+        os.mkdir(tools)
+        with open(os.path.join(tools, "cat"), "w", encoding="ascii") as file:
+            file.write(f'#!/bin/sh\ncase $* in *-wal) {act} ;; esac\nexec /bin/cat "$@"\n')
+        os.chmod(file.name, 0o755)
+        words = [os.path.join(ROOT, "etc/backup"), book, os.path.join(self.folder, "copy")]
+        path = f"{tools}:{os.environ['PATH']}"
+        done = subprocess.run(words, capture_output=True, text=True, env={"PATH": path})
+        self.assertEqual(os.path.exists(words[2]), done.returncode == 0)
+        return done.returncode, done.stdout + done.stderr
+
+    def test_a_book_that_nobody_has(self):
+        self.assertEqual(self.copied(":"), (0, "copied; no server had the book\n"))
+
+    def test_a_command_writes_it_and_ends_meanwhile(self):
+        for number, name in enumerate(("book", "book-wal")):
+            with self.subTest(name):
+                self.folder = os.path.join(self.folder, str(number))
+                os.mkdir(self.folder)
+                status, said = self.copied(f"echo more >>{self.folder}/{name}")
+                self.assertEqual(status, 1)
+                self.assertIn("a process opened the book meanwhile", said)
 
 
 if __name__ == "__main__":
