@@ -40,7 +40,7 @@ The status is 0 if all was done, and 2 for a bad command line.
 
 
 def listed():
-    return "\n".join(f"  {name:8} {text}" for name, (text, _) in COMMANDS.items())
+    return "\n".join(f"  {name:9} {text}" for name, (text, _) in COMMANDS.items())
 
 
 def command_of(called, words):
