@@ -323,7 +323,7 @@ class Again(Folder):
     def test_what_a_site_changes_of_fail2ban_stays(self):
         """As the file says: if many guests share an address, it may mistype more."""
         one = wanted(front_desk=["10.0.1.0/24"])
-        [step] = [it for it in web.fail2ban(one, lambda *_: "")
+        [step] = [it for it in web.fail2ban(one)
                   if getattr(it, "path", "") == web.JAIL]
         jail = step.wanted(None).decode()
         self.assertIn("\nignoreip = 127.0.0.1/8 ::1 10.0.1.0/24\n", jail)
@@ -613,7 +613,7 @@ class Tested(Folder):
         self.put(f'open F, ">", "{out}/uid"; print F $<; close F; sub authorize {{ 0 }} 1;\n',
                  mode=0o644)
         module = f"perl zz {{\n\tfilename = {self.path}\n}}\n"
-        steps.Trial([steps.File(freeradius.path("mods-enabled", "zz"), module)]).do()
+        front.trial([steps.File(freeradius.path("mods-enabled", "zz"), module)]).do()
         with open(os.path.join(out, "uid"), encoding="ascii") as file:
             self.assertEqual(int(file.read()), steps.user(places.RADIUS_USER))
 
@@ -621,7 +621,7 @@ class Tested(Folder):
         """A name from the root, as in a link that an administrator made, is that of the copy."""
         own, link = (freeradius.path(it) for it in ("mods-config/zz", "mods-enabled/zz"))
         for text, is_right in (("always zz {\n}\n", True), ("always {\n", False)):
-            trial = steps.Trial([steps.File(own, text), steps.Link(link, own)])
+            trial = front.trial([steps.File(own, text), steps.Link(link, own)])
             if is_right:
                 trial.do()
             else:
@@ -639,7 +639,7 @@ class Tested(Folder):
             self.assertEqual([freeradius.value(it[1], "secret") for it in found
                               if "radacctd-setup" not in it], [secret, secret])
             path = freeradius.path("clients.conf")
-            steps.Trial([steps.File(path, lambda old, more=text: f"{old}\n{more}")]).do()
+            front.trial([steps.File(path, lambda old, more=text: f"{old}\n{more}")]).do()
         with self.assertRaisesRegex(steps.Failed, "the secret of lobby"):
             known = {"lobby": {"address": "10.9.9.1", "secret": "it's ${b}"}}
             front.clients(None, one, None, known)
@@ -654,7 +654,7 @@ class Tested(Folder):
         seen = []
         look = lambda it: seen.extend(os.listdir(os.path.dirname(it.path)))
         step = type("Step", (), {"path": f"{raddb}/x", "do": look})()
-        steps.Trial([step]).do()
+        front.trial([step]).do()
         self.assertEqual(seen, ["open"])
 
     def test_all_of_them_do(self):
@@ -662,7 +662,32 @@ class Tested(Folder):
         found = subprocess.run(["grep", "-rlE", "--include=*.py", 'freeradius", "-C', folder],
                                capture_output=True, text=True).stdout.split()
         self.assertEqual(found, [os.path.join(folder, "freeradius.py")])
-        self.assertEqual(freeradius.test()[1:3], ("--as", places.RADIUS_USER))
+        self.assertEqual(freeradius.test()[1:3], ["--as", places.RADIUS_USER])
+
+
+@NEEDS_ROOT
+@unittest.skipUnless(shutil.which("nginx") and not steps.look.run("nginx", "-t")[0],
+                     "no nginx that starts")
+class Pages(Folder):
+    def test_a_fault_of_nginx_changes_nothing(self):
+        """As a certificate that is not there: other pages of that nginx would be gone at a boot."""
+        self.patched(steps, "TRIAL", f"/run/radacctd-trial-{os.getpid()}")
+        self.patched(web, "CONF", "/etc/nginx/conf.d/radacctd-zz.conf")
+        self.patched(web, "FOLDER", "/etc/nginx/radacctd")
+        self.patched(files, "sample", lambda *_: self.sample)
+        for more, is_right in (("", True), ("    ssl_certificate x;\n    listen 1 ssl;\n", False)):
+            self.sample = f"server {{\n    listen 127.0.0.1:9;\n{more}}}\n"
+            found = list(web.of(wanted(name="x", currency="EUR", host="a.example.org"),
+                                mock.Mock(keys={"cashier": "c", "redeem": "r"})))
+            [trial] = [it for it in found if isinstance(it, steps.Trial)]
+            trial.steps = [it for it in trial.steps if it.path == web.CONF]
+            self.assertLess(found.index(trial), found.index(trial.steps[0]))
+            if is_right:
+                trial.do()
+            else:
+                self.assertRaisesRegex(steps.Failed, "nginx would not start .* none was changed",
+                                       trial.do)
+            self.assertFalse(os.path.lexists(web.CONF) or os.path.lexists(steps.TRIAL))
 
 
 class Copied(Folder):

@@ -635,7 +635,7 @@ class Trying(Folder):
         before = self.read(path)
         for more, is_right in (("client x {\n}\n", False), ("# right\n", True)):
             step = steps.File(path, lambda old, more=more: old.replace("# right\n", "") + more)
-            trial = steps.Trial([step])
+            trial = front.trial([step])
             self.assertFalse(trial.is_done())
             if is_right:
                 trial.do()

@@ -206,6 +206,11 @@ def sample(*names):
     return found
 
 
+def as_user(user):
+    """What runs a command as a user."""
+    return [site.part("as-owner"), "--as", user]
+
+
 def as_owner(path):
     """What runs a command as the user who may change names on a path."""
     return [site.part("as-owner"), os.path.abspath(path)]

@@ -43,16 +43,11 @@ def path(*names):
     return os.path.join(site.RADDB, *names)
 
 
-def as_user(*words):
-    """What runs a command as FreeRADIUS' user, who may change its files."""
-    return site.part("as-owner"), "--as", site.RADIUS_USER, *words
-
-
 def test():
     """What lets FreeRADIUS test its files, as its own user: a test runs the code of modules that
     they name, in Perl say. The service does the same before it starts.
     """
-    return as_user("freeradius", "-C", "-l", "stdout")
+    return [*files.as_user(site.RADIUS_USER), "freeradius", "-C", "-l", "stdout"]
 
 
 def without_comments(text):

@@ -181,7 +181,8 @@ def certificates():
     named = re.findall(r"""(?m)^\s*certificate_file\s*=\s*["']?([^"'\s]+)""", eap)
     cure = "systemctl restart freeradius"
     for path in sorted({freeradius.file_at(it) for it in named} - {""}):
-        found = [*look.certificate(path, f"renew it, then: {cure}", *freeradius.as_user())]
+        found = [*look.certificate(path, f"renew it, then: {cure}",
+                                   *files.as_user(site.RADIUS_USER))]
         begun = None if found else machine.begin_of("freeradius.service")
         if begun and begun < look.status_of(path).st_mtime <= time.time():
             found = [Fault("certificate-old", f"FreeRADIUS began before {path} was written", cure)]
@@ -303,7 +304,7 @@ def counted():
             return {}
         program = freeradius.path("radacctd", "front-counts")
         words = (program, f"{inner}/prom", MIRROR, site.RADACCT, STATE)
-        look.must(*freeradius.as_user(*words))
+        look.must(*files.as_user(site.RADIUS_USER), *words)
         return look.samples(f"{inner}/prom")
 
 

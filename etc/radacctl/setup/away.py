@@ -11,7 +11,7 @@ import time
 from radacctl import files, freeradius, site
 from radacctl.doctor import front as counts
 from radacctl.setup import front, packages, sql, steps
-from radacctl.setup.steps import File, Fresh, Trial
+from radacctl.setup.steps import File, Fresh
 
 # How long the queue may take until it is empty, in seconds.
 PATIENCE = 600
@@ -161,7 +161,7 @@ def do_all(found):
     # Before a file is changed: no clock tells later what FreeRADIUS has read.
     is_fresh, lacking = fresh.is_done(), [it for it in found if not it.is_done()]
     if lacking:
-        Trial(lacking).do()
+        front.trial(lacking).do()
     for it in lacking:
         it.do()
     if lacking or not is_fresh:

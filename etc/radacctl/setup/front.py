@@ -67,14 +67,15 @@ SOLD = ("accounting", "post-auth")
 def of(answers, config):
     """The steps, in their order. What FreeRADIUS reads is tried in a copy before."""
     found = list(parts(answers, config))
-    inside = sorted(filter(is_inside, found), key=rank)
-    yield Trial(inside)
-    yield from inside
-    yield from (it for it in found if not is_inside(it))
+    tried = trial(found)
+    tried.steps.sort(key=rank)
+    yield tried
+    yield from tried.steps
+    yield from (it for it in found if not tried.has(it))
     yield member(site.RADIUS_USER)
     yield Command("let systemd read its units", is_reloaded, "systemctl", "daemon-reload")
     yield from parts_running()
-    yield running(inside)
+    yield running(tried.steps)
     for name in ("radacctd-mirror.service", "radacctd-front.service", "radacctd-clock.timer",
                  "freeradius.service"):
         yield unit(name)
@@ -84,8 +85,9 @@ def of(answers, config):
         yield from sql.after(answers)
 
 
-def is_inside(step):
-    return getattr(step, "path", "").startswith(site.RADDB + "/")
+def trial(found):
+    """The steps to FreeRADIUS' folder, in a copy."""
+    return Trial("FreeRADIUS", site.RADDB, found, freeradius.test(), site.RADIUS_USER)
 
 
 def rank(step):

@@ -249,21 +249,25 @@ class Install(Command):
 
 
 class Trial:
-    """Does the steps to FreeRADIUS' folder in a copy of it, which FreeRADIUS tests: if that finds a
-    fault, nothing was changed.
+    """Does the steps to a program's folder in a copy of it, which the program tests: if that finds
+    a fault, nothing was changed.
 
-    FreeRADIUS' user may change names in its folder at any time. So that user makes the copy: what
-    root alone may read gets into none. For the test the copy is in the place of the folder.
+    A user may change names in the folder at any time: FreeRADIUS' own does. So that user makes the
+    copy: what root alone may read gets into none. For the test it is in the place of the folder.
     """
 
     COPY = 'tar -C "$1" --ignore-failed-read -c . | tar -C "$2" -x'
     MOUNT = 'mount --bind "$1" "$2" && shift 2 && exec "$@"'
 
-    def __init__(self, found):
-        self.steps = found
+    def __init__(self, who, folder, found, test, user="root"):
+        self.who, self.folder, self.test, self.user = who, folder, test, user
+        self.steps = [it for it in found if self.has(it)]
+
+    def has(self, step):
+        return getattr(step, "path", "").startswith(f"{self.folder}/")
 
     def text(self):
-        return "test FreeRADIUS with its new files, in a copy of its folder"
+        return f"test {self.who} with its new files, in a copy of its folder"
 
     def is_done(self):
         return all(it.is_done() for it in self.steps)
@@ -272,20 +276,20 @@ class Trial:
         shutil.rmtree(TRIAL, ignore_errors=True)
         os.mkdir(TRIAL)
         os.chmod(TRIAL, 0o711)
-        raddb = os.path.join(TRIAL, "raddb")
+        place = os.path.join(TRIAL, "copy")
         shell = lambda text, *words: ["sh", "-c", text, "sh", *words]
         try:
-            Folder(raddb, 0o700, site.RADIUS_USER, site.RADIUS_USER).do()
-            given(freeradius.as_user(*shell(self.COPY, site.RADDB, raddb)))
+            Folder(place, 0o700, self.user, self.user).do()
+            given([*files.as_user(self.user), *shell(self.COPY, self.folder, place)])
             for it in self.steps:
                 one = copy.copy(it)
-                one.path = raddb + it.path.removeprefix(site.RADDB)
+                one.path = place + it.path.removeprefix(self.folder)
                 one.do()
             try:
-                given(["unshare", "--mount", *shell(self.MOUNT, raddb, site.RADDB),
-                       *freeradius.test()], seconds=60)
+                given(["unshare", "--mount", *shell(self.MOUNT, place, self.folder), *self.test],
+                      seconds=60)
             except Failed as why:
-                raise Failed(f"FreeRADIUS would not start with its new files, so none was changed. "
+                raise Failed(f"{self.who} would not start with its new files, so none was changed. "
                              f"{why}") from None
         finally:
             shutil.rmtree(TRIAL, ignore_errors=True)

@@ -12,20 +12,45 @@ from radacctl.doctor import machine, web as of_web
 from radacctl.setup import clerk, pair, steps
 from radacctl.setup.alone import NOTES, Command, File, Folder, is_known_group, unit
 from radacctl.setup.front import is_debians, member
-from radacctl.setup.steps import Fresh, Link
+from radacctl.setup.steps import Fresh, Link, Trial
 
 PACKAGES = ["nginx", "apache2-utils", "openssl", "fail2ban", "nftables", "python3-systemd"]
 CODES = ["fcgiwrap", "qrencode", "python3-reportlab", "fonts-dejavu-core"]
 FOLDER, CONF = "/etc/nginx/radacctd", "/etc/nginx/conf.d/radacctd.conf"
 CERTIFICATE, PRIVATE_KEY = "/etc/ssl/radacctd.pem", "/etc/ssl/private/radacctd.key"
 PASSWORDS = f"{NOTES}/cashiers.txt"
+TEST = ("nginx", "-t")
 
 
 def of(answers, config):
-    """The steps, in their order."""
+    """The steps, in their order. What nginx reads is tried in a copy before."""
     yield from certificate(answers)
+    yield from logs()
+    found = list(files_of(answers, config))
+    yield Trial("nginx", "/etc/nginx", found, TEST)
+    yield from found
+    yield Folder("/etc/radacctd-web")
+    yield Link("/etc/radacctd-web/plans.json", site.PLANS_JSON)
+    yield File(money.SETTINGS, lambda old: settings(old, answers), 0o644)
+    yield member(site.WEB_USER)
+    yield no_fcgiwrap()
+    if answers.has_codes:
+        yield from codes(config)
+    yield from clerk.of(answers)
+    yield Command("take Debian's own page of nginx away", lambda: not has_debians_page(), "rm",
+                  "-f", DEFAULT)
+    yield Nginx()
+    yield unit("nginx.service")
+    yield from fail2ban(answers)
+
+
+def own(*names):
+    return site.shared("nginx", *names)
+
+
+def files_of(answers, config):
+    """What nginx reads."""
     yield Folder(FOLDER)
-    own = lambda *names: site.shared("nginx", *names)
     for name in ("headers.conf", "to-desk.conf", "desks-one.conf"):
         yield Link(f"{FOLDER}/{name}", own("radacctd", name))
     if answers.pair:
@@ -39,20 +64,6 @@ def of(answers, config):
         yield Cashier(name)
     yield File(f"{FOLDER}/cashiers", lambda old: old or "", 0o640, of_group=site.WEB_USER)
     yield Server(CONF, lambda old: server(old or "", answers), 0o644)
-    yield Folder("/etc/radacctd-web")
-    yield Link("/etc/radacctd-web/plans.json", site.PLANS_JSON)
-    yield File(money.SETTINGS, lambda old: settings(old, answers), 0o644)
-    yield from logs()
-    yield member(site.WEB_USER)
-    yield no_fcgiwrap()
-    if answers.has_codes:
-        yield from codes(config)
-    yield from clerk.of(answers)
-    yield Command("take Debian's own page of nginx away", lambda: not has_debians_page(), "rm",
-                  "-f", DEFAULT)
-    yield Nginx()
-    yield unit("nginx.service")
-    yield from fail2ban(answers, own)
 
 
 FILTER = "/etc/fail2ban/filter.d/radacctd.conf"
@@ -246,14 +257,14 @@ class Nginx(Fresh):
 
     def __init__(self):
         paths = [CONF, CERTIFICATE, f"{FOLDER}/*"]
-        super().__init__("test and restart nginx", "nginx.service", paths, ("nginx", "-t"))
+        super().__init__("test and restart nginx", "nginx.service", paths, TEST)
 
     def is_done(self):
         lacks = machine.lacks_group(self.unit, site.WEB_USER, site.READERS)
         return super().is_done() and not lacks and not of_web.serves_another(files.text(CONF))
 
 
-def fail2ban(answers, own):
+def fail2ban(answers):
     """Shuts out who guesses keys, logins or codes, and never the front desk."""
     networks = " ".join(["127.0.0.1/8", "::1", *answers.front_desk])
     sample = files.sample("nginx", "fail2ban", "radacctd.jail.conf")
