@@ -32,7 +32,7 @@ MARK = "# radacctl setup:"
 QUOTED = r"""(?<!\w)(?:"(?:[^"\\\n]|\\.)*"|'(?:[^'\\\n]|\\.)*')"""
 COMMENT = r"(?<!\S)#[^\n]*"
 # A block, and one in it. A text may have a brace: a secret, say.
-BLOCK = rf"\{{((?:{QUOTED}|[^{{}}]|\{{[^{{}}]*\}})*+)\}}"
+BLOCK = rf"""\{{((?:[^{{}}"']|{QUOTED}|(?!{QUOTED})["']|\{{[^{{}}]*\}})*)\}}"""
 CLIENT = re.compile(rf"(?m)^\s*client\s+(\S+)\s*{BLOCK}")
 LISTEN = re.compile(rf"(?m)^\s*listen\s*{BLOCK}")
 HOME_SERVER = re.compile(rf"(?m)^\s*home_server\s+(\S+)\s*{BLOCK}")
