@@ -3,6 +3,8 @@
 import csv
 import datetime
 import gzip
+import heapq
+import itertools
 import os
 import re
 import time
@@ -100,31 +102,23 @@ def key_of_voucher(row):
     return row["voucher"].encode()
 
 
-def ordered(rows, key_of):
-    """The rows with their keys, which an export has in order."""
+def ordered(rows, key_of, at):
+    """The rows, which an export has in order, with their keys and the number of the export."""
     last = None
     for row in rows:
         key = key_of(row)
         if last is not None and key <= last:
             raise Broken(f"an export is not in order at {row}")
         last = key
-        yield key, row
+        yield key, at, row
 
 
 def paired(old, new, key_of):
     """Each row of either export with the one of the same key in the other, or None."""
-    old, new = ordered(old, key_of), ordered(new, key_of)
-    left, right = next(old, None), next(new, None)
-    while left or right:
-        if right is None or (left and left[0] < right[0]):
-            yield left[1], None
-            left = next(old, None)
-        elif left is None or right[0] < left[0]:
-            yield None, right[1]
-            right = next(new, None)
-        else:
-            yield left[1], right[1]
-            left, right = next(old, None), next(new, None)
+    both = heapq.merge(ordered(old, key_of, 0), ordered(new, key_of, 1), key=lambda it: it[0])
+    for _, found in itertools.groupby(both, lambda it: it[0]):
+        rows = {at: row for _, at, row in found}
+        yield rows.get(0), rows.get(1)
 
 
 def snapshots_of(folder):

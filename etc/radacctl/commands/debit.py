@@ -37,10 +37,10 @@ command line, and with 3 if there was no answer: then give the same debit, or fi
 
 import os
 import re
-import shlex
 import time
 
 from radacctl import debits, desk, money, names, program, site, stock
+from radacctl.doctor import look
 from radacctl.names import shown
 
 FILE_HEADER = ["account", "sum", "number"]
@@ -92,18 +92,13 @@ def server_of(path):
     """The address and the port of the server, as the file says that its unit reads. Of a pair it is
     FreeRADIUS that takes debits, for both books.
     """
-    values = {}
     if os.path.exists(debits.PAIR):
         return HERE_AND_1813
     try:
-        with open(path, encoding="utf-8") as file:
-            for line in file:
-                name, mark, value = line.strip().partition("=")
-                if mark and not name.startswith("#"):
-                    values[name.strip()] = " ".join(shlex.split(value))
-    except (OSError, ValueError) as fault:
-        if not isinstance(fault, FileNotFoundError):
-            program.say(f"cannot read {path}, so the port is 1813: {fault}")
+        values = look.values_in(path)
+    except OSError as fault:
+        values = {}
+        program.say(f"so the port is 1813: cannot read {fault}")
     binds = re.findall(r"--bind[ =](\S+)", values.get("RADACCTD_BIND", ""))
     is_here = not binds or {"127.0.0.1", "0.0.0.0"} & set(binds)
     host, port = HERE_AND_1813[0] if is_here else binds[0], values.get("RADACCTD_RADIUS_PORT", "")
