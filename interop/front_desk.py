@@ -81,8 +81,7 @@ def killed(browser, proxy, server, start):
     browser.open()
     open_desk(browser, proxy)
     check("a browser that was killed has it still", browser.shows(number, "#pending"), True)
-    browser.close()
-    browser.open()
+    closed(browser, proxy)
     open_desk(browser, proxy)
     check("so has one that was closed", browser.shows(number, "#pending"), True)
     letters(browser)
@@ -94,6 +93,19 @@ def killed(browser, proxy, server, start):
     sent = [it for it in proxy.log("radacctd-sales.log") if number in it["sale"]]
     check("it was sent more than once", len(sent) > 1, True)
     check("and taken once", [it["status"] for it in sent if it["status"] < 300], [201])
+
+
+def closed(browser, proxy):
+    """A browser keeps a login that was typed, as here in an address, until it is closed."""
+    browser.close()
+    browser.open()
+    browser.go(proxy.url("/desk/").replace("//", "//anna:anna-has-a-pass@"))
+    for wanted in (True, False):
+        browser.go(proxy.url("/desk/"))
+        found = browser.js("return Boolean(document.getElementById('desk'))")
+        check(f"the page is shown without another login: {wanted}", found, wanted)
+        browser.close()
+        browser.open()
 
 
 def down(browser, proxy):

@@ -125,7 +125,7 @@ def records_in(path, columns, one, marks=","):
     try:
         with open(path, encoding="utf-8-sig", errors="surrogateescape", newline="") as file:
             text = file.read()
-        mark = next((it for it in marks if it in text.split("\n")[0]), ",")
+        mark = next((it for it in marks if it in text.partition("\n")[0]), ",")
         header, *rows = [it for it in csv.reader(io.StringIO(text, newline=""), delimiter=mark)
                          if it] or [[]]
     except (OSError, csv.Error) as why:
