@@ -7,6 +7,7 @@ import json
 import os
 import time
 
+import service
 import shifts
 import web_pages
 from browser import Browser
@@ -378,6 +379,7 @@ def corrects(browser, desk):
     browser.js("const it = document.getElementById('took'); it.click(); it.click()")
     check("it waits for an answer", browser.shows("is being taken back", "#sales"), True)
     check("and counts until then", totals(browser)[0][4], "5.00 EUR")
+    check("it was asked for", service.until(lambda: desk.numbers("back")), True)
     desk.answers["back"] = [(200, {"result": "new"})]
     # The stand-in's page has no timers.
     browser.js("return sendAgain()")

@@ -4,12 +4,10 @@ and what the doctor found.
 What devices and guests named is handed on as it is: a page shows it as text.
 """
 
-import csv
-import io
 import re
 import time
 
-from radacctl import debits as books, files, freeradius, lapses, logins, names, sales_log, stock
+from radacctl import debits as books, freeradius, lapses, logins, names, sales_log, stock
 from radacctl.clerk import journal
 from radacctl.commands import packages as sold
 from radacctl.doctor import look
@@ -100,10 +98,8 @@ def corrections(begin, end):
 
 def debits(path=None):
     """The rows of the journal of debits, which is read without its lock: a line is whole or not."""
-    text = files.text(path or books.FILE)
-    rows = csv.reader(io.StringIO(text[: text.rfind("\n") + 1], newline=""))
-    found = [[names.text_of_cell(it) for it in row] for row in rows if len(row) == 5]
-    return [it for it in found if it[0].isdigit()]
+    rows = stock.rows_in(path or books.FILE, books.HEADER, 5)
+    return [[names.text_of_cell(it) for it in row] for row in rows if row[0].isdigit()]
 
 
 def codes():

@@ -49,9 +49,9 @@ def answer_to(who, asked, now, later):
     right, limit = rights.NEEDS[asked["act"]]
     if who not in found[right]:
         raise Refused(403, "not allowed")
-    if limit is None:
-        return listed(asked, now)
     try:
+        if limit is None:
+            return listed(asked, now)
         with guest.locked(TURN), contextlib.closing(journal.Journal()) as notes:
             return Act(who, asked, now, notes, found[limit], later).do()
     except (desks.WrongKey, guest.NotMade, logins.Fault, stock.Fault, site.Missing, OSError) as why:
@@ -70,11 +70,7 @@ def listed(asked, now):
         "sales": lambda: {"sales": lists.sales(asked["begin"], asked["end"]),
                           "corrections": lists.corrections(asked["begin"], asked["end"])},
     }
-    try:
-        return acts[asked["act"]]()
-    except (logins.Fault, stock.Fault, site.Missing, OSError) as why:
-        program.say(why)
-        raise Refused(503, "away") from None
+    return acts[asked["act"]]()
 
 
 def found_guests(text):
