@@ -1,0 +1,184 @@
+"""What operators see and end at their page: sessions, sales, corrections, codes, the doctor."""
+
+import gzip
+import json
+import os
+import unittest
+from unittest import mock
+
+from radacctl import logins
+from radacctl.clerk import lists, work
+from radacctl.commands import report, sell
+from tool_tests.test_clerk import NOW, RIGHTS, SALE, Desk
+
+
+class Operators(Desk):
+    """What the operator's page lists, and ends."""
+
+    SERVERS = """client lobby {
+\tipaddr = 10.0.0.1
+\tsecret = a
+}
+home_server lobby {
+\ttype = coa
+\tipaddr = 10.0.0.1
+\tport = 3799
+\tsecret = a
+}
+"""
+
+    def begin(self):
+        super().begin()
+        self.site.write("clerk.toml", RIGHTS + 'operators = ["anna"]\n')
+        os.makedirs(self.site.path("radacctd"), exist_ok=True)
+        self.site.write("radacctd/access-servers.conf", self.SERVERS)
+        for where, name, new in ((lists.sales_log, "FILE", self.site.path("sales.log")),
+                                 (lists.books, "FILE", self.site.path("debits.csv")),
+                                 (lists.stock, "SECOND", self.site.path("vouchers.csv"))):
+            patched = mock.patch.object(where, name, new)
+            patched.start()
+            self.addCleanup(patched.stop)
+
+    def on(self, account, source="10.0.0.1", session="S-1", heard=NOW, ended=0):
+        self.site.uses().run(("INSERT INTO use VALUES (?, ?, ?, ?, ?, ?)", (
+            account, "AA-BB", source, session.encode().hex(), heard, ended)))
+
+    def asked(self, **more):
+        status, body = self.ask("anna", more)
+        self.assertEqual(status, 200, body)
+        return body
+
+    def test_who_is_no_operator_sees_nothing(self):
+        for asked in ({"act": "on"}, {"act": "codes"}, {"act": "doctor"}, {"act": "look"},
+                      {"act": "sales", "begin": "2026-01-01", "end": "2026-12-31"},
+                      {"act": "cut", "account": "a", "source": "10.0.0.1", "session": "61"}):
+            self.assertEqual(self.ask("jörg", asked), (403, {"error": "not allowed"}))
+
+    def test_what_the_doctor_found(self):
+        ran = {"InvocationID": "a" * 32, "ActiveState": "active",
+               "ExecMainStartTimestampMonotonic": "1000000",
+               "ExecMainExitTimestampMonotonic": "2000000"}
+        line = "warning copy-old: there is no copy. Do: systemctl start radacctd-nightly"
+        said = f"{line}\n\nradacctl doctor: could not look at the pair: x\n"
+        told = mock.Mock(return_value=said)
+        for more, wanted in (({}, False), ({"ActiveState": "activating"}, True),
+                             ({"ExecMainExitTimestampMonotonic": "0"}, False)):
+            with (mock.patch.object(lists.look, "properties", lambda *_: {**ran, **more}),
+                  mock.patch.object(lists.look, "must", told),
+                  mock.patch.object(lists.look, "run", lambda *_: (0, ""))):
+                found = self.asked(act="doctor")
+            self.assertEqual((found["looks"], found["moment"] is None), (wanted, bool(more)))
+            self.assertEqual([it["name"] for it in found["lines"]], [] if more else ["copy-old", ""])
+        told.reset_mock()
+        for state, count in (("activating", 0), ("active", 1), ("inactive", 2), ("failed", 3)):
+            with (mock.patch.object(lists.look, "properties", lambda *_: {"ActiveState": state}),
+                  mock.patch.object(lists.look, "must", told)):
+                self.assertEqual(self.asked(act="look"), {"result": "new"})
+            self.assertEqual(told.call_count, count)
+        told.assert_called_with("systemctl", "restart", "--no-block", "radacctd-doctor.service")
+        unseen = mock.Mock(side_effect=lists.look.Unseen("no systemd"))
+        with mock.patch.object(lists.look, "properties", unseen):
+            self.assertEqual(self.ask("anna", {"act": "doctor"}), (503, {"error": "away"}))
+
+    def test_who_is_on(self):
+        account = self.guest()[1]["card"]["account"].encode()
+        self.on(account)
+        self.on(b"t-1", source="10.0.0.9", session="<b>")
+        self.on(b"old", heard=NOW - 5000)
+        self.on(b"over", ended=1)
+        found = self.asked(act="on")["sessions"]
+        rows = {(it["account"], it["name"], it["server"], it["cut"]) for it in found}
+        self.assertEqual(rows, {(account.decode(), "Anna Müller", "lobby", True),
+                                ("t-1", "", "10.0.0.9", False)})
+
+    def test_a_session_is_ended_once_for_each_request_that_holds(self):
+        self.on(b"al")
+        self.on(b"bo", source="10.0.0.9")
+        asked = {"act": "cut", "account": "al", "source": "10.0.0.1", "session": "532d31"}
+        told = mock.Mock(return_value=True)
+        with mock.patch.object(work.lapses, "tell", told):
+            self.assertEqual(self.ask("anna", asked), (200, {"result": "new"}))
+            for more, wanted in (({"session": "532d32"}, (404, {"error": "no such session"})),
+                                 ({"account": "eve"}, (404, {"error": "no such session"})),
+                                 ({"account": "bo", "source": "10.0.0.9"},
+                                  (409, {"error": "no cut"}))):
+                self.assertEqual(self.ask("anna", {**asked, **more}), wanted)
+            told.assert_called_once_with("10.0.0.1", "3799", "a", "S-1")
+            told.return_value = False
+            self.assertEqual(self.ask("anna", asked), (409, {"error": "not ended"}))
+        self.assertEqual([it[1:] for it in self.journal()],
+                         [("cut", "begun"), ("cut", "done"), ("cut", "begun"), ("cut", "refused")])
+
+    def test_sales_by_day_and_desk(self):
+        line = lambda day, status, sale, who="anna": json.dumps(
+            {"time": f"{day}T12:00:00+00:00", "status": status, "cashier": who, "sale": sale})
+        sale = lambda number, total, **more: json.dumps(
+            {"account": "al", "sum": total, "voucher": number, **more})
+        rows = [line("2026-11-27", 503, sale("D1-1", 5)), line("2026-11-28", 201, sale("D1-1", 5)),
+                line("2026-11-29", 200, sale("D1-1", 5)), line("2026-11-28", 201, sale("D1-2", 7)),
+                line("2026-11-28", 201, sale("D2-1", 500, paid=900, package="week"), "=bert"),
+                line("2026-11-28", 409, sale("D1-3", 9)), line("2026-10-01", 201, sale("D1-0", 1)),
+                "{", line("2026-11-28", 201, "{"), line("2026-11-28", 201, sale("D1-9", "x"))]
+        self.site.write("sales.log", "\n".join(rows) + "\n")
+        found = self.asked(act="sales", begin="2026-11-01", end="2026-11-30")["sales"]
+        self.assertEqual([tuple(it.values()) for it in found], [
+            ("2026-11-28", "D2", "=bert", 1, 500, 900), ("2026-11-28", "D1", "anna", 2, 12, 12)])
+
+    def test_no_line_of_the_log_hides_the_others(self):
+        """A cashier may send anything as a sale, and a part of the log may be damaged."""
+        line = lambda sale, status=201, who="anna": json.dumps(
+            {"time": "2026-11-28T12:00:00+00:00", "status": status, "cashier": who, "sale": sale})
+        sale = lambda number, **more: json.dumps(
+            {"account": "al", "sum": 5, "voucher": number, **more})
+        rows = [line("[" * 4000), line("[" * 4000, 503), line(sale("D1-1", paid=-10**6)),
+                line(sale("D1-2", paid=10**13)), line(sale("D1-3", paid="9")), line(sale(["D1-4"])),
+                line(sale("D2-1", paid=0), who=r"CN=J\C3\B6rg"),
+                line(sale("D2-2"), who="J\udcf6rg"), line(sale("D1-5", sum=10**13))]
+        text = "\n".join(rows).replace("\\udcf6", "\udcf6") + "\n"
+        packed = bytearray(gzip.compress(line(sale("D1-6")).encode()))
+        packed[10] ^= 0xFF
+        for name, octets in (("sales.log", text.encode("utf-8", "surrogateescape")),
+                             ("sales.log.2.gz", packed)):
+            with open(self.site.path(name), "wb") as file:
+                file.write(octets)
+        found = self.asked(act="sales", begin="2026-11-01", end="2026-11-30")["sales"]
+        self.assertEqual([tuple(it.values()) for it in found], [
+            ("2026-11-28", "D2", "J%F6rg", 1, 5, 5), ("2026-11-28", "D2", "CN=Jörg", 1, 5, 0),
+            ("2026-11-28", "D1", "anna", 3, 15, 15)])
+        with mock.patch.object(lists.sales_log.program, "say"):
+            self.assertEqual(len(report.cashiers_of(self.site.path("sales.log"))), 5)
+        os.remove(self.site.path("sales.log.2.gz"))
+        words = sell.parser().parse_args(["--logged", "--sales", self.site.path("sales.log")])
+        self.assertEqual(len(sell.logged(words)[0]), 5)
+
+    def test_a_guests_sale_is_one_once_the_desk_took_it(self):
+        day = lists.day_of(NOW)
+        for answers, wanted in ((["go", "lost", "away", "away"], []),
+                                ([], [(day, "D1", "anna", 1, 500, 900)])):
+            self.site.answers = answers
+            self.guest()
+            found = self.asked(act="sales", begin=day, end=day)["sales"]
+            self.assertEqual([tuple(it.values()) for it in found], wanted)
+
+    def test_what_was_taken_back(self):
+        self.site.numbers[SALE["voucher"]] = self.site.money[SALE["voucher"]] = (b"room 12", 500)
+        self.ask("anna", SALE)
+        self.site.write("debits.csv", "moment,event,number,account,sum\n"
+                        f"{NOW},given,{SALE['voucher']},room 12,500\n{NOW},given,VOID-1,al,70\n"
+                        f"{NOW},answered,VOID-1,al,70\n{NOW},given,LAPSE-1,al,5\n{NOW},given,CUT")
+        day = lists.day_of(NOW)
+        found = self.asked(act="sales", begin=day, end=day)["corrections"]
+        self.assertEqual({(it["cashier"], it["number"], it["account"], it["sum"]) for it in found},
+                         {("anna", SALE["voucher"], "room 12", "500"), ("", "VOID-1", "al", "70")})
+
+    def test_withdrawn_codes(self):
+        logins.log_ended([b"t-0123456789ab"], logins.WITHDRAWN, NOW)
+        logins.log_ended([b"t-0123456789ac"], logins.ENDED, NOW)
+        self.site.write("vouchers.csv", "moment,code,sheet\n1,A,one\n3,B,one\n2,C,two\n")
+        found = self.asked(act="codes")["codes"]
+        self.assertEqual([tuple(it.values()) for it in found], [
+            (NOW, "t-0123456789ab", "", 1), (3, "", "one", 2), (2, "", "two", 1)])
+
+
+if __name__ == "__main__":
+    unittest.main()
