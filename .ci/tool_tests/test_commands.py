@@ -109,6 +109,16 @@ class Debits(unittest.TestCase):
                 books.journal.close()
 
 
+    def test_a_journal_that_another_run_has_is_not_waited_for_for_ever(self):
+        """Else a file of many debits would hold up cashiers, who make and check out guests."""
+        with tempfile.TemporaryDirectory() as folder, mock.patch.object(stock, "PATIENCE", 0.1):
+            path = os.path.join(folder, "debits.csv")
+            journal = debits.Journal(path)
+            self.assertRaises(stock.Fault, debits.Journal, path)
+            journal.close()
+            debits.Journal(path).close()
+
+
 class Vouchers(unittest.TestCase):
     def read(self, rows, known=frozenset()):
         return sell.read(("voucher,account,sum\n" + rows).encode(), known)

@@ -6,7 +6,6 @@ takes nothing more.
 
 import contextlib
 import csv
-import fcntl
 import hashlib
 import hmac
 import io
@@ -113,7 +112,7 @@ class Journal(stock.Log):
     def __init__(self, path):
         files.make_folder(os.path.dirname(os.path.abspath(path)))
         super().__init__(path, HEADER)
-        fcntl.flock(self.handle, fcntl.LOCK_EX)
+        self.lock()
         text = self.text()
         # It was cut as it was written, before its debit was sent.
         if cut := os.pread(self.handle, 4096, len(text)):

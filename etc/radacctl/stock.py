@@ -195,12 +195,14 @@ class Log:
 
     def add(self, octets):
         """Adds whole lines; they are on the disk, or the file is as it was and this is a fault."""
-        lock = lambda: fcntl.flock(self.handle, fcntl.LOCK_EX | fcntl.LOCK_NB)
-        wait_for(lock, self.path, PATIENCE)
+        self.lock()
         try:
             self.add_alone(octets)
         finally:
             fcntl.flock(self.handle, fcntl.LOCK_UN)
+
+    def lock(self):
+        wait_for(lambda: fcntl.flock(self.handle, fcntl.LOCK_EX | fcntl.LOCK_NB), self.path, PATIENCE)
 
     def add_alone(self, octets):
         whole = self.end()
