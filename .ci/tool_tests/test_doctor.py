@@ -616,6 +616,28 @@ class Unseen(unittest.TestCase):
         self.assertEqual((fault.text[:20 + len(path)], fault.cure),
                          (f"others may read {path}: it", f"chmod o= {path}"))
 
+    def test_no_link_of_freeradius_user_leads_a_cure_away(self):
+        """As to a file of the system that everybody is to read: root types chmod."""
+        with tempfile.TemporaryDirectory() as folder:
+            raddb, other = (os.path.join(os.path.realpath(folder), it) for it in ("raddb", "passwd"))
+            os.makedirs(os.path.join(raddb, "mods-enabled"))
+            link = os.path.join(raddb, "mods-enabled", "sql")
+            with unittest.mock.patch.object(places, "RADDB", raddb):
+                for target, count in ((other, 0), (os.path.join(raddb, "sql"), 1)):
+                    files.make(target, b"", 0o644)
+                    files.remove(link)
+                    os.symlink(target, link)
+                    self.assertEqual(len(list(fronts.samples())), count, target)
+
+    def test_the_disk_of_the_copies_is_looked_at_wherever_it_is(self):
+        seen = []
+        named, status = {"RADACCTD_BACKUPS": "/mnt/b"}, lambda it: unittest.mock.Mock(st_dev=it)
+        with unittest.mock.patch.object(look, "values_in", lambda _: named), \
+                unittest.mock.patch.object(look, "status_of", status), \
+                unittest.mock.patch.object(machine, "disk", lambda it: seen.append(it) or ()):
+            list(machine.disks(unittest.mock.Mock(has_front=False)))
+        self.assertEqual(seen, ["/var/lib/radacctd", "/etc", "/mnt/b", "/var/log"])
+
     def test_counts_that_are_missing(self):
         """Without them nobody knows how old the balances are."""
         for state, wanted in (("active", ["balances-old"]), ("inactive", [])):

@@ -133,9 +133,18 @@ def settings(kind):
                     "write one into both, and restart freeradius")
 
 
+def open_to_others(*names):
+    """The fault of a file that others may read; of none to which a link leads out of the folder, as
+    its user may lay one: root types the cure.
+    """
+    path = os.path.realpath(freeradius.path(*names))
+    if path.startswith(os.path.realpath(site.RADDB) + "/"):
+        yield from look.open_to_others(path)
+
+
 def samples():
     """Secrets of the samples, short ones, and files that others may read."""
-    yield from look.open_to_others(freeradius.path("mods-enabled", "sql"))
+    yield from open_to_others("mods-enabled", "sql")
     for name in ("settings.conf", "access-servers.conf", "pair.conf"):
         path = freeradius.path("radacctd", name)
         if not os.path.exists(path):
@@ -143,7 +152,7 @@ def samples():
         if "change-me" in freeradius.text("radacctd", name):
             yield Fault("sample-value", f"{path} has a secret that begins with change-me",
                         "replace it: openssl rand -hex 16")
-        yield from look.open_to_others(path)
+        yield from open_to_others("radacctd", name)
     seen = {}
     for name, block in freeradius.blocks(freeradius.CLIENT, "radacctd", "access-servers.conf"):
         # All of RadSec have one secret: who may speak is known by a certificate.

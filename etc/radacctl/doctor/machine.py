@@ -6,8 +6,8 @@ import re
 import time
 
 from radacctl import site
+from radacctl.doctor import copies, look
 from radacctl.doctor.faults import Fault
-from radacctl.doctor import look
 
 # Free space that a disk is to have at least: a part, or so many octets of a large one.
 LEAST_PART, LEAST_OCTETS = 0.05, 1 << 30
@@ -140,7 +140,7 @@ def to_come(what, moment):
 
 
 def disks(kind):
-    places = [site.STATE, "/etc", site.BACKUPS, "/var/log"]
+    places = [site.STATE, "/etc", copies.place()[0], "/var/log"]
     if kind.has_front:
         places += [site.RADACCT, "/run"]
     seen = set()

@@ -5,7 +5,7 @@ import shlex
 import time
 
 from radacctl import files, freeradius, logins, names, packages, plans, site
-from radacctl.doctor import copies, look
+from radacctl.doctor import copies, front
 from radacctl.doctor.faults import Fault
 from radacctl.setup import packages as wanted
 from radacctl.setup.steps import Failed
@@ -30,7 +30,7 @@ def look_at(kind):
 
 def lines():
     """What the set-up writes into FreeRADIUS' files, and who may read the key of codes."""
-    yield from look.open_to_others(freeradius.path("radacctd", logins.CONF))
+    yield from front.open_to_others("radacctd", logins.CONF)
     for place, own in wanted.OURS.items():
         if files.text(freeradius.path(place)) != files.sample("packages", own):
             yield Fault("packages-steps", f"{freeradius.path(place)} is not that of this version",

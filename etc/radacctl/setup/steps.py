@@ -54,7 +54,8 @@ class Folder:
         self.path, self.mode, self.owner, self.group = path, mode, owner, of_group
 
     def text(self):
-        return f"make the folder {self.path}"
+        is_there = os.path.isdir(self.path)
+        return f"give {self.path} its owner and mode" if is_there else f"make {self.path}"
 
     def is_done(self):
         try:
