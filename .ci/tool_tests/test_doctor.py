@@ -572,18 +572,20 @@ class Unseen(unittest.TestCase):
                 self.unseen(pages.certificates, "ssl_certificate /etc/x.pem;", status=status)
 
     def test_the_certificate_of_logins_is_looked_at_wherever_it_is(self):
-        """By a name of a folder and in marks, too, and on a machine without pages."""
+        """By a name of a folder and in marks, too, of RadSec, and on a machine without pages."""
         with tempfile.TemporaryDirectory() as folder:
-            os.mkdir(os.path.join(folder, "mods-enabled"))
             for name, text in (("radiusd.conf", "confdir = /x\ncertdir = ${confdir}/certs\n"),
-                               ("mods-enabled/eap", '\tcertificate_file = "${certdir}/a.pem"\n')):
+                               ("mods-enabled/eap", '\tcertificate_file = "${certdir}/a.pem"\n'),
+                               ("sites-enabled/tls", "\tcertificate_file = /x/b.pem\n")):
+                os.makedirs(os.path.dirname(os.path.join(folder, name)), exist_ok=True)
                 with open(os.path.join(folder, name), "w", encoding="utf-8") as file:
                     file.write(text)
             with unittest.mock.patch.object(places, "RADDB", folder):
-                [fault] = fronts.certificates()
-        self.assertEqual(fault.name, "certificate-ended")
-        self.assertEqual(fault.text, "/x/certs/a.pem is missing")
-        self.assertIn("restart freeradius", fault.cure)
+                found = list(fronts.certificates())
+        self.assertEqual([(it.name, it.text) for it in found], [
+            ("certificate-ended", "/x/b.pem is missing"),
+            ("certificate-ended", "/x/certs/a.pem is missing")])
+        self.assertIn("restart freeradius", found[0].cure)
 
     def test_what_freeradius_user_names_is_read_by_that_user(self):
         """Root would open it, be it a device."""

@@ -185,9 +185,10 @@ def cut_off():
 
 
 def certificates():
-    """The certificate of PEAP, TTLS and TLS: without it nobody logs in by these."""
-    eap = freeradius.text("mods-enabled", "eap")
-    named = re.findall(r"""(?m)^\s*certificate_file\s*=\s*["']?([^"'\s]+)""", eap)
+    """The certificate of PEAP, TTLS, TLS and RadSec: without it nobody logs in by these."""
+    places = ["mods-enabled/eap", *(f"sites-enabled/{it}" for it in freeradius.enabled())]
+    text = "\n".join(map(freeradius.text, places))
+    named = re.findall(r"""(?m)^\s*certificate_file\s*=\s*["']?([^"'\s]+)""", text)
     cure = "systemctl restart freeradius"
     for path in sorted({freeradius.file_at(it) for it in named} - {""}):
         found = [*look.certificate(path, f"renew it, then: {cure}",
