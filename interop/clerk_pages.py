@@ -5,6 +5,7 @@ import os
 import re
 import time
 
+import cards
 import front_desk
 from browser import Browser
 from clerk_site import Site
@@ -51,7 +52,13 @@ def makes(browser, site):
         "SELECT account, password FROM login WHERE digest IS NULL")]
     wanted = ("Zoë <b>Müller</b>", account, password, "Hotel", "9.00 EUR", "7 days")
     check("the card has it", [it for it in wanted if it not in receipt], [])
-    check("and both QR codes", browser.js("return document.querySelectorAll('#codes svg').length"), 2)
+    picture = os.path.join(site.folder, "card.png")
+    browser.size(1000, browser.height())
+    browser.picture(picture)
+    browser.size(1000, 800)
+    found = cards.codes_in(picture)
+    check("a phone reads both QR codes", [(f"P:{password};;" in it, "/#k=" in it) for it in found],
+          [(True, False), (False, True)])
     printed = browser.pdf_text(site.folder)
     check("it is printed", (account in printed, password in printed, "Overdrawn" in printed),
           (True, True, False))

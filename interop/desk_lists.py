@@ -240,7 +240,7 @@ def guest(browser, desk):
 CARD = {"account": "muller-1128-acde", "password": "aacde-ffhjk", "house": "H", "wifi": "Hotel",
         "title": "5 GB, 7 days", "price": 900, "credit": 500, "seconds": 604800,
         "from": "first use", "until": None,
-        "codes": [{"across": 3, "dark": [[0, 0, 3], [1, 1, 1]]}, {"across": 0, "dark": []}]}
+        "codes": ['<svg xmlns="http://www.w3.org/2000/svg" width="23" height="23"/>', ""]}
 MADE = (200, {"result": "new", "account": CARD["account"], "card": CARD})
 AWAY, BUSY = (503, {"error": "away"}), (429, {"error": "too many"})
 
@@ -299,9 +299,9 @@ def shows_card(browser, number):
     receipt = browser.text("#receipt")
     wanted = ("Anna Müller", "muller-1128-acde", "aacde-ffhjk", "Hotel", "9.00 EUR", number)
     check("the card has all of it", [it for it in wanted if it not in receipt], [])
-    drawn = browser.js("return [...document.querySelectorAll('#codes path')].map((it) =>"
-                       " it.getAttribute('d'))")
-    check("and its QR code", drawn, ["M0 0h3v1h-3zM1 1h1v1h-1z"])
+    drawn = browser.js("const all = [...document.querySelectorAll('#codes img')];"
+                       "return Promise.all(all.map((it) => it.decode().then(() => it.alt)))")
+    check("and its QR code", drawn, ["QR code"])
     check("what was paid counts", browser.shows("9.00 EUR", "#totals"), True)
     kept = browser.js("return JSON.stringify(kept)")
     check("the password is not kept on the disk", CARD["password"] in kept, False)

@@ -101,7 +101,7 @@ class Desk(unittest.TestCase):
             (work.debits, "Books", lambda _: books),
             (work.packages, "read", work.sold.packages.read),
             (work.packages, "wifi", lambda: {"name": "Hotel", "security": "enterprise"}),
-            (work.sheets, "bars", lambda text: ([(0, 0, len(text))], 25)),
+            (work.cards, "svg", lambda text, margin: f"{margin} {text}"),
             (work.program, "say", lambda _: None),
             (journal.Journal, "add", lambda own, octets: effect(own, octets)),
         ):

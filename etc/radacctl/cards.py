@@ -47,9 +47,9 @@ def address(given):
     return url
 
 
-def svg(text):
+def svg(text, margin=1):
     """A QR code. qrencode reads the text, so that no list of processes has it."""
-    command = ["qrencode", "-t", "SVG", "-m", "1", "--inline", "-o", "-"]
+    command = ["qrencode", "-t", "SVG", "-m", str(margin), "--inline", "-o", "-"]
     try:
         done = subprocess.run(command, input=text, capture_output=True, text=True, check=True)
     except (OSError, subprocess.CalledProcessError):

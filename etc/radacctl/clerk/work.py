@@ -16,7 +16,7 @@ import time
 
 from radacctl import desk as desks
 from radacctl import cards, configuration, debits, keys, lapses, logins, names, packages, program
-from radacctl import servers, sheets, site, stock
+from radacctl import servers, site, stock
 from radacctl.clerk import forms, journal, lists, rights
 from radacctl.clerk.forms import Refused
 from radacctl.commands import debit, guest
@@ -310,7 +310,7 @@ def page_key(own, account):
 
 
 def card_of(store, account):
-    """What the page shows and prints of a guest: name, password, and the bars of QR codes."""
+    """What the page shows and prints of a guest: name, password, and QR codes."""
     rows = store.read("SELECT password, terms, ends FROM login JOIN package ON package.id = "
                       "login.package WHERE account = ?", names.octets_of(account))
     password, terms, own = rows[0][0], json.loads(rows[0][1]), words()
@@ -322,18 +322,17 @@ def card_of(store, account):
         "account": account, "password": password, "house": cards.house(),
         "wifi": wifi["name"] if wifi else "", "title": terms["title"], "price": terms["price"],
         "credit": terms["credit"], "seconds": terms["seconds"], "from": terms["begins"],
-        "until": terms["until"], "codes": [bars_of(it) for it in texts],
+        "until": terms["until"], "codes": [code_of(it) for it in texts],
     }
 
 
-def bars_of(text):
-    """A QR code as bars, or none: without a code the card is good all the same."""
+def code_of(text):
+    """A QR code as a picture, or none: without a code the card is good all the same."""
     try:
-        dark, across = sheets.bars(text)
-    except sheets.Fault as why:
+        return cards.svg(text, margin=4)
+    except cards.Fault as why:
         program.say(why)
-        return {"across": 0, "dark": []}
-    return {"across": across, "dark": dark}
+        return ""
 
 
 def answered(line, now, later):
