@@ -767,6 +767,13 @@ class Others(Folder):
         self.assertEqual(freeradius.postgres(text), (
             ["-h", "db", "-U", "radius", "-d", "radius"], "*:*:*:*:a\\:b\\\\c\n"))
 
+    def test_only_a_stock_without_a_folder_is_for_the_set_up(self):
+        self.write(b"no stock\n")
+        for path, wanted in ((self.path, False), (f"{self.path}.no/stock.csv", True)):
+            with self.assertRaises(SystemExit), contextlib.redirect_stderr(io.StringIO()) as said:
+                voucher.main(["--stock", path, "--list"])
+            self.assertEqual("radacctl setup" in said.getvalue(), wanted, said.getvalue())
+
     def test_a_list_that_is_no_csv_is_refused(self):
         """With a field that never ends, and with ends of lines of an old Macintosh."""
         for octets in (b'account,sum,number,code\n"' + b"x" * 200_000,

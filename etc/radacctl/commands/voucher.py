@@ -363,6 +363,7 @@ def main(words):
             return withdraw(words, money)
         return show(words, money) if words.list is not None else make(words, settings, money)
     except stocks.Fault as fault:
-        return fail(f"{fault}; radacctl setup makes it, or the steps of DESK.md")
+        cure = "; radacctl setup makes it, or the steps of DESK.md"
+        return fail(f"{fault}{'' if os.path.isdir(os.path.dirname(words.stock)) else cure}")
     except OSError as fault:
         return fail(f"{fault.filename or words.stock}: {fault.strerror}")
