@@ -8,6 +8,7 @@ import signal
 import subprocess
 import threading
 import time
+import urllib.parse
 
 import clerk_logins
 import front
@@ -16,7 +17,7 @@ from packages_tools import Whole
 from proxy import Proxy
 from served import ROOT, check
 
-from radacctl import lapses
+from radacctl import lapses, sales_log
 
 KILLS = int(os.environ.get("KILLS", "12"))
 SEED = int(os.environ.get("RADACCTD_SEED", "61"))
@@ -148,6 +149,7 @@ def whole(folder):
         finds_and_ends(site, account)
         corrects(site)
         operates(site)
+        odd_sales(site)
         away(site)
         full(site)
         limited(site)
@@ -267,6 +269,33 @@ def operates(site):
     check("who is on", [(it["account"], it["cut"]) for it in found], [(account.decode(), False)])
     asked = {"act": "cut", "account": account.decode(), "source": "127.0.2.1", "session": "532d31"}
     check("one that cannot be told is not", site.ask("bert", **asked), (409, {"error": "no cut"}))
+
+
+def odd_sales(site):
+    """Whatever a cashier sends as a sale: what the book credits is in the log with the same account
+    and sum, what it does not is in no list, and nothing hides the others.
+    """
+    accounts = ("J\xf6rg", "a%2cb", "a%zz", "a\\\\b", 'a\\"b', "a\\nb", "J\\u00f6rg", "a%2541",
+                "J\\ud83d\\ude00", "x" * 253, "a%00", "J\\ud800", "", "a\x01")
+    sums = ("5", "1000000000000", "1000000000001", "05", "5.0", "5e0", "-5", "0", '"5"', "true")
+    more = ('"sum":7', '"paid":-5', '"paid":"5"', '"x":1e999999', '"x":NaN', '"x":"\\u0000"',
+            '"":1', '"x":' + "[" * 1200 + "]" * 1200, '"x":' + "9" * 3000, '"x":"\t"', " " * 3000,
+            "}", "[" * 3000)
+    texts = [(it, "5", '"x":1') for it in accounts] + [("al", it, '"x":1') for it in sums]
+    statuses = set()
+    for at, (account, total, rest) in enumerate([*texts, *(("al", "5", it) for it in more)]):
+        body = f'{{"account":"{account}","sum":{total},"voucher":"D9-{at}",{rest}}}'
+        statuses.add(site.proxy.status("/desk/topups", *FIELD, login="anna", body=body,
+                                       origin=site.origin.next()))
+    check("odd sales are taken or refused", statuses, {201, 400, 422})
+    logged = sales_log.sales_of(os.path.join(site.proxy.logs, "radacctd-sales.log"))
+    found = {it.number: (urllib.parse.unquote(it.account), it.sum) for it in logged
+             if it.number.startswith("D9-") and it.status in sales_log.TAKEN}
+    check("what the book credits is in the log", found, site.whole.box.vouchers("D9-"))
+    day = time.strftime("%Y-%m-%d")
+    said = site.ask("bert", act="sales", begin=day, end=day)[1]["sales"]
+    check("and in the operator's list", [it["count"] for it in said if it["desk"] == "D9"],
+          [len(found)])
 
 
 def away(site):
