@@ -343,8 +343,9 @@ class Existing(Folder):
             [(_, block)] = freeradius.HOME_SERVER.findall(text)
             self.assertEqual(freeradius.value(block, "secret"), secret)
             self.assertEqual(front.secret_of("wlc", "10.0.0.1"), secret)
-        _, line = freeradius.postgres("\tpassword = 'of \"sql\"'\n")
-        self.assertEqual(line, '*:*:*:*:of "sql"\n')
+        with freeradius.postgres("\tpassword = 'of \"sql\"'\n") as (begin, _):
+            with open(begin[1].partition("=")[2], encoding="ascii") as file:
+                self.assertEqual(file.read(), '*:*:*:*:of "sql"\n')
 
     def test_the_other_machine_of_a_pair_reads_its_file(self):
         """Also that of a site with users in a database: that answer is a table."""
@@ -764,8 +765,13 @@ class Others(Folder):
                 sql.Ended().do()
             self.assertEqual(run.call_count, 0)
         text = 'server = "db"\nlogin = "radius"\npassword = "a:b\\c"\nradius_db = "radius"\n'
-        self.assertEqual(freeradius.postgres(text), (
-            ["-h", "db", "-U", "radius", "-d", "radius"], "*:*:*:*:a\\:b\\\\c\n"))
+        with freeradius.postgres(text) as (begin, options):
+            self.assertEqual(options, ["-h", "db", "-U", "radius", "-d", "radius"])
+            path = begin[1].partition("=")[2]
+            self.assertEqual(stat.S_IMODE(os.stat(path).st_mode), 0o600)
+            with open(path, encoding="ascii") as file:
+                self.assertEqual(file.read(), "*:*:*:*:a\\:b\\\\c\n")
+        self.assertFalse(os.path.exists(path))
 
     def test_only_a_stock_without_a_folder_is_for_the_set_up(self):
         self.write(b"no stock\n")

@@ -269,28 +269,24 @@ def time_classes():
     return value(text("radacctd", "settings.conf"), "time_classes")
 
 
+@contextlib.contextmanager
 def postgres(block):
-    """The options by which PostgreSQL's tools find the database of mods-enabled/sql, and its
-    password as they read it. None if radius_db may have the password, too: each user sees a command
-    line.
+    """What begins a command of PostgreSQL's for the database of mods-enabled/sql, and its options.
+    None if radius_db may have the password, too: each user sees a command line.
+
+    The password is in a file in memory: a run that is killed leaves none on the disk.
     """
     names = {"-h": "server", "-p": "port", "-U": "login", "-d": "radius_db"}
     found = {option: value(block, name) for option, name in names.items()}
     if "=" in found["-d"] or "://" in found["-d"]:
-        return None
+        yield None
+        return
     password = re.sub(r"([:\\])", r"\\\1", value(block, "password"))
-    return [it for pair in found.items() if pair[1] for it in pair], f"*:*:*:*:{password}\n"
-
-
-@contextlib.contextmanager
-def password_file(password):
-    """The name of a file from which PostgreSQL's tools read a password. It is in memory: a run that
-    is killed leaves no password on the disk.
-    """
     with tempfile.TemporaryDirectory(dir="/run") as folder:
         path = os.path.join(folder, "pgpass")
-        files.make(path, password.encode())
-        yield path
+        files.make(path, f"*:*:*:*:{password}\n".encode())
+        options = [it for pair in found.items() if pair[1] for it in pair]
+        yield ["env", f"PGPASSFILE={path}", "PGCONNECT_TIMEOUT=20"], options
 
 
 def blocks(pattern, *names):

@@ -36,6 +36,7 @@ import time
 import tomllib
 
 from radacctl import archive, files, freeradius, logins, plans, program, restoring, site, stock
+from radacctl.doctor import look
 from radacctl.files import opened_folder as opened, regular
 from radacctl.program import say
 
@@ -172,26 +173,23 @@ def dump_sql():
     text = freeradius.text("mods-enabled", "sql")
     if freeradius.value(text, "dialect") != "postgresql":
         return
-    found = freeradius.postgres(text)
-    if found is None:
-        say("FreeRADIUS' database is not in this copy: radius_db of mods-enabled/sql is to be the "
-            "name of a database alone, with server, login and password on lines of their own")
-        return
-    words, password = found
     os.makedirs(os.path.dirname(site.DUMP), mode=0o700, exist_ok=True)
-    with freeradius.password_file(password) as path:
+    with freeradius.postgres(text) as found:
+        if found is None:
+            say("FreeRADIUS' database is not in this copy: radius_db of mods-enabled/sql is to be "
+                "the name of a database alone, with server, login and password on lines of their "
+                "own")
+            return
         files.remove(site.DUMP + ".new")
-        environment = {"PATH": "/usr/bin:/bin", "PGPASSFILE": path, "PGCONNECT_TIMEOUT": "20"}
         try:
-            words = ["pg_dump", "-w", *words, "-f", site.DUMP + ".new"]
-            done = subprocess.run(words, env=environment, capture_output=True, text=True,
-                                  timeout=3600)
+            words = [*found[0], "pg_dump", "-w", *found[1], "-f", site.DUMP + ".new"]
+            done = look.ran(words, 3600)
             if done.returncode:
                 raise OSError(done.stderr.strip()[-200:])
             with open(site.DUMP + ".new", "rb") as file:
                 os.fsync(file.fileno())
             os.rename(site.DUMP + ".new", site.DUMP)
-        except (OSError, subprocess.TimeoutExpired) as why:
+        except OSError as why:
             files.remove(site.DUMP + ".new")
             say(f"FreeRADIUS' database is not in this copy as it is now: {why}")
 

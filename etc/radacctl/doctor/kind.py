@@ -72,26 +72,22 @@ class Kind:
 
     def units(self):
         """The units that are to run and to start with the machine."""
-        found = [it.unit for it in self.books]
-        if self.has_front:
-            found += ["freeradius.service", "radacctd-mirror.service", "radacctd-front.service"]
-            found.append("radacctd-clock.timer")
-        if self.has_packages:
-            found.append("radacctd-packages.timer")
-        if self.has_pages:
-            found.append("nginx.service")
-        if self.has_codes:
-            found.append("radacctd-redeem.socket")
-        if self.has_clerk:
-            found += ["radacctd-clerk.socket", "radacctd-clerk-work.socket"]
-        if self.has_pair:
-            found += ["radacctd-outbox.service", "radacctd-state.socket", "radacctd-compare.timer"]
-        if self.has_shards:
-            found.append("radacctd-shards.service")
-            # Only where the balances of all books are.
-            if self.has_front or self.has_pages:
-                found.append("radacctd-shards-check.timer")
-        return [*found, "radacctd-nightly.timer", "radacctd-key.timer"]
+        # The check is only where the balances of all books are.
+        has_all = self.has_shards and (self.has_front or self.has_pages)
+        parts = [
+            (self.has_front, "freeradius.service radacctd-mirror.service radacctd-front.service "
+                             "radacctd-clock.timer"),
+            (self.has_packages, "radacctd-packages.timer"),
+            (self.has_pages, "nginx.service"),
+            (self.has_codes, "radacctd-redeem.socket"),
+            (self.has_clerk, "radacctd-clerk.socket radacctd-clerk-work.socket"),
+            (self.has_pair, "radacctd-outbox.service radacctd-state.socket radacctd-compare.timer"),
+            (self.has_shards, "radacctd-shards.service"),
+            (has_all, "radacctd-shards-check.timer"),
+            (True, "radacctd-nightly.timer radacctd-key.timer"),
+        ]
+        own = [it.unit for it in self.books]
+        return own + [it for is_there, units in parts if is_there for it in units.split()]
 
     def words(self):
         parts = [(self.has_front, "behind FreeRADIUS"), (self.has_pages, "with pages")]

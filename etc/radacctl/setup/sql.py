@@ -104,20 +104,15 @@ class Ended:
         return dialect != "postgresql" or os.path.exists(ENDED)
 
     def do(self):
-        text = freeradius.text("mods-enabled", "sql")
-        found = freeradius.postgres(text)
-        if found is None:
-            print("the table radacct keeps its open sessions: radius_db of mods-enabled/sql is to be "
-                  "the name of a database alone, with the password on a line of its own")
+        try:
+            with freeradius.postgres(freeradius.text("mods-enabled", "sql")) as found:
+                if found is None:
+                    raise steps.Failed("radius_db of mods-enabled/sql is to be the name of a "
+                                       "database alone, with the password on a line of its own")
+                steps.given([*found[0], "psql", "-wqX", *found[1]], text=END)
+        except steps.Failed as why:
+            # The site works without it.
+            print(f"the table radacct keeps its open sessions: {why}")
             return
-        words, password = found
-        with freeradius.password_file(password) as path:
-            command = ["env", f"PGPASSFILE={path}", "PGCONNECT_TIMEOUT=20", "psql", "-wqX", *words]
-            try:
-                steps.given(command, text=END)
-            except steps.Failed as why:
-                # The site works without it.
-                print(f"the table radacct keeps its open sessions: {why}")
-                return
         files.make(ENDED, b"")
         files.sync_folder(os.path.dirname(ENDED))
