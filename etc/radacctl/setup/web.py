@@ -256,8 +256,7 @@ class Nginx(Fresh):
     """nginx runs with the files as they are, which it has tested, and may read the balances."""
 
     def __init__(self):
-        paths = [CONF, CERTIFICATE, f"{FOLDER}/*"]
-        super().__init__("test and restart nginx", "nginx.service", paths, TEST)
+        super().__init__("test and restart nginx", "nginx.service", [CONF, f"{FOLDER}/*"], TEST)
 
     def is_done(self):
         lacks = machine.lacks_group(self.unit, site.WEB_USER, site.READERS)
