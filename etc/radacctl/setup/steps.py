@@ -286,12 +286,11 @@ class Trial:
                 one = copy.copy(it)
                 one.path = place + it.path.removeprefix(self.folder)
                 one.do()
-            try:
-                given(["unshare", "--mount", *shell(self.MOUNT, place, self.folder), *self.test],
-                      seconds=60)
-            except Failed as why:
-                raise Failed(f"{self.who} would not start with its new files, so none was changed. "
-                             f"{why}") from None
+            words = ["unshare", "--mount", *shell(self.MOUNT, place, self.folder), *self.test]
+            status, said = look.run(*words)
+            if status:
+                raise Failed(f"{self.who} would not start with its new files, so none was changed: "
+                             f"{said.strip()[-600:]}")
         finally:
             shutil.rmtree(TRIAL, ignore_errors=True)
 
