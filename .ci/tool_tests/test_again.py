@@ -773,9 +773,10 @@ class TakenOut(Folder):
             self.put("", path)
         with mock.patch.object(steps.Fresh, "is_done", lambda _: True):
             self.removed()
-        found = [it for it in self.given if "disable --now" in it]
+        found = [it for it in self.given if re.search(" (disable|stop) ", it)]
         self.assertEqual(found, ["systemctl disable --now radacctd-packages.timer",
-                                 "systemctl disable --now radacctd-mirror.service"])
+                                 "systemctl stop radacctd-mirror.service",
+                                 "systemctl disable radacctd-mirror.service"])
 
     def test_sessions_that_freeradius_opens_now_are_ended_by_a_later_set_up(self):
         with mock.patch.object(steps.Fresh, "is_done", lambda _: True):

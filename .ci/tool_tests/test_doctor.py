@@ -393,9 +393,12 @@ class Cures(unittest.TestCase):
 
     def test_of_a_unit_that_failed(self):
         units = "radacctd-nightly.service", "radacctd@s3.service", "radacctd-clerk-work@7-1.service"
-        with said((0, "".join(f"{it} loaded failed failed x\n" for it in units))):
+        lines = "".join(f"{it} loaded failed failed x\n" for it in units)
+        # One whose file has gone, as that of a timer that a removal took, is started no more.
+        with said((0, lines + "radacctd-clock.timer not-found failed failed x\n")):
             acts = [it.cure.rpartition("systemctl ")[2] for it in machine.failed()]
-        self.assertEqual(acts, [f"start {units[0]}", f"start {units[1]}", f"reset-failed {units[2]}"])
+        self.assertEqual(acts, [f"start {units[0]}", f"start {units[1]}",
+                                f"reset-failed {units[2]}", "reset-failed radacctd-clock.timer"])
 
 
 class Sound(unittest.TestCase):

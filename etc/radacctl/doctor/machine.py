@@ -51,9 +51,10 @@ def failed():
     for line in look.must(*words).splitlines():
         unit = line.split()[0] if line.split() else ""
         if unit.startswith("radacctd"):
-            # One that a socket made runs no more. Any other one shows by a run that it is mended.
+            # One that a socket made, or that is gone, runs no more. Any other one shows by a run
+            # that it is mended.
             is_one_of_many = "@" in unit and not unit.startswith("radacctd@")
-            act = "reset-failed" if is_one_of_many else "start"
+            act = "reset-failed" if is_one_of_many or "not-found" in line.split() else "start"
             cure = f"journalctl -u {unit} -n 20; once it is mended: systemctl {act} {unit}"
             yield Fault("unit-failed", f"{unit} has failed", cure)
 

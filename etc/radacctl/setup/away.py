@@ -190,8 +190,9 @@ def stop_units():
     # systemd has no such service but while its timer starts it.
     names = [os.path.basename(it) for it in units()
              if os.path.lexists(it) and not it.endswith("radacctd-clock.service")]
-    if names:
-        steps.given(["systemctl", "disable", "--now", *names])
+    # `disable` removes a link, and a timer without its file has failed: so it is stopped before.
+    for act in ("stop", "disable") if names else ():
+        steps.given(["systemctl", act, *names])
     for it in (*units(), packages.DROP_IN):
         if os.path.lexists(it):
             Gone(it).do()
