@@ -227,7 +227,4 @@ def test_head(path, it):
 
 
 def digest_of(file):
-    hashed = Hashed(file)
-    while hashed.read(CHUNK):
-        pass
-    return hashed.digest.hexdigest()
+    return hashlib.file_digest(file, "sha256").hexdigest()
