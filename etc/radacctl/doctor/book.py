@@ -83,7 +83,8 @@ def configuration(book):
         yield Fault("config-wrong", f"{book.config}: {look.last_line(said)}", "radacctl edit")
         return
     found = content(book)
-    yield from secrets(book, found)
+    clients = found.get("client", [])
+    yield from secrets(book.config, [(it.get("name"), it.get("secret", "")) for it in clients])
     yield from plans_of(book, found)
     for name, most in LIMITS.items():
         if len(found.get(name, [])) > most - SPARE:
@@ -92,15 +93,15 @@ def configuration(book):
                         cure)
 
 
-def secrets(book, found):
+def secrets(path, clients):
+    """The faults of the secrets of a file's clients, name and secret of each."""
     seen = {}
-    for client in found.get("client", []):
-        secret, name = client.get("secret", ""), client.get("name")
+    for name, secret in clients:
         if len(secret) < SHORTEST_SECRET:
-            text = f"{book.config}: the secret of {name} has {len(secret)} characters"
+            text = f"{path}: the secret of {name} has {len(secret)} characters"
             yield Fault("secret-short", text, LONGER)
         if secret in seen:
-            text = f"{book.config}: {seen[secret]} and {name} have one secret"
+            text = f"{path}: {seen[secret]} and {name} have one secret"
             yield Fault("secret-shared", text, OWN)
         seen[secret] = name
 
@@ -177,11 +178,9 @@ def journal_of(book):
 
 
 def journal(book):
-    said, seen = journal_of(book), set()
-    for name, address in re.findall(r"^drop \d+ (\w+) from ([\d.]+):", said, re.M):
-        if (name, address) in seen:
-            continue
-        seen.add((name, address))
+    said = journal_of(book)
+    drops = re.findall(r"^drop \d+ (\w+) from ([\d.]+):", said, re.M)
+    for name, address in dict.fromkeys(drops):
         if name == "BadAuthenticator":
             yield Fault("drop-secret", f"{address} sends reports with another secret",
                         f"give it the secret of its client in {book.config}")

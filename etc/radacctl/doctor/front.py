@@ -153,19 +153,12 @@ def samples():
             yield Fault("sample-value", f"{path} has a secret that begins with change-me",
                         "replace it: openssl rand -hex 16")
         yield from open_to_others("radacctd", name)
-    seen = {}
-    for name, block in freeradius.blocks(freeradius.CLIENT, "radacctd", "access-servers.conf"):
-        # All of RadSec have one secret: who may speak is known by a certificate.
-        secret = freeradius.value(block, "secret")
-        if freeradius.value(block, "proto") == "tls":
-            continue
-        if 0 < len(secret) < books.SHORTEST_SECRET and "change-me" not in secret:
-            text = f"client {name} of FreeRADIUS has {len(secret)} characters"
-            yield Fault("secret-short", text, books.LONGER)
-        if secret in seen and "change-me" not in secret:
-            text = f"{seen[secret]} and {name} of FreeRADIUS have one secret"
-            yield Fault("secret-shared", text, books.OWN)
-        seen[secret] = name
+    found = freeradius.blocks(freeradius.CLIENT, "radacctd", "access-servers.conf")
+    # All of RadSec have one secret: who may speak is known by a certificate.
+    clients = [(name, freeradius.value(block, "secret")) for name, block in found
+               if freeradius.value(block, "proto") != "tls"]
+    path = freeradius.path("radacctd", "access-servers.conf")
+    yield from books.secrets(path, [it for it in clients if it[1] and "change-me" not in it[1]])
 
 
 def cut_off():

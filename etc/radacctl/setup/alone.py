@@ -227,12 +227,20 @@ def user_steps():
     """The service's user and folders, if no package made them."""
     if is_packaged():
         return
-    prefix = os.path.normpath(f"{site.INSTALLED}/../../lib")
-    has_group = lambda: is_known_group(site.READERS)
-    yield Command("make the users", has_group, "systemd-sysusers",
-                  f"{prefix}/sysusers.d/radacctd.conf")
+    yield user(site.USER, site.READERS)
     yield Command("make the folders", lambda: os.path.isdir(os.path.dirname(site.BALANCES)),
-                  "systemd-tmpfiles", "--create", f"{prefix}/tmpfiles.d/radacctd.conf")
+                  "systemd-tmpfiles", "--create", own("tmpfiles.d", site.USER))
+
+
+def own(folder, name):
+    """A file of radacctd's for systemd."""
+    return os.path.normpath(f"{site.INSTALLED}/../../lib/{folder}/{name}.conf")
+
+
+def user(name, group=None):
+    """Makes a user of radacctd's, whose group is there once it is made."""
+    return Command(f"make the user {name}", lambda: is_known_group(group or name),
+                   "systemd-sysusers", own("sysusers.d", name))
 
 
 def is_known_group(name):

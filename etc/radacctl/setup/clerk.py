@@ -3,10 +3,9 @@
 import json
 import os
 
-from radacctl import site
 from radacctl.clerk import rights
 from radacctl.setup import steps
-from radacctl.setup.alone import Command, File, Folder, is_known_group, unit
+from radacctl.setup.alone import File, Folder, unit, user
 
 USER = "radacctd-clerk"
 PACKAGES = ["fcgiwrap", "qrencode"]
@@ -26,14 +25,9 @@ def of(answers):
     yield File(rights.FILE, lambda old: file_of(old, answers.clerks), 0o644)
     if not answers.has_clerk:
         return
-    yield Command(f"make the user {USER}", lambda: is_known_group(USER), "systemd-sysusers",
-                  f"{prefix()}/{USER}.conf")
+    yield user(USER)
     for name in reversed(SOCKETS):
         yield unit(name)
-
-
-def prefix():
-    return f"{site.INSTALLED}/../../lib/sysusers.d"
 
 
 def file_of(old, clerks):

@@ -10,7 +10,7 @@ import time
 from radacctl import files, freeradius, money, names, site, stock
 from radacctl.doctor import machine, web as of_web
 from radacctl.setup import clerk, pair, steps
-from radacctl.setup.alone import NOTES, Command, File, Folder, is_known_group, unit
+from radacctl.setup.alone import NOTES, Command, File, Folder, unit, user
 from radacctl.setup.front import is_debians, member
 from radacctl.setup.steps import Fresh, Link, Trial
 
@@ -233,13 +233,11 @@ def logs():
 
 def codes(config):
     """Printed codes: a user who has the stock, and a socket for nginx."""
-    user = site.REDEEM_USER
-    prefix = os.path.normpath(f"{site.INSTALLED}/../../lib/sysusers.d")
-    yield Command(f"make the user {user}", lambda: is_known_group(user), "systemd-sysusers",
-                  f"{prefix}/{user}.conf")
+    group = site.REDEEM_USER
+    yield user(group)
     for folder in (stock.FOLDER, os.path.dirname(stock.SECOND)):
-        yield Folder(folder, 0o750, of_group=user)
-    yield File(site.REDEEM_KEY, config.keys["redeem"] + "\n", 0o640, of_group=user)
+        yield Folder(folder, 0o750, of_group=group)
+    yield File(site.REDEEM_KEY, config.keys["redeem"] + "\n", 0o640, of_group=group)
     yield unit("radacctd-redeem.socket")
 
 
