@@ -7,9 +7,9 @@ function spelled(name) {
   return [...new TextEncoder().encode(name)].map(one).join("");
 }
 
-// Octets that are no text show as U+FFFD, and nothing is sold to such a name: it could not log in.
+// Octets that are no text become halves of a letter: whyNot knows that nobody logs in by them.
 function plain(account) {
-  try { return decodeURIComponent(account); } catch { return decodeURIComponent(account.replace(/%[89A-F]./g, "\ufffd")); }
+  try { return decodeURIComponent(account); } catch { return decodeURIComponent(account.replace(/%[89A-F]./g, "\udcff")); }
 }
 
 // Marks that nobody sees, as of the direction of a text: they come along if a name is copied.
@@ -21,7 +21,7 @@ function whyNot(name) {
   const octets = new TextEncoder().encode(name);
   if (!octets.length) return "nameEmpty";
   if (octets.length > 253) return "nameLong";
-  if (/[\p{Surrogate}\ufffd]/u.test(name)) return "nameText";
+  if (/\p{Surrogate}/u.test(name)) return "nameText";
   if (octets.some((it) => it < 32 || it === 127)) return "nameControl";
   if (EDGE.test(name)) return "nameSpace";
   if (name.startsWith("'")) return "nameApostrophe";
