@@ -68,11 +68,12 @@ def client_of(config, path, secret):
     raise Refused(f"{path} has no client {CLIENT}. It wants these lines:\n{LINES}")
 
 
-def test_plan_of_config(config, path):
-    found = plans.in_config(config).get(CLASS.encode())
-    if found is None:
-        raise Refused(f"{path} has no plan {CLASS}. It wants these lines:\n{LINES}")
-    if found != (1, 1, "both"):
+def test_plan(found, path, lacks):
+    """Tests that a file has the plan among those that were found in it."""
+    plan = found.get(CLASS.encode())
+    if plan is None:
+        raise Refused(f"{path} {lacks}")
+    if plan != (1, 1, "both"):
         raise Refused(f"the plan {CLASS} of {path} is not of block 1, unit 1, count both")
 
 
@@ -81,16 +82,11 @@ def test_plan_of_book(path):
     removed: so the server that has the book now has the plan too.
     """
     try:
-        found = plans.of_book(path).get(CLASS.encode())
+        found = plans.of_book(path)
     except OSError as why:
         raise Refused(f"cannot read the plans of {why}: be root, or give it again") from None
-    if found is None:
-        raise Refused(
-            f"{path} does not keep the plan {CLASS} yet, so a debit would be priced by `default`.\n"
-            "Stop the server, give `radacctd plans`, and start it again."
-        )
-    if found != (1, 1, "both"):
-        raise Refused(f"the plan {CLASS} of {path} is not of block 1, unit 1, count both")
+    test_plan(found, path, f"does not keep the plan {CLASS} yet, so a debit would be priced by "
+              "`default`.\nStop the server, give `radacctd plans`, and start it again.")
 
 
 def source_of(words, secret):
@@ -98,7 +94,8 @@ def source_of(words, secret):
     try:
         with open(words.config, "rb") as file:
             config = tomllib.load(file)
-        test_plan_of_config(config, words.config)
+        test_plan(plans.in_config(config), words.config,
+                  f"has no plan {CLASS}. It wants these lines:\n{LINES}")
     except (OSError, ValueError) as fault:
         raise Refused(f"cannot read {words.config}: {fault}") from None
     address = client_of(config, words.config, secret)

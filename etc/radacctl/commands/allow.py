@@ -43,12 +43,9 @@ OLDEST = 120
 Row = collections.namedtuple("Row", "account sum number lapse")
 
 
-def digest_of(account, month):
-    return hashlib.sha256(f"{month} ".encode() + account).hexdigest()[:16].upper()
-
-
 def row_of(account, total, month):
-    spelled, digest = month.replace("-", ""), digest_of(account, month)
+    spelled = month.replace("-", "")
+    digest = hashlib.sha256(f"{month} ".encode() + account).hexdigest()[:16].upper()
     return Row(account, total, f"ALLOW-{spelled}-{digest}", f"LAPSE-{spelled}-{digest}")
 
 
