@@ -3,7 +3,7 @@
 
 // LANGUAGES and TEXTS are made of the files in languages: each text has a column for each language.
 const $ = (id) => document.getElementById(id);
-let language = "en", settings = null;
+let language = "en", settings = null, said = ["wait"];
 
 const column = () => Object.keys(LANGUAGES).indexOf(language);
 const text = (name, ...values) => TEXTS[name][column()].replace(/\{(\d)\}/g, (_, at) => values[at]);
@@ -39,6 +39,16 @@ function offerLanguages(redraw) {
     storeOf("localStorage")?.setItem("language", language);
     redraw();
   };
+}
+
+// Says what is so: the name of a text and its values. A number is kept as one, since each language
+// writes it in its own way. Each page has a `figure` for that, and a `kindOf` its texts.
+function say(...what) {
+  said = what;
+  const now = text(what[0], ...what.slice(1).map((it) => typeof it === "number" ? figure(it) : it));
+  // The same text again would be read aloud again.
+  if ($("message").textContent !== now) $("message").textContent = now;
+  for (const it of ["soft", "good", "bad"]) $("message").classList.toggle(it, it === kindOf(what[0]));
 }
 
 // The texts that stand in the page, and its title, which has the name of the house.
