@@ -773,6 +773,20 @@ class Others(Folder):
                 self.assertEqual(file.read(), "*:*:*:*:a\\:b\\\\c\n")
         self.assertFalse(os.path.exists(path))
 
+    def test_a_sheet_outlives_a_power_cut_before_its_codes_are_live(self):
+        done = []
+        for where, name, new in ((voucher.sheets, "money", lambda *_: b"PDF"),
+                                 (voucher.files, "sync_folder", done.append),
+                                 (voucher, "add_to_stock", lambda *_: done.append("stock"))):
+            patched = mock.patch.object(where, name, new)
+            patched.start()
+            self.addCleanup(patched.stop)
+        self.write(b'{"currency": "EUR", "decimals": 2}')
+        with contextlib.redirect_stdout(io.StringIO()):
+            voucher.main(["--stock", f"{self.folder}/stock.csv", "--settings", self.path, "--url",
+                          "https://a.example", "--count", "2", "--sum", "5.00", "--to", self.folder])
+        self.assertEqual(done, [self.folder, "stock"])
+
     def test_only_a_stock_without_a_folder_is_for_the_set_up(self):
         self.write(b"no stock\n")
         for path, wanted in ((self.path, False), (f"{self.path}.no/stock.csv", True)):

@@ -156,6 +156,7 @@ def make(words, settings, money):
         fail(fault)
     make_file(name + ".pdf", drawn)
     make_file(name + ".csv", b"code,sum\n" + stocks.lines_of([it, total] for it in codes))
+    files.sync_folder(words.to)
     add_to_stock(words.stock, codes, total, sheet)
     print(f"{len(codes)} vouchers of {worth}, {together} together: {name}.pdf, {name}.csv")
     return 0
