@@ -80,6 +80,8 @@ def killed(browser, proxy, server, start):
     browser.cut()
     browser.open()
     open_desk(browser, proxy)
+    # The language that was chosen last may be lost with the browser.
+    browser.js("const it = document.getElementById('language'); it.value = 'en'; it.onchange()")
     check("a browser that was killed has it still", browser.shows(number, "#pending"), True)
     closed(browser, proxy)
     open_desk(browser, proxy)
