@@ -172,8 +172,8 @@ def heals(folder):
     path = os.path.join(radius.raddb, "mods-enabled", "radacctd")
     with open(path, encoding="utf-8") as file:
         text = file.read()
-    check("its connections do not live for ever", text.count("lifetime = 30\n"), 1)
-    front.written(path, text.replace("lifetime = 30\n", "lifetime = 2\n"))
+    check("its connections do not live for ever", text.count("lifetime = 30,"), 1)
+    front.written(path, text.replace("lifetime = 30,", "lifetime = 2,"))
     spent = (False, {"Reply-Message": "Your allowance is spent."})
     rich = (True, {MIKROTIK[0]: str(50 * MEBIBYTE), MIKROTIK[1]: "0"})
     both_told = lambda: (told(radius, "al"), told(radius, "bo"))

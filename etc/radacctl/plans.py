@@ -23,6 +23,15 @@ def of_book(path):
     return of_rows([row[0].encode("latin-1"), *row[1:]] for row in rows)
 
 
+def rows_of(path):
+    """The records of a file of plans in force. OSError or ValueError says why it has none."""
+    with open(path, encoding="ascii", newline="") as file:
+        header, *rows = list(csv.reader(file)) or [[]]
+    if header != list(HEADER) or any(len(row) != len(HEADER) for row in rows):
+        raise ValueError(f"{path} has no plans")
+    return rows
+
+
 def in_force(path=None):
     """The plans of a file of plans in force, as texts by their classes; None if it has none."""
     rows = list(csv.reader(files.text(path or site.PLANS).splitlines()))

@@ -14,7 +14,6 @@ from radacctl import files, names, plans
 from radacctl.names import octets_of, shown
 
 SHARDS = [f"s{digit}" for digit in "0123456789abcdef"]
-PLANS = list(plans.HEADER)
 # FreeRADIUS asks a book by it whether it answers at all; it has no octets and no money.
 PROBE = b"radacctd-probe"
 HEADER = ["shard", "address", "radius", "desk"]
@@ -152,12 +151,8 @@ def join_balances(folder):
 
 def plans_in(folder, shard):
     """The plans of a book by their classes."""
-    path = os.path.join(folder, f"{shard}-plans.csv")
-    with open(path, encoding="ascii", newline="") as file:
-        rows = list(csv.reader(file))
-    if not rows or rows[0] != PLANS or any(len(row) != len(PLANS) for row in rows):
-        raise ValueError(f"{path} has no plans")
-    return {row[0]: tuple(row[1:]) for row in rows[1:]}
+    rows = plans.rows_of(os.path.join(folder, f"{shard}-plans.csv"))
+    return {row[0]: tuple(row[1:]) for row in rows}
 
 
 def join_plans(folder):
@@ -168,8 +163,8 @@ def join_plans(folder):
     all_have = {it: row for it, row in first.items()
                 if all(other.get(it) == row for other in others)}
     made = io.StringIO(newline="")
-    writer = csv.writer(made, lineterminator="\n")
-    writer.writerows([PLANS, *((name, *row) for name, row in all_have.items())])
+    rows = [plans.HEADER, *((name, *row) for name, row in all_have.items())]
+    csv.writer(made, lineterminator="\n").writerows(rows)
     found = {
         octets_of(name).decode(): {"block": int(block), "unit": int(unit), "count": count}
         for name, (block, unit, count) in all_have.items()

@@ -57,11 +57,8 @@ home_server radacctd-{shard} {{
 	port = {radius}
 	src_ipaddr = ${{radacctd.from}}
 	secret = ${{radacctd.secret}}
-	status_check = none
-	response_window = 3
-	response_timeouts = 1000
-	zombie_period = 5
-	revive_interval = 10
+	status_check = none, response_window = 3
+	response_timeouts = 1000, zombie_period = 5, revive_interval = 10
 }}
 home_server_pool radacctd-{shard} {{
 	type = fail-over
@@ -71,13 +68,9 @@ home_server_pool radacctd-{shard} {{
 # The queue of a book, and the folder above it: for filed reports that are sent again.
 READER = """\
 listen {{
-	type = detail
-	virtual_server = radacctd
+	type = detail, virtual_server = radacctd, track = yes
 	filename = ${{radacctdir}}/radacctd/{0}detail-*
-	track = yes
-	load_factor = 100
-	poll_interval = 1
-	retry_interval = 4
+	load_factor = 100, poll_interval = 1, retry_interval = 4
 }}
 """
 DEFAULTS = """\
@@ -217,7 +210,7 @@ def sell_part(place, octets, options):
 
 def sell(words, table):
     # What nginx logged is of all books.
-    octets = b"" if "--logged" in words.option else sys.stdin.buffer.read()
+    octets = b"" if {"--help", "--logged"} & {*words.option} else sys.stdin.buffer.read()
     text = octets.removeprefix(b"\xef\xbb\xbf").decode("latin-1")
     header, *rows = [row for row in csv.reader(io.StringIO(text, newline="")) if row] or [[]]
     if header != VOUCHERS:
