@@ -442,6 +442,8 @@ class Again(Folder):
             self.assertLessEqual({program, f"/etc/systemd/system/{it.unit}"}, set(it.paths))
             self.assertEqual(machine.SCRIPTS[program], it.unit)
         self.assertEqual(programs, {})
+        # And what FreeRADIUS has read of them, if nobody gives the set-up after an upgrade.
+        self.assertEqual(machine.SCRIPTS[freeradius.path("radacctd/queue.pl")], "freeradius.service")
 
     def test_a_file_that_is_gone_is_a_change(self):
         """FreeRADIUS' part is taken out, and that run is killed before the restart."""

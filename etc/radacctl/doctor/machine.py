@@ -20,6 +20,8 @@ SCRIPTS = {
     f"{site.RADDB}/radacctd/balances-mirror": "radacctd-mirror.service",
     f"{site.RADDB}/radacctd/front-counts": "radacctd-front.service",
     "/usr/local/sbin/radacctd-outbox": "radacctd-outbox.service",
+    # An upgrade brings all of its files at once, and does not restart it.
+    f"{site.RADDB}/radacctd/queue.pl": "freeradius.service",
 }
 
 
