@@ -115,10 +115,21 @@ class Sections(unittest.TestCase):
             for one in (wanted(), other):
                 self.assertEqual(away.lines_out(front.default(text, one, "x")), text)
 
-    def test_a_line_with_a_comment_is_taken_out(self):
-        text = front.default(SERVER, wanted(), "x")
-        text = text.replace("radacctd_login\n", "radacctd_login  # who pays\n")
-        self.assertEqual(away.lines_out(text), SERVER)
+    def test_a_line_with_a_comment_is_a_line(self):
+        one = wanted(packages=True)
+        text = front.default(SERVER.replace("post-auth {", "preacct {\n}\npost-auth {\n"
+                                            "Post-Auth-Type REJECT {\n}"), wanted(), "x")
+        begun = away.lines_out(text)
+        text = re.sub(r"(radacctd_(?:login|accounting))\n", r"\1  # who pays\n", text)
+        self.assertEqual(away.lines_out(text), begun)
+        text = front.default(text, one, "x")
+        self.assertEqual(front.default(text, one, "x"), text)
+        self.assertEqual(away.lines_out(text), begun)
+        own = SERVER.replace("\tsql\n", "\tsql # of the house\n")
+        text = front.default(own, wanted(sql={"password_file": "/root/x"}), "x")
+        bare = freeradius.section(freeradius.without_comments(text), "accounting")
+        self.assertEqual(bare.split(), ["radacctd_accounting"])
+        self.assertEqual(away.lines_out(text), own)
 
     def test_a_server_without_the_section_stays(self):
         text = SERVER.replace("accounting", "preacct")

@@ -31,6 +31,8 @@ MARK = "# radacctl setup:"
 # A text in quotation marks of either kind, and a comment. A mark within a word begins no text.
 QUOTED = r"""(?<!\w)(?:"(?:[^"\\\n]|\\.)*"|'(?:[^'\\\n]|\\.)*')"""
 COMMENT = r"(?<!\S)#[^\n]*"
+# What may be behind the word of a line.
+REST = r"[ \t]*(?:#[^\n]*)?"
 # A block, and one in it. A text may have a brace: a secret, say.
 BLOCK = rf"""\{{((?:[^{{}}"']|{QUOTED}|(?!{QUOTED})["']|\{{[^{{}}]*\}})*)\}}"""
 CLIENT = re.compile(rf"(?m)^\s*client\s+(\S+)\s*{BLOCK}")
@@ -124,14 +126,14 @@ def without_line(text_of_site, name, word):
     site may have such a comment of its own.
     """
     begin, end = place_of_section(text_of_site, name) or (0, 0)
-    marked = rf"\1{MARK} \2"
-    inside = re.sub(rf"(?m)^([ \t]*)({word})[ \t]*$", marked, text_of_site[begin:end])
+    line, marked = rf"(?m)^([ \t]*)((?:{word}){REST})$", rf"\1{MARK} \2"
+    inside = re.sub(line, marked, text_of_site[begin:end])
     return text_of_site[:begin] + inside + text_of_site[end:]
 
 
 def with_line(text_of_site, word):
     """The same server, in which the line is one again."""
-    return re.sub(rf"(?m)^([ \t]*){MARK} ({word})$", r"\1\2", text_of_site)
+    return re.sub(rf"(?m)^([ \t]*){MARK} ((?:{word}){REST})$", r"\1\2", text_of_site)
 
 
 def enabled():

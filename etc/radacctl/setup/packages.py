@@ -86,9 +86,9 @@ def are_made():
 
 def behind(text, word, line):
     """A virtual server that has a line behind another one, unless it has it."""
-    if re.search(rf"(?m)^[ \t]*{line}[ \t]*$", text):
+    if re.search(rf"(?m)^[ \t]*{line}{freeradius.REST}$", text):
         return text
-    found = re.search(rf"(?m)^([ \t]*){word}[ \t]*\n", text)
+    found = re.search(rf"(?m)^([ \t]*){word}{freeradius.REST}\n", text)
     if not found:
         raise steps.Failed(f"a virtual server has no line {word}: PACKAGES.md")
     return f"{text[: found.end()]}{found[1]}{line}\n{text[found.end():]}"

@@ -83,7 +83,7 @@ def without_sql(text):
 def with_sql(text):
     """The same server, which writes into the database again, if an earlier set-up ended that."""
     inside = freeradius.section(text, "accounting")
-    has_line = re.search(r"(?m)^[ \t]*-?sql[ \t]*$", inside)
+    has_line = re.search(rf"(?m)^[ \t]*-?sql{freeradius.REST}$", inside)
     return text if has_line else freeradius.with_line(text, "-?sql")
 
 
