@@ -162,10 +162,12 @@ def undated(kept, name, text):
 
 def in_places(kept):
     """In each folder and file that a reader reads."""
-    names = ["detail-1", "detail.work", "reader-7/detail.work", "s3/detail-2-3.5"]
+    names = ["detail-1", "detail.work", "reader-7/detail.work"]
     for number, name in enumerate(names):
         kept.put(record(200 + 100 * number), name)
         kept.becomes(f"in {name}", 200 + 100 * number)
+    kept.put(record(500), "s3/detail-2-3.5")
+    kept.becomes("of one of 16 books, whose accounts alone are old", 0)
     kept.put(record(800), "notes")
     kept.becomes("a file that no reader reads", 0)
     kept.put(record(300), "reader-0/detail-2")
