@@ -61,8 +61,9 @@ class Forms(unittest.TestCase):
                  for it in ("%61l", "al")]
         self.assertEqual(found, ["al", "al"])
 
-    def test_each_act_has_a_right(self):
-        self.assertEqual(set(forms.ACTS), set(rights.NEEDS))
+    def test_each_act_but_one_needs_a_right(self):
+        self.assertEqual([act for act, (_, right, _) in forms.ACTS.items() if right is None], ["may"])
+        self.assertLessEqual({limit for *_, limit in forms.ACTS.values()}, {None, *rights.LIMITS})
 
 
 class Rights(unittest.TestCase):

@@ -5,6 +5,7 @@ import json
 import re
 
 from radacctl import desk, money, names, packages
+from radacctl.clerk.rights import CORRECTIONS, GUESTS, OPERATORS
 from radacctl.commands import guest
 
 LONGEST = 2048
@@ -59,19 +60,19 @@ MEMBERS = {
     "begin": is_day,
     "end": is_day,
 }
-# Each act, and the members that it has.
+# Each act: its members, whose right it needs, and its limit.
 ACTS = {
-    "may": (),
-    "find": ("text",),
-    "guest": ("number", "name", "package", "price", "credit"),
-    "end": ("account",),
-    "back": ("account", "sum", "voucher"),
-    "on": (),
-    "cut": ("account", "source", "session"),
-    "sales": ("begin", "end"),
-    "codes": (),
-    "doctor": (),
-    "look": (),
+    "may": ("", None, None),
+    "find": ("text", GUESTS, None),
+    "guest": ("number name package price credit", GUESTS, "guests_an_hour"),
+    "end": ("account", GUESTS, "ends_an_hour"),
+    "back": ("account sum voucher", CORRECTIONS, "corrections_an_hour"),
+    "on": ("", OPERATORS, None),
+    "cut": ("account source session", OPERATORS, "cuts_an_hour"),
+    "sales": ("begin end", OPERATORS, None),
+    "codes": ("", OPERATORS, None),
+    "doctor": ("", OPERATORS, None),
+    "look": ("", OPERATORS, None),
 }
 
 
@@ -79,7 +80,7 @@ def asked(octets):
     """The act of a request and its members, each of its form; or it is refused."""
     try:
         found = json.loads(octets.decode("utf-8")) if len(octets) <= LONGEST else {}
-        wanted = {"act", *ACTS[found["act"]]}
+        wanted = {"act", *ACTS[found["act"]][0].split()}
         is_right = set(found) == wanted and all(MEMBERS[it](found[it]) for it in wanted - {"act"})
     except (ValueError, LookupError, TypeError, RecursionError):
         is_right = False

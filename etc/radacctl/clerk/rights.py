@@ -21,20 +21,6 @@ GUESTS, CORRECTIONS, OPERATORS = "guests", "corrections", "operators"
 LIMITS = {"guests_an_hour": 60, "ends_an_hour": 300, "corrections_an_hour": 20,
           "cuts_an_hour": 60}
 MOST = 10_000
-# Whose right each act needs, and its limit.
-NEEDS = {
-    "may": (None, None),
-    "find": (GUESTS, None),
-    "guest": (GUESTS, "guests_an_hour"),
-    "end": (GUESTS, "ends_an_hour"),
-    "back": (CORRECTIONS, "corrections_an_hour"),
-    "on": (OPERATORS, None),
-    "cut": (OPERATORS, "cuts_an_hour"),
-    "sales": (OPERATORS, None),
-    "codes": (OPERATORS, None),
-    "doctor": (OPERATORS, None),
-    "look": (OPERATORS, None),
-}
 
 
 class Wrong(Exception):

@@ -46,7 +46,7 @@ def answer_to(who, asked, now, later):
     if asked["act"] == "may":
         return {it: who in found[it]
                 for it in (rights.GUESTS, rights.CORRECTIONS, rights.OPERATORS)}
-    right, limit = rights.NEEDS[asked["act"]]
+    _, right, limit = forms.ACTS[asked["act"]]
     if who not in found[right]:
         raise Refused(403, "not allowed")
     try:
