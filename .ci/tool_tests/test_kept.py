@@ -74,7 +74,10 @@ class Devices(unittest.TestCase):
         found = doctor.refused("uses", self.path, why)
         self.assertEqual(found.name, "packages-lost")
         self.assertIn("restore nothing: systemctl start radacctd-packages", found.cure)
-        self.assertIn("tar -x", doctor.refused("logins", self.path, why).cure)
+        for folder, shown in (("/b", "/b/site.tar.gz"), ("/my b", "'/my b/site.tar.gz'")):
+            with mock.patch.object(doctor.copies, "last_good", lambda it=folder: it):
+                cure = doctor.refused("logins", self.path, why).cure
+            self.assertIn(f"tar -xpzf {shown} -C / ", cure)
 
     @unittest.skipUnless(os.geteuid() == 0, "only root has a unit's rights to give away")
     def test_it_is_made_anew_with_the_rights_of_the_unit(self):

@@ -93,8 +93,8 @@ def free_codes(store):
 
 
 def put_back():
-    copy = copies.last_good() or f"{site.BACKUPS}/DATE"
-    return (f"systemctl stop freeradius; mv {logins.FOLDER} /root/; tar -xpzf {copy}/site.tar.gz "
+    copy = shlex.quote(f"{copies.last_good() or site.BACKUPS + '/DATE'}/site.tar.gz")
+    return (f"systemctl stop freeradius; mv {logins.FOLDER} /root/; tar -xpzf {copy} "
             f"-C / {logins.FOLDER.lstrip('/')}; systemctl start freeradius")
 
 
