@@ -1,10 +1,10 @@
-"""What each alert of etc/monitoring/radacctd.rules.yml needs to fire, and what fires none, as a file
-of tests for `promtool`: `python3 interop/alert_cases.py >FILE && promtool test rules FILE`.
+"""What each alert of etc/monitoring/radacctd.rules.yml needs to fire, and what fires none, as tests
+for `promtool`: `python3 interop/alert_cases.py >FILE && promtool test rules FILE`.
 
 Each case below begins with its name, and with the interval of its samples if that is not a minute.
 Then come series, as promtool writes them, each with the machine that it is of, and moments with all
-alerts that fire then, as MACHINE:ALERT: so one that fires too much fails a case, too. Times begin at
-0. Machine a has counts of radacctd in each case that says nothing else of them.
+alerts that fire then, as MACHINE:ALERT: so one that fires too much fails a case, too. Times begin
+at 0. Machine a has counts of radacctd in each case that says nothing else of them.
 """
 
 import json
@@ -310,7 +310,8 @@ h radacctd_mirror_as_of_time_seconds -10+60x10 0x49
 # has ended at minute 60, on d its file went, and on e a side of the site could not be seen.
 what the doctor found
 # A file that is written each hour is no server that is stuck.
-a node_textfile_mtime_seconds{file="/n/radacctd-doctor.prom"} 0x60 3600x60 7200x60 10800x60 14400x160
+a node_textfile_mtime_seconds{file="/n/radacctd-doctor.prom"} 0x60 3600x60 7200x60 10800x60 \\
+    14400x160
 a radacctd_doctor_time_seconds 0x60 3600x60 7200x60 10800x60 14400x160
 a radacctd_doctor_fault{name="copy-old",gravity="warning"} 0x60 1x59 0x280
 a radacctd_doctor_fault{name="unit-down",gravity="critical"} 0x400
@@ -335,10 +336,10 @@ SAYS = [
      {"severity": "critical", "instance": "a", "file": "/counts/radacctd.prom"},
      "radacctd on a has stopped or is stuck", """\
 /counts/radacctd.prom was last written 5m 0s ago; a server that runs writes it every ten seconds. \
-First: systemctl list-units 'radacctd*', then journalctl -o with-unit -u 'radacctd*' -n 50. If it \
-is starting, wait: a large book takes minutes to read. If the journal has a fault, look it up in \
-docs/TROUBLE.md, "Faults of a command". If the line is `status: cannot write`, the disk is full or \
-the folder is missing."""),
+First: systemctl list-units --all 'radacctd*', then journalctl -o with-unit -u 'radacctd*' -n 50. \
+If it is starting, wait: a large book takes minutes to read. If the journal has a fault, look it \
+up in docs/TROUBLE.md, "Faults of a command". If the line is `status: cannot write`, the disk is \
+full or the folder is missing."""),
 ]
 
 

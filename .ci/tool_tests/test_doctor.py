@@ -82,7 +82,7 @@ class Counts(unittest.TestCase):
         rules = files.text(os.path.join(ROOT, "etc/monitoring/radacctd.rules.yml"))
         for gravity in (faults.CRITICAL, faults.WARNING):
             self.assertIn(f'gravity="{gravity}"', rules)
-        names = re.search(r'gravity="critical", name!~"(.*)"', rules)[1]
+        names = re.search(r'gravity="critical",\s+name!~"(.*)"', rules)[1]
         left = [it for it in faults.CRITICALS if re.fullmatch(names, it)]
         self.assertEqual(left, ["book-away", "balances-old", "queue-state", "queue-waits",
                                 "mirror-missing", "mirror-old"])
