@@ -13,15 +13,17 @@ class AwaitDesk(Folder):
     def said(self, allowed):
         """What is said of a server that ends, whose unit allows these ports."""
         with open(os.path.join(self.folder, "systemctl"), "w", encoding="ascii") as file:
-            file.write("#!/bin/sh\necho radacctd >{0}/unit\n[ \"$*\" = 'show -P SocketBindAllow "
-                       "radacctd' ] && cat {0}/allowed\n".format(self.folder))
+            file.write("#!/bin/sh\n[ \"$*\" = 'show -P SocketBindAllow radacctd' ] && "
+                       f"cat {self.folder}/allowed\n")
         os.chmod(file.name, 0o755)
         with open(os.path.join(self.folder, "allowed"), "w", encoding="ascii") as file:
             file.writelines(f"{it}\n" for it in allowed)
-        serve = ["bash", "-c", "sleep 0.1; :", "serve", "--radius-port", "21645"]
-        with subprocess.Popen([*serve, "--desk-port", "28066"]) as server:
-            path = {"PATH": f"{self.folder}:{os.environ['PATH']}"}
-            done = subprocess.run([WAIT, str(server.pid)], capture_output=True, text=True, env=path)
+        with subprocess.Popen(["true"]) as server:
+            server.wait()
+        # As the unit's own command line has them: that of a process that ended is gone.
+        env = {"PATH": f"{self.folder}:{os.environ['PATH']}", "RADACCTD_RADIUS_PORT": "21645",
+               "RADACCTD_DESK_PORT": "28066"}
+        done = subprocess.run([WAIT, str(server.pid)], capture_output=True, text=True, env=env)
         self.assertEqual(done.returncode, 1)
         return done.stderr
 
