@@ -114,8 +114,14 @@ BY_EYE = (
         "RadiusSocket::receive",
         "the size and the source that are kept beside the socket are those that the system gave",
     ),
+    (
+        "crates/acct_net/src/datagrams.rt",
+        "RadiusSocket::send",
+        "so are the size and the target of what was sent",
+    ),
+    ("crates/acct_net/src/datagrams.rt", "send_waiting", "it sends the octets that it is given"),
 )
-MOST_BY_EYE = 200
+MOST_BY_EYE = 210
 MOST_OF_CHANGES = 120
 
 USE = re.compile(r"^\s*(?:pub(?:\([^)]*\))? )?use ([^;]+);", re.M)

@@ -1,2 +1,3 @@
+mod DropLemmas
 mod PlaceLemmas
 mod SearchLemmas

@@ -1,11 +1,12 @@
 -- The place of the first that passes a test, and how many pass it.
 use Rattle.std.proofs.Common.{◌≡◌, ◌<◌, ◌≤◌, ◌+◌, ◌||◌, ℕ, suc, Bool, true, false, cond, List, []}
 use Rattle.std.proofs.Common.{◌∷◌}
-use Rattle.std.proofs.Common.{Some, None, not, length, refl, arith, drop, rules}
+use Rattle.std.proofs.Common.{◌-◌, Some, None, not, length, refl, arith, drop, rules, take}
 use Rattle.std.specs.List.{count_by, list_any, position, position_or_len}
 use Rattle.std.specs.Prelude.{slice_index_or, slice_set}
 use Rattle.std.proofs.lemmas.Bool.{ltb-false}
-use Rattle.std.proofs.lemmas.List.{get_or-drop}
+use Rattle.std.proofs.lemmas.List.{get_or-drop, length-drop}
+use Rattle.std.proofs.Math.Seq.{take-length}
 use Rattle.std.proofs.lemmas.List.Quantifiers.{position-Some}
 use Rattle.std.proofs.lemmas.List.Sums.{sum_by-set}
 
@@ -43,3 +44,7 @@ module _ {X : Type 0} (p : X → Bool) where
   fewer xs i y d within was now =
       let one_less = sum_by-set (λ x. cond (p x) 1 0) xs i y d within in
       omega (arith, rw (was, now) at one_less)
+
+  -- what is left of a list from a place on
+  pub rest : (xs : List X) (n : ℕ) → take (length xs - n) (drop n xs) ≡ drop n xs
+  rest xs n = rw (← length-drop n xs) (take-length (drop n xs))

@@ -1,3 +1,4 @@
 -- What private functions and proofs need, and no public contract reaches.
 pub mod Places
 pub mod RadiusSockets
+pub mod Turns

@@ -7,11 +7,13 @@
 //! 3. A receive that would block found nothing. Each other one that gives no datagram is a fault,
 //!    also if a signal interrupted it.
 ghost use Rattle.std.specs.Prelude.{◌≡◌, ◌<◌, true, false, length, slice_get, slice_set};
-ghost use Rattle.std.specs.Prelude.{MatchOption};
-ghost use Rattle.std.specs.Prelude.{◌↔◌, IfOk, IfSome, IsErrAnd, IsOkAnd};
+ghost use Rattle.std.specs.Prelude.{MatchOption, OnOk, is_some};
+ghost use Rattle.std.specs.Prelude.{◌↔◌, ◌+◌, IfOk, IfSome, IsErrAnd, IsOkAnd};
 ghost use Rattle.std.specs.List.{All, list_any, position};
 ghost use Rattle.acct_net.specs.Bound.{AreBoundAt};
-ghost use Rattle.acct_net.specs.inner.RadiusSockets.{MayReceiveAt, HasReceived};
+ghost use Rattle.acct_net.specs.inner.RadiusSockets.{MayReceiveAt, HasReceived, HasSent};
+ghost use Rattle.acct_net.specs.inner.RadiusSockets.{IsWokenAt};
+ghost use Rattle.acct_net.specs.inner.Turns.{in_turn};
 ghost use Rattle.std.specs.IoError.{error_kind};
 
 use crate::readiness::Readiness;
@@ -36,8 +38,8 @@ impl Drop for Datagrams {
     }
 }
 
-// A socket for datagrams, where it is bound, whether a datagram may wait there, and the size and the
-// source of the one that the last receive gave.
+// A socket for datagrams, where it is bound, whether a datagram may wait there, the size and the
+// source of the one that the last receive gave, and the size and the target of the last one sent.
 #[derive(Drop)]
 struct RadiusSocket {
     udp: UdpSocket,
@@ -45,6 +47,7 @@ struct RadiusSocket {
     port: u16,
     may_receive: bool,
     received: Option<(usize, SocketAddrV4)>,
+    sent: Option<(usize, SocketAddrV4)>,
 }
 
 impl Datagrams {
@@ -60,6 +63,8 @@ impl Datagrams {
         port: u16,
     ) -> io::Result<Datagrams>
         ensures bound { IfOk result (λ bound. AreBoundAt addresses.now port bound.sockets.items) }
+        ensures heard { IfOk result (λ bound.
+            All (λ socket. socket.may_receive ≡ true) bound.sockets.items) }
     {
         let mut sockets = Vec::with_capacity(alloc, addresses.len())?;
         for address in addresses {
@@ -108,10 +113,7 @@ impl Datagrams {
 
     /// Notes that a datagram may wait at the socket with this place.
     pub fn wake(&mut self, place: usize)
-        ensures sockets { MatchOption (slice_get self.old.sockets.items place)
-            (self.new.sockets.items ≡ self.old.sockets.items)
-            (λ socket. self.new.sockets.items ≡ slice_set self.old.sockets.items place
-            (record socket { may_receive = true })) }
+        ensures sockets { IsWokenAt place self.old.sockets.items self.new.sockets.items }
         ensures last { self.new.last ≡ self.old.last }
     {
         if let Some(socket) = self.sockets.get_mut(place) {
@@ -157,6 +159,8 @@ impl Datagrams {
         ensures none { result ≡ None
             → list_any (λ socket. socket.may_receive) self.now.sockets.items ≡ false }
         ensures some { IfSome result (MayReceiveAt self.now.sockets.items) }
+        ensures turn { result ≡ in_turn (λ socket. socket.may_receive) self.now.sockets.items
+            (self.now.last + 1) }
     {
         let sockets = self.sockets.as_slice();
         if self.last < sockets.len() {
@@ -173,8 +177,12 @@ impl Datagrams {
     /// # Errors
     ///
     /// If the system fails, or does not take the whole reply.
-    pub fn reply(&self, bytes: &[u8], to: SocketAddrV4) -> Result<(), Fault> {
-        let socket = self.sockets.get(self.last).ok_or(Fault)?;
+    pub fn reply(&mut self, bytes: &[u8], to: SocketAddrV4) -> Result<(), Fault>
+        ensures sent { OnOk result
+            (HasSent self.new.sockets.items self.new.last (length bytes.now, to)) }
+        ensures last { self.new.last ≡ self.old.last }
+    {
+        let socket = self.sockets.get_mut(self.last).ok_or(Fault)?;
         match socket.send(bytes, to) {
             Ok(count) if count == bytes.len() => Ok(()),
             _ => Err(Fault),
@@ -188,6 +196,7 @@ impl RadiusSocket {
     fn bind<R: Net>(runtime: &R, address: [u8; 4], port: u16) -> io::Result<RadiusSocket>
         ensures address { IfOk result (λ socket. socket.address ≡ address) }
         ensures port { IfOk result (λ socket. socket.port ≡ port) }
+        ensures heard { IfOk result (λ socket. socket.may_receive ≡ true) }
     {
         let udp = UdpSocket::bind(runtime, (Ipv4Addr::from(address), port))?;
         udp.set_nonblocking(true)?;
@@ -197,6 +206,7 @@ impl RadiusSocket {
             port,
             may_receive: true,
             received: None,
+            sent: None,
         })
     }
 
@@ -207,7 +217,7 @@ impl RadiusSocket {
           may_receive = self.new.may_receive;
           received = self.new.received;
         } }
-        ensures none { IfOk result (λ received. received ≡ None → self.new.may_receive ≡ false) }
+        ensures marked { IfOk result (λ received. self.new.may_receive ≡ is_some received) }
         ensures kept { IfOk result (λ received. self.new.received ≡ received) }
     {
         self.received = None;
@@ -219,17 +229,29 @@ impl RadiusSocket {
         Ok(self.received)
     }
 
-    // Sends a datagram. If the system has no space for it now, this waits until it has.
-    fn send(&self, bytes: &[u8], to: SocketAddrV4) -> io::Result<usize> {
-        match self.udp.send_to(bytes, to) {
-            Err(error) if error.kind() == ErrorKind::WouldBlock => {
-                self.udp.set_nonblocking(false)?;
-                let sent = self.udp.send_to(bytes, to);
-                self.udp.set_nonblocking(true)?;
-                sent
-            }
-            sent => sent,
+    // Sends a datagram. How much was sent, and where to, is kept beside the socket: no contract of
+    // the system says so, and what is made of it above is a clause.
+    fn send(&mut self, bytes: &[u8], to: SocketAddrV4) -> io::Result<usize>
+        ensures same { self.new ≡ record self.old { sent = self.new.sent } }
+        ensures kept { IfOk result (λ size. self.new.sent ≡ Some (size, to)) }
+    {
+        self.sent = None;
+        let size = send_waiting(&self.udp, bytes, to)?;
+        self.sent = Some((size, to));
+        Ok(size)
+    }
+}
+
+// Sends a datagram. If the system has no space for it now, this waits until it has.
+fn send_waiting(udp: &UdpSocket, bytes: &[u8], to: SocketAddrV4) -> io::Result<usize> {
+    match udp.send_to(bytes, to) {
+        Err(error) if error.kind() == ErrorKind::WouldBlock => {
+            udp.set_nonblocking(false)?;
+            let sent = udp.send_to(bytes, to);
+            udp.set_nonblocking(true)?;
+            sent
         }
+        sent => sent,
     }
 }
 

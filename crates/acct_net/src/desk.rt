@@ -10,7 +10,13 @@ ghost use Rattle.std.specs.Prelude.{OnOk};
 ghost use Rattle.std.specs.Prelude.{◌↔◌, slice_get, slice_set, IsOk, MatchOption};
 ghost use Rattle.std.specs.IoError.{error_kind};
 ghost use Rattle.acct_net.specs.inner.Places.{IsWaiting, Answers, IsReadyAt, HasReady, IsWoken};
-ghost use Rattle.acct_net.specs.inner.Places.{HasReceived};
+ghost use Rattle.acct_net.specs.inner.Places.{ChangesOnly, HasReceived, IsPaidAt, has_ready};
+ghost use Rattle.acct_net.specs.inner.Places.{HasNoneToDrop, IsDroppable, IsFirstToDrop, IsLate};
+ghost use Rattle.acct_net.specs.inner.Places.{IsEarlier, accepted_at};
+ghost use Rattle.std.specs.Time.{instant_nanos};
+ghost use Rattle.acct_net.specs.inner.Turns.{in_turn};
+ghost use Rattle.std.specs.List.{All, HoldsAt, position};
+ghost use Rattle.std.specs.Prelude.{◌<◌, ℕ, IfNone, IsSome, is_none, length, replicate};
 
 use crate::readiness::Readiness;
 use acct_model::Octets;
@@ -18,8 +24,8 @@ use acct_net_callers::{Caller, Step};
 use acct_service::Fault;
 use std::alloc::Global;
 use std::io;
-use std::io::ErrorKind;
-use std::net::{Ipv4Addr, Net, OpenListener, TcpListener};
+use std::io::{ErrorKind, Read, Write};
+use std::net::{Ipv4Addr, Net, OpenListener, OpenStream, TcpListener};
 use std::time::Instant;
 
 /// How many callers have a place.
@@ -82,6 +88,8 @@ impl<R: Net> Desk<R> {
         ensures idle { IfOk result (λ desk. desk.unanswered ≡ None) }
         ensures address { IfOk result (λ desk. desk.door.address ≡ address) }
         ensures port { IfOk result (λ desk. desk.door.port ≡ port) }
+        ensures places { IfOk result (λ desk. desk.places.items ≡ replicate PLACES None) }
+        ensures first { IfOk result (λ desk. (desk.is_full ≡ false) × (desk.next ≡ 0)) }
     {
         let door = opened(runtime, address, port)?;
         let mut places = Vec::with_capacity(alloc, PLACES)?;
@@ -131,8 +139,8 @@ impl<R: Net> Desk<R> {
     /// Whether something can be done for callers without waiting, as far as is known.
     pub fn is_busy(&self) -> bool
         ensures busy { self.now.may_accept ≡ true → self.now.is_full ≡ false → IsTrue result }
-        ensures idle { (self.now.may_accept ≡ false) ⊎ (self.now.is_full ≡ true) → IsTrue result
-            → HasReady self.now.places.items }
+        ensures idle { (self.now.may_accept ≡ false) ⊎ (self.now.is_full ≡ true)
+            → (IsTrue result ↔ HasReady self.now.places.items) }
     {
         (self.may_accept && !self.is_full) || self.ready_place().is_some()
     }
@@ -153,7 +161,7 @@ impl<R: Net> Desk<R> {
         ensures { IfOk result (λ request. IfSome request
             (IsWaiting self.new.unanswered self.new.places.items)) }
     {
-        if let Some(place) = self.timed_out_place(now) {
+        if let Some(place) = self.late_place(now) {
             self.close_at(place)?;
         }
         self.accept(readiness, now)?;
@@ -206,26 +214,36 @@ impl<R: Net> Desk<R> {
     // Accepts callers that wait, while there are places for them.
     fn accept(&mut self, readiness: &Readiness, now: Instant) -> Result<(), Fault> {
         for _ in 0..ACCEPTS_OF_A_TURN {
-            if !self.may_accept {
+            if !self.accept_next(readiness, now)? {
                 return Ok(());
             }
-            let Some(place) = self.place_for_another(now) else {
-                self.is_full = true;
-                return Ok(());
-            };
-            self.is_full = false;
-            self.accept_at(place, readiness, now)?;
         }
         Ok(())
     }
 
+    // Accepts a caller that waits, if there is a place for one. It says whether another one may be
+    // accepted now.
+    fn accept_next(&mut self, readiness: &Readiness, now: Instant) -> Result<bool, Fault>
+        ensures rests { IfOk result (λ goes_on. goes_on ≡ false
+            → (self.new.may_accept ≡ false) ⊎ (self.new.is_full ≡ true)) }
+        ensures one { (place : ℕ) × ChangesOnly place self.old.places.items self.new.places.items }
+    {
+        if !self.may_accept {
+            return Ok(false);
+        }
+        let Some(place) = self.place_for_another(now) else {
+            self.is_full = true;
+            return Ok(false);
+        };
+        self.is_full = false;
+        self.accept_at(place, readiness, now)?;
+        Ok(true)
+    }
+
     // Accepts a caller that waits, if there is one, in the place of whoever is there.
-    fn accept_at(
-        &mut self,
-        place: usize,
-        readiness: &Readiness,
-        now: Instant,
-    ) -> Result<(), Fault> {
+    fn accept_at(&mut self, place: usize, readiness: &Readiness, now: Instant) -> Result<(), Fault>
+        ensures { ChangesOnly place self.old.places.items self.new.places.items }
+    {
         let stream = match self.door.listener.accept() {
             Ok((stream, _)) => stream,
             Err(error) => return self.accept_failed(&error),
@@ -292,6 +310,7 @@ impl<R: Net> Desk<R> {
         ensures received { IfOk result (λ request. IfSome request (HasReceived
             R.Stream.remaining R.Stream.contents self.new.unanswered
             self.old.places.items self.new.places.items)) }
+        ensures others { ChangesOnly place self.old.places.items self.new.places.items }
     {
         let slot = self.places.get_mut(place).ok_or(Fault)?;
         let mut caller = slot.take().ok_or(Fault)?;
@@ -312,7 +331,11 @@ impl<R: Net> Desk<R> {
 
     // Closes the connection of the caller at a place, if there is one. That is a fault if its
     // response is not written.
-    fn close_at(&mut self, place: usize) -> Result<(), Fault> {
+    fn close_at(&mut self, place: usize) -> Result<(), Fault>
+        ensures places { self.new.places.items ≡ slice_set self.old.places.items place None }
+        ensures other { self.new ≡ record self.old { is_full = false; places = self.new.places } }
+        ensures owed { IsOk result ↔ IsPaidAt self.old.places.items place }
+    {
         let is_owed = match self.places.get(place) {
             Some(Some(caller)) => !caller.is_closing(),
             _ => false,
@@ -333,11 +356,12 @@ impl<R: Net> Desk<R> {
     }
 
     // The place of a caller whose time is up.
-    fn timed_out_place(&self, now: Instant) -> Option<usize> {
+    fn late_place(&self, now: Instant) -> Option<usize>
+        ensures found { IfSome result (HoldsAt (IsLate now) self.now.places.items) }
+        ensures none { IfNone result (All (λ place. ¬ IsLate now place) self.now.places.items) }
+    {
         for (place, caller) in self.places.iter().enumerate() {
-            if let Some(caller) = caller
-                && caller.has_timed_out(now)
-            {
+            if is_late(caller, now) {
                 return Some(place);
             }
         }
@@ -346,33 +370,102 @@ impl<R: Net> Desk<R> {
 
     // The next place whose caller is ready, so that each has its turn.
     fn ready_place(&self) -> Option<usize>
-        ensures { IfSome result (IsReadyAt self.now.places.items) }
+        ensures ready { IfSome result (IsReadyAt self.now.places.items) }
+        ensures none { result ≡ None → ¬ HasReady self.now.places.items }
+        ensures turn { result ≡ in_turn has_ready self.now.places.items self.now.next }
     {
-        for step in 0..PLACES {
-            let place = self.next.wrapping_add(step) % PLACES;
-            if let Some(Some(caller)) = self.places.get(place)
-                && caller.is_ready()
-            {
-                return Some(place);
-            }
+        let places = self.places.as_slice();
+        if self.next < places.len()
+            && let Some(place) = first_ready(&places[self.next..])
+        {
+            return Some(self.next + place);
         }
-        None
+        first_ready(places)
     }
 
     // A free place, or else that of the caller that connected first of those that may be dropped.
-    fn place_for_another(&self, now: Instant) -> Option<usize> {
-        let mut first: Option<(usize, Instant)> = None;
-        for (place, caller) in self.places.iter().enumerate() {
-            let Some(caller) = caller else {
-                return Some(place);
-            };
-            let accepted = caller.accepted();
-            if caller.may_be_dropped(now) && first.is_none_or(|(_, before)| accepted < before) {
-                first = Some((place, accepted));
-            }
+    fn place_for_another(&self, now: Instant) -> Option<usize>
+        ensures free { IsSome (position is_none self.now.places.items)
+            → result ≡ position is_none self.now.places.items }
+        ensures drops { position is_none self.now.places.items ≡ None → MatchOption result
+            (HasNoneToDrop self.now.places.items now (length self.now.places.items))
+            (IsFirstToDrop self.now.places.items now (length self.now.places.items)) }
+    {
+        match first_free(&self.places) {
+            Some(place) => Some(place),
+            None => first_to_drop(&self.places, now),
         }
-        first.map(|(place, _)| place)
     }
+}
+
+// Whether a caller has this place whose time is up.
+fn is_late<S: Read + Write + OpenStream + Drop>(place: &Option<Caller<S>>, now: Instant) -> bool
+    ensures { IsTrue result ↔ IsLate now place.now }
+{
+    matches!(place, Some(caller) if caller.has_timed_out(now))
+}
+
+// When the caller was accepted who has this place, if he may be dropped for another one.
+fn droppable_since<S: Read + Write + OpenStream + Drop>(
+    place: &Option<Caller<S>>,
+    now: Instant,
+) -> Option<Instant>
+    ensures none { IfNone result (¬ IsDroppable now place.now) }
+    ensures some { IfSome result (λ since. IsDroppable now place.now
+        × (instant_nanos since ≡ accepted_at place.now)) }
+{
+    match place {
+        Some(caller) if caller.may_be_dropped(now) => Some(caller.accepted()),
+        _ => None,
+    }
+}
+
+// The place of the caller that connected first of those that may be dropped.
+fn first_to_drop<S: Read + Write + OpenStream + Drop>(
+    places: &[Option<Caller<S>>],
+    now: Instant,
+) -> Option<usize>
+    ensures { MatchOption result (HasNoneToDrop places.now now (length places.now))
+        (IsFirstToDrop places.now now (length places.now)) }
+{
+    let mut first: Option<(usize, Instant)> = None;
+    for (place, caller) in places.iter().enumerate() {
+        if let Some(since) = droppable_since(caller, now) {
+            first = Some(earlier(first, (place, since)));
+        }
+    }
+    match first {
+        Some((place, _)) => Some(place),
+        None => None,
+    }
+}
+
+// Which of two connected first: the one before, if both did at once.
+fn earlier(before: Option<(usize, Instant)>, other: (usize, Instant)) -> (usize, Instant)
+    ensures none { before ≡ None → result ≡ other }
+    ensures both { IfSome before (λ one. IsEarlier one other result) }
+{
+    match before {
+        Some(one) if one.1 <= other.1 => one,
+        _ => other,
+    }
+}
+
+// The first free place.
+fn first_free<S: Drop>(places: &[Option<Caller<S>>]) -> Option<usize>
+    ensures { result ≡ position is_none places.now }
+{
+    places.iter().position(|place| place.is_none())
+}
+
+// The first place whose caller is ready.
+fn first_ready<S: Read + Write + OpenStream + Drop>(places: &[Option<Caller<S>>]) -> Option<usize>
+    ensures first { result ≡ position has_ready places.now }
+    ensures within { IfSome result (λ place. place < length places.now) }
+{
+    places
+        .iter()
+        .position(|place| matches!(place, Some(caller) if caller.is_ready()))
 }
 
 // Binds what accepts callers, and keeps beside it where. No contract of the system says so: this is

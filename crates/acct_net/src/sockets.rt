@@ -12,10 +12,13 @@
 //! 5. While a flag is set, what arrives is received and not handed on. Nobody is answered.
 //! 6. The buffer for a datagram is allocated once, and not for each turn.
 ghost use Rattle.std.specs.Prelude.{◌≡◌, ◌+◌, ◌-◌, ◌<◌, ◌^◌, false, None, IfOk, IfSome, OnOk, take};
+ghost use Rattle.std.specs.Prelude.{◌≤◌, Some, length, not, slice_get, true};
 ghost use Rattle.std.specs.List.{list_any};
+ghost use Rattle.acct_service.specs.Told.{CountsFault, Grows, given, sent};
 ghost use Rattle.acct_net.specs.Bound.{AreBoundAt};
-ghost use Rattle.acct_net.specs.inner.Places.{IsAnswered, IsOfUnanswered};
-ghost use Rattle.acct_net.specs.inner.RadiusSockets.{IsReceived};
+ghost use Rattle.acct_net.specs.inner.Places.{HasReady, IsAnswered, IsOfUnanswered, IsWoken};
+ghost use Rattle.acct_net.specs.inner.RadiusSockets.{IsReceived, IsSent, IsWokenAt};
+ghost use Rattle.acct_net.specs.inner.Turns.{is_request};
 
 use crate::datagrams::Datagrams;
 use crate::desk::{Desk, PLACES};
@@ -102,6 +105,7 @@ impl<'r, R: Net + Clock> Sockets<'r, R> {
         ensures sockets { result.event_loop ≡ self.entry.event_loop }
         ensures counts { (result.turns ≡ self.entry.turns)
             × (result.failures ≡ self.entry.failures) }
+        ensures silenced { result.silenced ≡ Some flag.entry }
     {
         let Sockets {
             event_loop,
@@ -118,7 +122,9 @@ impl<'r, R: Net + Clock> Sockets<'r, R> {
     }
 
     // Whether nothing is handed on.
-    fn is_silenced(&self) -> bool {
+    fn is_silenced(&self) -> bool
+        ensures { self.now.silenced ≡ None → result ≡ false }
+    {
         match self.silenced {
             Some(flag) => flag.get(),
             None => false,
@@ -154,7 +160,19 @@ impl<'r, R: Net + Clock> Exchange for Sockets<'r, R> {
 
     ghost told = { λ _. None };
 
-    fn next(&mut self) -> Result<Option<Event>, Fault> {
+    fn next(&mut self) -> Result<Option<Event>, Fault>
+        requires turns { self.old.turns < 2 ^ 64 - 1 }
+        requires failures { self.old.failures < 2 ^ 64 - 1 }
+        ensures turns { self.new.turns ≡ self.old.turns + 1 }
+        ensures failures { CountsFault result self.old.failures self.new.failures }
+        ensures told { Grows None (given result) None }
+        ensures asked { IfOk result (λ event. IfSome event (λ it.
+            IsOfUnanswered self.new.event_loop.desk.unanswered
+            self.new.event_loop.desk.places.items it.what)) }
+        ensures received { IfOk result (λ event. IfSome event (λ it. IsReceived
+            self.new.event_loop.datagrams.sockets.items self.new.event_loop.datagrams.last
+            self.new.event_loop.buffer.items it.what)) }
+    {
         self.turns += 1;
         let event = self.event_loop.next_event();
         if event.is_err() {
@@ -168,7 +186,17 @@ impl<'r, R: Net + Clock> Exchange for Sockets<'r, R> {
 
     /// Sends octets to the source of an event. What a caller does not take of them at once is
     /// written in later turns, and if that fails, that turn is a fault.
-    fn reply(&mut self, event: &Event, bytes: &[u8]) -> Result<(), Fault> {
+    fn reply(&mut self, event: &Event, bytes: &[u8]) -> Result<(), Fault>
+        requires failures { self.old.failures < 2 ^ 64 - 1 }
+        ensures turns { self.new.turns ≡ self.old.turns }
+        ensures failures { CountsFault result self.old.failures self.new.failures }
+        ensures told { Grows None (sent event.now bytes.now result) None }
+        ensures answered { OnOk result (IsAnswered R.Stream.contents event.now.what
+            self.old.event_loop.desk.unanswered self.old.event_loop.desk.places.items
+            self.new.event_loop.desk.places.items bytes.now) }
+        ensures datagram { OnOk result (IsSent self.new.event_loop.datagrams.sockets.items
+            self.new.event_loop.datagrams.last bytes.now event.now.what) }
+    {
         let sent = self.event_loop.send(&event.what, bytes);
         if sent.is_err() {
             self.failures += 1;
@@ -196,6 +224,8 @@ struct EventLoop<'r, R: Net> {
     desk: Desk<R>,
     are_callers_first: bool,
     buffer: Vec<u8>,
+    // The longest datagram has room.
+    ghost room: { length buffer.items ≡ 65535 },
 }
 
 impl<'r, R: Net> Drop for EventLoop<'r, R> {
@@ -223,6 +253,7 @@ impl<'r, R: Net + Clock> EventLoop<'r, R> {
         ensures waits { IfOk result (λ event_loop. event_loop.readiness.waits ≡ 0) }
         ensures datagrams { IfOk result (λ event_loop. event_loop.datagrams ≡ datagrams) }
         ensures desk { IfOk result (λ event_loop. event_loop.desk ≡ desk) }
+        ensures callers { IfOk result (λ event_loop. event_loop.are_callers_first ≡ true) }
     {
         let watched = DATAGRAMS.saturating_add(datagrams.count());
         let readiness = Readiness::new(runtime, alloc, watched)?;
@@ -251,6 +282,11 @@ impl<'r, R: Net + Clock> EventLoop<'r, R> {
         ensures received { IfOk result (λ event. IfSome event (λ it. IsReceived
             self.new.datagrams.sockets.items self.new.datagrams.last self.new.buffer.items
             it.what)) }
+        ensures turn { IfOk result (λ event. IfSome event (λ it.
+            self.new.are_callers_first ≡ not (is_request it.what))) }
+        ensures fair { self.old.are_callers_first ≡ false → IfOk result (λ event. IfSome event
+            (λ it. is_request it.what ≡ true → list_any (λ socket. socket.may_receive)
+            self.new.datagrams.sockets.items ≡ false)) }
     {
         self.desk.close_unanswered();
         self.poll()?;
@@ -273,24 +309,36 @@ impl<'r, R: Net + Clock> EventLoop<'r, R> {
     // was ready each is tried again: so nobody waits for long whom the system did not report.
     fn poll(&mut self) -> Result<(), Fault>
         requires { self.old.readiness.waits < 2 ^ 64 - 1 }
-        ensures { self.new.readiness.waits ≡ self.old.readiness.waits + 1 }
+        ensures waits { self.new.readiness.waits ≡ self.old.readiness.waits + 1 }
+        ensures turn { self.new.are_callers_first ≡ self.old.are_callers_first }
     {
-        let is_busy = self.datagrams.may_receive() || self.desk.is_busy();
-        let timeout = if is_busy { 0 } else { MOST_WAIT };
-        let waited = self.readiness.wait(Duration::from_millis(timeout));
+        let most = self.most_wait();
+        let waited = self.readiness.wait(Duration::from_millis(most));
         waited.map_err(|_| Fault)?;
-        if !is_busy && self.readiness.events().is_empty() {
+        if most > 0 && self.readiness.events().is_empty() {
             self.datagrams.wake_all();
             self.desk.wake_listener();
         }
         for event in self.readiness.events() {
-            match event.token().0 {
-                LISTENER => self.desk.wake_listener(),
-                place if place < LISTENER => self.desk.wake_caller(place),
-                number => self.datagrams.wake(number - DATAGRAMS),
-            }
+            wake(&mut self.datagrams, &mut self.desk, event.token().0);
         }
         Ok(())
+    }
+
+    // The most milliseconds that this turn waits: none if something can be done now.
+    fn most_wait(&self) -> u64
+        ensures datagrams { list_any (λ socket. socket.may_receive)
+            self.now.datagrams.sockets.items ≡ true → result ≡ 0 }
+        ensures accepts { self.now.desk.may_accept ≡ true → self.now.desk.is_full ≡ false
+            → result ≡ 0 }
+        ensures callers { HasReady self.now.desk.places.items → result ≡ 0 }
+        ensures most { result ≤ MOST_WAIT }
+    {
+        if self.datagrams.may_receive() || self.desk.is_busy() {
+            0
+        } else {
+            MOST_WAIT
+        }
     }
 
     // The request of a caller, if one is there now.
@@ -302,6 +350,7 @@ impl<'r, R: Net + Clock> EventLoop<'r, R> {
         ensures received { IfOk result (λ event. IfSome event (λ it. IsReceived
             self.new.datagrams.sockets.items self.new.datagrams.last self.new.buffer.items
             it.what)) }
+        ensures kind { IfOk result (λ event. IfSome event (λ it. is_request it.what ≡ true)) }
     {
         let now = Instant::now(self.runtime).map_err(|_| Fault)?;
         let request = self
@@ -323,6 +372,7 @@ impl<'r, R: Net + Clock> EventLoop<'r, R> {
             it.what)) }
         ensures idle { IfOk result (λ event. event ≡ None → list_any (λ socket. socket.may_receive)
             self.new.datagrams.sockets.items ≡ false) }
+        ensures kind { IfOk result (λ event. IfSome event (λ it. is_request it.what ≡ false)) }
     {
         let Some((size, source)) = self.datagrams.receive(self.buffer.as_mut_slice())? else {
             return Ok(None);
@@ -357,6 +407,8 @@ impl<'r, R: Net + Clock> EventLoop<'r, R> {
         ensures answered { OnOk result (IsAnswered R.Stream.contents what.now
             self.old.desk.unanswered self.old.desk.places.items self.new.desk.places.items
             bytes.now) }
+        ensures sent { OnOk result (IsSent self.new.datagrams.sockets.items
+            self.new.datagrams.last bytes.now what.now) }
     {
         match what {
             What::Datagram { source, port, .. } => {
@@ -368,5 +420,21 @@ impl<'r, R: Net + Clock> EventLoop<'r, R> {
                 self.desk.answer(bytes, now)
             }
         }
+    }
+}
+
+// Notes that what is watched under this number may be ready.
+fn wake<R: Net>(datagrams: &mut Datagrams, desk: &mut Desk<R>, number: usize)
+    ensures socket { LISTENER < number → IsWokenAt (number - DATAGRAMS)
+        datagrams.old.sockets.items datagrams.new.sockets.items × (desk.new ≡ desk.old) }
+    ensures listener { number ≡ LISTENER → (desk.new ≡ record desk.old { may_accept = true })
+        × (datagrams.new ≡ datagrams.old) }
+    ensures caller { number < LISTENER → IsWoken (slice_get desk.old.places.items number) number
+        desk.old.places.items desk.new.places.items × (datagrams.new ≡ datagrams.old) }
+{
+    match number {
+        LISTENER => desk.wake_listener(),
+        place if place < LISTENER => desk.wake_caller(place),
+        number => datagrams.wake(number - DATAGRAMS),
     }
 }

@@ -1,12 +1,12 @@
 //! Several addresses on loopback: who is asked where, and from where each reply leaves.
-use crate::callers::{REQUEST, echoes, gets, next};
+use crate::callers::{REQUEST, echoes, gets, is_quiet, next};
 use crate::turns::reply;
 use acct_net::Sockets;
 use acct_service::{Exchange, What};
 use std::io::Write;
 use std::net::{Ipv4Addr, SocketAddr, TcpStream, UdpSocket};
 use std::test::Fail;
-use std::time::Duration;
+use std::time::{Duration, Instant};
 
 // The loopback address with this number.
 fn local(number: u8) -> [u8; 4] {
@@ -129,6 +129,57 @@ fn addresses_take_turns(rt: HostRuntime) -> Result<(), Fail> {
         }
         assert!(rt; alternate(&mut sockets, 5 * u32::from(count))?, "{count}");
     }
+    Ok(())
+}
+
+// Whether a datagram to an address comes within eight turns, before each of which one is sent to the
+// first address.
+fn is_heard_beside_the_first(
+    sockets: &mut Sockets<'_, HostRuntime>,
+    client: &UdpSocket,
+    place: u8,
+) -> Result<bool, Fail> {
+    ask(sockets, client, place)?;
+    for _ in 0..8 {
+        ask(sockets, client, 0)?;
+        if answer(sockets)? == place {
+            return Ok(true);
+        }
+    }
+    Ok(false)
+}
+
+// An address at which nothing came for a while is heard beside one that is never idle.
+#[test]
+fn hears_each_address_beside_a_busy_one(rt: HostRuntime) -> Result<(), Fail> {
+    let (mut sockets, client) = (bound(&rt, 3)?, client(&rt)?);
+    for place in [2, 1] {
+        assert!(rt; is_quiet(&mut sockets, 8), "{place}");
+        assert!(rt;
+            is_heard_beside_the_first(&mut sockets, &client, place)?,
+            "{place}"
+        );
+        // Those to the first address that still wait, of at most eight.
+        for _ in 0..8 {
+            let _ = next(&mut sockets, 1);
+        }
+    }
+    Ok(())
+}
+
+// Datagrams that wait already come without a pause between them, which would take 20 milliseconds.
+#[test]
+fn waits_for_none_that_is_there(rt: HostRuntime) -> Result<(), Fail> {
+    let (mut sockets, client) = (bound(&rt, 1)?, client(&rt)?);
+    assert!(rt; is_quiet(&mut sockets, 8));
+    for _ in 0..150 {
+        ask(&sockets, &client, 0)?;
+    }
+    let begun = Instant::now(&rt)?;
+    for _ in 0..150 {
+        let _ = answer(&mut sockets)?;
+    }
+    assert!(rt; begun.elapsed(&rt)? < Duration::from_secs(2));
     Ok(())
 }
 

@@ -17,6 +17,12 @@ pub enum Status {
 }
 
 impl From<Status> for ExitCode {
+    ghost use Rattle.std.specs.Prelude.{◌≡◌};
+    ghost use Rattle.std.specs.Process.{exit_status};
+    ghost use Rattle.acct_program.specs.Statuses.{status_number};
+
+    ghost from_gives = { λ status code. exit_status code ≡ status_number status };
+
     fn from(status: Status) -> ExitCode {
         ExitCode::from(status as u8)
     }

@@ -13,4 +13,5 @@ pub mod NewSite
 pub mod Sights
 pub mod Tally
 pub mod Told
+pub mod Unwritten
 pub mod inner

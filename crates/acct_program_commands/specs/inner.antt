@@ -1,2 +1,5 @@
 -- What private functions and proofs need, and no public contract reaches.
+pub mod Minutes
+pub mod Names
+pub mod Sums
 pub mod ToldDrops

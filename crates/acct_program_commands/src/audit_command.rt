@@ -185,6 +185,7 @@ impl<'w, W: Write, E: Write> Auditor for Findings<'w, W, E> {
                 Kind::Vouchers => "vouchers",
             };
             let _ = writeln!(self.progress, "{count} {members}");
+            let _ = self.progress.flush();
         }
     }
 }

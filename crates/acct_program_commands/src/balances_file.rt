@@ -3,9 +3,11 @@
 //!
 //! It is written after a slice of turns, at most once in so many seconds. A failed write changes
 //! nothing else. It is printed once, until a write succeeds again.
-ghost use Rattle.std.specs.Prelude.{IfOk};
+ghost use Rattle.std.specs.Prelude.{◌≡◌, IfOk};
 ghost use Rattle.acct_book.specs.Step.{OnlyLooks};
 ghost use Rattle.acct_program_commands.specs.Exports.{Exports};
+ghost use Rattle.acct_program_commands.specs.Fresh.{IsDue};
+ghost use Rattle.acct_program_commands.specs.Unwritten.{unwritten, IsBegun};
 
 use crate::counted_lines::CountedLines;
 use crate::exporting::run_export;
@@ -35,7 +37,10 @@ impl<'r, R: ReplacesFiles> KeptBalances<'r, R> {
         runtime: &'r R,
         alloc: Global,
         balances: &BalancesFile,
-    ) -> Result<KeptBalances<'r, R>, AllocError> {
+    ) -> Result<KeptBalances<'r, R>, AllocError>
+        ensures { IfOk result (λ kept.
+            kept.file ≡ unwritten balances.now.file MODE balances.now.seconds) }
+    {
         let file = FreshFile::new(alloc, &balances.file, MODE, balances.seconds)?;
         Ok(KeptBalances { runtime, file })
     }
@@ -51,7 +56,11 @@ impl<'r, R: ReplacesFiles> KeptBalances<'r, R> {
         gauges: &Gauges,
         errors: &mut E,
     )
-        ensures { OnlyLooks B.Book book.old book.new }
+        ensures looks { OnlyLooks B.Book book.old book.new }
+        ensures due { IsDue self.old.file.pause self.old.file.begun_at moment
+            → IsBegun (Some moment) self.old.file self.new.file }
+        ensures idle { ¬ IsDue self.old.file.pause self.old.file.begun_at moment
+            → self.new.file ≡ self.old.file }
     {
         if !self.file.is_due(moment) {
             return;

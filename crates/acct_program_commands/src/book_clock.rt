@@ -1,5 +1,6 @@
 //! Checks the clock against the book: it must not be before the book's last change.
-ghost use Rattle.std.specs.Prelude.{◌<◌, ◌^◌, Some, OnOk};
+ghost use Rattle.std.specs.Prelude.{◌≡◌, ◌/◌, ◌<◌, ◌^◌, Some, IfErr, IfOk, OnOk};
+ghost use Rattle.std.specs.Time.{system_time_nanos};
 ghost use Rattle.std.specs.Io.KnownBytes.{Appends};
 ghost use Rattle.acct_program_commands.specs.BookClock.{late_text, late_line};
 
@@ -8,7 +9,7 @@ use acct_model::Text;
 use acct_reads::ReadsFiles;
 use acct_service::moment_of;
 use std::io::Write;
-use std::time::{Clock, UNIX_EPOCH};
+use std::time::{Clock, SystemTime, UNIX_EPOCH};
 use std::{fmt, io};
 
 // The octets of a log that has a frame, but for its page: of its header and of the frame's, as
@@ -95,13 +96,18 @@ fn written_at<R: ReadsFiles + AllocGlobal>(runtime: &R, file: &Text) -> u64 {
 // When a file was last written, in seconds since 1970: 0 if that is not known, or if the file has
 // fewer octets than these.
 fn changed_at<R: ReadsFiles>(runtime: &R, file: &Text, least: u64) -> u64 {
-    let Ok(metadata) = runtime.metadata(file.as_str()) else {
-        return 0;
-    };
-    if metadata.len() < least {
-        return 0;
+    match runtime.metadata(file.as_str()) {
+        Ok(metadata) if metadata.len() >= least => seconds_of(metadata.modified()),
+        Ok(_) | Err(_) => 0,
     }
-    let Ok(changed) = metadata.modified() else {
+}
+
+// A moment in seconds since 1970: 0 if it is not known or before that.
+fn seconds_of(changed: io::Result<SystemTime>) -> u64
+    ensures known { IfOk changed (λ time. result ≡ system_time_nanos time / 1_000_000_000) }
+    ensures unknown { IfErr changed (λ _. result ≡ 0) }
+{
+    let Ok(changed) = changed else {
         return 0;
     };
     match changed.duration_since(UNIX_EPOCH) {

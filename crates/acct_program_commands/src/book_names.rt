@@ -2,6 +2,9 @@
 //!
 //! A server goes on with the files that it opened. If a name leads to another file, or to none, what
 //! it records is in no file that the next start finds. So it is looked at while the server runs.
+ghost use Rattle.std.specs.Prelude.{◌≡◌, ◌⊎◌, false, None, Some, IfOk, not};
+ghost use Rattle.acct_program_commands.specs.inner.Names.{KeepsName};
+
 use crate::gauges::Gauges;
 use acct_model::Text;
 use acct_reads::ReadsFiles;
@@ -37,7 +40,10 @@ impl<'r, R: ReadsFiles> BookNames<'r, R> {
     /// # Errors
     ///
     /// If there is no memory for the names.
-    pub fn new(runtime: &'r R, alloc: Global, book: &Text) -> Result<BookNames<'r, R>, AllocError> {
+    pub fn new(runtime: &'r R, alloc: Global, book: &Text) -> Result<BookNames<'r, R>, AllocError>
+        ensures book { IfOk result (λ names. names.book.path ≡ book.now) }
+        ensures unseen { IfOk result (λ names. (names.looked_at ≡ 0) × (names.is_told ≡ false)) }
+    {
         let name = book.as_str();
         let log = log_of(runtime, alloc, name)?;
         let mut names = BookNames {
@@ -54,7 +60,11 @@ impl<'r, R: ReadsFiles> BookNames<'r, R> {
     /// Looks where they lead, once in a second of the clock, and notes in the gauges whether one
     /// leads elsewhere. If the next look finds that, too, or finds them back, a line says so. A look
     /// that fails tells nothing, and all stays as it was.
-    pub fn look<E: Write>(&mut self, moment: u64, gauges: &Gauges, errors: &mut E) {
+    pub fn look<E: Write>(&mut self, moment: u64, gauges: &Gauges, errors: &mut E)
+        ensures looked { self.new.looked_at ≡ moment }
+        ensures book { KeepsName self.old.book self.new.book }
+        ensures log { KeepsName self.old.log self.new.log }
+    {
         if moment == self.looked_at {
             return;
         }
@@ -77,7 +87,11 @@ impl<'r, R: ReadsFiles> BookNames<'r, R> {
 
     // Whether one of the names leads to another file than at first, or to none. `None` if neither is
     // known to, and of one it cannot be told.
-    fn lead_elsewhere(&mut self) -> Option<bool> {
+    fn lead_elsewhere(&mut self) -> Option<bool>
+        ensures same { self.new ≡ record self.old { book = self.new.book; log = self.new.log } }
+        ensures book { KeepsName self.old.book self.new.book }
+        ensures log { KeepsName self.old.log self.new.log }
+    {
         let book = self.book.leads_elsewhere(self.runtime);
         let log = self.log.leads_elsewhere(self.runtime);
         match (book, log) {
@@ -88,7 +102,9 @@ impl<'r, R: ReadsFiles> BookNames<'r, R> {
     }
 
     // Writes a line about the book's name.
-    fn tell<E: Write>(&mut self, errors: &mut E, what: &str) {
+    fn tell<E: Write>(&mut self, errors: &mut E, what: &str)
+        ensures { self.new ≡ record self.old { is_told = not self.old.is_told } }
+    {
         self.is_told = !self.is_told;
         let name = self.book.path.as_str();
         let _ = writeln!(errors, "db: the name of {name}, or of its log, {what}");
@@ -128,13 +144,18 @@ struct FileNumber {
 
 impl Name {
     // A name that was not looked at yet.
-    fn new(path: Text) -> Name {
+    fn new(path: Text) -> Name
+        ensures { result ≡ record { path = path; first = None } }
+    {
         Name { path, first: None }
     }
 
     // Whether it leads to another file than at first, or to none. `None` if the look fails for
     // another reason.
-    fn leads_elsewhere<R: ReadsFiles>(&mut self, runtime: &R) -> Option<bool> {
+    fn leads_elsewhere<R: ReadsFiles>(&mut self, runtime: &R) -> Option<bool>
+        ensures kept { KeepsName self.old self.new }
+        ensures unseen { self.new.first ≡ None → (result ≡ Some false) ⊎ (result ≡ None) }
+    {
         let found = match runtime.metadata(self.path.as_str()) {
             Ok(found) => FileNumber {
                 device: found.dev(),

@@ -1,5 +1,6 @@
 //! The file of a configuration.
-ghost use Rattle.std.specs.Prelude.{◌≡◌, IfOk, IfErr, IfSome, None};
+ghost use Rattle.std.specs.Prelude.{◌≡◌, ◌||◌, IfOk, IfErr, IfSome, None, bytes_eq, codes, nat_eq};
+ghost use Rattle.std.specs.List.{starts_with};
 ghost use Rattle.acct_site_config.specs.Config.{IsConfig};
 ghost use Rattle.acct_site_config.specs.Tables.{top_error};
 ghost use Rattle.acct_program_commands.specs.Checks.{IsNoConfig, IsRead};
@@ -69,8 +70,15 @@ pub(crate) fn is_waited_for<R: ReadsFiles>(runtime: &R, file: &str) -> bool {
 }
 
 // Whether a file is one that the program was given open.
-fn is_given_open(file: &str) -> bool {
-    file == "/dev/stdin" || file.starts_with("/dev/fd/") || file.starts_with("/proc/self/fd/")
+fn is_given_open(file: &str) -> bool
+    ensures { result ≡ (bytes_eq file.now (codes "/dev/stdin")
+        || starts_with nat_eq file.now (codes "/dev/fd/")
+        || starts_with nat_eq file.now (codes "/proc/self/fd/")) }
+{
+    let name = file.as_bytes();
+    name == b"/dev/stdin".as_slice()
+        || name.starts_with(b"/dev/fd/")
+        || name.starts_with(b"/proc/self/fd/")
 }
 
 // All octets that a reader has left.

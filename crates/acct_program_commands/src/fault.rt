@@ -1,5 +1,6 @@
 //! The faults that end a command early.
-ghost use Rattle.std.specs.Prelude.{◌≡◌, ◌≢◌, Some, IfOk};
+ghost use Rattle.std.specs.Prelude.{◌≡◌, ◌≢◌, ◌++◌, ◌∷◌, [], Some, IfOk, OnOk};
+ghost use Rattle.std.specs.Io.KnownBytes.{Appends};
 ghost use Rattle.acct_program_commands.specs.Endings.{fault_text, store_fault_text, fault_status};
 ghost use Rattle.acct_program_commands.specs.Endings.{ended_status};
 
@@ -167,10 +168,22 @@ pub fn end<E: Write>(faults: &mut E, ended: Result<Status, Fault>) -> Status
     match ended {
         Ok(status) => status,
         Err(fault) => {
-            if fault != Fault::CannotWrite {
-                let _ = writeln!(faults, "{fault}");
-            }
+            let _ = tell_fault(faults, fault);
             fault.status()
         }
     }
+}
+
+// Prints a fault, unless it is that a writer failed.
+fn tell_fault<E: Write>(faults: &mut E, fault: Fault) -> io::Result<()>
+    ensures none { fault ≡ Fault.CannotWrite
+        → OnOk result (Appends (E.contents faults.old) (E.contents faults.new) []) }
+    ensures line { fault ≢ Fault.CannotWrite
+        → OnOk result (Appends (E.contents faults.old) (E.contents faults.new)
+        (fault_text fault ++ 10 ∷ [])) }
+{
+    if fault == Fault::CannotWrite {
+        return Ok(());
+    }
+    writeln!(faults, "{fault}")
 }

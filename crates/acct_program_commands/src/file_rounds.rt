@@ -54,7 +54,15 @@ impl<'r, R: ReplacesFiles + Clock, S: SiteSource + Drop, E: Write + Drop> FileRo
         gauges: &'r Gauges,
         errors: E,
     ) -> FileRounds<'r, R, S, E>
-        ensures { result.source ≡ source }
+        ensures source { result.source ≡ source }
+        ensures whole { result ≡ record {
+          runtime = runtime.entry;
+          source = source;
+          balances = balances.entry;
+          names = names.entry;
+          gauges = gauges.entry;
+          errors = errors;
+        } }
     {
         FileRounds {
             runtime,

@@ -11,6 +11,7 @@ ghost use Rattle.acct_book_forward.specs.Carrying.{CarriesOn};
 ghost use Rattle.acct_program_commands.specs.Forwarding.{selected, Forwards, LieBack, LieFarBack};
 ghost use Rattle.acct_program_commands.specs.Forwarding.{LiesFarBack, IsHeardAt, IsHeardOf};
 ghost use Rattle.acct_program_commands.specs.Forwarding.{IsHeardIn, Agrees, MayCarry};
+ghost use Rattle.acct_program_commands.specs.inner.Sums.{AddsUp, as_carried, no_sessions};
 
 use crate::book_clock::ClockReading;
 use crate::fault::Fault;
@@ -51,19 +52,29 @@ pub struct Totals {
 
 impl Totals {
     fn new() -> Totals
-        ensures { result.is_heard ≡ false }
+        ensures heard { result.is_heard ≡ false }
+        ensures sums { (result.accounts ≡ 0) × (result.touched ≡ 0)
+            × (result.sessions ≡ no_sessions) }
     {
         Totals {
             accounts: 0,
             touched: 0,
-            sessions: Tally::new(0),
+            sessions: Tally {
+                carried: 0,
+                of_kept: 0,
+                still_open: 0,
+                recent: 0,
+                too_large: 0,
+            },
             is_heard: false,
         }
     }
 
     // Adds an account.
     fn add(&mut self, tally: &Tally)
-        ensures { self.new.is_heard ≡ self.old.is_heard }
+        ensures heard { self.new.is_heard ≡ self.old.is_heard }
+        ensures sums { AddsUp self.old.accounts self.new.accounts self.old.touched
+            self.new.touched self.old.sessions self.new.sessions tally.now }
     {
         self.accounts = self.accounts.saturating_add(1);
         if tally.carried > 0 {
@@ -80,7 +91,9 @@ impl Totals {
     // Adds an account whose sessions are only counted: those that may be carried, as if each
     // fitted.
     fn add_seen(&mut self, seen: &Seen)
-        ensures { self.new.is_heard ≡ seen.now.is_heard }
+        ensures heard { self.new.is_heard ≡ seen.now.is_heard }
+        ensures sums { AddsUp self.old.accounts self.new.accounts self.old.touched
+            self.new.touched self.old.sessions self.new.sessions (as_carried seen.now.tally) }
     {
         let tally = seen.tally;
         self.add(&Tally {
@@ -480,6 +493,7 @@ fn carry_all<B: Book, E: Write>(
 fn write_progress<E: Write>(progress: &mut E, done: u64, accounts: u64) {
     if done % STEP == 0 {
         let _ = writeln!(progress, "{done} of {accounts} accounts");
+        let _ = progress.flush();
     }
 }
 

@@ -1,6 +1,7 @@
 //! A file that is rewritten from time to time.
-ghost use Rattle.std.specs.Prelude.{◌≡◌, ◌↔◌, ◌++◌, IsTrue, IfOk, OnOk, Some, false, codes, is_err};
+ghost use Rattle.std.specs.Prelude.{◌≡◌, ◌↔◌, IsTrue, IfOk, OnOk, Some, false, is_err};
 ghost use Rattle.acct_program_commands.specs.Fresh.{IsDue, TellsTrouble};
+ghost use Rattle.acct_program_commands.specs.Unwritten.{unwritten};
 
 use crate::fault::Fault;
 use crate::file_changes::ReplacesFiles;
@@ -41,8 +42,7 @@ impl FreshFile {
         mode: u32,
         pause: u64,
     ) -> Result<FreshFile, AllocError>
-        ensures name { IfOk result (λ f. f.name ≡ name.now) }
-        ensures new_name { IfOk result (λ f. f.new_name ≡ name.now ++ codes ".new") }
+        ensures { IfOk result (λ file. file ≡ unwritten name.now mode pause) }
     {
         let old = name.as_str();
         let text = format!(in alloc; "{old}.new")?;
@@ -101,7 +101,7 @@ impl FreshFile {
         written: Result<(), Fault>,
         errors: &mut E,
     ) -> io::Result<()>
-        ensures failing { self.new.is_failing ≡ is_err written }
+        ensures failing { self.new ≡ record self.old { is_failing = is_err written } }
         ensures tells { OnOk result (TellsTrouble self.old.is_failing what.now written
             (E.contents errors.old) (E.contents errors.new)) }
     {

@@ -1,5 +1,5 @@
 //! The file of the configuration, which the server polls while it runs.
-ghost use Rattle.std.specs.Prelude.{None};
+ghost use Rattle.std.specs.Prelude.{◌≡◌, ◌↔◌, false, None, Some, IsTrue};
 
 use crate::config_file::read_file;
 use crate::site_source::SiteSource;
@@ -39,7 +39,14 @@ struct Rights {
 impl<'a, R: ReadsFiles> SiteFile<'a, R> {
     /// The file of this name, with its metadata of now. Call it before the file is first read, so
     /// that no change is missed.
-    pub fn new(runtime: &'a R, name: &'a Text) -> SiteFile<'a, R> {
+    pub fn new(runtime: &'a R, name: &'a Text) -> SiteFile<'a, R>
+        ensures { result ≡ record {
+          runtime = runtime.entry;
+          name = name.entry;
+          seen = result.seen;
+          looked_at = None;
+        } }
+    {
         SiteFile {
             runtime,
             name,
@@ -49,7 +56,16 @@ impl<'a, R: ReadsFiles> SiteFile<'a, R> {
     }
 
     // Whether the file's metadata differ from those of the last poll.
-    fn is_changed(&mut self, moment: u64) -> bool {
+    fn is_changed(&mut self, moment: u64) -> bool
+        ensures looked { self.new ≡ record self.old {
+          seen = self.new.seen;
+          looked_at = Some moment;
+        } }
+        ensures again { self.old.looked_at ≡ Some moment
+            → (result ≡ false) × (self.new.seen ≡ self.old.seen) }
+        ensures changed { ¬ (self.old.looked_at ≡ Some moment)
+            → (IsTrue result ↔ ¬ (self.new.seen ≡ self.old.seen)) }
+    {
         if self.looked_at == Some(moment) {
             return false;
         }

@@ -5,6 +5,8 @@
 //! or more, and at the end. A failed write changes nothing else. It is printed once, until a write
 //! succeeds again.
 ghost use Rattle.std.specs.Prelude.{◌≡◌, ◌^◌, ◌<◌, false, IfOk, replicate};
+ghost use Rattle.acct_program_commands.specs.Fresh.{IsDue};
+ghost use Rattle.acct_program_commands.specs.Unwritten.{unwritten, IsBegun};
 ghost use Rattle.acct_program_commands.specs.Tally.{no_tally, with_mute, with_came, with_reply};
 ghost use Rattle.acct_program_commands.specs.Tally.{with_drop};
 ghost use Rattle.acct_program_commands.specs.Tally.{is_event, with_drop_for, last_event};
@@ -92,7 +94,10 @@ impl<'r, R: ReadsFiles> StateSource<'r, R> {
         alloc: Global,
         gauges: &'r Gauges,
         book: &Text,
-    ) -> Result<StateSource<'r, R>, AllocError> {
+    ) -> Result<StateSource<'r, R>, AllocError>
+        ensures book { IfOk result (λ state. state.book ≡ book.now) }
+        ensures gauges { IfOk result (λ state. state.gauges ≡ gauges.entry) }
+    {
         Ok(StateSource {
             runtime,
             gauges,
@@ -134,6 +139,20 @@ impl<'r, R: ReplacesFiles, E: Write> StatusFile<'r, R, E> {
     ) -> Result<StatusFile<'r, R, E>, AllocError>
     where
         E: Drop,
+        ensures { IfOk result (λ status. status ≡ record {
+          runtime = runtime.entry;
+          alloc = alloc;
+          file = unwritten name.now MODE PAUSE;
+          meter = record { tally = no_tally; is_unanswered = false };
+          dropped = replicate Reason.COUNT 0;
+          started_at = started_at;
+          last_event_at = 0;
+          datagrams = record { count = 0; last_at = 0 };
+          reports = 0;
+          requests = record { count = 0; last_at = 0 };
+          state = state.entry;
+          errors = errors;
+        }) }
     {
         Ok(StatusFile {
             runtime,
@@ -186,6 +205,11 @@ impl<'r, R: ReplacesFiles, E: Write> StatusFile<'r, R, E> {
         ensures reports { self.new.reports ≡ self.old.reports }
         ensures requests { self.new.requests
             ≡ with_arrival (is_request came.now) came.now self.old.requests }
+        ensures due { IsDue self.old.file.pause self.old.file.begun_at moment
+            → IsBegun (Some moment) self.old.file self.new.file }
+        ensures idle { ¬ IsDue self.old.file.pause self.old.file.begun_at moment
+            → self.new.file ≡ self.old.file }
+        ensures state { self.new.state ≡ self.old.state }
     {
         self.meter.note_mute();
         if self.file.is_due(moment) {
@@ -205,8 +229,11 @@ impl<'r, R: ReplacesFiles, E: Write> StatusFile<'r, R, E> {
     pub(crate) fn note_reply(&mut self, event: &Event, is_taken: bool)
         ensures counts { self.new.meter.tally ≡ with_reply is_taken self.old.meter.tally }
         ensures answered { self.new.meter.is_unanswered ≡ false }
-        ensures dropped { self.new.dropped ≡ self.old.dropped }
         ensures reports { self.new.reports ≡ with_report event.now.what self.old.reports }
+        ensures other { self.new ≡ record self.old {
+          meter = self.new.meter;
+          reports = self.new.reports;
+        } }
     {
         self.meter.note_reply(is_taken);
         match &event.what {
@@ -220,7 +247,10 @@ impl<'r, R: ReplacesFiles, E: Write> StatusFile<'r, R, E> {
         ensures counts { self.new.meter.tally ≡ with_drop self.old.meter.tally }
         ensures answered { self.new.meter.is_unanswered ≡ false }
         ensures dropped { self.new.dropped ≡ with_drop_for reason self.old.dropped }
-        ensures reports { self.new.reports ≡ self.old.reports }
+        ensures other { self.new ≡ record self.old {
+          meter = self.new.meter;
+          dropped = self.new.dropped;
+        } }
     {
         self.meter.note_drop();
         let place = reason.place();
@@ -229,13 +259,11 @@ impl<'r, R: ReplacesFiles, E: Write> StatusFile<'r, R, E> {
 
     // Writes the counts, or prints why it cannot.
     fn write(&mut self)
-        ensures counts { self.new.meter ≡ self.old.meter }
-        ensures dropped { self.new.dropped ≡ self.old.dropped }
-        ensures last { self.new.last_event_at ≡ self.old.last_event_at }
-        ensures started { self.new.started_at ≡ self.old.started_at }
-        ensures datagrams { self.new.datagrams ≡ self.old.datagrams }
-        ensures reports { self.new.reports ≡ self.old.reports }
-        ensures requests { self.new.requests ≡ self.old.requests }
+        ensures file { IsBegun self.old.file.begun_at self.old.file self.new.file }
+        ensures other { self.new ≡ record self.old {
+          file = self.new.file;
+          errors = self.new.errors;
+        } }
     {
         let figures = self.figures();
         let written = write_file(self.runtime, self.alloc, &self.file, &figures);

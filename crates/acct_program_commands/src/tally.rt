@@ -47,7 +47,9 @@ pub struct Arrivals {
 
 impl Arrivals {
     /// Nothing yet.
-    pub fn none() -> Arrivals {
+    pub fn none() -> Arrivals
+        ensures { result ≡ record { count = 0; last_at = 0 } }
+    {
         Arrivals {
             count: 0,
             last_at: 0,

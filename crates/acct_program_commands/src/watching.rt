@@ -9,10 +9,12 @@
 //!    read if nothing is logged or written.
 //! 4. A line that cannot be written is lost, and changes nothing else.
 ghost use Rattle.std.specs.Prelude.{◌≡◌, ◌++◌, ◌∷◌, [], ℕ, Option, OnOk, replicate, None, false};
-ghost use Rattle.std.specs.Prelude.{◌<◌, ◌^◌};
+ghost use Rattle.std.specs.Prelude.{◌<◌, ◌^◌, IfOk, IfSome};
 ghost use Rattle.std.specs.Io.KnownBytes.{Appends};
 ghost use Rattle.acct_program_commands.specs.Told.{WritesDrop, minute_text};
-ghost use Rattle.acct_program_commands.specs.Tally.{with_reply, with_drop};
+ghost use Rattle.acct_program_commands.specs.Tally.{no_tally, with_mute, with_came, with_reply, with_drop};
+ghost use Rattle.acct_program_commands.specs.Tally.{is_event};
+ghost use Rattle.acct_program_commands.specs.inner.Minutes.{Begins, IsOver};
 ghost use Rattle.acct_program_commands.specs.inner.ToldDrops.{TellsOf};
 
 use crate::drop_log::DropLog;
@@ -51,8 +53,12 @@ impl<W: Write + Drop> Drop for Watch<W> {
 impl<W: Write> Watch<W> {
     /// A watch that has logged nothing. It allocates no memory.
     pub fn new(writer: W) -> Watch<W>
-        ensures drops { result.log ≡ replicate 256 None }
-        ensures writer { result.writer ≡ writer }
+        ensures { result ≡ record {
+          writer = writer;
+          log = replicate 256 None;
+          meter = record { tally = no_tally; is_unanswered = false };
+          began_at = 0;
+        } }
     {
         Watch {
             writer,
@@ -63,7 +69,22 @@ impl<W: Write> Watch<W> {
     }
 
     // Counts a turn at a moment. First prints the counts before it, if their minute is over.
-    fn note_turn(&mut self, came: &Result<Option<Event>, Fault>, moment: u64) {
+    fn note_turn(&mut self, came: &Result<Option<Event>, Fault>, moment: u64)
+        ensures log { self.new.log ≡ self.old.log }
+        ensures waits { self.new.meter.is_unanswered ≡ is_event came.now }
+        ensures over { let counted = with_mute self.old.meter.is_unanswered self.old.meter.tally
+            in IsOver counted self.old.began_at moment
+            → self.new.meter.tally ≡ with_came came.now no_tally }
+        ensures goes_on { let counted = with_mute self.old.meter.is_unanswered self.old.meter.tally
+            in ¬ IsOver counted self.old.began_at moment
+            → (self.new.meter.tally ≡ with_came came.now counted)
+            × (self.new.writer ≡ self.old.writer) }
+        ensures begins { let counted = with_mute self.old.meter.is_unanswered self.old.meter.tally
+            in Begins counted self.old.began_at moment → self.new.began_at ≡ moment }
+        ensures began { let counted = with_mute self.old.meter.is_unanswered self.old.meter.tally
+            in ¬ Begins counted self.old.began_at moment
+            → self.new.began_at ≡ self.old.began_at }
+    {
         self.meter.note_mute();
         if self.meter.tally != Tally::none() && moment.abs_diff(self.began_at) >= MINUTE {
             self.tell_minute();
@@ -105,14 +126,22 @@ impl<W: Write> Watch<W> {
     }
 
     // Prints what was counted since it was last printed.
-    fn tell_minute(&mut self) {
+    fn tell_minute(&mut self)
+        ensures { self.new ≡ record self.old {
+          writer = self.new.writer;
+          meter = record self.old.meter { tally = no_tally };
+        } }
+    {
         let tally = self.meter.tally;
         let _ = write_minute(&mut self.writer, &Minute { tally });
         self.meter.tally = Tally::none();
     }
 
     // Prints the remaining counts at the end.
-    fn finish(mut self) -> W {
+    fn finish(mut self) -> W
+        ensures { with_mute self.meter.is_unanswered self.meter.tally ≡ no_tally
+            → result ≡ self.writer }
+    {
         self.meter.note_mute();
         if self.meter.tally != Tally::none() {
             self.tell_minute();
@@ -163,7 +192,8 @@ fn write_minute<W: Write>(writer: &mut W, minute: &Minute) -> io::Result<()>
 
 // The moment of a turn: that of its event, or the clock's if there is none.
 fn moment_of_turn<R: Clock>(clock: &R, came: &Result<Option<Event>, Fault>) -> u64
-    ensures { result < 2 ^ 53 }
+    ensures within { result < 2 ^ 53 }
+    ensures event { IfOk came.now (λ event. IfSome event (λ it. result ≡ it.moment)) }
 {
     match came {
         Ok(Some(event)) => event.moment,
@@ -205,6 +235,12 @@ impl<'r, R: Clock + ReplacesFiles, X: Exchange, W: Write, E: Write + Drop> Watch
         ensures failures { ⟦<Watched<'r, R, X, W, E> as Exchange>⟧.failure_count result
             ≡ X.failure_count exchange }
         ensures told { ⟦<Watched<'r, R, X, W, E> as Exchange>⟧.told result ≡ X.told exchange }
+        ensures whole { result ≡ record {
+          clock = clock.entry;
+          exchange = exchange;
+          watch = watch;
+          status = status.entry;
+        } }
     {
         Watched {
             clock,

@@ -1,9 +1,12 @@
-//! The file of all balances, if there is room for a part of it: the old file stays.
+//! The files that a server writes, if there is room for a part of one: the old file stays.
 use acct_book::{Book, MemBook};
 use acct_model::{Text, TopUp};
 use acct_program_args::BalancesFile;
-use acct_program_commands::{Gauges, KeptBalances, ReplacesFiles};
+use acct_program_commands::{
+    Gauges, KeptBalances, ReplacesFiles, StateSource, StatusFile, Watch, Watched,
+};
 use acct_reads::ReadsFiles;
+use acct_service::lists::ListExchange;
 use acct_site::sample_config;
 use std::alloc::Global;
 use std::cell::Cell;
@@ -12,6 +15,7 @@ use std::io;
 use std::io::{ErrorKind, Write};
 use std::path::PathBuf;
 use std::test::Fail;
+use std::time::{Clock, Duration};
 
 // A disk with room for so many octets of each new file. It counts the files that were replaced.
 struct Disk {
@@ -54,6 +58,16 @@ type Found = io::Empty;
 
 fn missing<T>() -> io::Result<T> {
     Err(io::Error::from(ErrorKind::NotFound))
+}
+
+impl Clock for Disk {
+    fn monotonic(&self) -> io::Result<Duration> {
+        Ok(Duration::ZERO)
+    }
+
+    fn since_1970(&self) -> io::Result<Duration> {
+        Ok(Duration::from_secs(3000))
+    }
 }
 
 impl ReadsFiles for Disk {
@@ -99,6 +113,8 @@ const BALANCES: &str = "account,balance,overrun\nal,500,0\nbo,300,0\n";
 
 const TOLD: &str = "balances: cannot write\n";
 
+const COUNTS_TOLD: &str = "status: cannot write\n";
+
 fn filled(alloc: Global) -> Result<MemBook, Fail> {
     let mut book = MemBook::new(alloc);
     for (number, account, balance) in [("V-1", "al", 500), ("V-2", "bo", 300)] {
@@ -108,12 +124,17 @@ fn filled(alloc: Global) -> Result<MemBook, Fail> {
     Ok(book)
 }
 
-// How many files are replaced if there is room for so many octets, and what is printed then.
-fn replaced(alloc: Global, room: usize) -> Result<(u32, Vec<u8>), Fail> {
-    let disk = Disk {
+// A disk with room for so many octets.
+fn disk_with(room: usize) -> Disk {
+    Disk {
         room,
         replaced: Cell::new(0),
-    };
+    }
+}
+
+// How many files are replaced if there is room for so many octets, and what is printed then.
+fn replaced(alloc: Global, room: usize) -> Result<(u32, Vec<u8>), Fail> {
+    let disk = disk_with(room);
     let asked = BalancesFile {
         file: Text::from_str(alloc, "cut-balances")?,
         seconds: 5,
@@ -124,6 +145,39 @@ fn replaced(alloc: Global, room: usize) -> Result<(u32, Vec<u8>), Fail> {
     kept.keep(alloc, &config.plans, &mut book, 3000, &gauges, &mut told);
     drop(kept);
     Ok((disk.replaced.get(), told))
+}
+
+// No watch, which would have had such a writer.
+fn no_watch() -> Option<Watch<Vec<u8>>> {
+    None
+}
+
+// How many files of counts are replaced at a server's end, if there is room for so many octets, and
+// what is printed then.
+fn counts_replaced(alloc: Global, room: usize) -> Result<(u32, Vec<u8>), Fail> {
+    let disk = disk_with(room);
+    let name = Text::from_str(alloc, "cut-counts")?;
+    let book = Text::from_str(alloc, "cut-book")?;
+    let (gauges, mut told) = (Gauges::new(), Vec::new(alloc));
+    let state = StateSource::new(&disk, alloc, &gauges, &book)?;
+    let status = StatusFile::new(&disk, alloc, &name, 990, state, &mut told)?;
+    let exchange = ListExchange::new(alloc, Vec::new(alloc));
+    Watched::new(&disk, exchange, no_watch(), Some(status)).finish();
+    Ok((disk.replaced.get(), told))
+}
+
+#[test]
+fn a_cut_file_of_counts_replaces_none(rt: HostRuntime) -> Result<(), Fail> {
+    for room in [0, 1, 700] {
+        let (count, told) = counts_replaced(rt.alloc(), room)?;
+        assert!(rt;
+            count == 0 && told.as_slice() == COUNTS_TOLD.as_bytes(),
+            "{room}"
+        );
+    }
+    let (count, told) = counts_replaced(rt.alloc(), 1 << 20)?;
+    assert!(rt; count == 1 && told.is_empty());
+    Ok(())
 }
 
 #[test]

@@ -113,8 +113,12 @@ fn check_or_audit<S: Start, W: Write + Drop, E: Write + Drop>(
 
 // The files of a server, by name, as `check` gets them.
 fn files_of<'a>(checking: Checking<'a>, kept: &'a KeptNames) -> ServerFiles<'a>
-    ensures { NamesSome result.status result.balances
+    ensures some { NamesSome result.status result.balances
         → NamesSome kept.now.status kept.now.balances }
+    ensures config { result.config.now ≡ checking.entry.config.now }
+    ensures database { option_copied result.database ≡ option_copied checking.entry.database }
+    ensures status { option_copied result.status ≡ kept.now.status }
+    ensures balances { option_copied result.balances ≡ kept.now.balances }
 {
     ServerFiles {
         config: checking.config,

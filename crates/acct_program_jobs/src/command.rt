@@ -18,7 +18,7 @@ ghost use Rattle.acct_program_jobs.specs.Jobs.{ExportsBook, ExportsNothing, Feed
 ghost use Rattle.acct_program_jobs.specs.Jobs.{text_of, IsSiteOf};
 ghost use Rattle.acct_program_commands.specs.Checks.{IsUnchecked};
 ghost use Rattle.acct_program_commands.specs.KeptNames.{NamesSome};
-ghost use Rattle.std.specs.Option.{option_copied};
+ghost use Rattle.std.specs.Option.{option_copied, option_map};
 
 use crate::book_file::BookFile;
 use crate::checking::{Checking, check};
@@ -62,6 +62,7 @@ impl<I: Drop, W: Drop, E: Drop> Streams<I, W, E> {
     pub fn new(input: I, output: W, errors: Errors<E>) -> Streams<I, W, E>
         ensures input { result.input ≡ input }
         ensures output { result.output ≡ output }
+        ensures errors { result.errors ≡ errors }
     {
         Streams {
             input,
@@ -209,8 +210,13 @@ pub fn told<W: Write, D: Disk, F: Write>(
 
 // The files of a server, by name.
 fn files_of_server<'a>(files: BookFile<'a>, telling: &'a Telling) -> ServerFiles<'a>
-    ensures { NamesSome result.status result.balances
+    ensures some { NamesSome result.status result.balances
         → NamesSome telling.now.status telling.now.balances }
+    ensures config { result.config.now ≡ files.entry.config.now }
+    ensures database { option_copied result.database ≡ Some files.entry.database.now }
+    ensures status { option_copied result.status ≡ telling.now.status }
+    ensures balances { option_copied result.balances
+        ≡ option_map (λ balances. balances.file) telling.now.balances }
 {
     ServerFiles {
         config: files.config,

@@ -1,5 +1,5 @@
 //! The file of the configuration, and what `--explain` adds if a server refuses it while it runs.
-ghost use Rattle.std.specs.Prelude.{None};
+ghost use Rattle.std.specs.Prelude.{◌≡◌, None};
 
 use acct_model::{Octets, Text};
 use acct_program::InputFault;
@@ -20,7 +20,10 @@ pub(crate) struct ExplainedSite<'a, R> {
 
 impl<'a, R: ReadsFiles> ExplainedSite<'a, R> {
     /// The file of this name, as `SiteFile::new` has it.
-    pub(crate) fn new(runtime: &'a R, name: &'a Text, explains: bool) -> ExplainedSite<'a, R> {
+    pub(crate) fn new(runtime: &'a R, name: &'a Text, explains: bool) -> ExplainedSite<'a, R>
+        ensures file { result.file.name ≡ name.entry }
+        ensures explained { (result.name ≡ name.entry) × (result.explains ≡ explains) }
+    {
         ExplainedSite {
             runtime,
             name,

@@ -20,7 +20,13 @@ pub(crate) fn server_of<'a, R: ReadsFiles + Clock + AllocGlobal, E: Write + Drop
     serving: &'a Serving,
     errors: Errors<E>,
 ) -> Server<'a, R, E>
-    ensures { result.serving ≡ serving.entry }
+    ensures serving { result.serving ≡ serving.entry }
+    ensures file { result.file.now ≡ files.entry.database.now }
+    ensures source { result.around.source.name.now ≡ files.entry.config.now }
+    ensures explains { result.around.source.explains ≡ errors.explains }
+    ensures quiet { serving.now.telling.is_quiet ≡ true → result.around.errors.drops ≡ None }
+    ensures drops { serving.now.telling.is_quiet ≡ false
+        → result.around.errors.drops ≡ errors.drops }
 {
     let source = ExplainedSite::new(runtime, files.config, errors.explains);
     let mut errors = told_to(errors, serving.telling.is_quiet);

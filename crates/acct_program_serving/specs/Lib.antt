@@ -1,3 +1,4 @@
 pub mod Counts
+pub mod Files
 pub mod Runs
 pub mod Serving

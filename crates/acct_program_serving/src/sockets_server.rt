@@ -1,9 +1,11 @@
 //! A server over sockets: binds them, and then runs a watched server over them.
 ghost use Rattle.std.specs.Prelude.{◌≡◌, ◌≤◌, ◌<◌, ◌^◌, IfOk, IfErr, IfSome};
+ghost use Rattle.std.specs.Prelude.{None, IsSomeAnd, MatchOption};
 ghost use Rattle.std.specs.List.{AllZip};
 ghost use Rattle.std.specs.Net.Grammar.{IsDotted};
 ghost use Rattle.acct_book.specs.Step.{OnlyLooks};
 ghost use Rattle.acct_program_args.specs.Orders.{seconds_of};
+ghost use Rattle.acct_program_serving.specs.Files.{IsCounted, IsKept};
 ghost use Rattle.acct_program_serving.specs.Serving.{IsBoundTo, RunsServer, IsUnbound};
 ghost use Rattle.acct_program_serving.specs.Serving.{ended_of};
 
@@ -156,7 +158,11 @@ fn files_to_write<'s, R: Clock + ReplacesFiles, E: Write + Drop>(
     gauges: &'s Gauges,
     database: &Text,
     errors: E,
-) -> Result<WrittenFiles<'s, R, E>, AllocError> {
+) -> Result<WrittenFiles<'s, R, E>, AllocError>
+    ensures balances { IfOk result (λ files. IsKept telling.now.balances files.balances) }
+    ensures counts { IfOk result (λ files.
+        IsCounted telling.now.status database.now files.counts) }
+{
     let balances = balances_file(runtime, alloc, telling)?;
     let state = StateSource::new(runtime, alloc, gauges, database)?;
     let counts = status_file(runtime, alloc, telling, state, errors)?;
@@ -182,7 +188,10 @@ fn write_first<'r, R: ReplacesFiles + Clock, B: Book, E: Write>(
 }
 
 // The watch that logs to a writer what is dropped and how much is received, if there is a writer.
-fn watch_on<E: Write + Drop>(drops: Option<E>) -> Option<Watch<E>> {
+fn watch_on<E: Write + Drop>(drops: Option<E>) -> Option<Watch<E>>
+    ensures { MatchOption drops (result ≡ None) (λ writer.
+        IsSomeAnd result (λ watch. watch.writer ≡ writer)) }
+{
     match drops {
         Some(writer) => Some(Watch::new(writer)),
         None => None,
@@ -196,7 +205,9 @@ fn status_file<'r, R: Clock + ReplacesFiles, E: Write + Drop>(
     telling: &Telling,
     state: StateSource<'r, R>,
     errors: E,
-) -> Result<Option<StatusFile<'r, R, E>>, AllocError> {
+) -> Result<Option<StatusFile<'r, R, E>>, AllocError>
+    ensures { IfOk result (λ file. IsCounted telling.now.status state.entry.book file) }
+{
     match &telling.status {
         Some(name) => {
             let started_at = moment_of(runtime);
@@ -212,7 +223,9 @@ fn balances_file<'r, R: ReplacesFiles>(
     runtime: &'r R,
     alloc: Global,
     telling: &Telling,
-) -> Result<Option<KeptBalances<'r, R>>, AllocError> {
+) -> Result<Option<KeptBalances<'r, R>>, AllocError>
+    ensures { IfOk result (λ file. IsKept telling.now.balances file) }
+{
     match &telling.balances {
         Some(balances) => Ok(Some(KeptBalances::new(runtime, alloc, balances)?)),
         None => Ok(None),

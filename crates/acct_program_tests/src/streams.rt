@@ -12,18 +12,39 @@ pub enum Act<'a> {
     GoOn(&'a HostRuntime, &'a Callers),
 }
 
-/// A stream that keeps what is printed, as far as it has room. At its first text callers act.
-#[derive(Drop)]
+/// A stream that keeps what is printed, as far as it has room. At its first text callers act. What
+/// was not flushed is lost as it is dropped: nobody sees that while a program runs.
 pub struct Stream<'a> {
     kept: &'a RefCell<Vec<u8>>,
     room: usize,
     act: Act<'a>,
+    unflushed: usize,
+}
+
+impl Drop for Stream<'_> {
+    fn drop(self) {
+        let Stream {
+            kept,
+            room: _,
+            act: _,
+            unflushed,
+        } = self;
+        if let Ok(mut kept) = kept.try_borrow_mut() {
+            let flushed = kept.len().saturating_sub(unflushed);
+            kept.truncate(flushed);
+        }
+    }
 }
 
 impl<'a> Stream<'a> {
     /// A stream with room for so many octets.
     pub fn new(kept: &'a RefCell<Vec<u8>>, room: usize, act: Act<'a>) -> Stream<'a> {
-        Stream { kept, room, act }
+        Stream {
+            kept,
+            room,
+            act,
+            unflushed: 0,
+        }
     }
 }
 
@@ -40,6 +61,7 @@ impl Write for Stream<'_> {
         }
         let count = octets.len().min(self.room);
         self.room -= count;
+        self.unflushed = self.unflushed.saturating_add(count);
         match self.kept.try_borrow_mut() {
             Ok(mut kept) => kept.write(&octets[..count]),
             Err(_) => Err(io::Error::from(ErrorKind::ResourceBusy)),
@@ -47,6 +69,7 @@ impl Write for Stream<'_> {
     }
 
     fn flush(&mut self) -> io::Result<()> {
+        self.unflushed = 0;
         Ok(())
     }
 }

@@ -1,11 +1,23 @@
 -- The places of callers: whose request is there, and who is answered.
-use Rattle.std.specs.Prelude.{◌≡◌, ⊤, ℕ, true, List, Option, Some, None, slice_get, slice_set}
+use Rattle.std.specs.Prelude.{◌≡◌, ◌⊎◌, ◌≤◌, ⊤, ℕ, Bool, true, false, List, Option, Some, None}
+use Rattle.std.specs.Prelude.{◌<◌, length, slice_get, slice_index_or, slice_set}
+use Rattle.std.specs.List.{HoldsAt}
+use Rattle.std.specs.Time.{instant_nanos}
+use Rattle.std.specs.declared.time.Instant.{Instant}
 use Rattle.acct_service.specs.declared.event.What.{What}
 use Rattle.acct_service.specs.declared.event.What.TheVariants as what
 use Rattle.acct_net_callers.specs.declared.caller.Caller.{Caller}
 use Rattle.acct_net_callers.specs.declared.caller.Stage.TheVariants as stage
 use Rattle.acct_net_callers.specs.declared.caller.Step.TheVariants as step
 use Rattle.acct_net_callers.specs.Progress.{Writes, Proceeds}
+use Rattle.acct_net_callers.specs.Timeouts.{HasTimedOut, MayBeDropped}
+use Rattle.acct_net_callers.specs.Timeouts.{seconds_from, milliseconds_from}
+
+-- it is one of the two, and the other one was not before it
+abbrev pub IsEarlier : (ℕ × Instant) → (ℕ × Instant) → (ℕ × Instant) → Type 0
+IsEarlier one other is =
+    ((is ≡ one) × (instant_nanos one.1 ≤ instant_nanos other.1))
+    ⊎ ((is ≡ other) × (instant_nanos other.1 ≤ instant_nanos one.1))
 
 module _ {S : Type 0} where
   -- the caller who has this place
@@ -72,3 +84,55 @@ module _ {S : Type 0} where
   IsAnswered held (what.Datagram source port octets) unanswered old new response = new ≡ old
   IsAnswered held (what.Desk request) unanswered old new response =
       Answers held unanswered old new response
+
+  -- whether a caller has this place who is ready, as far as is known
+  abbrev pub has_ready : Option (Caller S) → Bool
+  has_ready (Some caller) = caller.is_ready
+  has_ready None = false
+
+  -- a caller has this place whose time is up
+  abbrev pub IsLate : Instant → Option (Caller S) → Type 0
+  IsLate now (Some caller) = HasTimedOut caller.stage (seconds_from caller.accepted now)
+      (seconds_from caller.last_active now)
+  IsLate now None = ⊥
+
+  -- a caller has this place who may be dropped for another one
+  abbrev pub IsDroppable : Instant → Option (Caller S) → Type 0
+  IsDroppable now (Some caller) = (caller.is_ready ≡ false)
+      × MayBeDropped caller.stage (milliseconds_from caller.accepted now)
+      (seconds_from caller.last_active now)
+  IsDroppable now None = ⊥
+
+  -- when the caller was accepted who has a place
+  abbrev pub accepted_at : Option (Caller S) → ℕ
+  accepted_at (Some caller) = instant_nanos caller.accepted
+  accepted_at None = 0
+
+  -- The caller who has this place is dropped for another one: of those before the end who may be,
+  -- he was accepted first.
+  pub record IsFirstToDrop (places : List (Option (Caller S))) (now : Instant) (end place : ℕ)
+      : Type 0 where
+    pub within : place < length places
+    pub droppable : HoldsAt (IsDroppable now) places place
+    pub first : (other : ℕ) (d e : Option (Caller S)) → other < end
+        → IsDroppable now (slice_index_or places other d)
+        → accepted_at (slice_index_or places place e) ≤ accepted_at (slice_index_or places other d)
+
+  -- nobody before the end may be dropped for another one
+  abbrev pub HasNoneToDrop : List (Option (Caller S)) → Instant → ℕ → Type 0
+  HasNoneToDrop places now end = (other : ℕ) (d : Option (Caller S)) → other < end
+      → ¬ IsDroppable now (slice_index_or places other d)
+
+  -- nobody has this place, or a caller whose response is written
+  abbrev pub IsPaid : Option (Option (Caller S)) → Type 0
+  IsPaid None = ⊤
+  IsPaid (Some None) = ⊤
+  IsPaid (Some (Some caller)) = caller.stage ≡ stage.Closing
+
+  abbrev pub IsPaidAt : List (Option (Caller S)) → ℕ → Type 0
+  IsPaidAt places place = IsPaid (slice_get places place)
+
+  -- at most this place has changed
+  abbrev pub ChangesOnly : ℕ → List (Option (Caller S)) → List (Option (Caller S)) → Type 0
+  ChangesOnly place old new =
+      (new ≡ old) ⊎ ((slot : Option (Caller S)) × (new ≡ slice_set old place slot))

@@ -1,6 +1,6 @@
 -- The sockets for datagrams.
 use Rattle.std.specs.Prelude.{◌≡◌, ◌<◌, ⊤, ℕ, true, List, Some, length, slice_get, slice_index_or}
-use Rattle.std.specs.Prelude.{take}
+use Rattle.std.specs.Prelude.{MatchOption, slice_set, take}
 use Rattle.std.specs.Net.Socket.{v4_ip, v4_port}
 use Rattle.std.specs.Net.Addr.{ipv4_octets}
 use Rattle.std.specs.declared.net.socket_addr.SocketAddrV4.{SocketAddrV4}
@@ -26,3 +26,22 @@ IsReceived sockets place buffer (what.Datagram source port octets) =
     (size : ℕ) × (from : SocketAddrV4) × HasReceived sockets place (size, from)
     × (source ≡ ipv4_octets (v4_ip from)) × (port ≡ v4_port from) × (octets ≡ take size buffer)
 IsReceived sockets place buffer (what.Desk request) = ⊤
+
+-- the socket with this place, if there is one, is woken, and every other one is as before
+abbrev pub IsWokenAt : ℕ → List RadiusSocket → List RadiusSocket → Type 0
+IsWokenAt place old new = MatchOption (slice_get old place) (new ≡ old)
+    (λ socket. new ≡ slice_set old place (record socket { may_receive = true }))
+
+-- the last datagram that the socket with this place sent has this size and went there
+abbrev pub HasSent : List RadiusSocket → ℕ → (ℕ × SocketAddrV4) → Type 0
+HasSent sockets place datagram =
+    (socket : RadiusSocket) × (slice_get sockets place ≡ Some socket)
+    × (socket.sent ≡ Some datagram)
+
+-- If these octets are a reply to a datagram, the socket with this place sent as many to whom it came
+-- from.
+abbrev pub IsSent : List RadiusSocket → ℕ → List ℕ → What → Type 0
+IsSent sockets place bytes (what.Datagram source port octets) =
+    (to : SocketAddrV4) × HasSent sockets place (length bytes, to)
+    × (source ≡ ipv4_octets (v4_ip to)) × (port ≡ v4_port to)
+IsSent sockets place bytes (what.Desk request) = ⊤

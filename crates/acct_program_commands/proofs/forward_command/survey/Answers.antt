@@ -21,7 +21,7 @@ loop-preserved g c =
           reads,
       λ still heard.
           let open_mid = reads.was_open still in
-          elim (c.in_ok-seen.ensures.heard still (subst IsTrue c.add_seen.ensures heard)) [
+          elim (c.in_ok-seen.ensures.heard still (subst IsTrue c.add_seen.ensures.heard heard)) [
             | inl was ↦ before.1 (asked.was_open open_mid) was
             | inr now ↦ subst (λ content. IsHeardIn c.args.task.now.selection.now content
                 c.args.task.now.clock.moment)

@@ -6,7 +6,7 @@ returns-in-Ok-clause-does g c = inr c.check_or_audit.ensures.does
 
 pub returns-in-Err-clause-does : goal.returns-in-Err-clause-does
 returns-in-Err-clause-does g c = inl (record {
-  named = c.files_of.ensures c.in-Err.ensures.some;
+  named = c.files_of.ensures.some c.in-Err.ensures.some;
   told = c.in-Err.fault;
   ended_is = c.without_book.ensures.same;
   why = c.in-Err.ensures.why;

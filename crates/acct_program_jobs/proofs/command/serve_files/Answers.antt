@@ -3,11 +3,11 @@ use Rattle.acct_program_jobs.proofs.command.serve_files.Goals as goal
 
 pub returns-in-Ok-clause-does : goal.returns-in-Ok-clause-does
 returns-in-Ok-clause-does g c paths text =
-    inr (rw (← c.server_of-server.ensures) c.work_on.ensures.does)
+    inr (rw (← c.server_of-server.ensures.serving) c.work_on.ensures.does)
 
 pub returns-in-Err-clause-does : goal.returns-in-Err-clause-does
 returns-in-Err-clause-does g c paths text = inl (record {
-  named = c.files_of_server.ensures c.in-Err.ensures.some;
+  named = c.files_of_server.ensures.some c.in-Err.ensures.some;
   told = c.in-Err.fault;
   ended_is = c.without_book.ensures.same;
   why = c.in-Err.ensures.why;

@@ -1,7 +1,5 @@
-use Rattle.std.proofs.Common.{◌≡◌, sym, ◌∙◌, subst}
-use Rattle.sqlite_wal.specs.Recovery.{Image}
-use Rattle.sqlite_trees.specs.Tree.{Trees}
-use Rattle.sqlite.specs.Files.{file_state, HoldsDatabase, AreFoundIn}
+use Rattle.std.proofs.Common.{sym, ◌∙◌, subst}
+use Rattle.sqlite.specs.Files.{AreFoundIn}
 use Rattle.sqlite.proofs.Callers.{finds_again}
 use Rattle.acct_program_jobs.proofs.database.emptied.Goals as goal
 

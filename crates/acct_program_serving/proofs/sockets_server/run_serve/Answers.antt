@@ -16,7 +16,7 @@ returns-clause-serves g c =
         ends_afresh _ _ _ _ (g.S.SiteSource.sights c.serve-sockets.new.rounds.source) _ _ _ _
             (λ slices went. subst
             (λ seen. PollsAfter seen slices (g.S.SiteSource.sights c.serve-sockets.new.rounds.source))
-            (ap (λ s. g.S.SiteSource.sights s) c.new-rounds.ensures)
+            (ap (λ s. g.S.SiteSource.sights s) c.new-rounds.ensures.source)
             (polls _ (λ r. g.S.SiteSource.sights r.source) (λ _ _ _ _ goes. goes)
             c.new-rounds.result slices c.serve-sockets.new.rounds went)) _ _ _
             c.write_first.ensures _ _

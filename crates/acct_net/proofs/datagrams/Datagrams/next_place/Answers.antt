@@ -1,13 +1,12 @@
-use Rattle.std.proofs.Common.{◌≡◌, ◌∙◌, ◌<◌, ◌+◌, ◌-◌, ℕ, List, Option, Some, None, length, take}
-use Rattle.std.proofs.Common.{drop, sym, ap, arith}
-use Rattle.std.proofs.Math.Seq.{take-length}
+use Rattle.std.proofs.Common.{◌≡◌, ◌∙◌, ◌<◌, ◌+◌, ℕ, List, Option, Some, None, length}
+use Rattle.std.proofs.Common.{sym, ap, arith}
 use Rattle.std.proofs.lemmas.List.{length-drop}
 use Rattle.std.proofs.lemmas.List.Quantifiers.{position-Some}
 use Rattle.std.specs.List.{position}
 use Rattle.std.specs.Prelude.{IfSome}
 use Rattle.acct_net.specs.declared.datagrams.RadiusSocket.{RadiusSocket}
 use Rattle.acct_net.specs.inner.RadiusSockets.{MayReceiveAt}
-use Rattle.acct_net.proofs.SearchLemmas.{from_place, none_passes}
+use Rattle.acct_net.proofs.SearchLemmas.{from_place, none_passes, rest}
 use Rattle.acct_net.proofs.datagrams.Datagrams.next_place.Goals as goal
 
 -- the first of all
@@ -20,10 +19,6 @@ first sockets (Some place) is within = (
   λ d. (position-Some (λ socket. socket.may_receive) sockets place d (sym is)).1,
 )
 
--- what is left of a list from a place on
-rest : (xs : List RadiusSocket) (n : ℕ) → take (length xs - n) (drop n xs) ≡ drop n xs
-rest xs n = rw (← length-drop n xs) (take-length (drop n xs))
-
 pub returns-in-Some-clause-some : goal.returns-in-Some-clause-some
 returns-in-Some-clause-some c =
     let is = rw c.as_slice-sockets.ensures.value at
@@ -31,7 +26,8 @@ returns-in-Some-clause-some c =
     let at = from_place (λ (socket : RadiusSocket). socket.may_receive)
     c.args.self.now.sockets.items (c.args.self.now.last + 1) c.in-Some.place
     (ap (position (λ (socket : RadiusSocket). socket.may_receive))
-    (sym (rest c.args.self.now.sockets.items (c.args.self.now.last + 1))) ∙ is) in (
+    (sym (rest (λ (socket : RadiusSocket). socket.may_receive) c.args.self.now.sockets.items
+    (c.args.self.now.last + 1))) ∙ is) in (
       omega (arith, at.0, length-drop (c.args.self.now.last + 1) c.args.self.now.sockets.items),
       at.1,
     )

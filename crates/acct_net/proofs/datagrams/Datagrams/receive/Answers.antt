@@ -6,4 +6,4 @@ pub loop-place-smaller : goal.loop-place-smaller
 loop-place-smaller c =
     fewer (λ (socket : RadiusSocket). socket.may_receive) c.loop-place.self.sockets.items
     c.in-Some.place c.receive.new.self c.receive.new.self c.in-Some.ensures.some.0
-    (c.in-Some.ensures.some.1 c.receive.new.self) (c.in_ok-received.ensures.none c.in-None.is)
+    (c.in-Some.ensures.some.1 c.receive.new.self) (rw c.in-None.is at c.in_ok-received.ensures.marked)

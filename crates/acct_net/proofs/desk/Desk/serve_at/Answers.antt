@@ -1,5 +1,5 @@
 use Rattle.std.proofs.Common.{◌≡◌, ℕ, List, Option, Some}
-use Rattle.std.proofs.Common.{rules, refl}
+use Rattle.std.proofs.Common.{rules, refl, inr}
 use Rattle.acct_net_callers.specs.declared.caller.Stage.{Stage}
 use Rattle.acct_net_callers.specs.declared.caller.Stage.TheVariants as stage
 use Rattle.acct_net_callers.specs.declared.caller.Step.TheVariants as step
@@ -44,4 +44,5 @@ returns-in-Received g c =
         others = refl;
         proceeds = proceeds;
       };
+      others = inr (Some c.proceed.new.self, refl);
     }

@@ -1,0 +1,12 @@
+use Rattle.std.proofs.Common.{Some, None, inr, ap, ◌∙◌}
+use Rattle.std.specs.Prelude.{slice_set}
+use Rattle.acct_net.proofs.PlaceLemmas.{put_again}
+use Rattle.acct_net.proofs.desk.Desk.accept_at.Goals as goal
+
+pub returns-in-Some : goal.returns-in-Some
+returns-in-Some g c = inr (
+  Some c.in_ok-caller.caller,
+  ap (λ places. slice_set places c.args.place (Some c.in_ok-caller.caller))
+      c.close_at-closed.ensures.places
+      ∙ put_again c.args.self.now.places.items c.args.place None (Some c.in_ok-caller.caller),
+)

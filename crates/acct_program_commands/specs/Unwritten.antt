@@ -1,0 +1,19 @@
+-- A file that is rewritten from time to time, before its first write.
+use Rattle.std.specs.Prelude.{◌≡◌, ℕ, false, List, ◌++◌, Option, None, codes}
+use Rattle.acct_program_commands.specs.declared.fresh_file.FreshFile.{FreshFile}
+
+-- nothing was written yet, and no write failed
+abbrev pub unwritten : List ℕ → ℕ → ℕ → FreshFile
+unwritten name mode pause = record {
+  name = name;
+  new_name = name ++ codes ".new";
+  mode = mode;
+  pause = pause;
+  begun_at = None;
+  is_failing = false;
+}
+
+-- It has the same names, mode and pause. Its last write began when this says.
+abbrev pub IsBegun : Option ℕ → FreshFile → FreshFile → Type 0
+IsBegun begun_at old new =
+    new ≡ record old { begun_at = begun_at; is_failing = new.is_failing }
