@@ -29,6 +29,7 @@ class AwaitDesk(Folder):
 
     def test_a_port_that_the_unit_does_not_allow(self):
         for allowed in (["ipv4:udp:1813", "ipv4:tcp:8066", "ipv4:tcp:21645", "udp:28066"],
+                        ["ipv4:udp1813", "ipv4:tcp8066", "ipv4:tcp21645", "udp28066"],
                         ["ipv4:udp:21640-21644", "ipv6:any"]):
             with self.subTest(allowed):
                 found = self.said(allowed)
@@ -37,7 +38,7 @@ class AwaitDesk(Folder):
 
     def test_ports_that_a_site_allows(self):
         for allowed in (["ipv4:udp:21645", "ipv4:tcp:28066"], ["ipv4:udp:21640-21650", "tcp:any"],
-                        ["ipv4:any"], []):
+                        ["ipv4:udp21640-21650", "ipv4:tcp28066"], ["ipv4:any"], []):
             with self.subTest(allowed):
                 found = self.said(allowed)
                 self.assertIn("radacctd ended before its desk answered", found)
