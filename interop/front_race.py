@@ -234,7 +234,7 @@ do $program or die "$program: $@";
 for my $seen ("", "slow-taken") {
 	select undef, undef, undef, 0.01 until -e "$ENV{RACE}/$seen";
 	next if fork;
-	print xlat("put in=reader-0 Acct-Status-Type=00000003 Acct-Session-Id=41"), "\n";
+	print xlat("put in=reader-0 Acct-Status-Type=00000003 Acct-Session-Id=41 User-Name=61"), "\n";
 	exit;
 }
 1 until wait == -1;

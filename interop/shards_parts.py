@@ -282,7 +282,7 @@ def logins(site, model):
     check("the counts name each book", found, SHARDS)
     heads = re.findall(r"^# TYPE (\S+)", text, re.M)
     check("and each metric once", len(heads), len(set(heads)))
-    waiting(site)
+    waiting(site, poor, rich)
     down(site, poor, rich)
 
 
@@ -323,18 +323,29 @@ def old_in(path, account):
         return opened.execute(query, (account.encode(),)).fetchone()[0] != ""
 
 
-def waiting(site):
-    """A report that waits for one book makes all balances as old as it is."""
-    process, ago = site.radius.process, 300
+def waiting(site, account, other):
+    """A report that waits for one book makes all balances as old as it is, but after 50 seconds
+    those of its accounts alone."""
+    process, book = site.radius.process, site.place[account.encode()]
     process.send_signal(signal.SIGSTOP)
-    path = f"{site.radius.queue}/s7/detail-1"
-    moment = int(time.time()) - ago
-    head = 'Fri Nov 27 10:00:00 2026\n\tUser-Name = "a"\n'
-    front.written(path, f"{head}\tTimestamp = {moment}\n\n")
-    as_of = lambda: abs(as_of_in(site.radius.mirror) - moment) < 5
-    front.waits_for("a report waits for s7: balances are as old as it", as_of, True)
+    path = f"{site.radius.queue}/{book}/detail-1"
+
+    def wait_since(ago):
+        moment = int(time.time()) - ago
+        head = 'Fri Nov 27 10:00:00 2026\n\tUser-Name = "a"\n'
+        front.written(path, f"{head}\tTimestamp = {moment}\n\n")
+        return moment
+
+    moment = wait_since(10)
+    as_of = lambda: abs(as_of_in(site.radius.mirror) - moment) < 4
+    front.waits_for(f"a report waits for {book}: balances are as old as it", as_of, True)
+    wait_since(300)
+    are_old = lambda: [old_in(site.radius.mirror, it) for it in (account, other)]
+    found = lambda: (are_old(), time.time() - as_of_in(site.radius.mirror) < 9)
+    front.waits_for("it waits longer: only its accounts are old", found, ([True, False], True))
     os.remove(path)
     process.send_signal(signal.SIGCONT)
+    front.waits_for("nothing waits: none is old", are_old, [False, False])
 
 
 def as_of_in(path):
