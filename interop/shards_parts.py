@@ -345,7 +345,6 @@ def waiting(site, account, other):
     front.waits_for("it waits longer: only its accounts are old", found, ([True, False], True))
     os.remove(path)
     process.send_signal(signal.SIGCONT)
-    front.waits_for("nothing waits: none is old", are_old, [False, False])
 
 
 def as_of_in(path):
