@@ -15,6 +15,7 @@ import urllib.parse
 
 import front
 import front_stock
+import old_memory
 from access_cases import CLASS, LOGIN, USER, Charge, Packet, pairs_of
 from front import KILL, LISTEN, SECRET, check
 from front_parts import attribute, count_in
@@ -255,7 +256,8 @@ class Debian(Target):
     def start(self):
         with open(self.log, "wb") as file:
             words = ["freeradius", "-d", self.raddb, "-f", "-l", "stdout"]
-            self.process = subprocess.Popen(words, stdout=file, stderr=file)
+            environment = old_memory.added(dict(os.environ), self.raddb)
+            self.process = subprocess.Popen(words, stdout=file, stderr=file, env=environment)
         ready = "Ready to process requests"
         front.waits_for(f"{self.name}: FreeRADIUS is ready", lambda: ready in self.said(), True)
         if ready not in self.said():

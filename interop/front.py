@@ -14,6 +14,7 @@ import time
 import urllib.parse
 
 import books
+import old_memory
 
 FOLDER = os.path.dirname(os.path.abspath(__file__))
 ROOT = os.path.dirname(FOLDER)
@@ -345,6 +346,7 @@ class FreeRadius:
     def start(self):
         begun = len(self.logged())
         environment = {**with_clock(self.clock), **self.environment}
+        environment = old_memory.added(environment, self.folder)
         how = {"stdout": subprocess.DEVNULL, "env": environment}
         self.process = subprocess.Popen(self.words("-f"), **how)
         ready = "Ready to process requests"

@@ -8,6 +8,7 @@ import subprocess
 import urllib.parse
 
 import front
+import old_memory
 from front import FILES, LISTEN, MEBIBYTE, SECRET, check
 from front_parts import Missing, part
 
@@ -184,7 +185,8 @@ class Stock:
         self.end()
         with open(self.log, "wb") as file:
             words = ["freeradius", "-d", self.raddb, "-fxx", "-l", "stdout"]
-            self.process = subprocess.Popen(words, stdout=file, stderr=file)
+            environment = old_memory.added(dict(os.environ), self.raddb)
+            self.process = subprocess.Popen(words, stdout=file, stderr=file, env=environment)
         ready = "Ready to process requests"
         front.waits_for("FreeRADIUS is ready", lambda: ready in self.said(), True, PATIENCE)
 

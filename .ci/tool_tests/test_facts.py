@@ -24,6 +24,20 @@ class Planted(unittest.TestCase):
                 self.assertEqual(file.read().count(old), 1, fault)
 
 
+class Expansions(unittest.TestCase):
+    def test_no_function_gets_what_another_one_gives_and_nothing_else(self):
+        """FreeRADIUS would read old memory behind it, and might lose it."""
+        alone = re.compile(r"%\{\w+:%\{(?!(?:request|reply|control):)\w+:(?:[^{}]|\{[^{}]*\})*\}\}")
+        self.assertTrue(alone.search("%{base64tohex:%{base64:&User-Name}}"))
+        self.assertTrue(alone.search("%{tolower:%{config:radacctd.realms}}"))
+        found = []
+        for folder, _, names in os.walk(os.path.join(ROOT, "etc")):
+            for name in names:
+                with open(os.path.join(folder, name), encoding="utf-8", errors="replace") as file:
+                    found += alone.findall(file.read())
+        self.assertEqual(found, [])
+
+
 class Names(unittest.TestCase):
     def test_spellings_come_back(self):
         for octets in (b"al", b"a,b", b"50%", b'"', b"\\", "Łódź".encode(), bytes(range(256))):

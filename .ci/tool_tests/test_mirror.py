@@ -80,7 +80,7 @@ class Policy(unittest.TestCase):
         query = re.search(rf"(?s)^{name} \{{.*?%\{{radacctd_mirror:(.*?)\}}\"", text, re.M)[1]
         octets = account.encode().hex()
         values |= {r"%l": self.now, r"\$\{radacctd.oldest\}": 60, r"\$\{radacctd.\w+\}": 0,
-                   r"%\{hex:&Class\}": "", r"%\{base64tohex:%\{base64:&User-Name\}\}": octets,
+                   r"%\{hex:&Class\}": "", r"%\{base64tohex:%\{base64:&User-Name\}=\}": octets,
                    r"%\{control:Tmp-String-2\}": octets, r"%\{control:Tmp-String-8\}": ""}
         query = query.replace("\\\n", "").replace("${radacctd.share}", "1")
         for pattern, value in values.items():
