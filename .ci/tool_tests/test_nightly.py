@@ -68,6 +68,16 @@ class Night(unittest.TestCase):
         self.assertEqual((status, len(names)), (0, 1), said)
         self.assertRegex(names[0], r"^\d{4}-\d\d-\d\d$")
 
+    def test_a_disk_that_is_not_mounted_gets_no_copy(self):
+        """It would fill the disk below, and be hidden once the right one is mounted."""
+        for place, wanted in (("backups", 1), ("", 1), ("back", 0)):
+            os.makedirs(self.place("bin"), exist_ok=True)
+            self.write("bin/findmnt", f"#!/bin/sh\necho /\necho {self.place(place)}\necho none\n")
+            with mock.patch.dict(os.environ, PATH=f"{self.place('bin')}:{os.environ['PATH']}"):
+                status, said, names = self.night()
+            self.assertEqual((status, len(names)), (wanted, 1 - wanted), said)
+            self.assertEqual("is not mounted" in said, bool(wanted), said)
+
     def test_a_copy_of_the_day_that_was_removed(self):
         name = self.night()[2][0]
         shutil.rmtree(self.place(f"backups/{name}"))
