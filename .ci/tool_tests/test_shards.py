@@ -10,7 +10,7 @@ from unittest import mock
 
 from radacctl import freeradius, shards as books, site
 from radacctl.commands import shards
-from radacctl.doctor import copies, front, kind
+from radacctl.doctor import book, copies, front, kind
 
 HOUR = 3600
 COUNTS = "# HELP radacctd_up Up.\n# TYPE radacctd_up gauge\nradacctd_up 1\n"
@@ -49,6 +49,24 @@ class Joined(unittest.TestCase):
         found = {name: int(balance) for name, balance, _ in rows}
         self.old = {name for name, _, more in rows if not more.isdecimal()}
         return found, self.now - os.stat(self.path("balances.csv")).st_mtime
+
+    def test_of_two_joins_at_once_none_gets_half_a_file(self):
+        """As one begins to write, the other one gives its file the name."""
+        rename, path = os.rename, self.path("balances.csv")
+
+        def late(*words):
+            with mock.patch("os.getpid", lambda: 1), mock.patch("os.fchmod", side_effect=OSError):
+                self.assertRaises(OSError, books.written, path, "account,bal", self.now)
+            rename(*words)
+
+        with mock.patch("os.rename", late), contextlib.suppress(FileNotFoundError):
+            books.written(path, "whole", self.now)
+        self.assertFalse(os.path.exists(path))
+        books.written(path, "whole", self.now)
+        with open(path, encoding="ascii") as file:
+            self.assertEqual(file.read(), "whole")
+        self.assertEqual([it for it in os.listdir(self.folder) if it.startswith("balances")],
+                         ["balances.csv"])
 
     def test_while_one_book_is_down_the_others_go_on(self):
         self.write("s5", 5, HOUR)
@@ -216,6 +234,29 @@ class Doctor(unittest.TestCase):
             wanted = [f"{site.RADACCT}/radacctd/{it}" for it in books.SHARDS]
             self.assertEqual(found, [site.RADACCT, f"{site.RADACCT}/radacctd", *wanted])
         self.assertEqual(one, [site.RADACCT, f"{site.RADACCT}/radacctd"])
+
+    def test_what_is_made_of_another_table_is_told(self):
+        """Reports and callers of a book that moved would go on to the machine where it was."""
+        with tempfile.TemporaryDirectory() as folder, contextlib.ExitStack() as stack:
+            table = f"{folder}/table.csv"
+            made = {it: f"{folder}/{it}" for it in ("freeradius", "nginx")}
+            for name, value in (("TABLE", table), ("MADE", made)):
+                stack.enter_context(mock.patch.object(book, name, value))
+            self.write(table, TABLE)
+            self.assertEqual(list(book.made(self.kind())), [])
+            for name, path in made.items():
+                with contextlib.redirect_stdout(io.StringIO()) as text:
+                    self.assertEqual(shards.main(["--table", table, name]), 0)
+                self.write(path, text.getvalue())
+            self.assertEqual(list(book.made(self.kind())), [])
+            self.write(table, TABLE.replace("s7,127.0.0.1", "s7,10.0.0.7"))
+            self.assertEqual([it.text for it in book.made(self.kind())],
+                             [f"{it} is not what {table} says" for it in made.values()])
+            self.assertEqual(list(book.made(mock.Mock(has_shards=False))), [])
+
+    def write(self, path, text):
+        with open(path, "w", encoding="ascii") as file:
+            file.write(text)
 
     def test_each_book_has_its_copies(self):
         with tempfile.TemporaryDirectory() as folder, contextlib.ExitStack() as stack:

@@ -2,6 +2,7 @@
 
 import contextlib
 import csv
+import glob
 import hashlib
 import io
 import ipaddress
@@ -81,16 +82,19 @@ def balances_in(folder, shard):
 
 
 def written(path, text, moment, mode=0o640):
-    """Writes a file whole or not at all, and follows no link; a moment is its time of change."""
-    files.remove(path + ".new")
-    flags = os.O_CREAT | os.O_EXCL | os.O_WRONLY | os.O_NOFOLLOW
-    handle = os.open(path + ".new", flags, 0o600)
+    """Writes a file whole or not at all, and follows no link; a moment is its time of change. Of two
+    at once neither gives its name to what the other one has begun: one of them fails.
+    """
+    new, flags = f"{path}.{os.getpid()}.new", os.O_CREAT | os.O_EXCL | os.O_WRONLY | os.O_NOFOLLOW
+    for it in glob.glob(f"{path}.*.new"):
+        files.remove(it)
+    handle = os.open(new, flags, 0o600)
     with os.fdopen(handle, "w", encoding="ascii", newline="") as file:
         file.write(text)
         file.flush()
         os.fchmod(handle, mode)
         os.utime(handle, (moment, moment))
-    os.rename(path + ".new", path)
+    os.rename(new, path)
 
 
 def as_old_as(moments):

@@ -147,19 +147,20 @@ def run_for(words, table):
 
 def show_settings(words, table):
     """What a program needs to find the books."""
-    if words.act == "defaults":
-        print(MADE + DEFAULTS.format(**table[words.book]), end="")
-    elif words.act == "freeradius":
-        parts = [FREERADIUS.format(**it) + READER.format(name + "/") for name, it in table.items()]
-        print(MADE + "".join(parts) + READER.format(""), end="")
-    else:
-        print(MADE + nginx_of(table), end="")
+    text = (MADE + DEFAULTS.format(**table[words.book]) if words.act == "defaults"
+            else SETTINGS[words.act](table))
+    print(text, end="")
     return 0
+
+
+def freeradius_of(table):
+    parts = [FREERADIUS.format(**it) + READER.format(name + "/") for name, it in table.items()]
+    return MADE + "".join(parts) + READER.format("")
 
 
 def nginx_of(table):
     line = "upstream radacctd_{shard} {{ server {address}:{desk}; }}\n"
-    text = "".join(line.format(**it) for it in table.values())
+    text = MADE + "".join(line.format(**it) for it in table.values())
     text += "# A guest's key begins with its book. To another key the first desk answers 401.\n"
     text += "map $http_desk_key $radacctd_read {\n    default radacctd_s0;\n"
     text += "".join(f'    "~^{it}-" radacctd_{it};\n' for it in books.SHARDS[1:])
@@ -170,6 +171,9 @@ def nginx_of(table):
         text += f'}}\nmap $radacctd_book $radacctd_{name} {{\n    default "";\n'
         text += "".join(f"    {it} {value.format(it)};\n" for it in books.SHARDS)
     return text + "}\n"
+
+
+SETTINGS = {"freeradius": freeradius_of, "nginx": nginx_of}
 
 
 class Parts:

@@ -8,9 +8,11 @@ import time
 import tomllib
 
 from radacctl import desk, files, names, plans, site, stock
+from radacctl.commands import shards
 from radacctl.doctor import copies, look, machine
 from radacctl.doctor.faults import Fault
 from radacctl.doctor.kind import TABLE
+from radacctl.shards import table_of
 
 # Limits of a configuration, and how many are to be free.
 LIMITS, SPARE = {"key": 4096, "client": 1024, "plan": 256}, 64
@@ -39,6 +41,9 @@ SECRETS = {
     site.STATE: (0o700, (site.USER,), None),
     site.BACKUPS: (0o700, ("root",), None),
 }
+# Where what is made of the table of 16 books is.
+MADE = {"freeradius": f"{site.RADDB}/sites-enabled/radacctd-shards",
+        "nginx": "/etc/nginx/radacctd/desks-shards.conf"}
 # What the user who redeems printed codes reads: else no code is redeemed.
 CODES = {
     it: (mode, ("root",), (site.REDEEM_USER,))
@@ -59,6 +64,15 @@ def look_at(kind):
     yield from modes({**SECRETS, **CODES} if kind.has_codes else SECRETS)
     yield from groups(kind)
     yield from keys(kind)
+    yield from made(kind)
+
+
+def made(kind):
+    """What is made of the table of 16 books is as the table says, and as this version makes it."""
+    for name, path in MADE.items() if kind.has_shards else ():
+        if os.path.lexists(path) and files.text(path) != shards.SETTINGS[name](table_of(TABLE)):
+            yield Fault("file-old", f"{path} is not what {TABLE} says",
+                        f"radacctd-shards {name} > {path}; systemctl restart {name}")
 
 
 def content(book):
