@@ -6,10 +6,11 @@ import re
 import stat
 import tempfile
 import unittest
+from unittest import mock
 
 from radacctl import desk, files, money, names
 from radacctl.doctor import front
-from tool_tests import ROOT
+from tool_tests import ROOT, script
 
 
 class Planted(unittest.TestCase):
@@ -36,6 +37,24 @@ class Expansions(unittest.TestCase):
                 with open(os.path.join(folder, name), encoding="utf-8", errors="replace") as file:
                     found += alone.findall(file.read())
         self.assertEqual(found, [])
+
+
+class Digests(unittest.TestCase):
+    """What a session's id has of its user, as FreeRADIUS 3.2.1 has computed it."""
+
+    FOUND = {b"al": "ce263fcfac8b90511f9a30001fa8ae33", b"A\\B": "9e56abb89906967b2bc91e11a4246115",
+             b"DOM\\nick": "0aa9bba5e9fb22b3f624dd4acd7e4543",
+             b"DOM\\rick": "ec383567c082574bc029c4ae757340c4",
+             b"DOM\\tom": "60c860d7bb3a72e3618548d79318ceaa",
+             b"a\\101": "712cbef4120e9a5b3372705fd950719d"}
+
+    def test_who_moves_keeps_the_ids_of_open_sessions(self):
+        """Else a session that is open then would be charged twice."""
+        kept, moved = script("etc/freeradius", "kept-sessions"), script("interop", "from-radacct")
+        for name, digest in self.FOUND.items():
+            self.assertEqual(kept.key_of("10.0.0.1", b"S", name), f"10.0.0.1/53/{digest}")
+            found = moved.Reader.identifier(mock.Mock(), "10.0.0.1", b"S", name)
+            self.assertEqual(found, f"10.0.0.1/S/{digest}".encode())
 
 
 class Names(unittest.TestCase):
