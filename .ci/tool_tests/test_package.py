@@ -88,6 +88,23 @@ class Units(unittest.TestCase):
             self.assertIn(found["ProtectSystem"], (["strict"], ["full"]), name)
 
 
+class Installation(unittest.TestCase):
+    """What bin/install has put has links into it, which a package does not mend by itself."""
+
+    def test_who_takes_a_package_in_its_place_mends_the_links(self):
+        with tempfile.TemporaryDirectory() as folder:
+            script = text("etc", "package", "preinst").replace("/usr/local", folder)
+            run = lambda: subprocess.run(["sh", "-c", script, "preinst", "install"], text=True,
+                                         capture_output=True)
+            self.assertEqual(run().returncode, 0)
+            os.mkdir(f"{folder}/sbin")
+            with open(f"{folder}/sbin/radacctd", "w", encoding="ascii"):
+                pass
+            done = run()
+        self.assertEqual(done.returncode, 1)
+        self.assertRegex(done.stderr, "Then install this package again.*\n.*radacctl setup")
+
+
 class Removal(unittest.TestCase):
     """While nginx, fail2ban or FreeRADIUS has links into the package, nothing is removed."""
 
