@@ -223,7 +223,7 @@ class Again(Folder):
         """FreeRADIUS comes in front: nobody has to type a secret at the access server again."""
         self.patched(freeradius, "text", lambda *_: "")
         one = wanted(access_server=[{"name": "lobby", "address": "10.0.0.1"}])
-        secret = lambda **client: freeradius.value(dict(freeradius.CLIENT.findall(
+        secret = lambda **client: freeradius.value(dict(freeradius.blocks("client", 
             front.clients(None, one, None, {"lobby": client})))["lobby"], "secret")
         self.assertEqual(secret(address="10.0.0.1", secret="it's # of 2019"), "it's # of 2019")
         self.assertEqual(len(secret(address="10.0.0.2", secret="of another one")), 32)
@@ -542,17 +542,13 @@ class Again(Folder):
             self.assertEqual(len(list(machine.old_scripts())), found, changed - now)
 
     def test_an_installation_that_was_cut_off_is_finished(self):
-        said = "E: dpkg was interrupted, you must manually run 'dpkg --configure -a' to correct"
-        for why, words in ((said, ["apt-get", "dpkg", "apt-get"]), ("no such package", ["apt-get"])):
-            given = mock.Mock(side_effect=[steps.Failed(why), "", ""])
-            self.patched(steps, "given", given)
-            step = alone.packages(["x"])
-            step.holds, step.words = lambda: True, ("apt-get", "install", "x")
-            given.reset_mock(side_effect=True)
-            given.side_effect = [steps.Failed(why), "", ""]
-            with contextlib.suppress(steps.Failed):
-                step.do()
-            self.assertEqual([it[0][0][0] for it in given.call_args_list], words)
+        """Also if dpkg fails, as while another run of apt has its lock, for which apt-get waits."""
+        self.patched(machine.look, "PATH", f"{self.folder}:/usr/bin:/bin")
+        self.put("#!/bin/sh\necho $0 $* >>$0.log\nexit 2\n", "dpkg", mode=0o755)
+        self.put('#!/bin/sh\n[ -s ${0%/*}/dpkg.log ] && [ "$*" != "${*%x}" ]\n', "apt-get", mode=0o755)
+        self.patched(alone, "is_installed", lambda _: os.path.exists(f"{self.folder}/dpkg.log"))
+        alone.packages(["x"]).do()
+        self.assertRaisesRegex(steps.Failed, "ended with 1", alone.packages(["y"]).do)
 
 
 @unittest.skipUnless(shutil.which("openssl"), "openssl is missing")
@@ -648,7 +644,7 @@ class Tested(Folder):
             known = {"lobby": {"address": "10.9.9.1", "secret": secret}}
             text = front.clients(None, one, None, known)
             self.assertEqual(front.clients(text, one, None, known), text, secret)
-            found = freeradius.CLIENT.findall(text) + freeradius.HOME_SERVER.findall(text)
+            found = freeradius.blocks("client", text) + freeradius.blocks("home_server", text)
             self.assertEqual([freeradius.value(it[1], "secret") for it in found
                               if "radacctd-setup" not in it], [secret, secret])
             path = freeradius.path("clients.conf")

@@ -282,10 +282,10 @@ post-auth {
         wanted = answers.Answers({"plan": [PLAN], "access_server": [one]})
         text = front.clients(None, wanted)
         self.assertEqual(front.clients(text, wanted), text)
-        found = dict(freeradius.CLIENT.findall(text))
+        found = dict(freeradius.blocks("client", text))
         secrets = {freeradius.value(it, "secret") for it in found.values()}
         self.assertEqual((set(found), len(secrets)), ({"a", "radacctd-setup"}, 2))
-        [(name, block)] = freeradius.HOME_SERVER.findall(text)
+        [(name, block)] = freeradius.blocks("home_server", text)
         own = freeradius.value(found["a"], "secret")
         self.assertEqual((name, freeradius.value(block, "secret")), ("cut-10.0.0.1", own))
 
@@ -697,6 +697,20 @@ class Unseen(unittest.TestCase):
             files, "text", lambda _: ""
         ):
             self.assertRaises(OSError, lambda: list(freeradius.differing()))
+
+    def test_the_files_of_16_books_and_of_a_pair_are_old_too(self):
+        """By an older policy an account's reports go to another book than its money."""
+        with tempfile.TemporaryDirectory() as folder, unittest.mock.patch(
+            "radacctl.site.RADDB", folder
+        ):
+            for name in ("policy.d/radacctd-shards", "sites-enabled/radacctd-pair"):
+                self.assertEqual(list(freeradius.differing()), [])
+                path = os.path.join(folder, name)
+                os.makedirs(os.path.dirname(path))
+                files.make(path, b"# old\n")
+                [(place, own)] = freeradius.differing()
+                self.assertEqual((place, os.path.exists(own)), (path, True))
+                os.remove(path)
 
     def test_a_side_that_does_not_end(self):
         def look_at(_):

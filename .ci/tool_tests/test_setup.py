@@ -13,7 +13,7 @@ import unittest
 from unittest import mock
 
 from radacctl import debits, files, freeradius, lapses, money as moneys, site as places
-from radacctl.commands import allow, debit, pages, setup, site, voucher
+from radacctl.commands import allow, debit, key, pages, setup, site, voucher
 from radacctl.doctor import front as doctor_front
 from radacctl.setup import alone, answers, away, front, pair, proof, sql, steps, web
 import tool_tests
@@ -100,7 +100,7 @@ class Site(Folder):
         for secret in ("of wlc1", 'of "wlc1"', "it's # wlc1"):
             wanted = self.wanted(access_server=[{"name": "wlc", "address": "10.0.0.1"}],
                                  secrets={"client-wlc": secret})
-            found = freeradius.CLIENT.findall(front.clients(None, wanted))
+            found = freeradius.blocks("client", front.clients(None, wanted))
             self.assertEqual(freeradius.value(dict(found)["wlc"], "secret"), secret)
         for secret in ("", "two\nlines", "a\\b", "it's \"wlc1\""):
             self.assertRaises(answers.Wrong, self.wanted, secrets={"client-wlc": secret})
@@ -134,6 +134,16 @@ class Site(Folder):
         self.assertEqual(text, 'radacctd {\n\tsecret = yyyyyyyyyyyyyyyy\n\toldest = 61\n'
                          '\tclass = "default"\n\tleft_out = "vpn nro"\n}\n')
         self.assertEqual(front.settings(text, self.wanted(), "y" * 16), text)
+
+    def test_a_line_that_a_site_has_written_otherwise_is_changed(self):
+        """FreeRADIUS reads the first one of a name: a second one would say nothing."""
+        as_site = lambda *names: files.sample(*names).replace("\t", "    ").replace(" = ", "   =  ")
+        text = front.settings(as_site("freeradius", "settings.conf"), self.wanted(), "y" * 16)
+        one = {"own": "10.9.0.5", "other": "10.9.0.6"}
+        more = pair.conf_of(as_site("pair", "pair.conf"), self.wanted(pair=one), "z" * 16)
+        for found, value in ((text, "y" * 16), (more, "z" * 16)):
+            self.assertEqual(freeradius.value(freeradius.without_comments(found), "secret"), value)
+        self.assertEqual(freeradius.value(more, "other"), "10.9.0.6")
 
     def test_the_class_of_an_earlier_version_leaves_the_virtual_server(self):
         block = '\t# radacctl setup: who pays, and by which plan\n\tupdate reply {\n'
@@ -322,7 +332,7 @@ class Existing(Folder):
         wanted = self.wanted(one)
         text = front.clients(None, wanted)
         self.assertNotIn("client wlc ", text)
-        [(name, block)] = freeradius.HOME_SERVER.findall(text)
+        [(name, block)] = freeradius.blocks("home_server", text)
         self.assertEqual((name, freeradius.value(block, "secret"), freeradius.value(block, "port")),
                          ("cut-10.0.0.1", "of wlc1", "3799"))
         self.assertEqual(front.clients(text, wanted), text)
@@ -340,12 +350,30 @@ class Existing(Folder):
                                 ('"it\'s # wlc1"', "it's # wlc1"), ("of#wlc1 # its", "of#wlc1")):
             self.put("clients.conf", CLIENTS.replace('"of wlc1"', written))
             text = front.clients(None, self.wanted(one))
-            [(_, block)] = freeradius.HOME_SERVER.findall(text)
+            [(_, block)] = freeradius.blocks("home_server", text)
             self.assertEqual(freeradius.value(block, "secret"), secret)
             self.assertEqual(front.secret_of("wlc", "10.0.0.1"), secret)
         with freeradius.postgres("\tpassword = 'of \"sql\"'\n") as (begin, _):
             with open(begin[1].partition("=")[2], encoding="ascii") as file:
                 self.assertEqual(file.read(), '*:*:*:*:of "sql"\n')
+
+    def test_a_secret_ends_where_freeradius_ends_it(self):
+        """At a comma, behind which another value may be, and at no semicolon."""
+        one = {"name": "wlc", "address": "10.0.0.1", "vendor": "aruba"}
+        for written, secret in (("wlc1,", "wlc1"), ("wlc1, shortname = x", "wlc1"), ("a;", "a;")):
+            self.put("clients.conf", CLIENTS.replace('"of wlc1"', written))
+            self.assertEqual(front.secret_of("wlc", "10.0.0.1"), secret)
+        self.put("clients.conf", "client b {\n\tshortname = x, ipaddr = 10.0.0.1, "
+                                 "secret = 'of b'\n}\n")
+        self.assertEqual(front.secret_of("wlc", "10.0.0.1"), "of b")
+        self.assertIn("secret = 'of b'\n", front.clients(None, self.wanted(one)))
+
+    def test_a_server_is_known_whose_listen_has_blocks_in_blocks(self):
+        """As that of RadSec: else nobody would pay by it."""
+        radsec = "\ttype = auth+acct\n\ttls {\n\tcache {\n\tenable = no\n\t}\n\t}\n"
+        text = SERVER.replace("eduroam", "tls").replace("\ttype = auth\n", radsec)
+        self.put("sites-enabled/tls", text.replace("listen {\n\ttype = acct\n}\n", ""))
+        self.assertEqual(freeradius.serving("auth", "acct"), ["eduroam", "tls"])
 
     def test_the_other_machine_of_a_pair_reads_its_file(self):
         """Also that of a site with users in a database: that answer is a table."""
@@ -365,7 +393,7 @@ class Existing(Folder):
 
     def test_a_part_of_a_network_keeps_its_secret(self):
         text = front.clients(None, self.wanted({"name": "b", "address": "10.1.2.3"}))
-        found = dict(freeradius.CLIENT.findall(text))
+        found = dict(freeradius.blocks("client", text))
         self.assertEqual(freeradius.value(found["b"], "secret"), "of-the-halls-of-residence")
 
     def test_a_client_of_the_same_name_elsewhere_is_told(self):
@@ -397,7 +425,7 @@ class Existing(Folder):
         alone = front.clients("client lobby {\n\tipaddr = 10.0.9.9\n\tsecret = x\n}\n",
                               self.wanted(coa, packages=True))
         for text in (new, later, alone):
-            block = dict(freeradius.CLIENT.findall(text))["lobby"]
+            block = dict(freeradius.blocks("client", text))["lobby"]
             self.assertEqual(freeradius.value(block, "radacctd_coa"), "yes")
             self.assertEqual(text.count("home_server cut-10.0.9.9 {"), 1)
             self.assertEqual(front.clients(text, self.wanted(coa, packages=True)), text)
@@ -573,7 +601,7 @@ class Existing(Folder):
         wanted = self.wanted({"name": "ap", "address": "10.0.0.2"})
         books = {"address": "127.0.0.9", "secret": "x" * 32}
         found = away.own_clients_out(front.clients(None, wanted, books))
-        self.assertEqual([name for name, _ in freeradius.CLIENT.findall(found)], ["ap"])
+        self.assertEqual([name for name, _ in freeradius.blocks("client", found)], ["ap"])
 
     def test_a_second_removal_keeps_the_clients_of_the_first(self):
         """Else FreeRADIUS would know none of the access servers, nor their secrets."""
@@ -591,7 +619,7 @@ class Existing(Folder):
                 self.put(away.CLIENTS, step.wanted(step.found()[0]).decode())
             self.put("radiusd.conf", away.includes_out(text("radiusd.conf")))
             shutil.rmtree(place("radacctd"))
-            seen.append((freeradius.CLIENT.findall(text(away.CLIENTS)), freeradius.cuts(""),
+            seen.append((freeradius.blocks("client", text(away.CLIENTS)), freeradius.cuts(""),
                          text("radiusd.conf").count(f"$INCLUDE {away.CLIENTS}\n")))
         self.assertEqual([name for name, _ in seen[0][0]], ["lobby"])
         self.assertEqual(len(seen[0][1]), 1)
@@ -754,6 +782,11 @@ class Others(Folder):
             pages.write(self.path, {"name": "x"})
         self.assertEqual(fsync.call_count, 2)
         self.assertEqual(stat.S_IMODE(os.stat(self.path).st_mode), 0o644)
+
+    def test_a_card_outlives_a_power_cut(self):
+        with mock.patch("os.fsync") as fsync:
+            key.make_file(self.path, "card")
+        self.assertEqual(fsync.call_count, 2)
 
     def test_a_password_is_in_no_command_line(self):
         for text in ("dbname=radius password=hidden", "postgresql://radius:hidden@db/radius"):

@@ -22,7 +22,9 @@ OURS = {
     "policy.d/radacctd-devices": "devices",
     "sites-enabled/radacctd": "server",
 }
-# And those that it changes.
+# Those that only 16 books and a pair have; and those that a site changes.
+SOME = {"policy.d/radacctd-shards": ("shards", "policy"),
+        "sites-enabled/radacctd-pair": ("pair", "pair-server")}
 SETTINGS = ("settings.conf", "access-servers.conf", "kept")
 UNITS = ("radacctd-mirror.service", "radacctd-front.service", "radacctd-clock.service",
          "radacctd-clock.timer")
@@ -33,11 +35,8 @@ QUOTED = r"""(?<!\w)(?:"(?:[^"\\\n]|\\.)*"|'(?:[^'\\\n]|\\.)*')"""
 COMMENT = r"(?<!\S)#[^\n]*"
 # What may be behind the word of a line.
 REST = r"[ \t]*(?:#[^\n]*)?"
-# A block, and one in it. A text may have a brace: a secret, say.
-BLOCK = rf"""\{{((?:[^{{}}"']|{QUOTED}|(?!{QUOTED})["']|\{{[^{{}}]*\}})*)\}}"""
-CLIENT = re.compile(rf"(?m)^\s*client\s+(\S+)\s*{BLOCK}")
-LISTEN = re.compile(rf"(?m)^\s*listen\s*{BLOCK}")
-HOME_SERVER = re.compile(rf"(?m)^\s*home_server\s+(\S+)\s*{BLOCK}")
+# What tells where a block ends. A text may have a brace: a secret, say.
+BRACES = re.compile(f"{COMMENT}|{QUOTED}|[{{}}]")
 SERVER = re.compile(r"(?m)^\s*server\s+([\w.-]+)\s*\{")
 
 
@@ -62,17 +61,28 @@ def text(*names):
     return without_comments(files.text(path(*names)))
 
 
+def spelled(block, name, lacking='""'):
+    """The value of a line `name = value` of a text as the file spells it: between other marks it
+    could be another value.
+    """
+    found = re.search(rf"(?m)(?:^|,)[ \t]*{name}[ \t]*=[ \t]*({QUOTED}|[^\s,]+)", block)
+    return found[1] if found else lacking
+
+
 def value(block, name):
-    """The value of a line `name = value` of a text, or ""."""
-    kinds = r"""(?:"([^"\n]*)"|'([^'\n]*)'|(\S+))"""
-    found = re.search(rf"(?m)^[ \t]*{name}[ \t]*=[ \t]*{kinds}", block)
-    return next(it for it in found.groups() if it is not None) if found else ""
+    """The same without its marks, or ""."""
+    found = spelled(block, name, "")
+    return found[1:-1] if found[:1] in ("'", '"') else found
 
 
-def spelled(block, name):
-    """The same as the file spells it: between other marks it could be another value."""
-    found = re.search(rf"(?m)^[ \t]*{name}[ \t]*=[ \t]*({QUOTED}|\S+)", block)
-    return found[1] if found else '""'
+def with_value(text, name, value):
+    """A block in which a name has this value. One of an earlier version lacks some names."""
+    line = f"\t{name} = {value}\n"
+    found = re.search(rf"(?m)^[ \t]*{name}[ \t]*=.*\n", text)
+    if found:
+        return text[: found.start()] + line + text[found.end() :]
+    end = text.rstrip().rfind("}")
+    return text[:end] + line + text[end:]
 
 
 def file_at(name):
@@ -163,7 +173,7 @@ def serving(*kinds):
     """The files of the virtual servers that take logins or reports of access servers."""
     found = set()
     for name in enabled():
-        for block in LISTEN.findall(text("sites-enabled", name)):
+        for _, block in blocks("listen", text("sites-enabled", name)):
             server = value(block, "virtual_server")
             if value(block, "type") in (*kinds, "auth+acct"):
                 found.add(file_of(server) if server else name)
@@ -182,7 +192,7 @@ def heard_at(kind, names, port):
     addresses, or one that cannot be told, is this machine's loopback.
     """
     found = []
-    for block in (it for name in names for it in LISTEN.findall(text("sites-enabled", name))):
+    for _, block in (it for name in names for it in blocks("listen", text("sites-enabled", name))):
         if value(block, "type") in (kind, "auth+acct") and value(block, "proto") != "tcp":
             address = value(block, "ip(?:v4)?addr")
             is_one = re.fullmatch(r"[0-9]+(?:\.[0-9]+){3}", address) and address != "0.0.0.0"
@@ -225,7 +235,7 @@ def network(name, block):
 def other_clients():
     """The site's own clients: file, name, addresses and text of each."""
     return [(file, name, network(name, block), block)
-            for file in included() for name, block in blocks(CLIENT, file)]
+            for file in included() for name, block in blocks("client", text(file))]
 
 
 def client_at(address):
@@ -239,8 +249,8 @@ def cutting(text_of_clients):
     """The home servers that take Disconnect- and CoA-Requests, name and text of each: those of
     access-servers.conf, and of the site's own files.
     """
-    found = HOME_SERVER.findall(without_comments(text_of_clients))
-    found += [it for file in included() for it in blocks(HOME_SERVER, file)]
+    texts = [without_comments(text_of_clients), *map(text, included())]
+    found = (it for each in texts for it in blocks("home_server", each))
     return [it for it in found if value(it[1], "type") == "coa"]
 
 
@@ -252,11 +262,22 @@ def cuts(text_of_clients):
 def end_of_block(text_of_file, begin):
     """Where a block ends whose brace is before `begin`. Those of comments and texts do not count."""
     depth = 1
-    for found in re.finditer(f"{COMMENT}|{QUOTED}|[{{}}]", text_of_file[begin:]):
+    for found in BRACES.finditer(text_of_file, begin):
         depth += {"{": 1, "}": -1}.get(found[0], 0)
         if depth == 0:
-            return begin + found.start()
+            return found.start()
     return len(text_of_file)
+
+
+def blocks(word, text_of_file):
+    """The blocks `client NAME { .. }`, say, of a text without comments: name and text of each."""
+    found = re.finditer(rf"(?m)^[ \t]*{word}(?:[ \t]+(\S+))?\s*\{{", text_of_file)
+    return [(it[1], text_of_file[it.end() : end_of_block(text_of_file, it.end())]) for it in found]
+
+
+def access_servers():
+    """The clients of radacctd's own file: name and text of each."""
+    return blocks("client", text("radacctd", "access-servers.conf"))
 
 
 def settings():
@@ -291,15 +312,10 @@ def postgres(block):
         yield ["env", f"PGPASSFILE={path}", "PGCONNECT_TIMEOUT=20"], options
 
 
-def blocks(pattern, *names):
-    """The blocks `client NAME { .. }`, say, of a file: name and text of each."""
-    return pattern.findall(text(*names))
-
-
 def differing():
     """The files of radacctd's that are not those of this version."""
-    places = {path(place): own for place, own in OURS.items()}
-    places |= {f"/etc/systemd/system/{it}": it for it in UNITS}
-    for place, own in places.items():
-        if os.path.lexists(place) and files.text(place) != files.sample("freeradius", own):
-            yield place, site.shared("freeradius", own)
+    places = {path(place): ("freeradius", own) for place, own in OURS.items()}
+    places |= {f"/etc/systemd/system/{it}": ("freeradius", it) for it in UNITS}
+    for place, own in (places | {path(place): own for place, own in SOME.items()}).items():
+        if os.path.lexists(place) and files.text(place) != files.sample(*own):
+            yield place, site.shared(*own)

@@ -38,10 +38,8 @@ def on(now):
 
 def servers_by_address():
     """The name of each access server that has one address."""
-    found = {}
-    for name, block in freeradius.blocks(freeradius.CLIENT, "radacctd", "access-servers.conf"):
-        found[freeradius.value(block, "ip(?:v[46])?addr")] = name
-    return found
+    return {freeradius.value(block, "ip(?:v[46])?addr"): name
+            for name, block in freeradius.access_servers()}
 
 
 def sales(begin, end, path=None):

@@ -66,6 +66,7 @@ def make_file(path, text):
     """Makes a file for its owner alone, and never over another one."""
     try:
         files.make(path, text.encode())
+        files.sync_folder(os.path.dirname(path))
     except FileExistsError:
         fail(f"{path} is there already: name another file")
     except OSError as fault:

@@ -153,9 +153,9 @@ def samples():
             yield Fault("sample-value", f"{path} has a secret that begins with change-me",
                         "replace it: openssl rand -hex 16")
         yield from open_to_others("radacctd", name)
-    found = freeradius.blocks(freeradius.CLIENT, "radacctd", "access-servers.conf")
     # All of RadSec have one secret: who may speak is known by a certificate.
-    clients = [(name, freeradius.value(block, "secret")) for name, block in found
+    clients = [(name, freeradius.value(block, "secret"))
+               for name, block in freeradius.access_servers()
                if freeradius.value(block, "proto") != "tls"]
     path = freeradius.path("radacctd", "access-servers.conf")
     yield from books.secrets(path, [it for it in clients if it[1] and "change-me" not in it[1]])
@@ -163,10 +163,9 @@ def samples():
 
 def cut_off():
     """Each access server that is to cut sessions off, or to slow them, can be asked to."""
-    text = freeradius.text("radacctd", "access-servers.conf")
-    known = freeradius.cuts(text)
+    known = freeradius.cuts(freeradius.text("radacctd", "access-servers.conf"))
     found = [(name, freeradius.network(name, block), block)
-             for name, block in freeradius.CLIENT.findall(text)]
+             for name, block in freeradius.access_servers()]
     found += [it[1:] for it in freeradius.other_clients()]
     for name, network, block in found if None not in known else []:
         wants = [it for it in ("radacctd_cut", "radacctd_coa")
@@ -196,7 +195,7 @@ def proxies(kind):
     """A home server that asks radacctd for what it never answers."""
     ports = {str(it.port()) for it in kind.books}
     for name in ("proxy.conf", *(f"sites-enabled/{it}" for it in freeradius.enabled())):
-        for server, block in freeradius.blocks(freeradius.HOME_SERVER, name):
+        for server, block in freeradius.blocks("home_server", freeradius.text(name)):
             is_ours = freeradius.value(block, "port") in ports
             if is_ours and freeradius.value(block, "status_check") == "status-server":
                 yield Fault("status-check", f"home_server {server} of {name} asks by status-server",

@@ -28,7 +28,7 @@ SCRIPTS = {
 def look_at(kind):
     yield from units(kind)
     yield from failed()
-    yield from old_programs(kind)
+    yield from old_programs()
     yield from disks(kind)
     yield from clock(kind)
 
@@ -61,7 +61,7 @@ def failed():
             yield Fault("unit-failed", f"{unit} has failed", cure)
 
 
-def old_programs(kind):
+def old_programs():
     """Processes whose program is no longer the file of its name."""
     for path in glob.glob("/proc/[0-9]*/exe"):
         try:

@@ -9,7 +9,7 @@ import tomllib
 from radacctl import configuration, desk, files, freeradius, names, plans, site
 from radacctl.doctor import copies
 from radacctl.setup import steps
-from radacctl.setup.steps import Command, File, Folder, Fresh, Install
+from radacctl.setup.steps import Command, File, Folder, Fresh
 
 FRONT_PORT = "11813"
 NOTES = "/root/radacctd-setup"
@@ -199,14 +199,19 @@ def is_packaged():
     return site.INSTALLED.startswith("/usr/libexec/")
 
 
+# After a power cut in the middle of an earlier installation, too. Another run of apt is waited for,
+# as that of a machine's first hour. A site's files stay.
+INSTALL = """dpkg --force-confold --configure -a
+exec apt-get install --yes --no-install-recommends -o DPkg::Lock::Timeout=600 \\
+    -o Dpkg::Options::=--force-confold "$@"
+"""
+
+
 def packages(wanted):
     """Installs Debian's packages that are missing."""
     lacking = [it for it in wanted if not is_installed(it)]
     holds = lambda: all(map(is_installed, wanted))
-    # Another run of apt is waited for, as that of a machine's first hour. A site's files stay.
-    how = ("-o", "DPkg::Lock::Timeout=600", "-o", "Dpkg::Options::=--force-confold")
-    return Install(f"install {' '.join(lacking)}", holds, "apt-get", "install", "--yes",
-                   "--no-install-recommends", *how, *lacking)
+    return Command(f"install {' '.join(lacking)}", holds, "sh", "-c", INSTALL, "sh", *lacking)
 
 
 # What a package is wanted for, if another one may have it, too.

@@ -144,12 +144,9 @@ def waiting():
 
 def drain():
     """Waits until radacctd has each report of the queue."""
-    end = time.monotonic() + PATIENCE
-    while count := waiting():
-        if time.monotonic() > end:
-            raise steps.Failed(f"{count} reports wait for radacctd: start it (radacctl doctor). "
-                               "FreeRADIUS already refuses nobody, and queues no more")
-        time.sleep(1)
+    steps.wait_until(lambda: not waiting(), PATIENCE, lambda: (
+        f"{waiting()} reports wait for radacctd: start it (radacctl doctor). FreeRADIUS already "
+        "refuses nobody, and queues no more"))
 
 
 def do_all(found):

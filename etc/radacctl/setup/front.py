@@ -50,10 +50,7 @@ home_server cut-{address} {{
 	port = {port}
 	secret = {secret}
 	coa {{
-		irt = 2
-		mrt = 8
-		mrc = 3
-		mrd = 15
+		irt = 2, mrt = 8, mrc = 3, mrd = 15
 	}}
 }}
 """
@@ -182,22 +179,12 @@ def is_reloaded():
 def settings(old, answers, book_secret):
     """settings.conf with the answers and radacctd's secret; what a site has changed in it stays."""
     text = old or files.sample("freeradius", "settings.conf")
-    text = with_value(text, "secret", book_secret)
-    text = with_value(text, "class", f'"{answers.usual_class}"')
+    text = freeradius.with_value(text, "secret", book_secret)
+    text = freeradius.with_value(text, "class", f'"{answers.usual_class}"')
     for name, found in (("left_out", answers.left_out), ("realms", answers.realms)):
         if found:
-            text = with_value(text, name, f'"{" ".join(found)}"')
+            text = freeradius.with_value(text, name, f'"{" ".join(found)}"')
     return text
-
-
-def with_value(text, name, value):
-    """settings.conf in which a name has this value. One of an earlier version lacks some names."""
-    line = f"\t{name} = {value}\n"
-    found = re.search(rf"(?m)^\t{name} = .*\n", text)
-    if found:
-        return text[: found.start()] + line + text[found.end() :]
-    end = text.rstrip().rfind("}")
-    return text[:end] + line + text[end:]
 
 
 def clients(old, answers, books=None, reporting=()):
@@ -207,7 +194,7 @@ def clients(old, answers, books=None, reporting=()):
     text = old if old is not None else HEAD
     if books and not re.search(r"(?m)^client books ", text):
         text = text.rstrip("\n") + "\n\n" + BOOKS.format(**books)
-    known = dict(freeradius.CLIENT.findall(freeradius.without_comments(text)))
+    known = dict(freeradius.blocks("client", freeradius.without_comments(text)))
     test = {"name": TEST_USER, "address": TEST_ADDRESS, "vendor": "mikrotik", "version": 4}
     for it in [*answers.access_servers, test]:
         if it["name"] in known:
@@ -311,7 +298,7 @@ def with_lines(old, file, answers):
 
 def others(answers):
     """What to say of access servers that are there with other settings than their vendor has."""
-    found = dict(freeradius.blocks(freeradius.CLIENT, "radacctd", "access-servers.conf"))
+    found = dict(freeradius.access_servers())
     for it in answers.access_servers if answers.has_front else []:
         there = freeradius.client_at(it["address"])
         block, usual = found.get(it["name"]) or (there[2] if there else ""), lines_of(it)
@@ -340,8 +327,7 @@ def test_address(wanted, block):
 
 def secret_of(name, address=None):
     """The secret that FreeRADIUS has with an access server."""
-    found = freeradius.blocks(freeradius.CLIENT, "radacctd", "access-servers.conf")
-    own = freeradius.value(dict(found).get(name, ""), "secret")
+    own = freeradius.value(dict(freeradius.access_servers()).get(name, ""), "secret")
     there = freeradius.client_at(address) if address and not own else None
     own = own or (freeradius.value(there[2], "secret") if there else "")
     if not own:

@@ -67,7 +67,7 @@ def of(_):
 def settings(old):
     """packages.conf with a key of its own. A key that is there stays: else no code would log in."""
     text = old or files.sample("packages", logins.CONF)
-    return re.sub(r"(?m)^(\tkey = )change-me.*$", lambda it: it[1] + secrets.token_hex(32), text)
+    return re.sub(r"(?m)^([ \t]*key[ \t]*=[ \t]*)change-me.*$", lambda it: it[1] + secrets.token_hex(32), text)
 
 
 def is_read():

@@ -3,7 +3,6 @@
 import hashlib
 import json
 import os
-import re
 
 from radacctl import desk, files, freeradius, names, site
 from radacctl.setup import steps
@@ -66,7 +65,7 @@ def conf_of(old, answers, secret):
     text = old or files.sample("pair", "pair.conf")
     for name, value in (("own", answers.pair["own"]), ("other", answers.pair["other"]),
                         ("secret", secret)):
-        text = re.sub(rf"(?m)^(\t{name} = ).*$", lambda it, to=value: it[1] + to, text, count=1)
+        text = freeradius.with_value(text, name, value)
     return text
 
 
@@ -80,8 +79,8 @@ def after(answers, config):
     socket = "radacctd-state.socket"
     yield Fresh(f"restart {socket}", socket, [f"{SYSTEMD}/{socket}"])
     # It fails as long as the other machine is not there.
-    yield Command("compare both books once", has_balances, "systemctl", "start",
-                  "radacctd-compare.service", may_fail=True)
+    yield Command("compare both books once", has_balances, "sh", "-c",
+                  "systemctl start radacctd-compare 2>&1 || :")
     if not answers.secrets and not answers.pair["second"]:
         yield Once(OTHER, Text(answers, config), 0o600)
 
@@ -139,9 +138,8 @@ class Text:
         return "\n".join(lines) + "\n"
 
     def secrets(self):
-        clients = freeradius.blocks(freeradius.CLIENT, "radacctd", "access-servers.conf")
-        found = {f"client-{name}": freeradius.value(text, "secret") for name, text in clients
-                 if name != "books"}
+        found = {f"client-{name}": freeradius.value(text, "secret")
+                 for name, text in freeradius.access_servers() if name != "books"}
         found |= {f"client-{it['name']}": freeradius.value(there[2], "secret")
                   for it in self.answers.access_servers
                   if (there := freeradius.client_at(it["address"]))}

@@ -68,11 +68,10 @@ class Proof:
 
     def wait_for_balances(self):
         """Waits until the balances are newer than now: so they have all that was sold before."""
-        begun, end = time.time(), time.monotonic() + PATIENCE
-        while not os.path.exists(site.BALANCES) or os.stat(site.BALANCES).st_mtime <= begun:
-            if time.monotonic() > end:
-                raise steps.Failed(f"the server does not write {site.BALANCES}: radacctl doctor")
-            time.sleep(0.5)
+        begun = time.time()
+        is_new = lambda: os.path.exists(site.BALANCES) and os.stat(site.BALANCES).st_mtime > begun
+        why = f"the server does not write {site.BALANCES}: radacctl doctor"
+        steps.wait_until(is_new, PATIENCE, lambda: why)
 
     def balance(self):
         try:
@@ -82,12 +81,9 @@ class Proof:
 
     def wait(self, wanted, what):
         """Waits until the balances, which FreeRADIUS reads, have this one."""
-        end = time.monotonic() + PATIENCE
-        while self.balance() != wanted:
-            if time.monotonic() > end:
-                raise steps.Failed(f"{what}: the balance of {ACCOUNT} is {self.balance()}, and is "
-                                   f"to be {wanted}: radacctl doctor")
-            time.sleep(0.5)
+        steps.wait_until(lambda: self.balance() == wanted, PATIENCE, lambda: (
+            f"{what}: the balance of {ACCOUNT} is {self.balance()}, and is to be {wanted}: "
+            "radacctl doctor"))
 
     def sell(self, total):
         number = f"SETUP-{secrets.token_hex(8).upper()}"

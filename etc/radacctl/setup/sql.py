@@ -19,34 +19,17 @@ MODULE = OURS + """
 sql {{
 	dialect = "postgresql"
 	driver = "rlm_sql_${{dialect}}"
-	server = "{server}"
-	port = {port}
-	login = "{login}"
-	password = "{password}"
-	radius_db = "{database}"
-	acct_table1 = "radacct"
-	acct_table2 = "radacct"
-	postauth_table = "radpostauth"
-	authcheck_table = "radcheck"
-	groupcheck_table = "radgroupcheck"
-	authreply_table = "radreply"
-	groupreply_table = "radgroupreply"
-	usergroup_table = "radusergroup"
-	read_groups = yes
-	read_clients = no
-	client_table = "nas"
-	group_attribute = "SQL-Group"
-	delete_stale_sessions = yes
+	server = "{server}", port = {port}, radius_db = "{database}"
+	login = "{login}", password = "{password}"
+	acct_table1 = "radacct", acct_table2 = "radacct", postauth_table = "radpostauth"
+	authcheck_table = "radcheck", groupcheck_table = "radgroupcheck"
+	authreply_table = "radreply", groupreply_table = "radgroupreply"
+	usergroup_table = "radusergroup", group_attribute = "SQL-Group", client_table = "nas"
+	read_groups = yes, read_clients = no, delete_stale_sessions = yes
 	# FreeRADIUS starts without the database, too: reports do not need it.
 	pool {{
-		start = 0
-		min = 0
-		max = ${{thread[pool].max_servers}}
-		spare = 2
-		uses = 0
-		retry_delay = 5
-		lifetime = 0
-		idle_timeout = 60
+		start = 0, min = 0, max = ${{thread[pool].max_servers}}, spare = 2
+		uses = 0, retry_delay = 5, lifetime = 0, idle_timeout = 60
 	}}
 	$INCLUDE ${{modconfdir}}/${{.:name}}/main/${{dialect}}/queries.conf
 }}

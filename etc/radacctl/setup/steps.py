@@ -214,10 +214,10 @@ class Link:
 
 
 class Command:
-    """A command, and what tells whether it is still to be given. Its own status may not matter."""
+    """A command, and what tells whether it is still to be given."""
 
-    def __init__(self, what, holds, *words, may_fail=False):
-        self.what, self.holds, self.words, self.may_fail = what, holds, words, may_fail
+    def __init__(self, what, holds, *words):
+        self.what, self.holds, self.words = what, holds, words
 
     def text(self):
         return self.what
@@ -226,27 +226,9 @@ class Command:
         return self.holds()
 
     def do(self):
-        try:
-            said = given(self.words)
-        except Failed as why:
-            if not self.may_fail:
-                raise
-            said = str(why)
+        said = given(self.words)
         if not self.holds():
             raise Failed(f"{' '.join(self.words)}: it did not help: {said[-300:]}")
-
-
-class Install(Command):
-    """Installs packages, also after a power cut in the middle of an earlier installation."""
-
-    def do(self):
-        try:
-            super().do()
-        except Failed as why:
-            if "dpkg --configure -a" not in str(why):
-                raise
-            given(["dpkg", "--force-confold", "--configure", "-a"])
-            super().do()
 
 
 class Trial:
@@ -348,16 +330,23 @@ def refuse_if_away():
     given([site.part("book-is-there"), "radacctd.service", site.BOOK])
 
 
-def begun(text, section, word, lines=None):
-    """A virtual server whose section begins with a line of a word, or with more of it, unless the
-    section has the word.
-    """
+def begun(text, section, word):
+    """A virtual server whose section begins with a line of a word, unless it has the word."""
     if word in freeradius.section(freeradius.without_comments(text), section).split():
         return text
     found = re.search(rf"(?m)^[ \t]*{section}[ \t]*\{{[^\n]*\n", text)
     if not found:
         raise Failed(f"a virtual server has no section {section}: docs/FREERADIUS.md, step 6")
-    return text[: found.end()] + (lines or f"\t{word}\n") + text[found.end() :]
+    return f"{text[: found.end()]}\t{word}\n{text[found.end() :]}"
+
+
+def wait_until(holds, seconds, why):
+    """Waits until something holds; after so many seconds it fails for a reason that is asked then."""
+    end = time.monotonic() + seconds
+    while not holds():
+        if time.monotonic() > end:
+            raise Failed(why())
+        time.sleep(0.5)
 
 
 def given(words, text=None, seconds=1800):

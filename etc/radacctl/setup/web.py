@@ -5,7 +5,6 @@ import os
 import re
 import shlex
 import tempfile
-import time
 
 from radacctl import files, freeradius, money, names, site, stock
 from radacctl.doctor import machine, web as of_web
@@ -291,8 +290,5 @@ class Jail(Fresh):
 
     def do(self):
         super().do()
-        end = time.monotonic() + 60
-        while not self.is_done():
-            if time.monotonic() > end:
-                raise steps.Failed("fail2ban has no jail radacctd: tail /var/log/fail2ban.log")
-            time.sleep(0.5)
+        why = "fail2ban has no jail radacctd: tail /var/log/fail2ban.log"
+        steps.wait_until(self.is_done, 60, lambda: why)
