@@ -542,6 +542,33 @@ class Ends(unittest.TestCase):
         self.lapse(6000, books)
         self.assertEqual(books.taken, {lapses.number_of(account): 70})
 
+    def test_a_server_that_gives_no_answer_holds_up_nobody_for_long(self):
+        """Else each login that is over would be tried while others wait for the journal."""
+        books, clock = Books(fails=[True] * 9), [0]
+        take = books.take
+
+        def slow(*debit):
+            clock[0] += 15
+            take(*debit)
+
+        books.take = slow
+        for at in range(9):
+            self.site.login(b"al%d" % at, ends=1000)
+            self.site.balances(5000, {b"al%d" % at: 70})
+        with mock.patch.object(lapses.time, "monotonic", lambda: clock[0]):
+            self.assertEqual(self.lapse(5000, books), (0, 2))
+            self.assertEqual(clock, [30])
+        self.assertEqual(self.lapse(5000, Books()), (9, 0))
+
+    def test_what_a_debit_needs_is_missing(self):
+        self.site.login(b"al", ends=1000)
+        self.site.login(b"bo", ends=1000)
+        self.site.balances(5000, {b"al": 70})
+        refused = mock.Mock(side_effect=debits.Refused("there is no client books"))
+        with mock.patch.object(debits, "Books", refused):
+            self.assertEqual(self.lapse(5000, None), (0, 1))
+        self.assertEqual(self.lapse(5000, Books()), (2, 0))
+
     def test_an_older_database_takes_nothing_more(self):
         """It was put back from before the debit; a sale came since."""
         account = b"al"

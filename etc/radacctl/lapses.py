@@ -18,7 +18,8 @@ from radacctl.program import say
 MIRROR = "/run/radacctd-mirror/balances.db"
 # In seconds: how long the clock must have been steady, and by how much two looks may differ.
 STEADY, STEP = 3600, 5
-# In seconds: how long access servers may be told of sessions that are to end, before the last one.
+# In seconds: how long access servers may be told of sessions that are to end, before the last one,
+# and debits may be without an answer.
 LONGEST = 20
 # What may be in a text for radclient.
 PLAIN = re.compile(r"[A-Za-z0-9 ._:/,@+=;#()-]{1,253}")
@@ -126,7 +127,7 @@ class Lapse:
     def run(self, now, is_steady):
         """Lapses what may lapse now; returns how many did, and how many wait."""
         as_of, money = balances(self.mirror)
-        heard, done, waiting = self.heard(now), 0, 0
+        heard, done, waiting, end = self.heard(now), 0, 0, time.monotonic() + LONGEST
         for account, since in self.over(now, is_steady):
             moment, is_live = heard.get(account, (0, False))
             # All that was heard is in the balances; and a report that was under way has come. Those
@@ -134,26 +135,30 @@ class Lapse:
             if is_live or not max(since, min(moment, now)) + self.wait <= as_of <= now:
                 waiting += 1
                 continue
-            done += self.lapse(account, money.get(account, 0), now)
+            try:
+                self.lapse(account, money.get(account, 0), now)
+                done += 1
+            except (debits.Refused, debits.NoAnswer) as why:
+                say(f"{names.shown(account)} is over, and what is left of it waits to be taken: "
+                    f"{why}")
+                waiting += 1
+                # Others wait for the journal meanwhile.
+                if self.books is None or time.monotonic() > end:
+                    break
         return done, waiting
 
     def lapse(self, account, left, now):
         """Decides the sum, once, and takes it. What was not answered is sent as it was decided."""
         number = number_of(account)
         if left > 0:
-            journal = self.journal()
-            given = journal.given(number) if journal else None
+            given = self.journal().given(number)
             # A database that was put back does not know what was taken before.
             total = int(given[1]) if given else left
             decided = self.store.run(
                 ("INSERT INTO lapse VALUES (?, ?, ?, ?, 0) ON CONFLICT DO NOTHING",
                  (account, number, total, now)),
                 ("SELECT sum FROM lapse WHERE account = ?", (account,)))[1][0][0]
-            return self.take(account, number, decided, now)
-        self.ended(account, now)
-        return 1
-
-    def ended(self, account, now):
+            self.books.take(account, decided, number)
         logins.log_ended([account], logins.LAPSED, now, self.log)
         self.store.run(("UPDATE login SET state = 'lapsed' WHERE account = ?", (account,)),
                        ("UPDATE lapse SET is_taken = 1 WHERE account = ?", (account,)))
@@ -163,16 +168,6 @@ class Lapse:
         if self.books is None:
             self.books = debits.Books(self.words)
         return self.books.journal
-
-    def take(self, account, number, total, now):
-        try:
-            self.journal()
-            self.books.take(account, total, number)
-        except (debits.Refused, debits.NoAnswer) as why:
-            say(f"{names.shown(account)} is over, and {total} of it waits to be taken: {why}")
-            return 0
-        self.ended(account, now)
-        return 1
 
 
 # ---- sessions that are to end
