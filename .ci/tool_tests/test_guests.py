@@ -427,6 +427,10 @@ class Allow(unittest.TestCase):
         self.addCleanup(books.stop)
         take = self.books.take
         self.books.take = self.site.effect(take)
+        # The file is written anew while --lapse waits for that.
+        written = mock.patch.object(sold.time, "sleep", lambda _: self.balances())
+        written.start()
+        self.addCleanup(written.stop)
         for stream in (contextlib.redirect_stdout(io.StringIO()),
                        contextlib.redirect_stderr(io.StringIO())):
             stream.__enter__()
@@ -484,11 +488,23 @@ class Allow(unittest.TestCase):
             at += 1
         self.assertGreater(at, 8)
 
-    def killed(self, at):
+    def test_killed_where_somebody_else_had_credited(self):
+        """Whoever did so noted nothing: this month's sum stays, wherever the run is killed."""
+        at = 0
+        while self.killed(at, has_begun=True):
+            self.assertEqual(self.allow("--lapse"), 0)
+            for account, total in ((b"al", 500), ("ü 1".encode(), 600), (b"bo", 695)):
+                self.assertGreaterEqual(self.balance()[account], total)
+            at += 1
+        self.assertGreater(at, 5)
+
+    def killed(self, at, has_begun=False):
         self.site.money.clear()
         self.site.numbers.clear()
         self.books.taken.clear()
         self.books.known.clear()
+        if has_begun:
+            self.allow()
         with contextlib.suppress(FileNotFoundError):
             os.remove(self.site.path("notes.csv"))
         return self.site.killed_at(at, lambda: self.allow("--lapse"))
@@ -496,10 +512,11 @@ class Allow(unittest.TestCase):
     def test_balances_of_before_say_of_nobody_what_is_left(self):
         """What was used since would be taken a second time."""
         moments = iter(range(10_000))
-        with mock.patch.object(sold.time, "monotonic", lambda: next(moments)):
-            self.assertRaises(SystemExit, self.allow, "--lapse", seconds=allow.OLDEST + 5)
+        with mock.patch.object(sold.time, "sleep", lambda _: None), \
+                mock.patch.object(sold.time, "monotonic", lambda: next(moments)):
+            self.assertRaises(SystemExit, self.allow, "--lapse", seconds=5)
             self.assertEqual((self.site.money, self.books.taken), ({}, {}))
-        self.assertEqual(self.allow("--lapse", seconds=allow.OLDEST - 60), 0)
+        self.assertEqual(self.allow("--lapse"), 0)
         self.assertEqual(self.balance()[b"al"], 500)
 
     def test_another_sum_is_refused(self):

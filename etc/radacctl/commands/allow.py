@@ -8,9 +8,8 @@ given, and by whichever list: the voucher's number is made of the month and the 
 says another sum than the one that was credited, it is refused and said.
 
 With --lapse what an account had left is taken once the month's sum is credited, by a debit LAPSE-..
-of its own. What is left is looked up in the balances before, which are to be of the last two
-minutes, and noted on the disk: a second run takes nothing more. Without --lapse what is left stays,
-for this month.
+of its own. What is left is looked up in the balances, which are to be written anew first, and noted
+on the disk: a second run takes nothing more. Without --lapse what is left stays, for this month.
 
 --dry-run tests the list, and sends nothing. Options of a sale: --key-file, --host, --port and
 --give-up, as `radacctl sell` has them; of a debit: --config, --db, --secret-file, --journal and
@@ -37,8 +36,6 @@ from radacctl.program import fail, say
 STOPPED = "stopped; give the same again: nothing is credited or taken twice"
 MONTH = re.compile(r"20[0-9]{2}-(?:0[1-9]|1[0-2])")
 NOTES, NOTES_HEADER = f"{site.BOOKS}/allowed.csv", b"moment,number,account,left\n"
-# How old the balances may be that say what was left, in seconds: what was used since is not in them.
-OLDEST = 120
 # An account of a list, and the numbers of its voucher and of its debit.
 Row = collections.namedtuple("Row", "account sum number lapse")
 
@@ -99,21 +96,23 @@ class Allowing:
         self.counts, self.taken = collections.Counter(), 0
         self.books, self.left = None, {}
         if words.lapse:
-            self.books = debits.Books(debit.words_of(words))
-            codes.await_balances(time.time() - OLDEST, words.balances)
+            codes.await_balances(time.time(), words.balances)
             self.left = names.balances(words.balances)
+            self.books = debits.Books(debit.words_of(words))
         self.notes = Notes(words.notes)
 
     def run(self):
         for at, row in enumerate(self.rows, 1):
             is_known = row.number in self.notes.least
             # Also without --lapse: so a later run with it takes nothing of this month.
-            self.notes.add(row, max(self.left.get(row.account, 0), 0))
+            left = max(self.left.get(row.account, 0), 0)
+            self.notes.add(row, left)
             found = self.desk.outcome(sells.Record(at, row.number, row.account, row.sum))
             self.counts[found] += 1
-            if found == "repeat" and not is_known:
-                # Credited by somebody who noted nothing: what is left now has this month in it.
-                self.notes.add(row, 0)
+            if found == "repeat":
+                # What is left now has this month in it. Somebody who noted nothing credited it; or a
+                # run of ours, which may have been killed before it knew that it was not the first.
+                self.notes.add(row, max(left - row.sum, 0) if is_known else 0)
             elif found not in ("new", "repeat"):
                 self.faults.append(f"`{names.shown(row.account)}`: {found}")
             if self.books and found in ("new", "repeat"):
