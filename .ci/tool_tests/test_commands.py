@@ -298,7 +298,9 @@ class Program(unittest.TestCase):
         words = ["/usr/bin/python3", "-IBc", text + "program.show('done')"]
         with open("/dev/full", "w", encoding="ascii") as full:
             done = subprocess.run(words, stdout=full, stderr=subprocess.PIPE, cwd=ROOT)
-        self.assertEqual((done.returncode, done.stderr), (0, b""))
+            self.assertEqual((done.returncode, done.stderr), (0, b"done\n"))
+            done = subprocess.run(words, stdout=full, stderr=full, cwd=ROOT)
+            self.assertEqual(done.returncode, 0)
 
     def test_nothing_is_left_next_to_the_package(self):
         self.run_it("sell", "--dry-run")

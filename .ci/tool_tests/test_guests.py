@@ -241,6 +241,16 @@ class Guests(unittest.TestCase):
             guest.mend(words_of(self.site, "mend"))
             self.assertEqual(self.whole_or_nothing(), 0)
 
+    def test_a_password_that_cannot_be_printed_is_said(self):
+        full = mock.Mock(write=mock.Mock(side_effect=OSError(28, "full")), fileno=lambda: null)
+        with contextlib.redirect_stderr(io.StringIO()) as said, open(os.devnull, "wb") as nothing, \
+                mock.patch.object(guest.sys, "stdout", full):
+            null = nothing.fileno()
+            self.assertEqual(guest.main(["--config", self.site.config, "--key-file", self.site.path(
+                "cashier.key"), "new", "Bo", "week"]), 0)
+        [(account, _, _, password)] = self.rows()
+        self.assertIn(f"{account.decode()}, password {password}", said.getvalue())
+
     def test_a_card_that_is_there_stays(self):
         self.site.write("card.html", "another one's")
         self.assertRaises(guest.NotMade, self.new)

@@ -112,7 +112,7 @@ def new(words):
     if not is_sold:
         return 3
     where = f"the card is {words.card}" if words.card else f"{account}, password {password}"
-    print(f"{words.name}: {where}; {package.title}, {site_money.shown(package.price)}")
+    program.show(f"{words.name}: {where}; {package.title}, {site_money.shown(package.price)}")
     return 0
 
 
@@ -294,7 +294,7 @@ def end(words):
             fail(f"there is no guest {words.account}: radacctl guest list")
     # Others need not wait for access servers.
     told = disconnect(sold.store(), account)
-    print(f"{words.account} has ended; told {told} sessions to end. What is left lapses")
+    program.show(f"{words.account} has ended; told {told} sessions to end. What is left lapses")
     return 0
 
 

@@ -109,7 +109,7 @@ def new(words):
             os.remove(words.card)
         raise
     status = servers.wait_for_server(words, changed)
-    print(f"{account}: the card is {words.card}" if words.card else f"{account}: {token}")
+    program.show(f"{account}: the card is {words.card}" if words.card else f"{account}: {token}")
     return status
 
 

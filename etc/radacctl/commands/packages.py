@@ -220,7 +220,7 @@ def credit(words, logins_store, found, known):
     if was_sold:
         say(f"{len(was_sold)} of these codes were sold before, here or at the desk's page: "
             "nothing was credited for them")
-    print(f"price {site_money().shown(price)}")
+    program.show(f"price {site_money().shown(price)}")
     return sells.report(outcomes, {}, sale.stop)
 
 
