@@ -1,16 +1,19 @@
 """What the night's copy takes for a damaged book, and what only for a full disk or memory."""
 
 import contextlib
+import io
 import os
 import shutil
 import sqlite3
 import subprocess
 import tarfile
 import tempfile
+import threading
 import unittest
 from unittest import mock
 
-from radacctl import archive
+from radacctl import archive, files
+from radacctl.commands import site
 from tool_tests import Folder, ROOT
 
 # What each command of the program prints and ends with, by files of the test.
@@ -168,6 +171,21 @@ class Databases(Folder):
             opened.execute("BEGIN")
             opened.executemany("INSERT INTO login VALUES (?)", [("x" * 5000,)] * 9)
             self.assertEqual((self.archived(), self.rows()), (["logins.db"], ["al"]))
+
+    def test_two_at_once(self):
+        """Both would write one dump of FreeRADIUS' database, and one archive of a name."""
+        lock = os.path.join(self.out, "lock")
+        with mock.patch.object(site, "LOCK", lock), mock.patch.object(site, "places", list), \
+                mock.patch.object(site, "dump_sql"), contextlib.redirect_stdout(io.StringIO()):
+            held = files.open_lock(lock)
+            self.assertTrue(files.is_locked(held))
+            other = threading.Thread(target=site.main, args=(["save", f"{self.out}/made"],))
+            other.start()
+            other.join(0.3)
+            self.assertEqual((other.is_alive(), os.listdir(self.out)), (True, ["lock"]))
+            os.close(held)
+            other.join()
+        self.assertEqual(sorted(os.listdir(self.out)), ["lock", "made"])
 
     def test_a_file_of_another_program(self):
         with open(os.path.join(self.folder, "logins.db"), "wb") as file:

@@ -25,6 +25,7 @@ a bad command line.
 """
 
 import contextlib
+import fcntl
 import glob
 import grp
 import json
@@ -69,6 +70,8 @@ EMPTY = site.RADACCT
 # The tools of a pair are put there by hand.
 BY_HAND = ["/usr/local/sbin/radacctd-outbox", "/usr/local/sbin/radacctd-compare"]
 INSTALLED = "/usr/local/share/radacctd/installed"
+# One at a time dumps FreeRADIUS' database and writes an archive.
+LOCK = "/run/radacctd-site.lock"
 # FreeRADIUS and nginx name files outside of their folders.
 NAMING, LARGEST_NAMING = [site.RADDB, "/etc/nginx"], 1 << 20
 NAMED = re.compile(r"/etc/(?:ssl|letsencrypt)/[A-Za-z0-9._/-]+")
@@ -203,6 +206,8 @@ def members_of(name):
 
 def save(words):
     """Writes the archive under another name, tests it, and gives it its own."""
+    # Another run is waited for.
+    fcntl.flock(files.open_lock(LOCK), fcntl.LOCK_EX)
     part = words.file + ".part"
     files.remove(part)
     dump_sql()
