@@ -196,15 +196,22 @@ class Free(unittest.TestCase):
 
     def test_a_sheet_whose_codes_are_not_kept_is_said(self):
         """Its PDF is there, and looks as if it could be sold."""
-        known, store = packages.packages_of(PACKAGE, MONEY), mock.Mock()
+        store, log = mock.Mock(), mock.Mock()
         store.run.side_effect = logins.Fault("l.db: database or disk is full")
+        self.says_that_none_is_to_be_sold(store, log)
+        log.side_effect, store = stock.Fault("cannot write sheets.csv: full"), mock.Mock()
+        self.says_that_none_is_to_be_sold(store, log)
+        store.run.assert_not_called()
+
+    def says_that_none_is_to_be_sold(self, store, log):
+        known = packages.packages_of(PACKAGE, MONEY)
         with tempfile.TemporaryDirectory(dir=MEMORY) as folder, contextlib.ExitStack() as patches:
             for where, what, new in (
                 (packages, "read", lambda: (known, MONEY)), (command, "store", lambda: store),
                 (command.plans, "in_force", lambda: {"default": ("1", "5", "both")}),
                 (command, "key_of", lambda _: "k"), (logins, "package_row", lambda *_: 1),
                 (command, "new_codes", lambda *_: [("A-B-C", "t-0123456789ab", "d")]),
-                (command.codes, "sheet", lambda *_: b"%PDF"), (command.codes, "log", mock.Mock()),
+                (command.codes, "sheet", lambda *_: b"%PDF"), (command.codes, "log", log),
             ):
                 patches.enter_context(mock.patch.object(where, what, new))
             said = patches.enter_context(contextlib.redirect_stderr(io.StringIO()))

@@ -126,13 +126,13 @@ def print_codes(words):
     except OSError as why:
         fail(f"cannot write {path}: {why.strerror}")
     now = int(time.time())
-    codes.log([now, sheet, package.name, package.credit, package.price])
     try:
+        codes.log([now, sheet, package.name, package.credit, package.price])
         logins_store.run(*((
             "INSERT INTO login VALUES (?, ?, NULL, ?, ?, ?, ?, ?, 'live', ?, NULL, NULL, ?, NULL)",
             (account.encode(), digest, number, package.plan, package.devices, package.seconds,
              sheet, now, package.until)) for _, account, digest in made))
-    except logins.Fault as why:
+    except (logins.Fault, stock.Fault, OSError) as why:
         fail(f"{why}\nIts codes may log nobody in: sell none of {path} unless radacctl packages "
              f"list {sheet} has them. Else remove it, and print others")
     print(f"{len(made)} codes of {package.name}, {money.shown(package.price)} each: {path}. "
