@@ -8,11 +8,13 @@ import subprocess
 import tempfile
 import unittest
 
+from radacctl import shards
 from tool_tests import Folder, ROOT
 
 # What `check` prints and ends with, by the file `fault`, if it is asked for an audit.
 PROGRAM = """#!/bin/sh
 case " $* " in
+    ' export '*) exec cat {0}/balances ;;
     *' --audit '*)
         if [ -s {0}/fault ]; then
             echo 'al: balance 480, vouchers 501'
@@ -39,7 +41,8 @@ class Restore(unittest.TestCase):
         # No process has the book.
         self.write("libexec/radacctd/holders", "#!/bin/sh\n", 0o755)
         self.write("libexec/radacctd/radacctd", PROGRAM.format(self.folder), 0o755)
-        self.write("sbin/radacctl", "#!/bin/sh\necho '# plans of the copy'\n", 0o755)
+        self.write("sbin/radacctl", "#!/bin/sh\nif [ $1 = shards ]; then exec "
+                   f"{ROOT}/etc/tools/radacctl \"$@\"; fi\necho '# plans of the copy'\n", 0o755)
         for name in ("2026-11-26", "2026-11-27.bad", "killed.part", "now"):
             os.mkdir(os.path.join(self.folder, name))
             self.write(f"{name}/book", name)
@@ -54,13 +57,13 @@ class Restore(unittest.TestCase):
         with open(os.path.join(self.folder, name), encoding="ascii") as file:
             return file.read()
 
-    def restored(self, *words):
+    def restored(self, *words, to="now"):
         """The status, what was printed, and the copy that is the book now."""
         *options, copy = words
         place = lambda name: os.path.join(self.folder, name)
-        command = [place("libexec/radacctd/restore"), *options, place(copy), place("now/book")]
+        command = [place("libexec/radacctd/restore"), *options, place(copy), place(f"{to}/book")]
         done = subprocess.run(command, capture_output=True, text=True)
-        return done.returncode, done.stdout + done.stderr, self.text("now/book")
+        return done.returncode, done.stdout + done.stderr, self.text(f"{to}/book")
 
     def test_a_copy_that_was_refused(self):
         status, said, book = self.restored("2026-11-27.bad")
@@ -95,6 +98,25 @@ class Restore(unittest.TestCase):
         status, said, book = self.restored("2026-11-26")
         self.assertEqual((status, book), (0, "2026-11-26"))
         self.assertIn("its balances were not audited", said)
+
+    def test_a_copy_of_another_one_of_16_books(self):
+        shard = shards.shard_of(b"al")
+        others = [it for it in shards.SHARDS if it != shard]
+        for name, balances, is_taken in (
+            (shard, "al,-5,5\nbo,5,0\n", True), (shard, "al,5,0\n", True),
+            (others[0], "al,5,0\n", False), (others[1], '"a,l",5,0\nradacctd-probe,0,0\n', True),
+            (others[2], "", True), ("now", "al,5,0\n", True),
+        ):
+            with self.subTest(balances, name=name):
+                self.write("balances", "account,balance,overrun\n" + balances)
+                os.makedirs(os.path.join(self.folder, name), exist_ok=True)
+                self.write(f"{name}/book", "now")
+                status, said, book = self.restored("2026-11-26", to=name)
+                wanted = (0, "2026-11-26") if is_taken else (1, "now")
+                self.assertEqual((status, book), wanted, said)
+                self.assertEqual(f"it has no account of {name}" in said, not is_taken)
+                status, _, book = self.restored("--unsound", "2026-11-26", to=name)
+                self.assertEqual((status, book), (0, "2026-11-26"))
 
     def test_the_plans_of_a_configuration(self):
         self.write("config", "# another one\n")
