@@ -3,6 +3,7 @@
 import contextlib
 import io
 import os
+import re
 import tempfile
 import time
 import unittest
@@ -11,6 +12,7 @@ from unittest import mock
 from radacctl import freeradius, shards as books, site
 from radacctl.commands import shards
 from radacctl.doctor import book, copies, front, kind
+from tool_tests import ROOT
 
 HOUR = 3600
 COUNTS = "# HELP radacctd_up Up.\n# TYPE radacctd_up gauge\nradacctd_up 1\n"
@@ -304,6 +306,12 @@ class Told(unittest.TestCase):
                 mock.patch("sys.stdin", None), contextlib.redirect_stdout(io.StringIO()) as said:
             self.assertEqual(shards.main(["sell", "--logged"]), 0)
         self.assertEqual(said.getvalue(), "voucher,account,sum\n")
+
+    def test_no_alert_names_a_port_of_one_book_alone(self):
+        with open(os.path.join(ROOT, "etc/monitoring/radacctd.rules.yml"), encoding="utf-8") as file:
+            alerts = " ".join(file.read().split()).split("- alert: ")
+        named = [it for it in alerts if re.search("[^0-9](1813|8066)[^0-9]", it)]
+        self.assertEqual([it.split()[0] for it in named if "as 16 books have it" not in it], [])
 
     def test_freeradius_reads_each_queue_and_what_is_moved_back(self):
         with tempfile.NamedTemporaryFile("w", encoding="ascii") as file:
