@@ -32,8 +32,8 @@ exec {tool}
 
 
 def tool(name, *words):
-    """How a tool ended, and what it printed and reported."""
-    command = [os.path.join(TOOLS, name), *words]
+    """How a command of radacctl ended, and what it printed and reported."""
+    command = [os.path.join(TOOLS, "radacctl"), name, *words]
     done = subprocess.run(command, capture_output=True, text=True, stdin=subprocess.DEVNULL)
     return done.returncode, done.stdout, done.stderr
 
@@ -59,7 +59,7 @@ def keys(browser, proxy, server, folder):
     words = ["--config", server.config, "--db", server.book, "--log", server.errors]
     words += ["--url", proxy.url()]
     account = "Zoë 1126"
-    done = tool("radacctd-key", *words, "new", account, "--days", "3", "--card", card)
+    done = tool("key", *words, "new", account, "--days", "3", "--card", card)
     check("radacctd-key makes a key", done, (0, f"{account}: the card is {card}\n", ""))
     token = re.findall(r"[a-z0-9]{5}(?:-[a-z0-9]{5}){4}", text_of(card))[0]
     check("the card is its owner's alone", mode_of(card), "0o600")
@@ -72,16 +72,16 @@ def keys(browser, proxy, server, folder):
     check("the card's code is the page's address", codes_in(picture), [proxy.url(f"/#k={token}")])
     browser.go(codes_in(picture)[0])
     check("which shows the account", browser.shows(f"Account {account}"), True)
-    again = tool("radacctd-key", *words, "new", account)
+    again = tool("key", *words, "new", account)
     check("a second key for it wants --again", again[0], 1)
     check(
-        "a card is not overwritten", tool("radacctd-key", *words, "new", "x", "--card", card)[0], 1
+        "a card is not overwritten", tool("key", *words, "new", "x", "--card", card)[0], 1
     )
-    listed = tool("radacctd-key", *words, "list")[1]
+    listed = tool("key", *words, "list")[1]
     check(
         "the list has the account, and no key", (account in listed, token in listed), (True, False)
     )
-    done = tool("radacctd-key", *words, "revoke", account)
+    done = tool("key", *words, "revoke", account)
     check("check-out ends the key", done[:2], (0, "ended 1 keys\n"))
     check("at once", proxy.status("/me/balance", key=token), 401)
     check("and the configuration is as before", text_of(server.config), before)
@@ -98,16 +98,16 @@ def full(server, folder):
         file.write(before + "\n" + "".join(lines))
     done = subprocess.run([PROGRAM, "check", "--config", path], capture_output=True, text=True)
     check("4,096 keys are right", done.returncode, 0)
-    status, _, errors = tool("radacctd-key", "--config", path, "new", "zed")
+    status, _, errors = tool("key", "--config", path, "new", "zed")
     named = "set up 16 books (docs/SHARDS.md)" in errors
     check("one more is refused, and the page named", (status, named), (1, True))
 
 
 def expiry(proxy, server, words):
-    made = tool("radacctd-key", *words, "new", "yann", "--days", "1")[1]
+    made = tool("key", *words, "new", "yann", "--days", "1")[1]
     token = made.split()[-1]
     check(
-        "before its time a key stays", tool("radacctd-key", *words, "expire")[1], "no key to end\n"
+        "before its time a key stays", tool("key", *words, "expire")[1], "no key to end\n"
     )
     check("and is taken", proxy.status("/me/balance", key=token), 200)
     text = text_of(server.config)
@@ -115,12 +115,12 @@ def expiry(proxy, server, words):
         file.write(re.sub(r"until \S+", "until 2026-01-01T12:00", text))
     os.chmod(server.config + "~", 0o600)
     os.rename(server.config + "~", server.config)
-    check("after it, it ends", tool("radacctd-key", *words, "expire")[:2], (0, "ended 1 keys\n"))
+    check("after it, it ends", tool("key", *words, "expire")[:2], (0, "ended 1 keys\n"))
     check("for the server, too", proxy.status("/me/balance", key=token), 401)
     right = text_of(server.config)
     with open(server.config, "a", encoding="utf-8") as file:
         file.write("\n[broken")
-    status = tool("radacctd-key", *words, "new", "zed")[0]
+    status = tool("key", *words, "new", "zed")[0]
     check(
         "a wrong configuration gets no key", (status, "zed" in text_of(server.config)), (1, False)
     )
@@ -152,7 +152,7 @@ def make_vouchers(proxy, folder):
     """The codes of a sheet, whose stock lies in the folder of the test."""
     words = ["--stock", f"{folder}/stock.csv", "--to", folder, "--url", "https://localhost"]
     words += ["--settings", f"{proxy.folder}/site/settings.json"]
-    status, said, _ = tool("radacctd-vouchers", *words, "--count", "30", "--sum", "5.00")
+    status, said, _ = tool("voucher", *words, "--count", "30", "--sum", "5.00")
     wanted = 0, "30 vouchers of 5.00 EUR, 150.00 EUR together"
     check("radacctd-vouchers makes a sheet", (status, said.split(":")[0]), wanted)
     made, stock = glob.glob(f"{folder}/vouchers-*.csv")[0], f"{folder}/stock.csv"
@@ -168,7 +168,7 @@ def make_vouchers(proxy, folder):
     check("the sheet has each code", all(it in text for it in codes), True)
     wanted = sorted(f"https://localhost/redeem/#c={it}" for it in codes)
     check("as a QR code, too", codes_of(sheet, len(codes), folder), wanted)
-    tool("radacctd-vouchers", *words, "--count", "1", "--sum", "7")
+    tool("voucher", *words, "--count", "1", "--sum", "7")
     check("a second sheet adds to the stock", text_of(stock).count("\n"), 32)
     return codes
 
@@ -178,7 +178,7 @@ def begin_redeem(proxy, server, folder):
         file.write(REDEEM_KEY + "\n")
     script = os.path.join(proxy.folder, "redeem")
     with open(script, "w", encoding="utf-8") as file:
-        file.write(WRAPPER.format(folder=folder, desk=server.desk, tool=f"{TOOLS}/radacctd-redeem"))
+        file.write(WRAPPER.format(folder=folder, desk=server.desk, tool=f"{TOOLS}/radacctl redeem"))
     os.chmod(script, 0o755)
     words = ["fcgiwrap", "-c", "2", "-p", script, "-s", f"unix:{proxy.socket}"]
     process = subprocess.Popen(words, start_new_session=True)

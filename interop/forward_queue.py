@@ -23,7 +23,7 @@ OPEN, STOPPED = 0, 2
 INTERIM, STOP = 3, 2
 # How many reports go through the queue in each step.
 REPORTS = 300
-REWRITE = os.path.join(front.ROOT, "etc", "tools", "radacctd-rewrite")
+REWRITE = [os.path.join(front.ROOT, "etc", "tools", "radacctl"), "rewrite"]
 
 
 def highest(pid):
@@ -204,7 +204,7 @@ def run(book, radius, model):
     check("the run ends well", status, 0)
     print(f"          forward: {seconds:.1f} s, {memory:.0f} MB, a start has {start:.0f}; {load()}")
     show_start(export, book.book, "after")
-    words = [REWRITE, "--config", book.config, book.book]
+    words = [*REWRITE, "--config", book.config, book.book]
     begun = time.monotonic()
     done = subprocess.run(words, capture_output=True, text=True)
     check("the file is made anew", (done.returncode, done.stdout.count("before,")), (0, 1))

@@ -79,7 +79,7 @@ def by_a_file(test, first, second):
     """radacctd-sell by the outbox while the other desk is down."""
     second.book.kill()
     lines = [f"F-{number},user{number % 5},10" for number in range(40)]
-    words = [os.path.join(TOOLS, "radacctd-sell"), "--port", str(first.outbox_port)]
+    words = [os.path.join(TOOLS, "radacctl"), "sell", "--port", str(first.outbox_port)]
     words += ["--key-file", first.key]
     text = "\n".join(["voucher,account,sum", *lines]) + "\n"
     done = subprocess.run(words, input=text, capture_output=True, text=True)
@@ -108,7 +108,7 @@ def by_a_code(test, first):
     text = json.dumps({"account": "user6", "code": code})
     given = {"CONTENT_LENGTH": str(len(text)), "RADACCTD_STOCK": stock, "RADACCTD_KEY": first.key}
     given["RADACCTD_DESKS"] = f"127.0.0.1:{first.outbox_port}"
-    words = [os.path.join(TOOLS, "radacctd-redeem")]
+    words = [os.path.join(TOOLS, "radacctl"), "redeem"]
     done = subprocess.run(words, input=text, capture_output=True, text=True, env=os.environ | given)
     check("a printed voucher", done.stdout.rpartition("\n\n")[2], '{"result":"new","sum":30}')
     all_well(test, "both books get it")

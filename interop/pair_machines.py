@@ -222,7 +222,7 @@ class Machine:
 
     def debit(self, account, total, number, journal):
         """The status of radacctd-debit, which reports to FreeRADIUS."""
-        words = [os.path.join(TOOLS, "radacctd-debit"), "--config", self.book.config]
+        words = [os.path.join(TOOLS, "radacctl"), "debit", "--config", self.book.config]
         words += ["--db", self.book.book, "--secret-file", self.secret, "--journal", journal]
         words += ["--port", str(self.radius.acct)]
         words += [COMPARE.names.for_desk(account.encode()), str(total), number]

@@ -306,12 +306,12 @@ class Codes:
     def print(self, count, total):
         """So many codes of a sum in units of the book, which it returns."""
         before = set(self.codes())
-        words = [os.path.join(TOOLS, "radacctd-vouchers"), "--stock", self.stock, "--yes"]
+        words = [os.path.join(TOOLS, "radacctl"), "voucher", "--stock", self.stock, "--yes"]
         words += ["--second", self.second, "--settings", self.settings, "--to", self.folder]
         words += ["--count", str(count), "--sum", f"{total // 100}.{total % 100:02d}"]
         done = subprocess.run(words, capture_output=True, text=True, stdin=subprocess.DEVNULL)
         if done.returncode:
-            raise SystemExit(f"radacctd-vouchers: {done.stderr}")
+            raise SystemExit(done.stderr)
         for path in glob.glob(os.path.join(self.folder, "vouchers-*")):
             os.remove(path)
         return sorted(set(self.codes()) - before)
@@ -333,7 +333,7 @@ class Codes:
             "RADACCTD_DESKS": ",".join(f"127.0.0.1:{port}" for port in desks),
         }
         pipe = subprocess.PIPE
-        words = [os.path.join(TOOLS, "radacctd-redeem")]
+        words = [os.path.join(TOOLS, "radacctl"), "redeem"]
         process = subprocess.Popen(
             words, stdin=pipe, stdout=pipe, stderr=subprocess.DEVNULL, env={**os.environ, **own}
         )

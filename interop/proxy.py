@@ -61,9 +61,9 @@ class Proxy:
         ]
         # As docs/SHARDS.md has each site print its own.
         tool, table = (os.path.join(ROOT, "etc", *it) for it in (
-            ("tools", "radacctd-shards"), ("shards", "shards.csv")))
+            ("tools", "radacctl"), ("shards", "shards.csv")))
         with open(f"{folder}/radacctd/desks-shards.conf", "wb") as file:
-            subprocess.run([tool, "--table", table, "nginx"], stdout=file, check=True)
+            subprocess.run([tool, "shards", "--table", table, "nginx"], stdout=file, check=True)
         self.write()
 
     def write(self):

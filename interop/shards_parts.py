@@ -156,7 +156,7 @@ def sells(site, one, model):
             got = tool("sell", *options, table=site.table, stdin=file)
         check(name, got[:2], (1, f"{said}, refused 2\n{wanted}"))
         print(f"         in {time.monotonic() - begun:.1f} s", flush=True)
-    words = [os.path.join(TOOLS, "radacctd-sell"), *to_sell, *known, "--port", str(one.book.desk)]
+    words = [f"{TOOLS}/radacctl", "sell", *to_sell, *known, "--port", str(one.book.desk)]
     with open(path, "rb") as file:
         done = subprocess.run(words, stdin=file, capture_output=True, text=True)
     first = done.stdout.splitlines()[0]
@@ -215,7 +215,7 @@ def others(site, one, model):
     with open(secret, "w", encoding="ascii") as file:
         file.write("testing-789")
     os.chmod(secret, 0o600)
-    words = ["for", shown(account), f"{TOOLS}/radacctd-debit", "--config"]
+    words = ["for", shown(account), f"{TOOLS}/radacctl", "debit", "--config"]
     words += [f"{site.folder}/{{shard}}/radacctd.toml", "--db", f"{site.folder}/{{shard}}/book"]
     words += ["--secret-file", secret, "--host", "{address}", "--port", "{radius}"]
     words += ["--journal", f"{site.folder}/{{shard}}.csv", shown(account), "30", "VOID-1"]
@@ -228,7 +228,7 @@ def others(site, one, model):
     words = [it.replace(f"{site.folder}/one/", f"{one.folder}/") for it in words]
     done = subprocess.run(words, capture_output=True, text=True)
     check("the same in the one book", done.returncode, 0)
-    words = ["for", shown(account), f"{TOOLS}/radacctd-key", "--config", book.config]
+    words = ["for", shown(account), f"{TOOLS}/radacctl", "key", "--config", book.config]
     words += ["--db", book.book, "--log", book.errors, "--prefix", "{shard}-"]
     status, said, errors = tool(*words, "new", "--again", account.decode(), table=site.table)
     key = said.split(" ")[-1].strip()

@@ -18,7 +18,7 @@ import proxy
 from front import BOOK_SECRET, KILL, MEBIBYTE, check
 from front_sender import Sender, packet_of
 
-TOOL = os.path.join(front.ROOT, "etc", "tools", "radacctd-shards")
+TOOL = [os.path.join(front.ROOT, "etc", "tools", "radacctl"), "shards"]
 TOOLS = os.path.join(front.ROOT, "etc", "tools")
 POLICY = os.path.join(front.ROOT, "etc", "shards", "policy")
 SHARDS = [f"s{digit:x}" for digit in range(16)]
@@ -74,7 +74,7 @@ def shown(account):
 def tool(*words, table=None, **how):
     """How radacctd-shards ended, and what it printed."""
     given = ["--table", table] if table else []
-    done = subprocess.run([TOOL, *given, *words], capture_output=True, text=True, **how)
+    done = subprocess.run([*TOOL, *given, *words], capture_output=True, text=True, **how)
     return done.returncode, done.stdout, done.stderr
 
 

@@ -273,17 +273,21 @@ class Shards(unittest.TestCase):
 class Program(unittest.TestCase):
     TOOL = os.path.join(ROOT, "etc", "tools", "radacctl")
 
-    def run_it(self, *words, name="radacctl"):
-        path = os.path.join(os.path.dirname(self.TOOL), name)
-        return subprocess.run([path, *words], capture_output=True, text=True, input="")
+    def run_it(self, *words, tool=None):
+        return subprocess.run([tool or self.TOOL, *words], capture_output=True, text=True, input="")
 
     def test_each_older_name_is_its_command(self):
         from radacctl.main import COMMANDS, SCRIPTS
 
-        for command, (_, older) in COMMANDS.items():
-            if older and command not in SCRIPTS:
-                said = self.run_it("--help", name=older)
-                self.assertEqual(said.returncode, 0, older)
+        older = {it: name for name, (_, it) in COMMANDS.items() if it and name not in SCRIPTS}
+        with open(os.path.join(ROOT, "bin/install"), encoding="utf-8") as file:
+            links = re.search(r"for name in (radacctd-debit[^;]*);", file.read())[1]
+        self.assertEqual(sorted(older), links.replace("\\", " ").split())
+        with tempfile.TemporaryDirectory() as folder:
+            for name, command in older.items():
+                os.symlink(self.TOOL, os.path.join(folder, name))
+                said = self.run_it("--help", tool=os.path.join(folder, name))
+                self.assertEqual(said.returncode, 0, name)
                 own = self.run_it(command, "--help").stdout
                 self.assertGreater(len(own), 200)
                 options = [re.findall(r"--[a-z-]+", it) for it in (said.stdout, own)]
