@@ -19,7 +19,7 @@ SHOWS = """#!/usr/bin/python3 -I
 import json, os, sys
 found = {it: value for it, value in os.environ.items() if it not in ("PATH", "LC_CTYPE")}
 body = json.dumps([found, sys.stdin.read(int(os.environ.get("CONTENT_LENGTH") or 0))])
-sys.stdout.write("Status: 200 OK\\r\\nContent-Type: application/json\\r\\n\\r\\n" + body)
+sys.stdout.write("Status: 200\\r\\nContent-Type: application/json\\r\\n\\r\\n" + body)
 """
 SALE = '{"account":"al","sum":1,"voucher":"D1-1"}'
 DESK, REDEEM = ("-H", "Radacctd: desk"), ("-H", "Radacctd: redeem")

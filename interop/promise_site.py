@@ -344,7 +344,7 @@ class Codes:
             process.kill()
             said, _ = process.communicate()
             self.kills += 1
-        found = re.match(rb"Status: (\d+) .*?\r\n\r\n(.*)", said, re.DOTALL)
+        found = re.match(rb"Status: (\d+)\r\n.*?\r\n\r\n(.*)", said, re.DOTALL)
         return (int(found[1]), json.loads(found[2])) if found else (0, {})
 
 

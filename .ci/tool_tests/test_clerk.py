@@ -643,7 +643,7 @@ class Page(unittest.TestCase):
 
     def test_a_request_is_handed_on(self):
         (head, _, body), got, _ = self.run_it(b'{"act": "may"}')
-        self.assertEqual((head.split("\r\n")[0], json.loads(body)), ("Status: 200 OK", {"a": 1}))
+        self.assertEqual((head.split("\r\n")[0], json.loads(body)), ("Status: 200", {"a": 1}))
         self.assertEqual(got, b'anna\n{"act": "may"}\n')
 
     def test_a_name_is_one_line(self):
@@ -658,7 +658,7 @@ class Page(unittest.TestCase):
             (b'{"act": "may"}', b"anna", {"CONTENT_LENGTH": "-1"}, 422),
         ):
             (head, *_), got, _ = self.run_it(body, who=who, **more)
-            self.assertIn(f"Status: {status} ", head)
+            self.assertIn(f"Status: {status}\r\n", head)
             self.assertEqual(got, b"")
 
     def test_no_answer_is_said_so(self):

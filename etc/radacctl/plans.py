@@ -1,8 +1,10 @@
 """Plans: block, unit and count by the octets of a class, as books and files have them."""
 
 import csv
+import io
+import json
 
-from radacctl import files, site
+from radacctl import files, names, site
 
 # What is counted, by the book's numbers.
 COUNTS = ("both", "in", "out")
@@ -21,6 +23,16 @@ def of_book(path):
     """
     rows = files.rows(path, QUERY, is_still=True)
     return of_rows([row[0].encode("latin-1"), *row[1:]] for row in rows)
+
+
+def texts_of(found):
+    """The files of plans in force, by their names, of plans by the octets of their classes."""
+    text = io.StringIO(newline="")
+    rows = ((names.shown(name), *plan) for name, plan in found.items())
+    csv.writer(text, lineterminator="\n").writerows([HEADER, *rows])
+    named = {name.decode(): dict(zip(HEADER[1:], plan)) for name, plan in found.items()}
+    return {"plans.csv": text.getvalue(),
+            "plans.json": json.dumps(named, indent=2, ensure_ascii=False) + "\n"}
 
 
 def rows_of(path):

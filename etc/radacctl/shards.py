@@ -6,7 +6,6 @@ import glob
 import hashlib
 import io
 import ipaddress
-import json
 import os
 import re
 import time
@@ -89,7 +88,7 @@ def written(path, text, moment, mode=0o640):
     for it in glob.glob(f"{path}.*.new"):
         files.remove(it)
     handle = os.open(new, flags, 0o600)
-    with os.fdopen(handle, "w", encoding="ascii", newline="") as file:
+    with os.fdopen(handle, "w", encoding="utf-8", newline="") as file:
         file.write(text)
         file.flush()
         os.fchmod(handle, mode)
@@ -164,17 +163,9 @@ def join_plans(folder):
     if not any(os.path.exists(os.path.join(folder, f"{it}-plans.csv")) for it in SHARDS):
         return
     first, *others = [plans_in(folder, shard) for shard in SHARDS]
-    all_have = {it: row for it, row in first.items()
+    all_have = {octets_of(it): (int(row[0]), int(row[1]), row[2]) for it, row in first.items()
                 if all(other.get(it) == row for other in others)}
-    made = io.StringIO(newline="")
-    rows = [plans.HEADER, *((name, *row) for name, row in all_have.items())]
-    csv.writer(made, lineterminator="\n").writerows(rows)
-    found = {
-        octets_of(name).decode(): {"block": int(block), "unit": int(unit), "count": count}
-        for name, (block, unit, count) in all_have.items()
-    }
-    text = json.dumps(found, indent=2) + "\n"
-    for name, text in (("plans.csv", made.getvalue()), ("plans.json", text)):
+    for name, text in plans.texts_of(all_have).items():
         path = os.path.join(folder, name)
         if not os.path.exists(path) or text_of(path) != text:
             written(path, text, time.time())

@@ -32,8 +32,6 @@ from radacctl.clerk.forms import Refused
 SOCKET = os.environ.get("RADACCTD_CLERK_WORK", "/run/radacctd-clerk-work.socket")
 # In seconds: nginx waits for 90.
 PATIENCE = 80
-NAMES = {200: "OK", 403: "Forbidden", 404: "Not Found", 409: "Conflict",
-         422: "Unprocessable Entity", 429: "Too Many Requests"}
 LONGEST_ANSWER = 1 << 23
 
 
@@ -78,7 +76,6 @@ def main():
         status, body = handed_on(cashier(), request())
     except Refused as found:
         status, body = found.status, {"error": found.error}
-    name = NAMES.get(status, "Service Unavailable")
-    sys.stdout.write(f"Status: {status} {name}\r\nContent-Type: application/json\r\n\r\n")
+    sys.stdout.write(f"Status: {status}\r\nContent-Type: application/json\r\n\r\n")
     sys.stdout.write(json.dumps(body))
     return 0

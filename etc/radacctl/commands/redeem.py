@@ -48,7 +48,6 @@ LARGEST_BODY = 1024
 # In seconds: for a connection, an answer, another request for the same code, and another run over
 # the stock. nginx waits for 20.
 CONNECT, PATIENCE, TURN, LOCK = 2, 6, 3, 5
-NAMES = {200: "OK", 404: "Not Found", 409: "Conflict", 422: "Unprocessable Entity"}
 
 
 class Answered(Exception):
@@ -204,7 +203,6 @@ def main(words):
         why = f"{fault.strerror}: {fault.filename}" if isinstance(fault, OSError) else fault
         program.say(why)
         answer = Answered(503, error="away")
-    name = NAMES.get(answer.status, "Service Unavailable")
-    sys.stdout.write(f"Status: {answer.status} {name}\r\nContent-Type: application/json\r\n\r\n")
+    sys.stdout.write(f"Status: {answer.status}\r\nContent-Type: application/json\r\n\r\n")
     sys.stdout.write(json.dumps(answer.body, separators=(",", ":")))
     return 0

@@ -33,7 +33,6 @@ It ends with 0 if all was done, with 1 if not (then no new code can be redeemed,
 withdrawn), and with 2 for a bad command line.
 """
 
-import argparse
 import collections
 import csv
 import datetime
@@ -330,7 +329,6 @@ def parser():
     it.add_argument("--name")
     it.add_argument("--list", nargs="?", const="", metavar="SHEET")
     it.add_argument("--withdraw", nargs="+", metavar="WHAT")
-    it.add_argument("old", nargs="*", help=argparse.SUPPRESS)
     return it
 
 
@@ -342,11 +340,6 @@ def parsed(words):
     beside = os.path.join(os.path.dirname(words.stock), "second.csv")
     words.second = words.second or (stocks.SECOND if words.stock == STOCK else beside)
     ways = (words.count is not None) + (words.list is not None) + bool(words.withdraw)
-    if words.old:
-        it.error(
-            "COUNT SUM is taken no more: SUM was in units of the book, so `500 2` made 500 "
-            "vouchers of 0.02. Give --count COUNT --sum SUM, in the site's money, as 5.00."
-        )
     if ways != 1 or (words.count is None) != (words.sum is None):
         it.error("give --count and --sum, or --list, or --withdraw")
     if words.count is not None and not 1 <= words.count <= LARGEST_COUNT:
