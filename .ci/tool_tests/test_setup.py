@@ -13,7 +13,7 @@ import unittest
 from unittest import mock
 
 from radacctl import debits, files, freeradius, lapses, money as moneys, site as places
-from radacctl.commands import allow, debit, key, pages, setup, site, voucher
+from radacctl.commands import allow, debit, pages, setup, site, voucher
 from radacctl.doctor import front as doctor_front
 from radacctl.setup import alone, answers, away, front, pair, proof, sql, steps, web
 import tool_tests
@@ -785,7 +785,7 @@ class Others(Folder):
 
     def test_a_card_outlives_a_power_cut(self):
         with mock.patch("os.fsync") as fsync:
-            key.make_file(self.path, "card")
+            files.make_named(self.path, b"card")
         self.assertEqual(fsync.call_count, 2)
 
     def test_a_password_is_in_no_command_line(self):

@@ -103,11 +103,22 @@ def make(path, octets, mode=0o600, rights=None):
         raise
 
 
-def replace(path, octets, mode=0o600):
+def make_named(path, octets):
+    """Makes a file that a person named, on the disk by its name, too. OSError says why not."""
+    try:
+        make(path, octets)
+        sync_folder(os.path.dirname(path))
+    except FileExistsError:
+        raise OSError(f"{path} is there already: name another file") from None
+    except OSError as why:
+        raise OSError(f"cannot write {path}: {why.strerror}") from None
+
+
+def replace(path, octets, mode=0o600, rights=None):
     """Puts a file into place, whole and on the disk; what was there stays until then."""
     new = path + ".new"
     remove(new)
-    make(new, octets, mode)
+    make(new, octets, mode, rights)
     try:
         os.rename(new, path)
     except OSError:

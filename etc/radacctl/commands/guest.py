@@ -183,13 +183,10 @@ def write_card(account, password, package, site_money, guest, url):
         raise NotMade(why) from None
     texts["wifi"] = f"<br>Wi-Fi: <b>{html.escape(wifi['name'])}</b>" if wifi else ""
     try:
-        files.make(guest["card"], cards.PAGE.format(body=CARD.format(**texts), **STYLE).encode())
-        files.sync_folder(os.path.dirname(guest["card"]))
-    except FileExistsError:
-        guest["card"] = None
-        raise NotMade("the card is there already: name another file") from None
+        body = CARD.format(**texts)
+        files.make_named(guest["card"], cards.PAGE.format(body=body, **STYLE).encode())
     except OSError as why:
-        raise NotMade(f"cannot write {guest['card']}: {why.strerror}") from None
+        raise NotMade(why) from None
 
 
 def codes_of(wifi, account, password, token, url):

@@ -62,17 +62,6 @@ def card(words, account, token, until):
     return cards.PAGE.format(body=body, **STYLE)
 
 
-def make_file(path, text):
-    """Makes a file for its owner alone, and never over another one."""
-    try:
-        files.make(path, text.encode())
-        files.sync_folder(os.path.dirname(path))
-    except FileExistsError:
-        fail(f"{path} is there already: name another file")
-    except OSError as fault:
-        fail(f"cannot write {path}: {fault.strerror}")
-
-
 def has_key(config, account):
     accounts = [it["account"] for it in config.get("key", []) if keys.is_guests(it)]
     return names.octets_of(account) in map(names.octets_of, accounts)
@@ -100,8 +89,11 @@ def new(words):
     if words.days is not None:
         until = (now + datetime.timedelta(days=words.days)).replace(hour=12, minute=0)
     token = keys.new_token(words.prefix)
-    if words.card:
-        make_file(words.card, card(words, account, token, until))
+    try:
+        if words.card:
+            files.make_named(words.card, card(words, account, token, until).encode())
+    except OSError as why:
+        fail(why)
     try:
         changed = configuration.change(words.config, decide)
     except BaseException:

@@ -119,12 +119,9 @@ def print_codes(words):
     texts = codes.texts_of(package, money, words.name)
     try:
         drawn = codes.sheet([(code, account) for code, account, _ in made], texts, words.link)
-        files.make(path, drawn)
-        files.sync_folder(words.to)
-    except sheets.Fault as why:
+        files.make_named(path, drawn)
+    except (sheets.Fault, OSError) as why:
         fail(why)
-    except OSError as why:
-        fail(f"cannot write {path}: {why.strerror}")
     now = int(time.time())
     try:
         codes.log([now, sheet, package.name, package.credit, package.price])

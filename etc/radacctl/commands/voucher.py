@@ -76,16 +76,6 @@ def confirm(words, question):
         program.confirm(question)
 
 
-def make_file(path, content):
-    """Makes a file for its owner alone, on the disk, and never over another one."""
-    try:
-        files.make(path, content)
-    except FileExistsError:
-        fail(f"{path} is there already")
-    except OSError as fault:
-        fail(f"cannot write {path}: {fault.strerror}")
-
-
 def own(handle):
     """Lets the user who redeems read a file of root's, and nobody else."""
     files.give(handle, 0o640, site.REDEEM_USER)
@@ -105,15 +95,8 @@ def add_to_stock(path, codes, total, sheet):
         before = list(rows_of(path))
         if {it.code for it in before} & set(codes) or sheet in {it.sheet for it in before}:
             fail(f"{sheet} or a code of it is in the stock already: give the command again")
-        new = path + ".new"
-        files.remove(new)
         rows = [*before, *(Row(it, total, sheet) for it in codes)]
-        make_file(new, stocks.STOCK_HEADER + stocks.lines_of(rows))
-        handle = os.open(new, os.O_RDONLY | os.O_NOFOLLOW)
-        own(handle)
-        os.close(handle)
-        os.rename(new, path)
-        files.sync_folder(os.path.dirname(path))
+        files.replace(path, stocks.STOCK_HEADER + stocks.lines_of(rows), rights=own)
 
 
 def new_sheet(folder, known):
@@ -150,12 +133,10 @@ def make(words, settings, money):
         sheet = new_sheet(words.to, {it.sheet for it in rows_of(words.stock)})
     name = os.path.join(words.to, sheet)
     try:
-        drawn = sheets.money(codes, texts, url + "/redeem/")
-    except sheets.Fault as fault:
+        files.make_named(name + ".pdf", sheets.money(codes, texts, url + "/redeem/"))
+        files.make_named(name + ".csv", b"code,sum\n" + stocks.lines_of([it, total] for it in codes))
+    except (sheets.Fault, OSError) as fault:
         fail(fault)
-    make_file(name + ".pdf", drawn)
-    make_file(name + ".csv", b"code,sum\n" + stocks.lines_of([it, total] for it in codes))
-    files.sync_folder(words.to)
     add_to_stock(words.stock, codes, total, sheet)
     print(f"{len(codes)} vouchers of {worth}, {together} together: {name}.pdf, {name}.csv")
     return 0
