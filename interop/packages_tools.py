@@ -433,7 +433,7 @@ def allowed(folder):
         count = 0
         for at in range(KILLS):
             # Later and later, so that each has some work before it on a fast machine, too.
-            count += not site.killed("allow", *words, within=0.2 + at / KILLS)
+            count += not site.killed("allow", *words, within=1.2 + at / KILLS)
             if at % 5 == 4:
                 site.box.kill()
                 site.box.start()
