@@ -818,7 +818,7 @@ class Others(Folder):
         with contextlib.redirect_stdout(io.StringIO()):
             voucher.main(["--stock", f"{self.folder}/stock.csv", "--settings", self.path, "--url",
                           "https://a.example", "--count", "2", "--sum", "5.00", "--to", self.folder])
-        self.assertEqual(done, [self.folder, "stock"])
+        self.assertEqual(done, [self.folder, self.folder, "stock"])
 
     def test_only_a_stock_without_a_folder_is_for_the_set_up(self):
         self.write(b"no stock\n")
