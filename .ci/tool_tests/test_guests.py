@@ -415,6 +415,16 @@ class Codes(unittest.TestCase):
             self.assertRaises(SystemExit, self.sell)
         self.assertEqual(self.site.money, {})
 
+    def test_a_code_that_is_withdrawn_while_balances_are_awaited_is_not_sold(self):
+        def withdraw(_):
+            self.site.store().run(("UPDATE login SET state = 'withdrawn' WHERE account = ?",
+                                   (self.account(2),)))
+            self.write_book()
+
+        with mock.patch.object(sold.time, "sleep", withdraw):
+            self.assertRaises(SystemExit, self.sell)
+        self.assertEqual(self.site.money, {})
+
     def test_a_code_whose_end_is_past_is_not_sold(self):
         self.site.store().run(("UPDATE login SET ends = 5 WHERE account = ?", (self.account(1),)))
         self.assertRaises(SystemExit, self.sell)

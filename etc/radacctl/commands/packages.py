@@ -180,10 +180,9 @@ def number_of(account):
     return f"P-{account.decode().upper()}"
 
 
-def sell(words):
-    begun, logins_store = time.time(), store()
-    now = int(begun)
-    logins.mend(logins_store)
+def for_sale(words, logins_store):
+    """The codes that are to be sold, if none of them is over."""
+    now = int(time.time())
     found = {it.account: it for what in words.what for it in named(logins_store, what)}
     # What the package of a code that nobody has says of its end is over, too.
     over = {it.account: it.state if it.state != logins.LIVE else "over" for it in found.values()
@@ -191,8 +190,16 @@ def sell(words):
     if over:
         fail(f"{len(over)} of these codes are {min(over.values())}, as {min(over).decode()}: "
              "nothing was sold")
+    return list(found.values())
+
+
+def sell(words):
+    begun, logins_store = time.time(), store()
+    logins.mend(logins_store)
+    for_sale(words, logins_store)
     codes.await_balances(begun)
-    return credit(words, logins_store, list(found.values()), codes.known_accounts())
+    # One of them may have been withdrawn meanwhile.
+    return credit(words, logins_store, for_sale(words, logins_store), codes.known_accounts())
 
 
 def credit(words, logins_store, found, known):
