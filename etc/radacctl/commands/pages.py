@@ -36,8 +36,7 @@ def link(path, plans):
     if os.path.islink(path) and os.readlink(path) == plans:
         print(f"{path} is as it was")
         return
-    if os.path.lexists(path + ".new"):
-        os.remove(path + ".new")
+    files.remove(path + ".new")
     os.symlink(plans, path + ".new")
     os.rename(path + ".new", path)
     print(f"{path} is a link to {plans}")

@@ -96,8 +96,7 @@ class Rewrite:
             raise rows.Refused(f"{self.new_folder} is in the way, and no rewrite made it: move it "
                                "away")
         for name in PARTS:
-            with contextlib.suppress(FileNotFoundError):
-                os.remove(os.path.join(self.new_folder, name))
+            remove(os.path.join(self.new_folder, name))
         os.rmdir(self.new_folder)
 
     def command(self, name, book, *more):
