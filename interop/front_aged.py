@@ -1,12 +1,15 @@
 """Parts of interop/freeradius: reports that waited long, and those of a site that moves here."""
 
 import os
+import socket
 import subprocess
 import time
+import types
 
 import front
 from front import FILES, MEBIBYTE, SECRET, check, report, waits_for
 from front_parts import both, count_in, part
+from front_sender import Sender, attribute
 
 DAY = 86_400
 OLDEST = 60
@@ -179,3 +182,37 @@ def after_the_move(book, radius):
     waits_for("a new session is charged", pair, (-40, -40))
     clients = sorted(row["client"] for row in book.rows("al"))
     check("by the new client", clients, ["ap1", "freeradius"])
+
+
+PAIR = """
+radacctd_pair {{
+	own = 127.0.0.1
+	other = 127.0.5.2
+	port = {port}
+	secret = {secret}
+	queue = {folder}/radacct/radacctd-other
+}}
+"""
+
+
+@part
+def lacking(folder):
+    """A report that an earlier version queued without its name holds up no reader of a pair."""
+    port = front.KILL.free_port(socket.SOCK_DGRAM)
+    os.makedirs(os.path.join(folder, "radacct", "radacctd-other"))
+    with open(os.path.join(front.ROOT, "etc", "pair", "pair-server"), encoding="utf-8") as file:
+        server = file.read()
+    settings = PAIR.format(port=port, secret=SECRET, folder=folder)
+    radius = front.FreeRadius(folder, types.SimpleNamespace(radius=9), clients=settings, sites=server)
+    radius.start()
+    try:
+        name, number = attribute(1, b"al"), attribute(44, b"10.0.0.1/S-1/0")
+        for title, more, filed in (("whole", name + number, 0), ("without name", number, 1),
+                                   ("without id", name, 2)):
+            packet = attribute(40, bytes([0, 0, 0, 2])) + attribute(42, bytes([0, 0, 0, 5])) + more
+            done = Sender(port).send([("127.0.5.2", packet)])
+            check(f"a report of the other machine, {title}: it is answered", done, 1)
+            check("and filed if nobody would pay it", count_in(radius.unsent), filed)
+        check("else it is queued", count_in(radius.queue), 1)
+    finally:
+        radius.end()
