@@ -251,6 +251,24 @@ c radacctd_device_wrapped_reports{address="10.0.0.1"} 5x12 stale _x566 1x20
 33h b:OctetsWrapped
 49h b:OctetsWrapped c:OctetsWrapped
 
+# All logins of the first access server are reported, those of the second no longer from minute 60 on,
+# and those of the third never were. The fourth has been quiet, and the fifth reports only the ends.
+5m logins that nobody reports
+a radacctd_device_login_time_seconds{address="10.0.0.1"} 300+300x100
+a radacctd_device_report_time_seconds{address="10.0.0.1"} 301+300x100
+b radacctd_device_login_time_seconds{address="10.0.0.2"} 300+300x100
+b radacctd_device_report_time_seconds{address="10.0.0.2"} 301+300x11 3601x89
+c radacctd_device_login_time_seconds{address="10.0.0.3"} 300+300x100
+d radacctd_device_login_time_seconds{address="10.0.0.4"} 300x100
+d radacctd_device_report_time_seconds{address="10.0.0.4"} 301x100
+e radacctd_device_login_time_seconds{address="10.0.0.5"} 300x50 15000x50
+e radacctd_device_report_time_seconds{address="10.0.0.5"} 1800x52 15600x48
+50m
+70m c:LoginsNotReported
+170m c:LoginsNotReported
+190m b:LoginsNotReported c:LoginsNotReported
+8h b:LoginsNotReported c:LoginsNotReported
+
 # Server a is well: a few reports wait for a few seconds. On b each thing is wrong from minute 10
 # on. Server c has no front-counts, and d's file is old from minute 10 on; e's is gone then. On f
 # FreeRADIUS ends then, and a report was queued while the clock was an hour ahead. On g reports wait

@@ -105,6 +105,9 @@ def remembers(folder):
         waits_for("the queue is empty", lambda: count_in(radius.queue), 0, 120)
         charged(book, all_names, kept + healed)
         check("none is filed", count_in(radius.unsent), 0)
+        noted = {it.split(".")[1] for it in os.listdir(os.path.join(folder, "run"))
+                 if it.startswith("radacctd-device.")}
+        check("it is noted when its last login and report were", {"login", "report"} <= noted, True)
 
 
 def around(radius, loss, path, copy):

@@ -57,6 +57,22 @@ class Digests(unittest.TestCase):
             self.assertEqual(found, f"10.0.0.1/S/{digest}".encode())
 
 
+class Devices(unittest.TestCase):
+    def test_counts_are_sizes_and_moments_are_times(self):
+        with tempfile.TemporaryDirectory() as folder:
+            for kind in ("wrapped", "login", "report", "of-a-later-version"):
+                path = os.path.join(folder, f"radacctd-device.{kind}.10.0.0.1")
+                files.make(path, b"..")
+                os.utime(path, (7, 7))
+            counts = script("etc/freeradius", "front-counts")
+            found = list(counts.devices(os.path.join(folder, "radacctd-queue")))
+        self.assertEqual([(name, value) for name, _, value in found],
+                         [("radacctd_device_login_time_seconds", 7),
+                          ("radacctd_device_report_time_seconds", 7),
+                          ("radacctd_device_wrapped_reports", 2)])
+        self.assertLessEqual({name for name, *_ in found}, set(counts.HELP))
+
+
 class Names(unittest.TestCase):
     def test_spellings_come_back(self):
         for octets in (b"al", b"a,b", b"50%", b'"', b"\\", "Łódź".encode(), bytes(range(256))):

@@ -4,6 +4,7 @@
 #   keep SOURCE CLASS NAME NAME ID    remembers the Class of a login: "ok", or what is wrong
 #   look SOURCE NAME ID               the Class of a session: 0x and hex, or nothing
 #   count KIND SOURCE                 counts: "ok"
+#   note KIND SOURCE                  notes that it was now: "ok"
 #   name TEXT                         the name that is percent-encoded in a Class
 #
 # Class, names and id are hex, and the id may be missing. FreeRADIUS reads what is returned as a text in
@@ -33,7 +34,9 @@ sub xlat {
     my $done = eval {
         return look(@words) if $command eq "look";
         return $words[0] =~ s/%([0-9A-F]{2})/chr hex $1/gier =~ s/\\/\\\\/gr if $command eq "name";
-        $command eq "keep" ? keep(@words) : count(@words);
+        keep(@words) if $command eq "keep";
+        utime undef, undef, path(@words) or count(@words) if $command eq "note";
+        count(@words) if $command eq "count";
         "ok";
     };
     return $done // $@ =~ s/( at \S+ line \d+\.)?\n\z//r;
@@ -91,10 +94,11 @@ sub opened {
     return $file;
 }
 
+sub path { return join ".", $RAD_PERLCONF{counts}, @_ }
+
 # Adds an octet to a file of the memory: its size is the count.
 sub count {
-    my ($kind, $source) = @_;
-    my $path = "$RAD_PERLCONF{counts}.$kind.$source";
+    my $path = path(@_);
     sysopen my $file, $path, O_WRONLY | O_CREAT | O_APPEND | O_NOFOLLOW, 0640 or die "$path: $!\n";
     syswrite $file, "." or die "$path: $!\n";
 }

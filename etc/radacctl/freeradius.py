@@ -200,8 +200,7 @@ def heard_at(kind, names, port):
             number = number if number.isdecimal() and number != "0" else str(port)
             if not value(block, "ipv6addr"):
                 found.append((address if is_one else "127.0.0.1", number))
-    return next((it for it in found if it[0] == "127.0.0.1"), None) or next(
-        iter(found), ("127.0.0.1", str(port)))
+    return min(found, key=lambda it: it[0] != "127.0.0.1", default=("127.0.0.1", str(port)))
 
 
 def included(name="radiusd.conf"):
