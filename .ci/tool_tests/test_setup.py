@@ -145,13 +145,6 @@ class Site(Folder):
             self.assertEqual(freeradius.value(freeradius.without_comments(found), "secret"), value)
         self.assertEqual(freeradius.value(more, "other"), "10.9.0.6")
 
-    def test_the_class_of_an_earlier_version_leaves_the_virtual_server(self):
-        block = '\t# radacctl setup: who pays, and by which plan\n\tupdate reply {\n'
-        block += '\t\t&Class = "default"\n\t}\n'
-        begun = "server x {\naccounting {\n\tradacctd_accounting\n}\npost-auth {\n"
-        text = front.default(f"{begun}{block}\tradacctd_login\n}}\n}}\n", self.wanted())
-        self.assertEqual(text, f"{begun}\tradacctd_login\n}}\n}}\n")
-
     def test_a_plan_whose_class_is_no_ascii_is_in_the_book(self):
         self.write("class,block,unit,count\ndefault,1,1,both\ndebit,1,1,both\n"
                    "gr%C3%B6%C3%9Fe,1,1,both\n".encode())

@@ -62,7 +62,7 @@ class Away(Gone):
 def lines_out(text):
     """Virtual servers without radacctd's lines. What a set-up made a comment is a line again."""
     lines = rf"(?m)^[ \t]*radacctd_(?:accounting|login|packages\w*){freeradius.REST}\n"
-    text = re.sub(lines, "", front.WITH_CLASS.sub("", text))
+    text = re.sub(lines, "", text)
     text = re.sub(r"(?m)^(\s*)radacctd_filter\b", r"\1filter_username", text)
     return freeradius.with_line(text, "-?sql|detail")
 

@@ -211,19 +211,24 @@ def clients(old, answers, books=None, reporting=()):
             kind = "ipaddr" if it["version"] == 4 else "ipv6addr"
             values |= {"secret": covering(it) or quoted(own()), "kind": kind}
             text = text.rstrip("\n") + "\n\n" + CLIENT.format(**values)
-        if values["cut"] == "yes" and not is_cut(it["address"], text):
-            text = text.rstrip("\n") + "\n" + HOME.format(port=CUT_PORT[it["vendor"]], **values)
+        if values["cut"] == "yes":
+            text = with_home(text, it, values["secret"])
     return text
+
+
+def with_home(text, it, its_secret):
+    """access-servers.conf in which a home_server takes Disconnect-Requests, if none does there."""
+    if ipaddress.ip_network(it["address"]) in freeradius.cuts(text):
+        return text
+    return text.rstrip("\n") + "\n" + HOME.format(
+        port=CUT_PORT[it["vendor"]], address=it["address"], secret=its_secret)
 
 
 def with_coa(text, it, block):
     """access-servers.conf whose client has the line of the answer, unless it says otherwise."""
     if not it.get("coa") or freeradius.value(block, "radacctd_coa"):
         return text
-    if not is_cut(it["address"], text):
-        text = text.rstrip("\n") + "\n" + HOME.format(
-            port=CUT_PORT[it["vendor"]], address=it["address"],
-            secret=freeradius.spelled(block, "secret"))
+    text = with_home(text, it, freeradius.spelled(block, "secret"))
     return in_client(text, it["name"], [COA])
 
 
@@ -246,11 +251,6 @@ def quoted(own):
     """A secret as FreeRADIUS reads it. Between double marks ${..} would be another value."""
     mark = '"' if "'" in own else "'"
     return own if re.fullmatch(r"[A-Za-z0-9._-]+", own) else f"{mark}{own}{mark}"
-
-
-def is_cut(address, text):
-    """Whether a home_server takes Disconnect-Requests there already."""
-    return ipaddress.ip_network(address) in freeradius.cuts(text)
 
 
 def covering(wanted):
@@ -356,13 +356,6 @@ def there(old, name):
     return old
 
 
-# What an earlier version wrote in the place of radacctd_login: the plan is in settings.conf now,
-# because a login that is left alone has none.
-WITH_CLASS = re.compile(
-    rf'[ \t]*{freeradius.MARK} who pays[^\n]*\n\tupdate reply {{\n\t\t&Class = "[^"\n]*"\n\t}}\n'
-)
-
-
 def default(old, answers, path=None):
     """The server default: reports are queued, logins are asked for their balance. A file that is
     as Debian made it takes names with a space, too, and writes no report a second time.
@@ -402,7 +395,7 @@ def is_debians(path, text, package="freeradius-config"):
 
 
 def with_login(text, is_new):
-    text = WITH_CLASS.sub("", steps.begun(text, "post-auth", "radacctd_login"))
+    text = steps.begun(text, "post-auth", "radacctd_login")
     if not is_new:
         return text
     return re.sub(r"(?m)^(\s*)filter_username\b", r"\1radacctd_filter", text, count=1)
