@@ -149,7 +149,7 @@ def moved(folder):
         check(
             "sessions are listed",
             (done.returncode, done.stderr),
-            (0, "kept-sessions: 2 sessions\n"),
+            (0, "kept-sessions: 3 sessions\n"),
         )
         front.written(os.path.join(radius.raddb, "radacctd", "kept"), done.stdout)
         os.remove(newer)
@@ -163,13 +163,14 @@ def moved(folder):
 def send_first_edition(book):
     """What an access server of the first edition reported before the move."""
     direct = ["radclient", "-r", "1", "-t", "2", f"127.0.0.1:{book.radius}", "acct", SECRET]
-    lines = ["Packet-Src-IP-Address = 127.0.1.1"]
-    lines += report("Interim-Update", "M-1", "al", 2 * MEBIBYTE)
-    subprocess.run(direct, input="\n".join(lines) + "\n", capture_output=True, text=True)
+    for session, account in (("M-1", "al"), ("M-4", "DOM\\\\nick")):
+        lines = ["Packet-Src-IP-Address = 127.0.1.1"]
+        lines += report("Interim-Update", session, account, 2 * MEBIBYTE)
+        subprocess.run(direct, input="\n".join(lines) + "\n", capture_output=True, text=True)
 
 
 def after_the_move(book, radius):
-    for identifier, account in (("M-1", "al"), ("M-2", "bo")):
+    for identifier, account in (("M-4", "DOM\\\\nick"), ("M-1", "al"), ("M-2", "bo")):
         done = radius.reports("ap1", report("Stop", identifier, account, 3 * MEBIBYTE))
         check(f"the Stop of {identifier} is answered", done, True)
     pair = lambda: (book.balance("al"), book.balance("bo"))
@@ -182,6 +183,10 @@ def after_the_move(book, radius):
     waits_for("a new session is charged", pair, (-40, -40))
     clients = sorted(row["client"] for row in book.rows("al"))
     check("by the new client", clients, ["ap1", "freeradius"])
+    waits_for("the queue is empty", lambda: count_in(radius.queue), 0)
+    book.kill()
+    rows = [it for it in book.export("sessions").splitlines() if "M-4" in it]
+    check("a user of a domain has one session, too", len(rows), 1)
 
 
 PAIR = """
