@@ -1,9 +1,9 @@
 """Cards for one guest: an HTML file to print, with the codes that a phone scans."""
 
 import re
-import subprocess
 
 from radacctl import money
+from radacctl.sheets import Fault, qrencoded
 
 PAGE = """<!doctype html>
 <html lang="en">
@@ -21,10 +21,6 @@ p {{ margin: {space}mm 0; }}
 </html>
 """
 ADDRESS = re.compile(r"https://[^\s#?\"<>]+")
-
-
-class Fault(Exception):
-    """Why there is no card."""
 
 
 def settings():
@@ -48,10 +44,6 @@ def address(given):
 
 
 def svg(text, margin=1):
-    """A QR code. qrencode reads the text, so that no list of processes has it."""
-    command = ["qrencode", "-t", "SVG", "-m", str(margin), "--inline", "-o", "-"]
-    try:
-        done = subprocess.run(command, input=text, capture_output=True, text=True, check=True)
-    except (OSError, subprocess.CalledProcessError):
-        raise Fault("a card needs qrencode: apt install qrencode") from None
-    return re.sub(r"<\?xml.*?\?>|<!--.*?-->|<!DOCTYPE.*?>", "", done.stdout, flags=re.S).strip()
+    """A QR code to be put into a page."""
+    drawn = qrencoded(text, "-t", "SVG", "-m", str(margin), "--inline")
+    return re.sub(r"<\?xml.*?\?>|<!--.*?-->|<!DOCTYPE.*?>", "", drawn, flags=re.S).strip()

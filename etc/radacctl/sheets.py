@@ -25,17 +25,21 @@ OTHERS = {
 
 
 class Fault(Exception):
-    """Why there is no sheet."""
+    """Why there is no sheet, or no card."""
+
+
+def qrencoded(text, *words):
+    """What qrencode draws. It reads the text, so that no list of processes has it."""
+    try:
+        return subprocess.run(["qrencode", *words, "-o", "-"], input=text, capture_output=True,
+                              text=True, check=True).stdout
+    except (OSError, subprocess.CalledProcessError):
+        raise Fault("a QR code needs qrencode: apt install qrencode") from None
 
 
 def bars(text):
     """The dark bars of a QR code, as column, row and length, and how many squares are in a row."""
-    command = ["qrencode", "-t", "ASCII", "-m", "0", "-o", "-"]
-    try:
-        done = subprocess.run(command, input=text, capture_output=True, text=True, check=True)
-    except (OSError, subprocess.CalledProcessError):
-        raise Fault("a sheet needs qrencode: apt install qrencode") from None
-    lines = done.stdout.splitlines()
+    lines = qrencoded(text, "-t", "ASCII", "-m", "0").splitlines()
     dark = [
         (it.start(), row, it.end() - it.start())
         for row, line in enumerate(lines)
