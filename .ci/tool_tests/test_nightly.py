@@ -73,8 +73,10 @@ class Night(unittest.TestCase):
 
     def test_a_disk_that_is_not_mounted_gets_no_copy(self):
         """It would fill the disk below, and be hidden once the right one is mounted."""
-        for place, wanted in (("backups", 1), ("", 1), ("back", 0)):
-            os.makedirs(self.place("bin"), exist_ok=True)
+        os.makedirs(self.place("bin"))
+        os.rename(self.place("backups"), self.place("disk"))
+        os.symlink("disk", self.place("backups"))
+        for place, wanted in (("disk", 1), ("", 1), ("back", 0)):
             self.write("bin/findmnt", f"#!/bin/sh\necho /\necho {self.place(place)}\necho none\n")
             with mock.patch.dict(os.environ, PATH=f"{self.place('bin')}:{os.environ['PATH']}"):
                 status, said, names = self.night()
