@@ -323,6 +323,19 @@ def umlauts(browser, proxy):
     open_desk(browser, proxy)
 
 
+def lost_store(browser, proxy, server, start):
+    """A browser that was killed once had an empty store: what it had not sold is in another place."""
+    server.kill()
+    sell(browser, "bo", "3")
+    check("the server is away again", browser.shows("The sale is kept"), True)
+    number = browser.js("return document.querySelector('#pending td').textContent")
+    browser.js("store.onclose = null; store.close(); indexedDB.deleteDatabase('desk')")
+    browser.go(proxy.url("/desk/"))
+    check("a store that is lost: the sale is kept", browser.shows(number, "#pending"), True)
+    start()
+    check("and sold", browser.shows(number, "#receipt", 20), True)
+
+
 def earlier_page(browser, proxy):
     """What an earlier version of the page kept is taken over."""
     browser.js(
@@ -427,6 +440,7 @@ def run(browser, proxy, server, folder, start, readable, speak):
     refusals(browser, proxy)
     old_password(browser, proxy)
     umlauts(browser, proxy)
+    lost_store(browser, proxy, server, start)
     earlier_page(browser, proxy)
     no_store(browser, proxy)
     full_disk(folder, proxy)

@@ -79,12 +79,19 @@ const change = (voucher, how) => inStore(async (all, shifts) => {
   const sale = how(had, shift.number);
   await got(all.put(sale));
   return sale;
-});
+}).then(keepTwice);
 
 const addSale = (sale) => inStore(async (all, shifts) => {
   const shift = await got(shifts.get("now"));
   await got(all.add({ ...sale, made: shift.number }));
-});
+}).then(() => keepTwice(sale));
+
+// One that is open is in a second place, too: a browser that was killed has lost a store.
+function keepTwice(sale) {
+  const name = "sale:" + sale.voucher;
+  try { sale.state === "open" ? localStorage.setItem(name, JSON.stringify(sale)) : localStorage.removeItem(name); } catch { /* then once */ }
+  return sale;
+}
 
 // Another window may have ended the shift that this one shows.
 const endShift = (number) => inStore(async (_, shifts) => {
@@ -100,23 +107,23 @@ async function forgetOld() {
   if (old.length) await inStore(async (all) => { for (const it of old) await got(all.delete(it.voucher)); });
 }
 
-// Earlier versions of this page kept sales in another place.
+// What the other place has, where earlier versions of this page kept all sales.
 async function takeOver() {
   const names = Object.keys(localStorage).filter((it) => it.startsWith("sale:"));
   const ended = Number(localStorage.getItem("shift")) || 0;
   const read = (name) => { try { return JSON.parse(localStorage.getItem(name)); } catch { return null; } };
   // What is no sale is left where it is.
-  const olds = names.map(read).map((it) => it?.voucher && Array.isArray(it.done) ? it : null);
+  const olds = names.map(read).filter((it) => it?.voucher && Array.isArray(it.done));
   await inStore(async (all, shifts) => {
     let shift = await got(shifts.get("now"));
     if (!shift) await got(shifts.put(shift = { id: "now", number: ended ? 2 : 1, since: ended || Date.now() }));
-    for (const it of olds.filter(Boolean)) {
+    for (const it of olds) {
       const own = it.when >= ended ? shift.number : shift.number - 1;
       const sold = it.state === "done" ? { sold: own } : it.done.length ? { sold: shift.number } : {};
       if (!await got(all.get(it.voucher))) await got(all.put({ ...it, made: own, ...sold }));
     }
   });
-  names.forEach((it, at) => { if (olds[at]) localStorage.removeItem(it); });
+  kept.sales.forEach(keepTwice);
   localStorage.removeItem("shift");
 }
 
